@@ -1,0 +1,14 @@
+pub mod Changes
+pub mod Cycles
+pub mod Darts
+pub mod Edits
+pub mod History
+pub mod Items
+pub mod Lawful
+pub mod Limits
+pub mod Picture
+pub mod Pictures
+pub mod Rotations
+pub mod Routes
+pub mod Steps
+pub mod Systems

@@ -1,0 +1,24 @@
+//! Walks through the faces of a picture.
+
+use crate::darts::Dart;
+use crate::ids::EdgeId;
+use crate::listed::Listed;
+
+/// A walk in the dual graph: from the corner at position `start` of one vertex, across the darts in
+/// order, to the corner at position `end` of another. The corner at position p of a vertex is the
+/// one before entry p of its list, and crossing a dart leads from the face on its left to the face
+/// on the left of its twin.
+#[derive(Drop, Debug)]
+pub struct Route {
+    pub start: u32,
+    pub crossed: Listed<Dart>,
+    pub end: u32,
+}
+
+/// An edge that was put in along a route of this price.
+#[derive(Drop, Debug)]
+pub struct Inserted {
+    pub id: EdgeId,
+    pub route: Route,
+    pub price: u64,
+}
