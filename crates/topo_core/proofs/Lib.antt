@@ -1,0 +1,2 @@
+pub mod DartLaws
+pub mod Certificates

@@ -9,6 +9,7 @@ pub mod Limits
 pub mod Picture
 pub mod Pictures
 pub mod Rotations
+pub mod RouteLaws
 pub mod Routes
 pub mod Steps
 pub mod Systems
