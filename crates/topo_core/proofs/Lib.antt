@@ -1,0 +1,2 @@
+pub mod Connection
+pub mod DartLaws
