@@ -1,2 +1,5 @@
 pub mod Connection
 pub mod DartLaws
+pub mod Growing
+pub mod Members
+pub mod SystemDarts
