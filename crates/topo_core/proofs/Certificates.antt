@@ -19,7 +19,7 @@ use Rattle.topo_core.specs.Systems.{System, SameFace, face_step, has_dart}
 use Rattle.topo_core.specs.Picture.{darts, corner, edge_at, system}
 use Rattle.topo_core.specs.Routes.{Pricing, Price, Costs, Crosses, IsRoute, IsPricedRoute, IsLeast, IsFirst, IsCertificate, KeepsPromise, AreFactsOf, route_cmp}
 use Rattle.topo_core.specs.RouteLaws.{IsTight, TakesFirstDarts, arrival, IsFirstByHeights}
-use Rattle.topo_core.proofs.DartLaws.{dart_cmp_equal, dart_cmp_self, nat_cmp_self}
+use Rattle.topo_core.proofs.DartOrder.{dart_cmp_equal, dart_cmp_self, nat_cmp_self}
 
 -- ---- Comparisons
 
