@@ -1,5 +1,5 @@
 -- A certificate bounds the cost of every route, and a route that is first by its heights is first.
-use Rattle.std.proofs.Common.{◌≡◌, ◌≢◌, ℕ, zero, suc, ◌+◌, ◌^◌, ◌≤◌, ◌<◌, Bool, true, false, List, [], ◌∷◌, length, Some, refl, sym, ap, subst, ◌∙◌, arith, inl, inr}
+use Rattle.std.proofs.Common.{◌≡◌, ◌≢◌, ℕ, zero, suc, ◌+◌, ◌^◌, ◌≤◌, ◌<◌, true, List, [], ◌∷◌, length, Some, refl, sym, ap, subst, ◌∙◌, arith, inl, inr}
 use Rattle.std.specs.Prelude.{◌⊎◌, Option}
 use Rattle.std.proofs.Math.Bridge.{le_prop}
 use Rattle.std.specs.Ordering.{nat_cmp, ordering_then}
@@ -17,7 +17,7 @@ use Rattle.topo_core.specs.Darts.{dart_twin, dart_cmp}
 use Rattle.topo_core.specs.Cycles.{after}
 use Rattle.topo_core.specs.Systems.{System, SameFace, face_step, has_dart}
 use Rattle.topo_core.specs.Picture.{darts, corner, edge_at, system}
-use Rattle.topo_core.specs.Routes.{Pricing, Price, Costs, Crosses, IsRoute, IsPricedRoute, IsLeast, IsFirst, IsCertificate, KeepsPromise, AreFactsOf, route_cmp}
+use Rattle.topo_core.specs.Routes.{Pricing, Price, Costs, Crosses, IsRoute, IsPricedRoute, IsFirst, IsCertificate, KeepsPromise, AreFactsOf, route_cmp}
 use Rattle.topo_core.specs.RouteLaws.{IsTight, TakesFirstDarts, arrival, IsFirstByHeights}
 use Rattle.topo_core.proofs.DartOrder.{dart_cmp_equal, dart_cmp_self, nat_cmp_self}
 
@@ -113,17 +113,17 @@ module _ (price : Pricing) (rows : Rows) (s : System) (ds : List Dart) (height :
       let before = first.0 y (known y other.is_in) (subst (λ t. SameFace t c y) is walk'.0) tight in
       by_order (split_order (dart_cmp x y) before) mine other
       (λ ys' m is_rest same_cost. compare_walks positive xs ys' (dart_twin x) d e m (twins x mine.is_in) (walk.1) (subst (Costs price rows xs) (sym same_cost) cost.3) down is_rest.0 is_rest.1 down' (mine.later ∙ sym same_cost) known is first.1) where
-    by_order : (dart_cmp x y ≡ Less) ⊎ (dart_cmp x y ≡ Equal) → Descends c x xs cost.1 → Descends c y ys cost'.1
-        → ((ys' : List Dart) (m : ℕ) → Crosses s (dart_twin x) ys' e × Costs price rows ys' m → m ≡ cost.1 → (slice_cmp dart_cmp xs ys' ≡ Less) ⊎ (xs ≡ ys'))
-        → (slice_cmp dart_cmp (x ∷ xs) (y ∷ ys) ≡ Less) ⊎ ((x ∷ xs) ≡ (y ∷ ys))
-    by_order (inl less) mine other rest = inl (ap (λ o. ordering_then o (slice_cmp dart_cmp xs ys)) less)
-    by_order (inr equal) mine other rest =
-        let one_dart : x ≡ y = dart_cmp_equal x y equal in
-        let one_cost : cost'.1 ≡ cost.1 = sym other.later ∙ ap (λ z. height (dart_twin z)) (sym one_dart) ∙ mine.later in
-        elim (rest ys cost'.1 (subst (λ z. Crosses s (dart_twin z) ys e) (sym one_dart) walk'.1, cost'.3) one_cost) [
-          | inl less ↦ inl (ap (λ o. ordering_then o (slice_cmp dart_cmp xs ys)) equal ∙ less)
-          | inr lists ↦ inr (ap (λ z. z ∷ xs) one_dart ∙ ap (λ zs. y ∷ zs) lists)
-        ]
+        by_order : (dart_cmp x y ≡ Less) ⊎ (dart_cmp x y ≡ Equal) → Descends c x xs cost.1 → Descends c y ys cost'.1
+            → ((ys' : List Dart) (m : ℕ) → Crosses s (dart_twin x) ys' e × Costs price rows ys' m → m ≡ cost.1 → (slice_cmp dart_cmp xs ys' ≡ Less) ⊎ (xs ≡ ys'))
+            → (slice_cmp dart_cmp (x ∷ xs) (y ∷ ys) ≡ Less) ⊎ ((x ∷ xs) ≡ (y ∷ ys))
+        by_order (inl less) mine other rest = inl (ap (λ o. ordering_then o (slice_cmp dart_cmp xs ys)) less)
+        by_order (inr equal) mine other rest =
+            let one_dart : x ≡ y = dart_cmp_equal x y equal in
+            let one_cost : cost'.1 ≡ cost.1 = sym other.later ∙ ap (λ z. height (dart_twin z)) (sym one_dart) ∙ mine.later in
+            elim (rest ys cost'.1 (subst (λ z. Crosses s (dart_twin z) ys e) (sym one_dart) walk'.1, cost'.3) one_cost) [
+              | inl less ↦ inl (ap (λ o. ordering_then o (slice_cmp dart_cmp xs ys)) equal ∙ less)
+              | inr lists ↦ inr (ap (λ z. z ∷ xs) one_dart ∙ ap (λ zs. y ∷ zs) lists)
+            ]
 
 -- the walk ends in the face where it arrives
 arrives : (s : System) (xs : List Dart) (c d : Dart) → Crosses s c xs d → SameFace s (arrival c xs) d
@@ -135,17 +135,17 @@ same_some o x y here there = cc
 
 -- ---- Routes
 
--- A certificate on the darts of a picture whose faces and corners stay among its darts.
-pub record Certified (price : Pricing) (rows : Rows) (v : ℕ) (height : Dart → ℕ) : Type 0 where
+-- A certificate on the darts of a picture whose faces stay among its darts, and the corners of u too.
+pub record Certified (price : Pricing) (rows : Rows) (u v : ℕ) (height : Dart → ℕ) : Type 0 where
   pub closed : (d : Dart) → has_dart (darts rows) d ≡ true → has_dart (darts rows) (face_step (system rows) d) ≡ true
   pub twins : (d : Dart) → has_dart (darts rows) d ≡ true → has_dart (darts rows) (dart_twin d) ≡ true
-  pub corners : (w p : ℕ) (c : Dart) → corner rows w p ≡ Some c → has_dart (darts rows) c ≡ true
+  pub corners : (p : ℕ) (c : Dart) → corner rows u p ≡ Some c → has_dart (darts rows) c ≡ true
   pub certificate : IsCertificate price rows v height
 
-module _ (price : Pricing) (rows : Rows) (u v : ℕ) (height : Dart → ℕ) (known : Certified price rows v height) where
+module _ (price : Pricing) (rows : Rows) (u v : ℕ) (height : Dart → ℕ) (known : Certified price rows u v height) where
   walk_bound : (r : Route) (n : ℕ) → (route : IsRoute rows u v r) → Costs price rows r.crossed n → height route.from ≤ n
   walk_bound r n route cost = height_bounds price rows (system rows) (darts rows) height known.closed known.twins known.certificate.even known.certificate.gentle
-      r.crossed route.from route.to n (known.corners u r.start route.from route.starts) route.walk cost (known.certificate.target r.end route.to route.ends)
+      r.crossed route.from route.to n (known.corners r.start route.from route.starts) route.walk cost (known.certificate.target r.end route.to route.ends)
 
   -- no route costs less than the height of the corner where it starts
   pub route_bound : (r : Route) (n : ℕ) (c : Dart) → IsPricedRoute price rows u v r n → corner rows u r.start ≡ Some c → height c ≤ n
@@ -179,7 +179,7 @@ module _ (price : Pricing) (rows : Rows) (u v : ℕ) (height : Dart → ℕ) (kn
 
       walks : (slice_cmp dart_cmp r.crossed other.crossed ≡ Less) ⊎ (r.crossed ≡ other.crossed)
       walks = compare_walks price rows (system rows) (darts rows) height known.closed known.twins known.certificate.even known.certificate.gentle positive
-          r.crossed other.crossed mine.from mine.to priced.route.to n (known.corners u r.start mine.from mine.starts)
+          r.crossed other.crossed mine.from mine.to priced.route.to n (known.corners r.start mine.from mine.starts)
           mine.walk by_heights.priced.cost (known.certificate.target r.end mine.to mine.ends)
           other_walk priced.cost (known.certificate.target other.end priced.route.to priced.route.ends)
           (start_height r by_heights.priced) (λ x h. h) refl by_heights.first_darts
@@ -194,13 +194,13 @@ module _ (price : Pricing) (rows : Rows) (u v : ℕ) (height : Dart → ℕ) (kn
       by_walks : (slice_cmp dart_cmp r.crossed other.crossed ≡ Less) ⊎ (r.crossed ≡ other.crossed) → route_cmp r other ≢ Greater
       by_walks (inl less) e =
           let now : ordering_then Equal (ordering_then Less (nat_cmp r.end other.end)) ≡ Greater =
-              sym (ap (λ o. ordering_then o (ordering_then Less (nat_cmp r.end other.end))) equal_starts)
-              ∙ sym (ap (λ o. ordering_then (nat_cmp r.start other.start) (ordering_then o (nat_cmp r.end other.end))) less) ∙ e in cc
+          sym (ap (λ o. ordering_then o (ordering_then Less (nat_cmp r.end other.end))) equal_starts)
+          ∙ sym (ap (λ o. ordering_then (nat_cmp r.start other.start) (ordering_then o (nat_cmp r.end other.end))) less) ∙ e in cc
       by_walks (inr lists) e =
           let equal_walks : slice_cmp dart_cmp r.crossed other.crossed ≡ Equal = subst (λ ys. slice_cmp dart_cmp r.crossed ys ≡ Equal) lists (same_lists r.crossed) in
           let now : ordering_then Equal (ordering_then Equal (nat_cmp r.end other.end)) ≡ Greater =
-              sym (ap (λ o. ordering_then o (ordering_then Equal (nat_cmp r.end other.end))) equal_starts)
-              ∙ sym (ap (λ o. ordering_then (nat_cmp r.start other.start) (ordering_then o (nat_cmp r.end other.end))) equal_walks) ∙ e in
+          sym (ap (λ o. ordering_then o (ordering_then Equal (nat_cmp r.end other.end))) equal_starts)
+          ∙ sym (ap (λ o. ordering_then (nat_cmp r.start other.start) (ordering_then o (nat_cmp r.end other.end))) equal_walks) ∙ e in
           not_above r.end other.end (ends_first lists) now
 
     -- a route that is first by its heights is first

@@ -5,3 +5,4 @@ pub mod Members
 pub mod SystemDarts
 pub mod DartOrder
 pub mod Certificates
+pub mod Computed

@@ -2,6 +2,7 @@ pub mod Changes
 pub mod Cycles
 pub mod Darts
 pub mod Edits
+pub mod Evidence
 pub mod History
 pub mod Items
 pub mod Lawful
