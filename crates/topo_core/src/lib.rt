@@ -10,6 +10,7 @@
 
 pub mod calls;
 pub mod darts;
+pub mod evidence;
 pub mod ids;
 pub mod limits;
 pub mod listed;
