@@ -1,4 +1,5 @@
 pub mod Connection
+pub mod Counting
 pub mod DartLaws
 pub mod Growing
 pub mod Members
