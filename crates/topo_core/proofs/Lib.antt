@@ -3,4 +3,5 @@ pub mod Counting
 pub mod DartLaws
 pub mod Growing
 pub mod Members
+pub mod Standing
 pub mod SystemDarts

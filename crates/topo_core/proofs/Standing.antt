@@ -1,0 +1,261 @@
+-- How often a dart stands in the rotation system of good rows: once if it is theirs, and else never.
+use Rattle.std.proofs.Common.{◌≡◌, ◌&&◌, ◌+◌, ◌<◌, ◌≤◌, ◌||◌, ap, arith, Bool, cond, eqb, false, inl, inr, length, List, None, not, refl, Some, subst, suc, sym, true, zero, ℕ, [], ◌++◌, ◌∙◌, ◌∷◌}
+use Rattle.std.specs.Prelude.{count_by, find, flat_map, if◌then◌else◌, is_some, map, nat_lt, Option, option_map, slice_get, sum_by, unwrap_or, ◌==◌, ◌⊎◌}
+use Rattle.std.specs.List.{list_all, list_any, position_or_len, range_with_len}
+use Rattle.std.proofs.lemmas.Bool.Decides.{nat_tests}
+use Rattle.std.proofs.lemmas.List.Sums.{sum_by-append, sum_by-cons}
+use Rattle.topo_core.specs.declared.darts.Dart.{Dart}
+use Rattle.topo_core.specs.declared.darts.Sign.{Sign}
+use Rattle.topo_core.specs.declared.darts.Sign.TheVariants.{LeftToRight, RightToLeft}
+use Rattle.topo_core.specs.declared.darts.Way.{Way}
+use Rattle.topo_core.specs.declared.darts.Way.TheVariants.{Forward, Back}
+use Rattle.topo_core.specs.declared.rows.CrossRow.{CrossRow}
+use Rattle.topo_core.specs.declared.rows.EdgeRow.{EdgeRow}
+use Rattle.topo_core.specs.declared.rows.Rows.{Rows}
+use Rattle.topo_core.specs.Darts.{both_ways, same_dart, same_way}
+use Rattle.topo_core.specs.Items.{IsIn, occurrences, rises_below}
+use Rattle.topo_core.specs.Lawful.{has_good_crossings, has_good_path, has_good_paths, has_good_rotation, has_good_rotations, is_good_crossing}
+use Rattle.topo_core.specs.Picture.{ahead, around_crossing, around_vertex, behind, clockwise, cross_row, darts, darts_of, edge_at, edge_row, end_dart, IsDart, place_on, rotation, segment_count, system, vertices}
+use Rattle.topo_core.specs.Pictures.{back, forward}
+use Rattle.topo_core.specs.Systems.{darts_in, has_dart}
+use Rattle.topo_core.proofs.Counting.{counted_any, eqb_is, eqb_less, eqb_more, eqb_symm, is_or_not, le_of_test, lt_of_test, lt_test, not_lt_test, once_in_range, one, place_past, place_test, sum_found, sum_if, sum_joined, sum_nothing, sum_of_map, sum_same, weigh_no, weigh_yes}
+use Rattle.topo_core.proofs.Members.{counted_at, eq_true, in_range, left_true, right_true, test_of_each}
+use Rattle.topo_core.proofs.SystemDarts.{edge_at_row, eqb_self, path_facts, row_id, row_in, some_of}
+
+-- ---- The test of two darts by their parts
+
+other_edge : (d c : Dart) → eqb d.edge c.edge ≡ false → same_dart d c ≡ false
+other_edge d c e = ap (λ t. t && d.seg == c.seg && same_way d.way c.way) e
+
+and_no : (b : Bool) → (b && false) ≡ false
+and_no true = refl
+and_no false = refl
+
+and_yes : (b : Bool) → (b && true) ≡ b
+and_yes true = refl
+and_yes false = refl
+
+pub forward_forward : (e s a p : ℕ) → same_dart (forward e s) (forward a p) ≡ (e == a && s == p)
+forward_forward e s a p = and_yes (e == a && s == p)
+
+pub back_back : (e s a p : ℕ) → same_dart (back e s) (back a p) ≡ (e == a && s == p)
+back_back e s a p = and_yes (e == a && s == p)
+
+pub forward_back : (e s a p : ℕ) → same_dart (forward e s) (back a p) ≡ false
+forward_back e s a p = and_no (e == a && s == p)
+
+pub back_forward : (e s a p : ℕ) → same_dart (back e s) (forward a p) ≡ false
+back_forward e s a p = and_no (e == a && s == p)
+
+-- ---- Counts at a vertex
+
+-- among darts of different edges, d can stand only as the dart of its own edge
+around_count : (h : ℕ → Dart) → ((e : ℕ) → (h e).edge ≡ e) → (d : Dart) (es : List ℕ) → count_by (same_dart d) (map h es) ≡ cond {A = ℕ} (same_dart d (h d.edge)) (occurrences d.edge es) 0
+around_count h edges d [] = elim (is_or_not (same_dart d (h d.edge))) [ inl e ↦ sym (weigh_yes _ 0 e) | inr e ↦ sym (weigh_no _ 0 e) ]
+around_count h edges d (e ∷ es) =
+    let step = sum_by-cons (λ c. one (same_dart d c)) (h e) (map h es) in
+    let more = sum_by-cons (λ y. one (y == d.edge)) e es in
+    let rest = around_count h edges d es in
+    elim (is_or_not (e == d.edge)) [
+      | inl same ↦
+          let new : one (e == d.edge) ≡ 1 = ap one same in
+          let here : one (same_dart d (h e)) ≡ one (same_dart d (h d.edge)) = ap (λ v. one (same_dart d (h v))) (eq_true e d.edge same) in
+          elim (is_or_not (same_dart d (h d.edge))) [
+            | inl t ↦
+                let is_one : one (same_dart d (h d.edge)) ≡ 1 = ap one t in
+                let now = weigh_yes _ (occurrences d.edge (e ∷ es)) t in
+                let before = weigh_yes _ (occurrences d.edge es) t in omega arith
+            | inr t ↦
+                let is_none : one (same_dart d (h d.edge)) ≡ 0 = ap one t in
+                let now = weigh_no _ (occurrences d.edge (e ∷ es)) t in
+                let before = weigh_no _ (occurrences d.edge es) t in omega arith
+          ]
+      | inr apart ↦
+          let new : one (e == d.edge) ≡ 0 = ap one apart in
+          let here : one (same_dart d (h e)) ≡ 0 = ap one (other_edge d (h e) (ap (eqb d.edge) (edges e) ∙ eqb_symm d.edge e ∙ apart)) in
+          let all : occurrences d.edge (e ∷ es) ≡ occurrences d.edge es = omega arith in
+          let total : count_by (same_dart d) (h e ∷ map h es) ≡ count_by (same_dart d) (map h es) = omega arith in
+          total ∙ rest ∙ sym (ap (λ (n : ℕ). cond {A = ℕ} (same_dart d (h d.edge)) n 0) all)
+    ]
+
+-- the forward dart of segment s stands where its edge begins, if s is the first
+forward_at : (e s l : ℕ) (t u : Bool) → cond {A = ℕ} (same_dart (forward e s) (cond {A = Dart} t (forward e 0) (back e l))) (one (t || u)) 0 ≡ cond {A = ℕ} (s == 0) (one t) 0
+forward_at e s l true u = ap one (forward_forward e s e 0 ∙ ap (λ b. b && s == 0) (eqb_self e))
+forward_at e s l false u = weigh_no _ (one u) (forward_back e s e l) ∙ elim (is_or_not (s == 0)) [ inl e ↦ sym (weigh_yes _ 0 e) | inr e ↦ sym (weigh_no _ 0 e) ]
+
+-- the back dart of segment s stands where its edge ends, if s is the last
+back_at : (e s l : ℕ) (t u : Bool) → (t && u) ≡ false → cond {A = ℕ} (same_dart (back e s) (cond {A = Dart} t (forward e 0) (back e l))) (one (t || u)) 0 ≡ cond {A = ℕ} (s == l) (one u) 0
+back_at e s l true true h = absurd (let k : true ≡ false = h in cc)
+back_at e s l true false h = weigh_no _ 1 (back_forward e s e 0) ∙ elim (is_or_not (s == l)) [ inl e ↦ sym (weigh_yes _ 0 e) | inr e ↦ sym (weigh_no _ 0 e) ]
+back_at e s l false u h = ap (λ (b : Bool). cond {A = ℕ} b (one u) 0) (back_back e s e l ∙ ap (λ b. b && s == l) (eqb_self e))
+
+end_dart_edge : (rows : Rows) (v e : ℕ) → (end_dart rows v e).edge ≡ e
+end_dart_edge rows v e = elim ((edge_at rows e).a == v) as (λ (t : Bool). (cond {A = Dart} t (forward e 0) (back e (length (edge_at rows e).crossings))).edge ≡ e) [ true ↦ refl | false ↦ refl ]
+
+-- ---- Counts at a crossing
+
+four_forward : (sign : Sign) (e s a b p q : ℕ) → count_by (same_dart (forward e s)) (clockwise sign (forward a (p + 1)) (back a p) (forward b (q + 1)) (back b q)) ≡ one (e == a && s == p + 1) + one (e == b && s == q + 1)
+four_forward sign e s a b p q =
+    let first : one (same_dart (forward e s) (forward a (p + 1))) ≡ one (e == a && s == p + 1) = ap one (forward_forward e s a (p + 1)) in
+    let second : one (same_dart (forward e s) (back a p)) ≡ 0 = ap one (forward_back e s a p) in
+    let third : one (same_dart (forward e s) (forward b (q + 1))) ≡ one (e == b && s == q + 1) = ap one (forward_forward e s b (q + 1)) in
+    let fourth : one (same_dart (forward e s) (back b q)) ≡ 0 = ap one (forward_back e s b q) in
+    elim sign as (λ sign. count_by (same_dart (forward e s)) (clockwise sign (forward a (p + 1)) (back a p) (forward b (q + 1)) (back b q)) ≡ one (e == a && s == p + 1) + one (e == b && s == q + 1)) [
+      | LeftToRight ↦ omega arith
+      | RightToLeft ↦ omega arith
+    ]
+
+four_back : (sign : Sign) (e s a b p q : ℕ) → count_by (same_dart (back e s)) (clockwise sign (forward a (p + 1)) (back a p) (forward b (q + 1)) (back b q)) ≡ one (e == a && s == p) + one (e == b && s == q)
+four_back sign e s a b p q =
+    let first : one (same_dart (back e s) (forward a (p + 1))) ≡ 0 = ap one (back_forward e s a (p + 1)) in
+    let second : one (same_dart (back e s) (back a p)) ≡ one (e == a && s == p) = ap one (back_back e s a p) in
+    let third : one (same_dart (back e s) (forward b (q + 1))) ≡ 0 = ap one (back_forward e s b (q + 1)) in
+    let fourth : one (same_dart (back e s) (back b q)) ≡ one (e == b && s == q) = ap one (back_back e s b q) in
+    elim sign as (λ sign. count_by (same_dart (back e s)) (clockwise sign (forward a (p + 1)) (back a p) (forward b (q + 1)) (back b q)) ≡ one (e == a && s == p) + one (e == b && s == q)) [
+      | LeftToRight ↦ omega arith
+      | RightToLeft ↦ omega arith
+    ]
+
+-- one of two edges: what is asked of it is asked of e
+asked_of : (test : ℕ → Bool) (e a : ℕ) → one (e == a && test a) ≡ one (e == a && test e)
+asked_of test e a = elim (is_or_not (e == a)) [
+  | inl same ↦ ap (λ v. one (e == a && test v)) (sym (eq_true e a same))
+  | inr apart ↦ ap (λ b. one (b && test a)) apart ∙ sym (ap (λ b. one (b && test e)) apart)
+]
+
+either : (t u w : Bool) → (t && u) ≡ false → one (t && w) + one (u && w) ≡ cond {A = ℕ} w (one (t || u)) 0
+either true true w h = absurd (let k : true ≡ false = h in cc)
+either true false true h = refl
+either true false false h = refl
+either false true true h = refl
+either false true false h = refl
+either false false true h = refl
+either false false false h = refl
+
+not_both : (e a b : ℕ) → eqb a b ≡ false → (e == a && e == b) ≡ false
+not_both e a b h = grind (arith, nat_tests)
+
+-- ---- Sums over the points of a system
+
+count_of_points : (d : Dart) (before after : List (List Dart)) → count_by (same_dart d) (darts_in (before ++ after)) ≡ sum_by (λ around. count_by (same_dart d) around) before + sum_by (λ around. count_by (same_dart d) around) after
+count_of_points d before after =
+    sum_joined (λ c. one (same_dart d c)) (λ around. around) (before ++ after)
+    ∙ sum_by-append (λ around. count_by (same_dart d) around) before after
+
+-- ---- Good rows
+
+-- what the tests say of a crossing
+pub record GoodCrossing (rows : Rows) (x : CrossRow) : Type 0 where
+  pub apart : eqb x.crossed x.newcomer ≡ false
+  pub crossed : is_some (edge_row rows x.crossed) ≡ true
+  pub newcomer : is_some (edge_row rows x.newcomer) ≡ true
+  pub counted : (row : EdgeRow) → IsIn row rows.edges → occurrences x.id row.crossings ≡ one (row.id == x.crossed || row.id == x.newcomer)
+
+not_false : (b : Bool) → not b ≡ true → b ≡ false
+not_false true h = cc
+not_false false h = refl
+
+pub good_crossing : (rows : Rows) → has_good_crossings rows ≡ true → (x : CrossRow) → IsIn x rows.crossings → GoodCrossing rows x
+good_crossing rows good x h =
+    let tests = test_of_each (is_good_crossing rows) x rows.crossings (right_true (rises_below rows.next_crossing (map (λ x. x.id) rows.crossings)) (list_all (is_good_crossing rows) rows.crossings) good) h in
+    record {
+      apart = not_false _ (left_true _ _ (left_true _ _ (left_true _ _ tests)));
+      crossed = right_true _ _ (left_true _ _ (left_true _ _ tests));
+      newcomer = right_true _ _ (left_true _ _ tests);
+      counted = λ row k. eq_true _ _ (test_of_each (λ row. occurrences x.id row.crossings == (if row.id == x.crossed || row.id == x.newcomer then 1 else 0)) row rows.edges (right_true _ _ tests) k);
+    }
+
+-- what the tests say of the list of a vertex
+pub record GoodRotation (rows : Rows) (v : ℕ) : Type 0 where
+  pub counted : (row : EdgeRow) → IsIn row rows.edges → occurrences row.id (rotation rows v) ≡ one (row.a == v || row.b == v)
+  pub known : (e : ℕ) → IsIn e (rotation rows v) → is_some (edge_row rows e) ≡ true
+
+in_vertices : (v a n : ℕ) → IsIn v (range_with_len a n) → v < a + n
+in_vertices v a zero h = absurd h
+in_vertices v a (suc n) (inl e) = omega arith
+in_vertices v a (suc n) (inr h) = let k = in_vertices v (a + 1) n h in omega arith
+
+pub good_rotation : (rows : Rows) → has_good_rotations rows ≡ true → (v : ℕ) → IsIn v (vertices rows) → GoodRotation rows v
+good_rotation rows good v h =
+    let tests = test_of_each (has_good_rotation rows) v (vertices rows) good h in
+    record {
+      counted = λ row k. eq_true _ _ (test_of_each (λ row. occurrences row.id (rotation rows v) == (if row.a == v || row.b == v then 1 else 0)) row rows.edges (left_true _ _ (left_true _ _ tests)) k);
+      known = λ e k. test_of_each (λ e. is_some (edge_row rows e)) e (rotation rows v) (right_true _ _ (left_true _ _ tests)) k;
+    }
+
+-- how often d stands at the vertices, and at the crossings
+abbrev at_vertices : Rows → Dart → ℕ
+at_vertices rows d = sum_by (λ v. count_by (same_dart d) (around_vertex rows v)) (vertices rows)
+
+abbrev at_crossings : Rows → Dart → ℕ
+at_crossings rows d = sum_by (λ x. count_by (same_dart d) (around_crossing rows x)) rows.crossings
+
+count_in_system : (rows : Rows) (d : Dart) → count_by (same_dart d) (darts_in (system rows)) ≡ at_vertices rows d + at_crossings rows d
+count_in_system rows d =
+    let all = count_of_points d (map (around_vertex rows) (vertices rows)) (map (around_crossing rows) rows.crossings) in
+    let left = sum_of_map (λ around. count_by (same_dart d) around) (around_vertex rows) (vertices rows) in
+    let right = sum_of_map (λ around. count_by (same_dart d) around) (around_crossing rows) rows.crossings in omega arith
+
+same_ends : (a b v : ℕ) → eqb a b ≡ false → (a == v && b == v) ≡ false
+same_ends a b v h = grind (arith, nat_tests)
+
+-- the darts of an edge that is there
+module _ (rows : Rows) (paths : has_good_paths rows ≡ true) (crossings : has_good_crossings rows ≡ true) (rotations : has_good_rotations rows ≡ true)
+    (e : ℕ) (row : EdgeRow) (there : edge_row rows e ≡ Some row) where
+  row_there : IsIn row rows.edges
+  row_there = row_in rows e row there
+
+  counted_at_vertex : (v : ℕ) → IsIn v (vertices rows) → occurrences e (rotation rows v) ≡ one (row.a == v || row.b == v)
+  counted_at_vertex v h = subst (λ n. occurrences n (rotation rows v) ≡ one (row.a == v || row.b == v)) (row_id rows e row there) ((good_rotation rows rotations v h).counted row row_there)
+
+  forward_at_vertices : (s : ℕ) → at_vertices rows (forward e s) ≡ one (s == 0)
+  forward_at_vertices s =
+      sum_same (λ v. count_by (same_dart (forward e s)) (around_vertex rows v)) (λ v. cond {A = ℕ} (s == 0) (one (row.a == v)) 0) (vertices rows) (λ v h.
+      around_count (end_dart rows v) (end_dart_edge rows v) (forward e s) (rotation rows v)
+      ∙ ap (λ (r : EdgeRow). cond {A = ℕ} (same_dart (forward e s) (cond {A = Dart} (r.a == v) (forward e 0) (back e (length r.crossings)))) (occurrences e (rotation rows v)) 0) (edge_at_row rows e row there)
+      ∙ ap (λ (n : ℕ). cond {A = ℕ} (same_dart (forward e s) (cond {A = Dart} (row.a == v) (forward e 0) (back e (length row.crossings)))) n 0) (counted_at_vertex v h)
+      ∙ forward_at e s (length row.crossings) (row.a == v) (row.b == v))
+      ∙ sum_if (s == 0) (λ v. one (row.a == v)) (vertices rows)
+      ∙ ap (λ (n : ℕ). cond {A = ℕ} (s == 0) n 0) (once_in_range row.a 0 (length rows.rotations) (omega arith) (let k = (path_facts rows paths row row_there).a_in in omega arith))
+
+  back_at_vertices : (s : ℕ) → at_vertices rows (back e s) ≡ one (s == length row.crossings)
+  back_at_vertices s =
+      sum_same (λ v. count_by (same_dart (back e s)) (around_vertex rows v)) (λ v. cond {A = ℕ} (s == length row.crossings) (one (row.b == v)) 0) (vertices rows) (λ v h.
+      around_count (end_dart rows v) (end_dart_edge rows v) (back e s) (rotation rows v)
+      ∙ ap (λ (r : EdgeRow). cond {A = ℕ} (same_dart (back e s) (cond {A = Dart} (r.a == v) (forward e 0) (back e (length r.crossings)))) (occurrences e (rotation rows v)) 0) (edge_at_row rows e row there)
+      ∙ ap (λ (n : ℕ). cond {A = ℕ} (same_dart (back e s) (cond {A = Dart} (row.a == v) (forward e 0) (back e (length row.crossings)))) n 0) (counted_at_vertex v h)
+      ∙ back_at e s (length row.crossings) (row.a == v) (row.b == v) (same_ends row.a row.b v (path_facts rows paths row row_there).apart))
+      ∙ sum_if (s == length row.crossings) (λ v. one (row.b == v)) (vertices rows)
+      ∙ ap (λ (n : ℕ). cond {A = ℕ} (s == length row.crossings) n 0) (once_in_range row.b 0 (length rows.rotations) (omega arith) (let k = (path_facts rows paths row row_there).b_in in omega arith))
+
+  -- the place of x on the path of e
+  abbrev place : ℕ → ℕ
+  place x = position_or_len (λ y. y == x) row.crossings
+
+  place_is : (x : ℕ) → place_on rows e x ≡ place x
+  place_is x = ap (λ (r : EdgeRow). position_or_len (λ y. y == x) r.crossings) (edge_at_row rows e row there)
+
+  counted_at_crossing : (x : CrossRow) → IsIn x rows.crossings → one (e == x.crossed || e == x.newcomer) ≡ occurrences x.id row.crossings
+  counted_at_crossing x h = subst (λ n. one (n == x.crossed || n == x.newcomer) ≡ occurrences x.id row.crossings) (row_id rows e row there) (sym ((good_crossing rows crossings x h).counted row row_there))
+
+  forward_at_crossing : (s : ℕ) (x : CrossRow) → IsIn x rows.crossings → count_by (same_dart (forward e s)) (around_crossing rows x) ≡ cond {A = ℕ} (s == place x.id + 1) (occurrences x.id row.crossings) 0
+  forward_at_crossing s x h =
+      let four = four_forward x.sign e s x.crossed x.newcomer (place_on rows x.crossed x.id) (place_on rows x.newcomer x.id) in
+      let first = asked_of (λ a. s == place_on rows a x.id + 1) e x.crossed in
+      let second = asked_of (λ a. s == place_on rows a x.id + 1) e x.newcomer in
+      let sum : count_by (same_dart (forward e s)) (around_crossing rows x) ≡ one (e == x.crossed && s == place_on rows e x.id + 1) + one (e == x.newcomer && s == place_on rows e x.id + 1) = omega arith in
+      sum
+      ∙ either (e == x.crossed) (e == x.newcomer) (s == place_on rows e x.id + 1) (not_both e x.crossed x.newcomer (good_crossing rows crossings x h).apart)
+      ∙ ap (λ (n : ℕ). cond {A = ℕ} (s == n + 1) (one (e == x.crossed || e == x.newcomer)) 0) (place_is x.id)
+      ∙ ap (λ (n : ℕ). cond {A = ℕ} (s == place x.id + 1) n 0) (counted_at_crossing x h)
+
+  back_at_crossing : (s : ℕ) (x : CrossRow) → IsIn x rows.crossings → count_by (same_dart (back e s)) (around_crossing rows x) ≡ cond {A = ℕ} (s == place x.id) (occurrences x.id row.crossings) 0
+  back_at_crossing s x h =
+      let four = four_back x.sign e s x.crossed x.newcomer (place_on rows x.crossed x.id) (place_on rows x.newcomer x.id) in
+      let first = asked_of (λ a. s == place_on rows a x.id) e x.crossed in
+      let second = asked_of (λ a. s == place_on rows a x.id) e x.newcomer in
+      let sum : count_by (same_dart (back e s)) (around_crossing rows x) ≡ one (e == x.crossed && s == place_on rows e x.id) + one (e == x.newcomer && s == place_on rows e x.id) = omega arith in
+      sum
+      ∙ either (e == x.crossed) (e == x.newcomer) (s == place_on rows e x.id) (not_both e x.crossed x.newcomer (good_crossing rows crossings x h).apart)
+      ∙ ap (λ (n : ℕ). cond {A = ℕ} (s == n) (one (e == x.crossed || e == x.newcomer)) 0) (place_is x.id)
+      ∙ ap (λ (n : ℕ). cond {A = ℕ} (s == place x.id) n 0) (counted_at_crossing x h)
