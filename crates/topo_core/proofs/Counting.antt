@@ -12,7 +12,12 @@ use Rattle.topo_core.proofs.Members.{counted_at, eq_true, right_true, left_true}
 abbrev pub one : Bool → ℕ
 one b = cond {A = ℕ} b 1 0
 
--- ---- Tests of numbers
+-- ---- Tests
+
+-- a test is true or false
+pub is_or_not : (b : Bool) → (b ≡ true) ⊎ (b ≡ false)
+is_or_not true = inl refl
+is_or_not false = inr refl
 
 pub eqb_is : (m n : ℕ) → m ≡ n → eqb m n ≡ true
 eqb_is m n h = grind (arith, nat_tests)
@@ -147,12 +152,21 @@ once_in_range k a (suc n) low high = by_test (λ more. once_in_range k (a + 1) n
       let here : one (k == a) ≡ 0 = ap one e in
       let rest = later (past k a e low) in omega (arith, step)
 
--- ---- Places in a list of numbers
+past_range : (k a n : ℕ) → a + n ≤ k → sum_by (λ v. one (k == v)) (range_with_len a n) ≡ 0
+past_range k a zero high = refl
+past_range k a (suc n) high =
+    let step = sum_by-cons (λ v. one (k == v)) a (range_with_len (a + 1) n) in
+    let here : one (k == a) ≡ 0 = ap one (eqb_more k a (omega arith)) in
+    let rest = past_range k (a + 1) n (omega arith) in omega arith
 
--- a test is true or false
-pub is_or_not : (b : Bool) → (b ≡ true) ⊎ (b ≡ false)
-is_or_not true = inl refl
-is_or_not false = inr refl
+-- how often k stands in the range of the first n numbers
+pub in_first : (k n : ℕ) → sum_by (λ v. one (k == v)) (range_with_len 0 n) ≡ one (nat_lt k n)
+in_first k n = elim (is_or_not (nat_lt k n)) [
+  | inl e ↦ once_in_range k 0 n (omega arith) (let h = lt_of_test k n e in omega arith) ∙ sym (ap one e)
+  | inr e ↦ past_range k 0 n (let h = le_of_test k n e in omega arith) ∙ sym (ap one e)
+]
+
+-- ---- Places in a list of numbers
 
 pub weigh_yes : (t : Bool) (n : ℕ) → t ≡ true → cond {A = ℕ} t n 0 ≡ n
 weigh_yes t n e = ap (λ (b : Bool). cond {A = ℕ} b n 0) e

@@ -2,6 +2,7 @@
 use Rattle.std.proofs.Common.{◌≡◌, ◌&&◌, ◌+◌, ◌<◌, ◌≤◌, ◌||◌, ap, arith, Bool, cond, eqb, false, inl, inr, length, List, None, not, refl, Some, subst, suc, sym, true, zero, ℕ, [], ◌++◌, ◌∙◌, ◌∷◌}
 use Rattle.std.specs.Prelude.{count_by, find, flat_map, if◌then◌else◌, is_some, map, nat_lt, Option, option_map, slice_get, sum_by, unwrap_or, ◌==◌, ◌⊎◌}
 use Rattle.std.specs.List.{list_all, list_any, position_or_len, range_with_len}
+use Rattle.std.proofs.lemmas.Bool.{false≢true}
 use Rattle.std.proofs.lemmas.Bool.Decides.{nat_tests}
 use Rattle.std.proofs.lemmas.List.Sums.{sum_by-append, sum_by-cons}
 use Rattle.topo_core.specs.declared.darts.Dart.{Dart}
@@ -18,9 +19,9 @@ use Rattle.topo_core.specs.Lawful.{has_good_crossings, has_good_path, has_good_p
 use Rattle.topo_core.specs.Picture.{ahead, around_crossing, around_vertex, behind, clockwise, cross_row, darts, darts_of, edge_at, edge_row, end_dart, IsDart, place_on, rotation, segment_count, system, vertices}
 use Rattle.topo_core.specs.Pictures.{back, forward}
 use Rattle.topo_core.specs.Systems.{darts_in, has_dart}
-use Rattle.topo_core.proofs.Counting.{counted_any, eqb_is, eqb_less, eqb_more, eqb_symm, is_or_not, le_of_test, lt_of_test, lt_test, not_lt_test, once_in_range, one, place_past, place_test, sum_found, sum_if, sum_joined, sum_nothing, sum_of_map, sum_same, weigh_no, weigh_yes}
+use Rattle.topo_core.proofs.Counting.{counted_any, eqb_is, eqb_less, eqb_more, eqb_symm, in_first, is_or_not, le_of_test, lt_of_test, lt_test, not_lt_test, once_in_range, one, place_past, place_test, sum_found, sum_if, sum_joined, sum_nothing, sum_of_map, sum_same, weigh_no, weigh_yes}
 use Rattle.topo_core.proofs.Members.{counted_at, eq_true, in_range, left_true, right_true, test_of_each}
-use Rattle.topo_core.proofs.SystemDarts.{edge_at_row, eqb_self, path_facts, row_id, row_in, some_of}
+use Rattle.topo_core.proofs.SystemDarts.{crossing_there, edge_at_row, eqb_self, get_there, in_at, path_facts, row_id, row_in, some_of}
 
 -- ---- The test of two darts by their parts
 
@@ -142,6 +143,28 @@ count_of_points d before after =
     sum_joined (λ c. one (same_dart d c)) (λ around. around) (before ++ after)
     ∙ sum_by-append (λ around. count_by (same_dart d) around) before after
 
+-- ---- Tests and sums of them
+
+one_at_most : (t : Bool) → one t ≤ 1
+one_at_most true = omega arith
+one_at_most false = omega arith
+
+weigh_zero : (t : Bool) → cond {A = ℕ} t 0 0 ≡ 0
+weigh_zero true = refl
+weigh_zero false = refl
+
+eqb_next : (m n : ℕ) → eqb (suc m) (n + 1) ≡ eqb m n
+eqb_next m n = grind (arith, nat_tests)
+
+first_segment : (n : ℕ) → one (nat_lt 0 (n + 1)) ≡ 1
+first_segment n = ap one (lt_test 0 (n + 1) (omega arith))
+
+next_segment : (s n : ℕ) → one (suc s == 0) + one (nat_lt s n) ≡ one (nat_lt (suc s) (n + 1))
+next_segment s n = grind (arith, nat_tests)
+
+last_segment : (s n : ℕ) → one (s == n) + one (nat_lt s n) ≡ one (nat_lt s (n + 1))
+last_segment s n = grind (arith, nat_tests)
+
 -- ---- Good rows
 
 -- what the tests say of a crossing
@@ -259,3 +282,148 @@ module _ (rows : Rows) (paths : has_good_paths rows ≡ true) (crossings : has_g
       ∙ either (e == x.crossed) (e == x.newcomer) (s == place_on rows e x.id) (not_both e x.crossed x.newcomer (good_crossing rows crossings x h).apart)
       ∙ ap (λ (n : ℕ). cond {A = ℕ} (s == n) (one (e == x.crossed || e == x.newcomer)) 0) (place_is x.id)
       ∙ ap (λ (n : ℕ). cond {A = ℕ} (s == place x.id) n 0) (counted_at_crossing x h)
+
+  -- each crossing stands at most once on the path
+  at_most_once : (x : CrossRow) → IsIn x rows.crossings → occurrences x.id row.crossings ≤ 1
+  at_most_once x h = let counted = counted_at_crossing x h in let k = one_at_most (e == x.crossed || e == x.newcomer) in omega arith
+
+  -- the crossings whose place is s: one, where the path has a place s
+  at_place : (s : ℕ) → sum_by (λ x. cond {A = ℕ} (s == place x.id) (occurrences x.id row.crossings) 0) rows.crossings ≡ one (nat_lt s (length row.crossings))
+  at_place s = elim (is_or_not (nat_lt s (length row.crossings))) [
+    | inl inside ↦
+        let at = get_there row.crossings s (lt_of_test s (length row.crossings) inside) in
+        let named = some_of (cross_row rows at.0) (crossing_there rows paths row row_there at.0 (in_at at.0 row.crossings s at.1)) in
+        sum_same (λ x. cond {A = ℕ} (s == place x.id) (occurrences x.id row.crossings) 0) (λ x. one (x.id == at.0)) rows.crossings (λ x h. place_test row.crossings s at.0 x.id at.1 (at_most_once x h))
+        ∙ sum_found (λ x. x.id) (λ x. 1) rows.next_crossing at.0 rows.crossings (left_true (rises_below rows.next_crossing (map (λ x. x.id) rows.crossings)) (list_all (is_good_crossing rows) rows.crossings) crossings)
+        ∙ ap (λ (o : Option CrossRow). unwrap_or (option_map (λ x. 1) o) 0) named.1
+        ∙ sym (ap one inside)
+    | inr past ↦
+        sum_nothing (λ x. cond {A = ℕ} (s == place x.id) (occurrences x.id row.crossings) 0) rows.crossings (λ x h. place_past row.crossings s x.id (le_of_test s (length row.crossings) past))
+        ∙ sym (ap one past)
+  ]
+
+  back_at_crossings : (s : ℕ) → at_crossings rows (back e s) ≡ one (nat_lt s (length row.crossings))
+  back_at_crossings s = sum_same (λ x. count_by (same_dart (back e s)) (around_crossing rows x)) (λ x. cond {A = ℕ} (s == place x.id) (occurrences x.id row.crossings) 0) rows.crossings (back_at_crossing s) ∙ at_place s
+
+  no_forward_at_crossings : at_crossings rows (forward e 0) ≡ 0
+  no_forward_at_crossings = sum_nothing (λ x. count_by (same_dart (forward e 0)) (around_crossing rows x)) rows.crossings (λ x h.
+      forward_at_crossing 0 x h ∙ weigh_no (0 == place x.id + 1) (occurrences x.id row.crossings) (eqb_less 0 (place x.id + 1) (omega arith)))
+
+  forward_at_crossings : (s : ℕ) → at_crossings rows (forward e (suc s)) ≡ one (nat_lt s (length row.crossings))
+  forward_at_crossings s = sum_same (λ x. count_by (same_dart (forward e (suc s))) (around_crossing rows x)) (λ x. cond {A = ℕ} (s == place x.id) (occurrences x.id row.crossings) 0) rows.crossings (λ x h.
+      forward_at_crossing (suc s) x h ∙ ap (λ (t : Bool). cond {A = ℕ} t (occurrences x.id row.crossings) 0) (eqb_next s (place x.id))) ∙ at_place s
+
+  forward_stands : (s : ℕ) → count_by (same_dart (forward e s)) (darts_in (system rows)) ≡ one (nat_lt s (segment_count row))
+  forward_stands zero = let all = count_in_system rows (forward e 0) in let v = forward_at_vertices 0 in let x = no_forward_at_crossings in let w = first_segment (length row.crossings) in omega arith
+  forward_stands (suc s) = let all = count_in_system rows (forward e (suc s)) in let v = forward_at_vertices (suc s) in let x = forward_at_crossings s in let w = next_segment s (length row.crossings) in omega arith
+
+  back_stands : (s : ℕ) → count_by (same_dart (back e s)) (darts_in (system rows)) ≡ one (nat_lt s (segment_count row))
+  back_stands s = let all = count_in_system rows (back e s) in let v = back_at_vertices s in let x = back_at_crossings s in let w = last_segment s (length row.crossings) in omega arith
+
+-- the edge that is not there has no darts
+module _ (rows : Rows) (crossings : has_good_crossings rows ≡ true) (rotations : has_good_rotations rows ≡ true) (d : Dart) (missing : edge_row rows d.edge ≡ None) where
+  apart_from : (e : ℕ) → is_some (edge_row rows e) ≡ true → eqb e d.edge ≡ false
+  apart_from e known = elim (is_or_not (e == d.edge)) [
+    | inl same ↦ absurd (false≢true (sym (ap is_some missing) ∙ ap (λ n. is_some (edge_row rows n)) (sym (eq_true e d.edge same)) ∙ known))
+    | inr apart ↦ apart
+  ]
+
+  none_at_vertices : at_vertices rows d ≡ 0
+  none_at_vertices = sum_nothing (λ v. count_by (same_dart d) (around_vertex rows v)) (vertices rows) (λ v h.
+      around_count (end_dart rows v) (end_dart_edge rows v) d (rotation rows v)
+      ∙ ap (λ (n : ℕ). cond {A = ℕ} (same_dart d (end_dart rows v d.edge)) n 0) (sum_nothing (λ e. one (e == d.edge)) (rotation rows v) (λ e k. ap one (apart_from e ((good_rotation rows rotations v h).known e k))))
+      ∙ weigh_zero (same_dart d (end_dart rows v d.edge)))
+
+  none_around : (sign : Sign) (a b p q : ℕ) → is_some (edge_row rows a) ≡ true → is_some (edge_row rows b) ≡ true → count_by (same_dart d) (clockwise sign (forward a (p + 1)) (back a p) (forward b (q + 1)) (back b q)) ≡ 0
+  none_around sign a b p q a_there b_there =
+      let of_a = eqb_symm d.edge a ∙ apart_from a a_there in
+      let of_b = eqb_symm d.edge b ∙ apart_from b b_there in
+      let first : one (same_dart d (forward a (p + 1))) ≡ 0 = ap one (other_edge d (forward a (p + 1)) of_a) in
+      let second : one (same_dart d (back a p)) ≡ 0 = ap one (other_edge d (back a p) of_a) in
+      let third : one (same_dart d (forward b (q + 1))) ≡ 0 = ap one (other_edge d (forward b (q + 1)) of_b) in
+      let fourth : one (same_dart d (back b q)) ≡ 0 = ap one (other_edge d (back b q) of_b) in
+      elim sign as (λ sign. count_by (same_dart d) (clockwise sign (forward a (p + 1)) (back a p) (forward b (q + 1)) (back b q)) ≡ 0) [
+        | LeftToRight ↦ omega arith
+        | RightToLeft ↦ omega arith
+      ]
+
+  none_at_crossings : at_crossings rows d ≡ 0
+  none_at_crossings = sum_nothing (λ x. count_by (same_dart d) (around_crossing rows x)) rows.crossings (λ x h.
+      let good = good_crossing rows crossings x h in none_around x.sign x.crossed x.newcomer (place_on rows x.crossed x.id) (place_on rows x.newcomer x.id) good.crossed good.newcomer)
+
+  none_stands : count_by (same_dart d) (darts_in (system rows)) ≡ 0
+  none_stands = let all = count_in_system rows d in let v = none_at_vertices in let x = none_at_crossings in omega arith
+
+-- ---- All darts
+
+-- d is a dart of the rows, as a test
+abbrev pub is_of_rows : Rows → Dart → Bool
+is_of_rows rows d = is_some (edge_row rows d.edge) && nat_lt d.seg (segment_count (edge_at rows d.edge))
+
+some_or_none : {X : Type 0} (o : Option X) → ((x : X) × (o ≡ Some x)) ⊎ (o ≡ None)
+some_or_none None = inr refl
+some_or_none (Some x) = inl (x, refl)
+
+of_row : (rows : Rows) (d : Dart) (row : EdgeRow) → edge_row rows d.edge ≡ Some row → is_of_rows rows d ≡ nat_lt d.seg (segment_count row)
+of_row rows d row there = ap (λ (o : Option EdgeRow). is_some o && nat_lt d.seg (segment_count (edge_at rows d.edge))) there ∙ ap (λ (r : EdgeRow). nat_lt d.seg (segment_count r)) (edge_at_row rows d.edge row there)
+
+of_no_row : (rows : Rows) (d : Dart) → edge_row rows d.edge ≡ None → is_of_rows rows d ≡ false
+of_no_row rows d missing = ap (λ (o : Option EdgeRow). is_some o && nat_lt d.seg (segment_count (edge_at rows d.edge))) missing
+
+-- a dart stands once in the system if it is a dart of the rows, and else never
+pub stands_once : (rows : Rows) → has_good_paths rows ≡ true → has_good_crossings rows ≡ true → has_good_rotations rows ≡ true → (d : Dart) → count_by (same_dart d) (darts_in (system rows)) ≡ one (is_of_rows rows d)
+stands_once rows paths crossings rotations d = elim (some_or_none (edge_row rows d.edge)) [
+  | inl (row, there) ↦
+      let by_way : count_by (same_dart d) (darts_in (system rows)) ≡ one (nat_lt d.seg (segment_count row)) =
+          elim d.way as (λ w. count_by (same_dart (record { edge = d.edge; seg = d.seg; way = w })) (darts_in (system rows)) ≡ one (nat_lt d.seg (segment_count row))) [
+            | Forward ↦ forward_stands rows paths crossings rotations d.edge row there d.seg
+            | Back ↦ back_stands rows paths crossings rotations d.edge row there d.seg
+          ] in
+      by_way ∙ sym (ap one (of_row rows d row there))
+  | inr missing ↦ none_stands rows crossings rotations d missing ∙ sym (ap one (of_no_row rows d missing))
+]
+
+-- ---- The list of the darts
+
+both_ways_count : (d : Dart) (e s : ℕ) → count_by (same_dart d) (both_ways e s) ≡ one (d.edge == e && d.seg == s)
+both_ways_count d e s = elim d.way as (λ w. count_by (same_dart (record { edge = d.edge; seg = d.seg; way = w })) (both_ways e s) ≡ one (d.edge == e && d.seg == s)) [
+  | Forward ↦
+      let first : one (same_dart (forward d.edge d.seg) (forward e s)) ≡ one (d.edge == e && d.seg == s) = ap one (forward_forward d.edge d.seg e s) in
+      let second : one (same_dart (forward d.edge d.seg) (back e s)) ≡ 0 = ap one (forward_back d.edge d.seg e s) in omega arith
+  | Back ↦
+      let first : one (same_dart (back d.edge d.seg) (forward e s)) ≡ 0 = ap one (back_forward d.edge d.seg e s) in
+      let second : one (same_dart (back d.edge d.seg) (back e s)) ≡ one (d.edge == e && d.seg == s) = ap one (back_back d.edge d.seg e s) in omega arith
+]
+
+one_of_both : (t u : Bool) → one (t && u) ≡ cond {A = ℕ} t (one u) 0
+one_of_both true u = refl
+one_of_both false u = refl
+
+of_edge_count : (d : Dart) (row : EdgeRow) → count_by (same_dart d) (darts_of row) ≡ cond {A = ℕ} (row.id == d.edge) (one (nat_lt d.seg (segment_count row))) 0
+of_edge_count d row =
+    sum_joined (λ c. one (same_dart d c)) (both_ways row.id) (range_with_len 0 (segment_count row))
+    ∙ sum_same (λ s. count_by (same_dart d) (both_ways row.id s)) (λ s. cond {A = ℕ} (d.edge == row.id) (one (d.seg == s)) 0) (range_with_len 0 (segment_count row)) (λ s h. both_ways_count d row.id s ∙ one_of_both (d.edge == row.id) (d.seg == s))
+    ∙ sum_if (d.edge == row.id) (λ s. one (d.seg == s)) (range_with_len 0 (segment_count row))
+    ∙ ap (λ (n : ℕ). cond {A = ℕ} (d.edge == row.id) n 0) (in_first d.seg (segment_count row))
+    ∙ ap (λ (t : Bool). cond {A = ℕ} t (one (nat_lt d.seg (segment_count row))) 0) (eqb_symm d.edge row.id)
+
+-- and so it is in the list of the darts
+pub listed_once : (rows : Rows) → has_good_paths rows ≡ true → (d : Dart) → count_by (same_dart d) (darts rows) ≡ one (is_of_rows rows d)
+listed_once rows paths d =
+    let all = sum_joined (λ c. one (same_dart d c)) darts_of rows.edges
+        ∙ sum_same (λ row. count_by (same_dart d) (darts_of row)) (λ row. cond {A = ℕ} (row.id == d.edge) (one (nat_lt d.seg (segment_count row))) 0) rows.edges (λ row h. of_edge_count d row)
+        ∙ sum_found (λ row. row.id) (λ row. one (nat_lt d.seg (segment_count row))) rows.next_edge d.edge rows.edges (left_true (rises_below rows.next_edge (map (λ row. row.id) rows.edges)) (list_all (has_good_path rows) rows.edges) paths) in
+    elim (some_or_none (edge_row rows d.edge)) [
+      | inl (row, there) ↦ all ∙ ap (λ (o : Option EdgeRow). unwrap_or (option_map (λ row. one (nat_lt d.seg (segment_count row))) o) 0) there ∙ sym (ap one (of_row rows d row there))
+      | inr missing ↦ all ∙ ap (λ (o : Option EdgeRow). unwrap_or (option_map (λ row. one (nat_lt d.seg (segment_count row))) o) 0) missing ∙ sym (ap one (of_no_row rows d missing))
+    ]
+
+-- the darts of the rows are those that pass the test
+pub is_dart_of_rows : (rows : Rows) (d : Dart) → IsDart rows d → is_of_rows rows d ≡ true
+is_dart_of_rows rows d (row, there, inside) = of_row rows d row there ∙ lt_test d.seg (segment_count row) inside
+
+pub of_rows_is_dart : (rows : Rows) (d : Dart) → is_of_rows rows d ≡ true → IsDart rows d
+of_rows_is_dart rows d passes = elim (some_or_none (edge_row rows d.edge)) [
+  | inl (row, there) ↦ (row, there, lt_of_test d.seg (segment_count row) (sym (of_row rows d row there) ∙ passes))
+  | inr missing ↦ absurd (false≢true (sym (of_no_row rows d missing) ∙ passes))
+]
