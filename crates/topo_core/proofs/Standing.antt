@@ -427,3 +427,11 @@ of_rows_is_dart rows d passes = elim (some_or_none (edge_row rows d.edge)) [
   | inl (row, there) ↦ (row, there, lt_of_test d.seg (segment_count row) (sym (of_row rows d row there) ∙ passes))
   | inr missing ↦ absurd (false≢true (sym (of_no_row rows d missing) ∙ passes))
 ]
+
+-- the test of a dart, by the list of the darts
+pub listed_test : (rows : Rows) → has_good_paths rows ≡ true → (d : Dart) → has_dart (darts rows) d ≡ is_of_rows rows d
+listed_test rows paths d = counted_any (same_dart d) (darts rows) (is_of_rows rows d) (listed_once rows paths d)
+
+-- the same darts stand round the points and in the list
+pub system_test : (rows : Rows) → has_good_paths rows ≡ true → has_good_crossings rows ≡ true → has_good_rotations rows ≡ true → (d : Dart) → has_dart (darts_in (system rows)) d ≡ has_dart (darts rows) d
+system_test rows paths crossings rotations d = counted_any (same_dart d) (darts_in (system rows)) (is_of_rows rows d) (stands_once rows paths crossings rotations d) ∙ sym (listed_test rows paths d)

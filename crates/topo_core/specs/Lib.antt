@@ -5,6 +5,7 @@ pub mod Edits
 pub mod History
 pub mod Items
 pub mod Lawful
+pub mod Laws
 pub mod Limits
 pub mod Picture
 pub mod Pictures

@@ -11,6 +11,7 @@
 pub mod calls;
 pub mod darts;
 pub mod ids;
+pub mod laws;
 pub mod limits;
 pub mod listed;
 pub mod routes;
