@@ -1,7 +1,10 @@
 pub mod Connection
+pub mod Counting
 pub mod DartLaws
 pub mod Growing
 pub mod Members
+pub mod NewDarts
+pub mod Standing
 pub mod SystemDarts
 pub mod DartOrder
 pub mod Certificates
