@@ -4,5 +4,7 @@ pub mod DartLaws
 pub mod Growing
 pub mod Members
 pub mod NewDarts
+pub mod Numbering
 pub mod Standing
 pub mod SystemDarts
+pub mod Turning

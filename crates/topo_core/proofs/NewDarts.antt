@@ -77,10 +77,10 @@ turn_second (around ∷ s) t d h =
     ∙ turn_second s t d (or_right_false (has_dart around d) (stands_in s d) both)
 
 -- the turn at the point where d stands, if it stands at none before
-turn_at : (around : List Dart) (t : System) (d : Dart) → has_dart around d ≡ true → turn (around ∷ t) d ≡ follower (slice_index_or around 0 d) around d
+pub turn_at : (around : List Dart) (t : System) (d : Dart) → has_dart around d ≡ true → turn (around ∷ t) d ≡ follower (slice_index_or around 0 d) around d
 turn_at around t d h = ap (λ (b : Bool). cond b (follower (slice_index_or around 0 d) around d) (turn t d)) h
 
-turn_past : (around : List Dart) (t : System) (d : Dart) → has_dart around d ≡ false → turn (around ∷ t) d ≡ turn t d
+pub turn_past : (around : List Dart) (t : System) (d : Dart) → has_dart around d ≡ false → turn (around ∷ t) d ≡ turn t d
 turn_past around t d h = ap (λ (b : Bool). cond b (follower (slice_index_or around 0 d) around d) (turn t d)) h
 
 -- ---- One dart more in a list
