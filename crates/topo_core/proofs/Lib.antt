@@ -5,6 +5,7 @@ pub mod Growing
 pub mod Members
 pub mod NewDarts
 pub mod Numbering
+pub mod Renumbering
 pub mod Standing
 pub mod SystemDarts
 pub mod Turning

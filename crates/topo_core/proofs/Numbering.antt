@@ -4,6 +4,7 @@ use Rattle.std.specs.Prelude.{count_by, flat_map, map, slice_get, slice_index, �
 use Rattle.std.specs.List.{position_or_len, range_with_len}
 use Rattle.std.proofs.lemmas.Bool.{false≢true}
 use Rattle.std.proofs.lemmas.Bool.Decides.{nat_tests}
+use Rattle.std.proofs.lemmas.List.{length-map}
 use Rattle.std.proofs.lemmas.List.Sums.{sum_by-cons}
 use Rattle.topo_core.specs.declared.darts.Dart.{Dart}
 use Rattle.topo_core.specs.declared.rows.EdgeRow.{EdgeRow}
@@ -78,19 +79,10 @@ place_less (c ∷ ds) d h = elim (is_or_not (same_dart d c)) [
   | inr e ↦ let next = place_later ds c d e in let rest = place_less ds d (later (same_dart d c) (has_dart ds d) e h) in omega arith
 ]
 
-some_place : (ds : List Dart) (i : ℕ) → i < length ds → (d : Dart) × (slice_get ds i ≡ Some d)
-some_place [] i h = absurd (omega arith)
-some_place (d ∷ ds) zero h = (d, refl)
-some_place (d ∷ ds) (suc i) h = some_place ds i (omega arith)
-
 index_of_map : (f : Dart → ℕ) (ds : List Dart) (i : ℕ) (d : Dart) → slice_get ds i ≡ Some d → slice_index (map f ds) i ≡ f d
 index_of_map f [] i d e = cc
 index_of_map f (c ∷ ds) zero d e = let same : c ≡ d = cc in ap f same
 index_of_map f (c ∷ ds) (suc i) d e = index_of_map f ds i d e
-
-length_of_map : (f : Dart → ℕ) (ds : List Dart) → length (map f ds) ≡ length ds
-length_of_map f [] = refl
-length_of_map f (d ∷ ds) = ap suc (length_of_map f ds)
 
 -- ---- Twins stand side by side
 
@@ -181,8 +173,8 @@ twin_in rows d h = (place_twin (darts rows) (paired_edges rows.edges) d h).1
 pub index_twin : (rows : Rows) (d : Dart) → has_dart (darts rows) d ≡ true → index_of rows (dart_twin d) ≡ twin (index_of rows d)
 index_twin rows d h = (place_twin (darts rows) (paired_edges rows.edges) d h).0
 
-images_length : (rows : Rows) → length (turn_images rows) ≡ length (darts rows)
-images_length rows = length_of_map (λ d. index_of rows (turn (system rows) d)) (darts rows)
+pub images_length : (rows : Rows) → length (turn_images rows) ≡ length (darts rows)
+images_length rows = length-map (darts rows) (λ d. index_of rows (turn (system rows) d))
 
 pub even_images : (rows : Rows) → length (turn_images rows) % 2 ≡ 0
 even_images rows = ap (λ n. n % 2) (images_length rows) ∙ paired_even (darts rows) (paired_edges rows.edges)
@@ -220,14 +212,14 @@ module _ (rows : Rows) (paths : has_good_paths rows ≡ true) where
     pub turns_apart : (c d : Dart) → has_dart (darts rows) c ≡ true → has_dart (darts rows) d ≡ true → turn (system rows) c ≡ turn (system rows) d → c ≡ d
     turns_apart c d c_in d_in e = turn_apart (system rows) distinct_system c d (system_test rows paths crossings rotations c ∙ c_in) (system_test rows paths crossings rotations d ∙ d_in) e
 
-    -- a number below the number of darts, as a dart
+    -- the dart with a number
     pub dart_at : (i : ℕ) → i < length (turn_images rows) → (d : Dart) × (slice_get (darts rows) i ≡ Some d)
-    dart_at i h = some_place (darts rows) i (subst (λ n. i < n) (images_length rows) h)
+    dart_at i h = get_there (darts rows) i (subst (λ n. i < n) (images_length rows) h)
 
     image_at : (i : ℕ) (d : Dart) → slice_get (darts rows) i ≡ Some d → map_of (turn_images rows) i ≡ index_of rows (turn (system rows) d)
     image_at i d e = index_of_map (λ d. index_of rows (turn (system rows) d)) (darts rows) i d e
 
-    index_less : (d : Dart) → has_dart (darts rows) d ≡ true → index_of rows d < length (turn_images rows)
+    pub index_less : (d : Dart) → has_dart (darts rows) d ≡ true → index_of rows d < length (turn_images rows)
     index_less d h = subst (λ n. index_of rows d < n) (sym (images_length rows)) (place_less (darts rows) d h)
 
     -- the images of the turn are a permutation
