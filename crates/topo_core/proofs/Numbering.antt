@@ -1,6 +1,6 @@
 -- The darts of an embedding as numbers: what turns, twins and moves are on darts, they are on the numbers.
-use Rattle.std.proofs.Common.{◌≡◌, ◌&&◌, ◌+◌, ◌<◌, ◌≤◌, ◌||◌, ap, arith, Bool, cond, eqb, false, inl, inr, length, List, not, refl, Some, subst, suc, sym, true, zero, ℕ, [], ◌++◌, ◌∙◌, ◌∷◌}
-use Rattle.std.specs.Prelude.{count_by, flat_map, map, slice_get, slice_index, ◌%◌, ◌-◌, ◌==◌, ◌⊎◌}
+use Rattle.std.proofs.Common.{◌≡◌, ◌+◌, ◌<◌, ◌≤◌, ◌||◌, ap, arith, Bool, cond, false, inl, inr, length, List, not, refl, Some, subst, suc, sym, true, zero, ℕ, [], ◌++◌, ◌∙◌, ◌∷◌}
+use Rattle.std.specs.Prelude.{flat_map, map, slice_get, slice_index, ◌%◌}
 use Rattle.std.specs.List.{position_or_len, range_with_len}
 use Rattle.std.proofs.lemmas.Bool.{false≢true}
 use Rattle.std.proofs.lemmas.Bool.Decides.{nat_tests}
@@ -17,7 +17,7 @@ use Rattle.topo_core.specs.Rotations.{twin}
 use Rattle.topo_core.specs.Systems.{darts_in, has_dart, turn}
 use Rattle.topo_core.proofs.Counting.{any_counted, is_or_not, one}
 use Rattle.topo_core.proofs.DartLaws.{same_dart_self, same_dart_true, twin-twin, twin_apart}
-use Rattle.topo_core.proofs.NewDarts.{has_dart-append, or_either, or_true_left, or_true_right}
+use Rattle.topo_core.proofs.NewDarts.{or_true_left, or_true_right}
 use Rattle.topo_core.proofs.Standing.{is_of_rows, listed_once, stands_once, system_test}
 use Rattle.topo_core.proofs.SystemDarts.{get_there}
 use Rattle.topo_core.proofs.Turning.{IsDistinct, turn_apart, turn_in}

@@ -1,5 +1,5 @@
 -- Darts and their numbers have the same connections and the same faces.
-use Rattle.std.proofs.Common.{◌≡◌, ◌<◌, ap, length, List, refl, subst, suc, sym, true, zero, ℕ, [], ◌∙◌, ◌∷◌}
+use Rattle.std.proofs.Common.{◌≡◌, ap, List, refl, subst, suc, sym, true, zero, ℕ, [], ◌∙◌, ◌∷◌}
 use Rattle.topo_core.specs.declared.darts.Dart.{Dart}
 use Rattle.topo_core.specs.declared.rows.Rows.{Rows}
 use Rattle.topo_core.specs.Cycles.{after, map_of, SameCycle}
@@ -8,7 +8,7 @@ use Rattle.topo_core.specs.Lawful.{has_good_crossings, has_good_paths, has_good_
 use Rattle.topo_core.specs.Picture.{darts, index_of, system, turn_images}
 use Rattle.topo_core.specs.Rotations.{along, Cross, face_next, IsConnected, Joined, Move, Turn, twin}
 use Rattle.topo_core.specs.Systems.{darts_in, face_step, has_dart, SameFace, turn}
-use Rattle.topo_core.proofs.Numbering.{dart_at, even_images, get_index, has_at, image_of, index_apart, index_less, index_of_get, index_twin, turn_stays, twin_in}
+use Rattle.topo_core.proofs.Numbering.{dart_at, has_at, image_of, index_apart, index_less, index_of_get, index_twin, turn_stays, twin_in}
 use Rattle.topo_core.proofs.Standing.{system_test}
 
 -- h carries the members that P holds of, and what f makes of them, to what g makes of their images

@@ -1,6 +1,6 @@
 -- The turn of a system in which no dart stands twice leads its darts to its darts, no two to the same.
-use Rattle.std.proofs.Common.{◌≡◌, ◌+◌, ◌≤◌, ◌||◌, ap, arith, Bool, cond, false, inl, inr, List, refl, subst, sym, true, ℕ, [], ◌++◌, ◌∙◌, ◌∷◌}
-use Rattle.std.specs.Prelude.{count_by, slice_index_or, ◌⊎◌}
+use Rattle.std.proofs.Common.{◌≡◌, ◌≤◌, ◌||◌, ap, arith, Bool, cond, false, inl, inr, List, refl, subst, sym, true, [], ◌++◌, ◌∙◌, ◌∷◌}
+use Rattle.std.specs.Prelude.{count_by, slice_index_or}
 use Rattle.std.proofs.lemmas.Bool.{false≢true}
 use Rattle.std.proofs.lemmas.List.Sums.{sum_by-append, sum_by-cons}
 use Rattle.topo_core.specs.declared.darts.Dart.{Dart}
@@ -8,7 +8,7 @@ use Rattle.topo_core.specs.Darts.{same_dart}
 use Rattle.topo_core.specs.Systems.{darts_in, follower, has_dart, System, turn}
 use Rattle.topo_core.proofs.Counting.{any_counted, is_or_not, one}
 use Rattle.topo_core.proofs.DartLaws.{same_dart_self, same_dart_true}
-use Rattle.topo_core.proofs.NewDarts.{has_dart-append, or_either, or_left_false, or_right_false, or_true_left, or_true_right, stands_in, turn_at, turn_past}
+use Rattle.topo_core.proofs.NewDarts.{has_dart-append, or_either, or_right_false, or_true_left, or_true_right, stands_in, turn_at, turn_past}
 
 -- no dart stands twice in the list
 pub record IsDistinct (ds : List Dart) : Type 0 where

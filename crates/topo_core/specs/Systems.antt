@@ -1,5 +1,5 @@
 -- Rotation systems on darts: faces, connectedness, and what is left when darts are taken out.
-use Rattle.std.specs.Prelude.{◌≡◌, ◌==◌, ℕ, Bool, true, false, cond, not, List, [], ◌∷◌, map, filter, flat_map, length, slice_index_or}
+use Rattle.std.specs.Prelude.{◌≡◌, ◌==◌, Bool, true, false, cond, not, List, [], ◌∷◌, map, filter, flat_map, length, slice_index_or}
 use Rattle.std.specs.List.{list_any}
 use Rattle.topo_core.specs.declared.darts.Dart.{Dart}
 use Rattle.topo_core.specs.Cycles.{SameCycle}

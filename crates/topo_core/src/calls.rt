@@ -21,11 +21,7 @@ pub enum Call {
 pub enum Command {
     Plain(Call),
     /// An insertion whose route is looked for on a version of the picture, outside the lock.
-    Planned {
-        u: u32,
-        v: u32,
-        kind: u32,
-    },
+    Planned { u: u32, v: u32, kind: u32 },
 }
 
 /// Why a call changes nothing.
