@@ -1,6 +1,6 @@
 -- Sums and counts over lists, and what stands in a list whose ids rise.
-use Rattle.std.proofs.Common.{◌≡◌, ◌&&◌, ◌+◌, ◌<◌, ◌≤◌, ◌||◌, ap, arith, Bool, cond, eqb, false, inl, inr, length, List, None, not, refl, Some, subst, suc, sym, true, zero, ℕ, [], ◌++◌, ◌∙◌, ◌∷◌}
-use Rattle.std.specs.Prelude.{count_by, find, flat_map, is_some, map, nat_lt, Option, option_map, slice_get, slice_index_or, sum_by, unwrap_or, ◌==◌, ◌⊎◌}
+use Rattle.std.proofs.Common.{◌≡◌, ◌+◌, ◌<◌, ◌≤◌, ◌||◌, ap, arith, Bool, cond, eqb, false, inl, inr, length, List, not, refl, Some, subst, suc, sym, true, zero, ℕ, [], ◌∙◌, ◌∷◌}
+use Rattle.std.specs.Prelude.{count_by, find, flat_map, map, nat_lt, option_map, slice_get, sum_by, unwrap_or, ◌==◌, ◌⊎◌}
 use Rattle.std.specs.List.{list_any, position_or_len, range_with_len}
 use Rattle.std.proofs.lemmas.Bool.{false≢true}
 use Rattle.std.proofs.lemmas.Bool.Decides.{nat_tests}
@@ -84,7 +84,6 @@ sum_joined g f (x ∷ xs) =
 pub sum_if : {X : Type 0} (t : Bool) (f : X → ℕ) (xs : List X) → sum_by (λ x. cond t (f x) 0) xs ≡ cond t (sum_by f xs) 0
 sum_if true f xs = refl
 sum_if false f xs = sum_nothing (λ x. 0) xs (λ x h. refl)
-
 
 -- ---- Ids that rise
 

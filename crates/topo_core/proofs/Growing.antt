@@ -487,19 +487,19 @@ module _ (rows : Rows) (u p kind : ℕ) (paths : has_good_paths rows ≡ true) (
   system_after : has_good_crossings rows ≡ true → system after ≡ new_system points_before points_behind points_crossed first_dart front_darts back_darts new_dart new_twin
   system_after crossings =
       let before_u = map_same (around_vertex after) (around_vertex rows) (range_with_len 0 u) (λ v h.
-          let high = range_below v 0 u h in around_other v (omega arith) (omega arith)) in
+      let high = range_below v 0 u h in around_other v (omega arith) (omega arith)) in
       let behind_u = map_same (around_vertex after) (around_vertex rows) (range_with_len (u + 1) others) (λ v h.
-          let low = range_from v (u + 1) others h in let high = range_below v (u + 1) others h in around_other v (omega arith) (omega arith)) in
+      let low = range_from v (u + 1) others h in let high = range_below v (u + 1) others h in around_other v (omega arith) (omega arith)) in
       let old_vertices : map (around_vertex after) (range_with_len 0 (length rows.rotations)) ≡ points_before ++ (first_dart ∷ front_darts ++ new_dart ∷ back_darts) ∷ points_behind =
-          vertices_in_parts (around_vertex after)
-          ∙ ap (λ s. s ++ around_vertex after u ∷ map (around_vertex after) (range_with_len (u + 1) others)) before_u
-          ∙ ap (λ s. points_before ++ around_vertex after u ∷ s) behind_u
-          ∙ ap (λ around. points_before ++ around ∷ points_behind) around_u_after in
+      vertices_in_parts (around_vertex after)
+      ∙ ap (λ s. s ++ around_vertex after u ∷ map (around_vertex after) (range_with_len (u + 1) others)) before_u
+      ∙ ap (λ s. points_before ++ around_vertex after u ∷ s) behind_u
+      ∙ ap (λ around. points_before ++ around ∷ points_behind) around_u_after in
       let all_vertices : map (around_vertex after) (vertices after) ≡ (points_before ++ (first_dart ∷ front_darts ++ new_dart ∷ back_darts) ∷ points_behind) ++ (new_twin ∷ []) ∷ [] =
-          ap (λ n. map (around_vertex after) (range_with_len 0 n)) more_vertices
-          ∙ map-range_with_len_more (around_vertex after) 0 (length rows.rotations) (length rows.rotations) (omega arith)
-          ∙ ap (λ s. s ++ around_vertex after (length rows.rotations) ∷ []) old_vertices
-          ∙ ap (λ around. (points_before ++ (first_dart ∷ front_darts ++ new_dart ∷ back_darts) ∷ points_behind) ++ around ∷ []) around_new in
+      ap (λ n. map (around_vertex after) (range_with_len 0 n)) more_vertices
+      ∙ map-range_with_len_more (around_vertex after) 0 (length rows.rotations) (length rows.rotations) (omega arith)
+      ∙ ap (λ s. s ++ around_vertex after (length rows.rotations) ∷ []) old_vertices
+      ∙ ap (λ around. (points_before ++ (first_dart ∷ front_darts ++ new_dart ∷ back_darts) ∷ points_behind) ++ around ∷ []) around_new in
       ap (λ s. s ++ map (around_crossing after) rows.crossings) all_vertices
       ∙ ap (λ s. ((points_before ++ (first_dart ∷ front_darts ++ new_dart ∷ back_darts) ∷ points_behind) ++ (new_twin ∷ []) ∷ []) ++ s) (map_same (around_crossing after) (around_crossing rows) rows.crossings (around_crossing_after crossings))
       ∙ append_assoc (points_before ++ (first_dart ∷ front_darts ++ new_dart ∷ back_darts) ∷ points_behind) ((new_twin ∷ []) ∷ []) points_crossed

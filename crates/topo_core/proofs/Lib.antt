@@ -1,11 +1,14 @@
+pub mod Certificates
+pub mod Computed
 pub mod Connection
 pub mod Counting
 pub mod DartLaws
+pub mod DartOrder
 pub mod Growing
 pub mod Members
 pub mod NewDarts
+pub mod Numbering
+pub mod Renumbering
 pub mod Standing
 pub mod SystemDarts
-pub mod DartOrder
-pub mod Certificates
-pub mod Computed
+pub mod Turning

@@ -1,6 +1,6 @@
 -- A rotation system with one dart more at a point, and its twin at a point of its own: what was connected stays so.
-use Rattle.std.proofs.Common.{◌≡◌, ◌&&◌, ◌+◌, ◌<◌, ◌≤◌, ◌||◌, ap, append_assoc, arith, Bool, cond, eqb, false, inl, inr, length, List, refl, subst, suc, sym, true, zero, ℕ, [], ◌++◌, ◌∙◌, ◌∷◌}
-use Rattle.std.specs.Prelude.{count_by, flat_map, slice_index_or, ◌==◌, ◌⊎◌}
+use Rattle.std.proofs.Common.{◌≡◌, ◌+◌, ◌≤◌, ◌||◌, ap, append_assoc, arith, Bool, cond, false, inl, inr, length, List, refl, subst, sym, true, [], ◌++◌, ◌∙◌, ◌∷◌}
+use Rattle.std.specs.Prelude.{count_by, slice_index_or, ◌==◌, ◌⊎◌}
 use Rattle.std.specs.List.{list_any}
 use Rattle.std.proofs.lemmas.Bool.{false≢true}
 use Rattle.std.proofs.lemmas.List.Concat.{flat_map-append}
@@ -77,10 +77,10 @@ turn_second (around ∷ s) t d h =
     ∙ turn_second s t d (or_right_false (has_dart around d) (stands_in s d) both)
 
 -- the turn at the point where d stands, if it stands at none before
-turn_at : (around : List Dart) (t : System) (d : Dart) → has_dart around d ≡ true → turn (around ∷ t) d ≡ follower (slice_index_or around 0 d) around d
+pub turn_at : (around : List Dart) (t : System) (d : Dart) → has_dart around d ≡ true → turn (around ∷ t) d ≡ follower (slice_index_or around 0 d) around d
 turn_at around t d h = ap (λ (b : Bool). cond b (follower (slice_index_or around 0 d) around d) (turn t d)) h
 
-turn_past : (around : List Dart) (t : System) (d : Dart) → has_dart around d ≡ false → turn (around ∷ t) d ≡ turn t d
+pub turn_past : (around : List Dart) (t : System) (d : Dart) → has_dart around d ≡ false → turn (around ∷ t) d ≡ turn t d
 turn_past around t d h = ap (λ (b : Bool). cond b (follower (slice_index_or around 0 d) around d) (turn t d)) h
 
 -- ---- One dart more in a list
@@ -98,9 +98,9 @@ follower_old : (first x d : Dart) (xs ys : List Dart) → same_dart d x ≡ fals
 follower_old first x d [] ys other new = inl (ap (λ (b : Bool). cond b (slice_index_or ys 0 first) (follower first ys d)) other)
 follower_old first x d (y ∷ []) ys other new = elim (is_or_not (same_dart d y)) [
   | inl e ↦ inr (
-      ap (λ (b : Bool). cond b x (follower first (x ∷ ys) d)) e,
-      sym (ap (λ (b : Bool). cond b (slice_index_or ys 0 first) (follower first ys d)) e),
-    )
+    ap (λ (b : Bool). cond b x (follower first (x ∷ ys) d)) e,
+    sym (ap (λ (b : Bool). cond b (slice_index_or ys 0 first) (follower first ys d)) e),
+  )
   | inr e ↦ inl (
       ap (λ (b : Bool). cond b x (follower first (x ∷ ys) d)) e
       ∙ ap (λ (b : Bool). cond b (slice_index_or ys 0 first) (follower first ys d)) other
@@ -326,9 +326,9 @@ module _ (before after crossings : System) (z : Dart) (zs ys : List Dart) (x y :
             d,
             old,
             new_in_parts d not_y
-            ∙ turn_second before ((z ∷ zs ++ x ∷ ys) ∷ (after ++ crossings)) d not_before
-            ∙ turn_at (z ∷ zs ++ x ∷ ys) (after ++ crossings) d in_new
-            ∙ last.2,
+                ∙ turn_second before ((z ∷ zs ++ x ∷ ys) ∷ (after ++ crossings)) d not_before
+                ∙ turn_at (z ∷ zs ++ x ∷ ys) (after ++ crossings) d in_new
+                ∙ last.2,
           )
 
       head_or : (first : Dart) (cs : List Dart) → (slice_index_or cs 0 first ≡ first) ⊎ (has_dart cs (slice_index_or cs 0 first) ≡ true)

@@ -1,14 +1,13 @@
 -- How often a dart stands in the rotation system of good rows: once if it is theirs, and else never.
 use Rattle.std.proofs.Common.{◌≡◌, ◌&&◌, ◌+◌, ◌<◌, ◌≤◌, ◌||◌, ap, arith, Bool, cond, eqb, false, inl, inr, length, List, None, not, refl, Some, subst, suc, sym, true, zero, ℕ, [], ◌++◌, ◌∙◌, ◌∷◌}
-use Rattle.std.specs.Prelude.{count_by, find, flat_map, if◌then◌else◌, is_some, map, nat_lt, Option, option_map, slice_get, sum_by, unwrap_or, ◌==◌, ◌⊎◌}
-use Rattle.std.specs.List.{list_all, list_any, position_or_len, range_with_len}
+use Rattle.std.specs.Prelude.{count_by, if◌then◌else◌, is_some, map, nat_lt, Option, option_map, sum_by, unwrap_or, ◌==◌, ◌⊎◌}
+use Rattle.std.specs.List.{list_all, position_or_len, range_with_len}
 use Rattle.std.proofs.lemmas.Bool.{false≢true}
 use Rattle.std.proofs.lemmas.Bool.Decides.{nat_tests}
 use Rattle.std.proofs.lemmas.List.Sums.{sum_by-append, sum_by-cons}
 use Rattle.topo_core.specs.declared.darts.Dart.{Dart}
 use Rattle.topo_core.specs.declared.darts.Sign.{Sign}
 use Rattle.topo_core.specs.declared.darts.Sign.TheVariants.{LeftToRight, RightToLeft}
-use Rattle.topo_core.specs.declared.darts.Way.{Way}
 use Rattle.topo_core.specs.declared.darts.Way.TheVariants.{Forward, Back}
 use Rattle.topo_core.specs.declared.rows.CrossRow.{CrossRow}
 use Rattle.topo_core.specs.declared.rows.EdgeRow.{EdgeRow}
@@ -16,11 +15,11 @@ use Rattle.topo_core.specs.declared.rows.Rows.{Rows}
 use Rattle.topo_core.specs.Darts.{both_ways, same_dart, same_way}
 use Rattle.topo_core.specs.Items.{IsIn, occurrences, rises_below}
 use Rattle.topo_core.specs.Lawful.{has_good_crossings, has_good_path, has_good_paths, has_good_rotation, has_good_rotations, is_good_crossing}
-use Rattle.topo_core.specs.Picture.{ahead, around_crossing, around_vertex, behind, clockwise, cross_row, darts, darts_of, edge_at, edge_row, end_dart, IsDart, place_on, rotation, segment_count, system, vertices}
+use Rattle.topo_core.specs.Picture.{around_crossing, around_vertex, clockwise, cross_row, darts, darts_of, edge_at, edge_row, end_dart, IsDart, place_on, rotation, segment_count, system, vertices}
 use Rattle.topo_core.specs.Pictures.{back, forward}
 use Rattle.topo_core.specs.Systems.{darts_in, has_dart}
-use Rattle.topo_core.proofs.Counting.{counted_any, eqb_is, eqb_less, eqb_more, eqb_symm, in_first, is_or_not, le_of_test, lt_of_test, lt_test, not_lt_test, once_in_range, one, place_past, place_test, sum_found, sum_if, sum_joined, sum_nothing, sum_of_map, sum_same, weigh_no, weigh_yes}
-use Rattle.topo_core.proofs.Members.{counted_at, eq_true, in_range, left_true, right_true, test_of_each}
+use Rattle.topo_core.proofs.Counting.{counted_any, eqb_less, eqb_symm, in_first, is_or_not, le_of_test, lt_of_test, lt_test, once_in_range, one, place_past, place_test, sum_found, sum_if, sum_joined, sum_nothing, sum_of_map, sum_same, weigh_no, weigh_yes}
+use Rattle.topo_core.proofs.Members.{eq_true, left_true, right_true, test_of_each}
 use Rattle.topo_core.proofs.SystemDarts.{crossing_there, edge_at_row, eqb_self, get_there, in_at, path_facts, row_id, row_in, some_of}
 
 -- ---- The test of two darts by their parts
@@ -375,10 +374,10 @@ pub stands_once : (rows : Rows) → has_good_paths rows ≡ true → has_good_cr
 stands_once rows paths crossings rotations d = elim (some_or_none (edge_row rows d.edge)) [
   | inl (row, there) ↦
       let by_way : count_by (same_dart d) (darts_in (system rows)) ≡ one (nat_lt d.seg (segment_count row)) =
-          elim d.way as (λ w. count_by (same_dart (record { edge = d.edge; seg = d.seg; way = w })) (darts_in (system rows)) ≡ one (nat_lt d.seg (segment_count row))) [
-            | Forward ↦ forward_stands rows paths crossings rotations d.edge row there d.seg
-            | Back ↦ back_stands rows paths crossings rotations d.edge row there d.seg
-          ] in
+      elim d.way as (λ w. count_by (same_dart (record { edge = d.edge; seg = d.seg; way = w })) (darts_in (system rows)) ≡ one (nat_lt d.seg (segment_count row))) [
+        | Forward ↦ forward_stands rows paths crossings rotations d.edge row there d.seg
+        | Back ↦ back_stands rows paths crossings rotations d.edge row there d.seg
+      ] in
       by_way ∙ sym (ap one (of_row rows d row there))
   | inr missing ↦ none_stands rows crossings rotations d missing ∙ sym (ap one (of_no_row rows d missing))
 ]
@@ -411,8 +410,8 @@ of_edge_count d row =
 pub listed_once : (rows : Rows) → has_good_paths rows ≡ true → (d : Dart) → count_by (same_dart d) (darts rows) ≡ one (is_of_rows rows d)
 listed_once rows paths d =
     let all = sum_joined (λ c. one (same_dart d c)) darts_of rows.edges
-        ∙ sum_same (λ row. count_by (same_dart d) (darts_of row)) (λ row. cond {A = ℕ} (row.id == d.edge) (one (nat_lt d.seg (segment_count row))) 0) rows.edges (λ row h. of_edge_count d row)
-        ∙ sum_found (λ row. row.id) (λ row. one (nat_lt d.seg (segment_count row))) rows.next_edge d.edge rows.edges (left_true (rises_below rows.next_edge (map (λ row. row.id) rows.edges)) (list_all (has_good_path rows) rows.edges) paths) in
+    ∙ sum_same (λ row. count_by (same_dart d) (darts_of row)) (λ row. cond {A = ℕ} (row.id == d.edge) (one (nat_lt d.seg (segment_count row))) 0) rows.edges (λ row h. of_edge_count d row)
+    ∙ sum_found (λ row. row.id) (λ row. one (nat_lt d.seg (segment_count row))) rows.next_edge d.edge rows.edges (left_true (rises_below rows.next_edge (map (λ row. row.id) rows.edges)) (list_all (has_good_path rows) rows.edges) paths) in
     elim (some_or_none (edge_row rows d.edge)) [
       | inl (row, there) ↦ all ∙ ap (λ (o : Option EdgeRow). unwrap_or (option_map (λ row. one (nat_lt d.seg (segment_count row))) o) 0) there ∙ sym (ap one (of_row rows d row there))
       | inr missing ↦ all ∙ ap (λ (o : Option EdgeRow). unwrap_or (option_map (λ row. one (nat_lt d.seg (segment_count row))) o) 0) missing ∙ sym (ap one (of_no_row rows d missing))

@@ -202,7 +202,8 @@ crossing_darts_in rows paths crossings e row there i x at =
 
 -- ---- All darts
 
-pub get_there : (xs : List ℕ) (i : ℕ) → i < length xs → (x : ℕ) × (slice_get xs i ≡ Some x)
+-- what stands at a place of a list
+pub get_there : {X : Type 0} (xs : List X) (i : ℕ) → i < length xs → (x : X) × (slice_get xs i ≡ Some x)
 get_there [] i h = absurd (omega arith)
 get_there (x ∷ xs) zero h = (x, refl)
 get_there (x ∷ xs) (suc i) h = get_there xs i (omega arith)

@@ -9,5 +9,5 @@ returns c rows good d =
     record {
       round_points = stands_once rows good.paths good.crossings good.rotations d ∙ sym (ap one test);
       listed = listed_once rows good.paths d ∙ sym (ap one test);
-      of_edges = (λ h. test ∙ is_dart_of_rows rows d h, λ h. of_rows_is_dart rows d (sym test ∙ h));
+      of_an_edge = (λ h. test ∙ is_dart_of_rows rows d h, λ h. of_rows_is_dart rows d (sym test ∙ h));
     }
