@@ -1,18 +1,29 @@
--- A growth keeps good rotations good.
-use Rattle.std.proofs.Common.{◌≡◌, ◌≢◌, ℕ, zero, suc, ◌+◌, ◌<◌, ◌≤◌, Bool, true, false, cond, ◌&&◌, ◌||◌, List, [], ◌∷◌, ◌++◌, length, take, drop, get_or, eqb, refl, sym, ap, subst, ◌∙◌, arith, inl, inr}
-use Rattle.std.specs.Prelude.{◌⊎◌, ◌==◌, nat_lt, nat_le, Some, None, map, find, is_some, if◌then◌else◌}
-use Rattle.std.specs.List.{list_all, range_with_len}
+-- A growth keeps a connected embedding one.
+use Rattle.std.proofs.Common.{◌≡◌, ◌≢◌, ℕ, zero, suc, ◌+◌, ◌<◌, ◌≤◌, append_assoc, append-nil, Bool, true, false, cond, not, ◌&&◌, ◌||◌, List, [], ◌∷◌, ◌++◌, length, take, drop, get_or, eqb, refl, sym, ap, subst, ◌∙◌, arith, inl, inr}
+use Rattle.std.specs.Prelude.{◌⊎◌, ◌==◌, nat_lt, nat_le, Some, None, count_by, map, find, is_some, Option, ◌-◌, if◌then◌else◌}
+use Rattle.std.specs.Option.{option_or}
+use Rattle.std.specs.List.{list_all, position_or_len, range_with_len}
 use Rattle.std.proofs.lemmas.Bool.Decides.{nat_tests}
-use Rattle.std.proofs.lemmas.List.{get_or_append_left, get_or-set_same, get_or-set_other, get_or_at, length-set, length-append}
+use Rattle.std.proofs.lemmas.List.{get_or_append_left, get_or-set_same, get_or-set_other, get_or_at, length-set, length-append, map-append, take-append-drop}
+use Rattle.std.proofs.lemmas.List.Folds.{find-append}
+use Rattle.std.proofs.lemmas.List.FromFn.{map-range_with_len_more}
 use Rattle.std.proofs.lemmas.List.Sums.{sum_by-cons, sum_by_push, sum_by-insert}
 use Rattle.topo_core.specs.declared.rows.Rows.{Rows}
 use Rattle.topo_core.specs.declared.rows.EdgeRow.{EdgeRow}
 use Rattle.topo_core.specs.Items.{IsIn, occurrences, rises_below}
-use Rattle.topo_core.specs.Picture.{rotation, vertices, edge_row}
-use Rattle.topo_core.specs.Lawful.{has_good_paths, has_good_path, has_good_rotation, has_good_rotations}
+use Rattle.topo_core.specs.Picture.{around_crossing, around_vertex, clockwise, cross_row, edge_at, edge_row, end_dart, place_on, rotation, segment_count, system, vertices}
+use Rattle.topo_core.specs.Pictures.{back, forward}
+use Rattle.topo_core.specs.Systems.{Connected, darts_in, has_dart, System}
+use Rattle.topo_core.specs.Darts.{same_dart}
+use Rattle.topo_core.specs.declared.darts.Dart.{Dart}
+use Rattle.topo_core.specs.declared.rows.CrossRow.{CrossRow}
+use Rattle.topo_core.specs.Lawful.{has_good_paths, has_good_path, has_good_rotation, has_good_rotations, has_good_crossings, is_good_crossing, IsEmbedding}
 use Rattle.topo_core.specs.Changes.{grown, put_in, with_end}
-use Rattle.topo_core.proofs.Members.{left_true, right_true, test_of_each, in_range, eq_true, in_map}
-use Rattle.topo_core.proofs.SystemDarts.{path_facts, some_of, row_id, row_in, or_left, or_right_true, eqb_self}
+use Rattle.topo_core.proofs.Members.{left_true, right_true, test_of_each, in_range, eq_true, in_left, in_map, in_right}
+use Rattle.topo_core.proofs.Standing.{good_crossing, is_of_rows, stands_once}
+use Rattle.topo_core.proofs.NewDarts.{new_system, old_system, stays_connected}
+use Rattle.topo_core.proofs.Counting.{counted_any, one}
+use Rattle.topo_core.proofs.SystemDarts.{edge_at_row, path_facts, some_of, row_id, row_in, or_left, or_right_true, eqb_self}
 
 -- ---- Tests of lists
 
@@ -32,6 +43,9 @@ lt_true m n h = grind (arith, nat_tests)
 
 eq_test : (m n : ℕ) → m ≡ n → eqb m n ≡ true
 eq_test m n h = grind (arith, nat_tests)
+
+lt_is_true : (m n : ℕ) → m < n → nat_lt m n ≡ true
+lt_is_true m n h = grind (arith, nat_tests)
 
 ne_test : (m n : ℕ) → m < n → eqb m n ≡ false
 ne_test m n h = grind (arith, nat_tests)
@@ -87,6 +101,61 @@ first_put_in p f [] h = absurd (omega arith)
 first_put_in zero f (x ∷ around) h = refl
 first_put_in (suc p) f (x ∷ around) h = refl
 
+-- an edge put into a list that is not empty stands somewhere behind the first
+pub record IsPutIn (p f : ℕ) (around : List ℕ) : Type 0 where
+  pub head : ℕ
+  pub front : List ℕ
+  pub back : List ℕ
+  pub was : around ≡ head ∷ front ++ back
+  pub now : put_in p f around ≡ head ∷ front ++ f ∷ back
+
+pub is_put_in : (p f : ℕ) (around : List ℕ) → p < length around → IsPutIn p f around
+is_put_in p f [] h = absurd (omega arith)
+is_put_in zero f (e ∷ around) h = record { head = e; front = around; back = []; was = ap (λ list. e ∷ list) (sym (append-nil around)); now = refl }
+is_put_in (suc p) f (e ∷ around) h = record { head = e; front = take p around; back = drop p around; was = ap (λ list. e ∷ list) (sym (take-append-drop p around)); now = refl }
+
+-- ---- Lists made from equal functions, and ranges in parts
+
+pub map_same : {X Y : Type 0} (f g : X → Y) (xs : List X) → ((x : X) → IsIn x xs → f x ≡ g x) → map f xs ≡ map g xs
+map_same f g [] same = refl
+map_same f g (x ∷ xs) same = let here = same x (inl refl) in let rest = map_same f g xs (λ y h. same y (inr h)) in cc
+
+-- n numbers from a on: u of them, the next one k, and m more
+pub range_split : (a u m n k : ℕ) → n ≡ u + suc m → k ≡ a + u → range_with_len a n ≡ range_with_len a u ++ k ∷ range_with_len (k + 1) m
+range_split a zero m n k total at =
+    let n_is : n ≡ suc m = omega arith in
+    let k_is : k ≡ a = omega arith in
+    ap (range_with_len a) n_is ∙ ap (λ j. j ∷ range_with_len (j + 1) m) (sym k_is)
+range_split a (suc u) m zero k total at = absurd (omega arith)
+range_split a (suc u) m (suc n) k total at = ap (λ list. a ∷ list) (range_split (a + 1) u m n k (omega arith) (omega arith))
+
+pub range_from : (v a n : ℕ) → IsIn v (range_with_len a n) → a ≤ v
+range_from v a zero h = absurd h
+range_from v a (suc n) (inl e) = omega arith
+range_from v a (suc n) (inr h) = let k = range_from v (a + 1) n h in omega arith
+
+pub range_below : (v a n : ℕ) → IsIn v (range_with_len a n) → v < a + n
+range_below v a zero h = absurd h
+range_below v a (suc n) (inl e) = omega arith
+range_below v a (suc n) (inr h) = let k = range_below v (a + 1) n h in omega arith
+
+-- ---- What is found in a longer list
+
+found_more : {X : Type 0} (q : X → Bool) (xs ys : List X) (x : X) → find q xs ≡ Some x → find q (xs ++ ys) ≡ Some x
+found_more q xs ys x e = find-append q xs ys ∙ ap (λ o. option_or o (find q ys)) e
+
+none_found : {X : Type 0} (q : X → Bool) (xs : List X) → ((x : X) → IsIn x xs → q x ≡ false) → find q xs ≡ None
+none_found q [] none = refl
+none_found q (x ∷ xs) none = ap (λ (b : Bool). cond b (Some x) (find q xs)) (none x (inl refl)) ∙ none_found q xs (λ y h. none y (inr h))
+
+-- ---- Ids that rise
+
+-- a list of rising ids with the next id at its end
+pub rises_push : (limit : ℕ) (xs : List ℕ) → rises_below limit xs ≡ true → rises_below (limit + 1) (xs ++ limit ∷ []) ≡ true
+rises_push limit [] h = and_true (nat_lt limit (limit + 1)) true (lt_is_true limit (limit + 1) (omega arith)) refl
+rises_push limit (x ∷ []) h = and_true (nat_lt x limit) _ (left_true (nat_lt x limit) true h) (and_true (nat_lt limit (limit + 1)) true (lt_is_true limit (limit + 1) (omega arith)) refl)
+rises_push limit (x ∷ y ∷ xs) h = and_true (nat_lt x y) _ (left_true (nat_lt x y) (rises_below limit (y ∷ xs)) h) (rises_push limit (y ∷ xs) (right_true (nat_lt x y) (rises_below limit (y ∷ xs)) h))
+
 -- ---- The rotations of a grown picture
 
 ne_test_above : (m n : ℕ) → n < m → eqb m n ≡ false
@@ -138,6 +207,15 @@ ne_from v u h e = grind (arith, nat_tests)
 
 last_vertex : (v n : ℕ) → nat_lt v n ≡ false → v < n + 1 → n ≡ v
 last_vertex v n h k = grind (arith, nat_tests)
+
+one_vertex_more : (a b n : ℕ) (c d e : Bool) → (nat_lt a n && nat_lt b n && c && d && e) ≡ true → (nat_lt a (n + 1) && nat_lt b (n + 1) && c && d && e) ≡ true
+one_vertex_more a b n c d e h = grind (arith, nat_tests)
+
+one_edge_more : (u n kind : ℕ) → u < n → kind < 64 → (nat_lt u (n + 1) && nat_lt n (n + 1) && not (eqb u n) && nat_lt kind 64 && true) ≡ true
+one_edge_more u n kind h k = grind (arith, nat_tests)
+
+neither : (f a b : ℕ) → a < f → b < f → cond {A = ℕ} (eqb f a || eqb f b) 1 0 ≡ 0
+neither f a b h k = grind (arith, nat_tests)
 
 first_below : {f p : ℕ} (around : List ℕ) → ((e : ℕ) → IsIn e around → e < f) → p < length around → get_or around 0 0 ≤ f
 first_below [] below h = absurd (omega arith)
@@ -191,11 +269,26 @@ module _ (rows : Rows) (u p kind : ℕ) (paths : has_good_paths rows ≡ true) (
       ])))
       (all_from (nat_le (get_or around 0 0)) around least))
 
+  -- the list of a vertex beside u
+  rotation_other : (v : ℕ) → v < length rows.rotations → v ≢ u → rotation after v ≡ rotation rows v
+  rotation_other v inside apart =
+      get_or_append_left (with_end rows.rotations u p rows.next_edge) ((rows.next_edge ∷ []) ∷ []) [] v (subst (λ n. v < n) (sym (length-set rows.rotations u (put_in p rows.next_edge (rotation rows u)))) inside)
+      ∙ get_or-set_other rows.rotations u v (put_in p rows.next_edge (rotation rows u)) [] apart
+
+  -- the list of u
+  rotation_u : rotation after u ≡ put_in p rows.next_edge (rotation rows u)
+  rotation_u =
+      get_or_append_left (with_end rows.rotations u p rows.next_edge) ((rows.next_edge ∷ []) ∷ []) [] u (subst (λ n. u < n) (sym (length-set rows.rotations u (put_in p rows.next_edge (rotation rows u)))) u_in)
+      ∙ get_or-set_same rows.rotations u (put_in p rows.next_edge (rotation rows u)) [] u_in
+
+  -- the list of the new vertex
+  rotation_new : rotation after (length rows.rotations) ≡ rows.next_edge ∷ []
+  rotation_new = get_or_at (with_end rows.rotations u p rows.next_edge) (rows.next_edge ∷ []) [] [] (length rows.rotations) (length-set rows.rotations u (put_in p rows.next_edge (rotation rows u)))
+
   -- a vertex beside u keeps its list
   at_other : (v : ℕ) → v < length rows.rotations → v ≢ u → has_good_rotation after v ≡ true
   at_other v inside apart = assemble v (rotation rows v)
-      (get_or_append_left (with_end rows.rotations u p rows.next_edge) ((rows.next_edge ∷ []) ∷ []) [] v (subst (λ n. v < n) (sym (length-set rows.rotations u (put_in p rows.next_edge (rotation rows u)))) inside)
-      ∙ get_or-set_other rows.rotations u v (put_in p rows.next_edge (rotation rows u)) [] apart)
+      (rotation_other v inside apart)
       (old_counts v inside)
       (none_counted rows.next_edge (rotation rows v) (entry_below v inside) ∙ sym (untouched u v (length rows.rotations) (λ e. apart (sym e)) inside))
       (λ e h. inr (old_known v inside e h))
@@ -204,8 +297,7 @@ module _ (rows : Rows) (u p kind : ℕ) (paths : has_good_paths rows ≡ true) (
   -- u's list has the new edge once
   at_u : has_good_rotation after u ≡ true
   at_u = assemble u (put_in p rows.next_edge (rotation rows u))
-      (get_or_append_left (with_end rows.rotations u p rows.next_edge) ((rows.next_edge ∷ []) ∷ []) [] u (subst (λ n. u < n) (sym (length-set rows.rotations u (put_in p rows.next_edge (rotation rows u)))) u_in)
-      ∙ get_or-set_same rows.rotations u (put_in p rows.next_edge (rotation rows u)) [] u_in)
+      rotation_u
       (λ row h.
       let more = occurrences-put_in p rows.next_edge (rotation rows u) row.id in
       let none : cond {A = ℕ} (rows.next_edge == row.id) 1 0 ≡ 0 = ap (λ (t : Bool). cond {A = ℕ} t 1 0) (ne_test_above rows.next_edge row.id (row_below row h)) in
@@ -224,7 +316,7 @@ module _ (rows : Rows) (u p kind : ℕ) (paths : has_good_paths rows ≡ true) (
   -- the new vertex has the new edge alone
   at_new : has_good_rotation after (length rows.rotations) ≡ true
   at_new = assemble (length rows.rotations) (rows.next_edge ∷ [])
-      (get_or_at (with_end rows.rotations u p rows.next_edge) (rows.next_edge ∷ []) [] [] (length rows.rotations) (length-set rows.rotations u (put_in p rows.next_edge (rotation rows u))))
+      rotation_new
       (λ row h.
       let facts = path_facts rows paths row h in
       none_here row.id rows.next_edge (row_below row h) ∙ sym (untouched_by row.a row.b (length rows.rotations) facts.a_in facts.b_in))
@@ -247,3 +339,195 @@ module _ (rows : Rows) (u p kind : ℕ) (paths : has_good_paths rows ≡ true) (
               | false ↦ (λ outside. subst (λ w. has_good_rotation after w ≡ true) (last_vertex v (length rows.rotations) outside (subst (λ n. v < n) (vertices_after) high)) at_new)
             ] in by_new (nat_lt v (length rows.rotations)) refl)
       ] in by_u (eqb v u) refl)
+
+  -- ---- Its paths and crossings
+
+  more_vertices : length after.rotations ≡ length rows.rotations + 1
+  more_vertices = let e = vertices_after in omega arith
+
+  old_path : (row : EdgeRow) → has_good_path rows row ≡ true → has_good_path after row ≡ true
+  old_path row h =
+      subst (λ n. (nat_lt row.a n && nat_lt row.b n && not (row.a == row.b) && nat_lt row.kind 64 && list_all (λ x. is_some (cross_row rows x)) row.crossings) ≡ true)
+      (sym more_vertices) (one_vertex_more row.a row.b (length rows.rotations) (not (row.a == row.b)) (nat_lt row.kind 64) (list_all (λ x. is_some (cross_row rows x)) row.crossings) h)
+
+  new_path : kind < 64 → has_good_path after new_row ≡ true
+  new_path known =
+      subst (λ n. (nat_lt u n && nat_lt (length rows.rotations) n && not (u == length rows.rotations) && nat_lt kind 64 && true) ≡ true)
+      (sym more_vertices) (one_edge_more u (length rows.rotations) kind u_in known)
+
+  pub paths_after_growth : kind < 64 → has_good_paths after ≡ true
+  paths_after_growth known = and_true (rises_below (rows.next_edge + 1) (map (λ row. row.id) (rows.edges ++ new_row ∷ []))) _
+      (ap (rises_below (rows.next_edge + 1)) (map-append (λ row. row.id) rows.edges (new_row ∷ []))
+      ∙ rises_push rows.next_edge (map (λ row. row.id) rows.edges) (left_true _ (list_all (has_good_path rows) rows.edges) paths))
+      (all_from (has_good_path after) (rows.edges ++ new_row ∷ []) (λ row h. elim (in_append row rows.edges (new_row ∷ []) h) [
+        | inl old ↦ old_path row (test_of_each (has_good_path rows) row rows.edges (right_true (rises_below rows.next_edge (map (λ row. row.id) rows.edges)) (list_all (has_good_path rows) rows.edges) paths) old)
+        | inr k ↦ elim k [ inl e ↦ ap (has_good_path after) e ∙ new_path known | inr none ↦ absurd none ]
+      ]))
+
+  -- an edge that was there is not the new one
+  known_below : (e : ℕ) → is_some (edge_row rows e) ≡ true → e < rows.next_edge
+  known_below e known = let pick = some_of (edge_row rows e) known in subst (λ f. f < rows.next_edge) (row_id rows e pick.0 pick.1) (row_below pick.0 (row_in rows e pick.0 pick.1))
+
+  pub crossings_after_growth : has_good_crossings rows ≡ true → has_good_crossings after ≡ true
+  crossings_after_growth crossings = and_true (rises_below rows.next_crossing (map (λ x. x.id) rows.crossings)) _
+      (left_true (rises_below rows.next_crossing (map (λ x. x.id) rows.crossings)) (list_all (is_good_crossing rows) rows.crossings) crossings)
+      (all_from (is_good_crossing after) rows.crossings (λ x h.
+      let good = good_crossing rows crossings x h in
+      and_true _ _ (and_true _ _ (and_true _ _
+      (ap not good.apart)
+      (some_found_more (λ row. row.id == x.crossed) rows.edges (new_row ∷ []) good.crossed))
+      (some_found_more (λ row. row.id == x.newcomer) rows.edges (new_row ∷ []) good.newcomer))
+      (all_from (λ row. occurrences x.id row.crossings == (if row.id == x.crossed || row.id == x.newcomer then 1 else 0)) (rows.edges ++ new_row ∷ []) (λ row k. elim (in_append row rows.edges (new_row ∷ []) k) [
+        | inl old ↦ eq_test _ _ (good.counted row old)
+        | inr last ↦ elim last [
+          | inl e ↦ ap (λ (r : EdgeRow). occurrences x.id r.crossings == (if r.id == x.crossed || r.id == x.newcomer then 1 else 0)) e
+              ∙ eq_test 0 _ (sym (neither rows.next_edge x.crossed x.newcomer (known_below x.crossed good.crossed) (known_below x.newcomer good.newcomer)))
+          | inr none ↦ absurd none
+        ]
+      ]))))
+
+  -- ---- Its rotation system
+
+  no_new_row_before : edge_row rows rows.next_edge ≡ None
+  no_new_row_before = none_found (λ row. row.id == rows.next_edge) rows.edges (λ row h. ne_test row.id rows.next_edge (row_below row h))
+
+  new_edge_at : edge_at after rows.next_edge ≡ new_row
+  new_edge_at = edge_at_row after rows.next_edge new_row
+      (find-append (λ row. row.id == rows.next_edge) rows.edges (new_row ∷ [])
+      ∙ ap (λ o. option_or o (find (λ row. row.id == rows.next_edge) (new_row ∷ []))) no_new_row_before
+      ∙ ap (λ (t : Bool). cond t (Some new_row) None) (eqb_self rows.next_edge))
+
+  old_edge_at : (e : ℕ) → is_some (edge_row rows e) ≡ true → edge_at after e ≡ edge_at rows e
+  old_edge_at e known =
+      let pick = some_of (edge_row rows e) known in
+      edge_at_row after e pick.0 (found_more (λ row. row.id == e) rows.edges (new_row ∷ []) pick.0 pick.1) ∙ sym (edge_at_row rows e pick.0 pick.1)
+
+  -- the darts of old edges are where they were
+  old_end_dart : (v e : ℕ) → is_some (edge_row rows e) ≡ true → end_dart after v e ≡ end_dart rows v e
+  old_end_dart v e known = ap (λ (r : EdgeRow). cond {A = Dart} (r.a == v) (forward e 0) (back e (length r.crossings))) (old_edge_at e known)
+
+  old_place_on : (e x : ℕ) → is_some (edge_row rows e) ≡ true → place_on after e x ≡ place_on rows e x
+  old_place_on e x known = ap (λ (r : EdgeRow). position_or_len (λ y. y == x) r.crossings) (old_edge_at e known)
+
+  around_crossing_after : has_good_crossings rows ≡ true → (x : CrossRow) → IsIn x rows.crossings → around_crossing after x ≡ around_crossing rows x
+  around_crossing_after crossings x h =
+      let good = good_crossing rows crossings x h in
+      ap (λ (i : ℕ). clockwise x.sign (forward x.crossed (i + 1)) (back x.crossed i) (forward x.newcomer (place_on after x.newcomer x.id + 1)) (back x.newcomer (place_on after x.newcomer x.id))) (old_place_on x.crossed x.id good.crossed)
+      ∙ ap (λ (j : ℕ). clockwise x.sign (forward x.crossed (place_on rows x.crossed x.id + 1)) (back x.crossed (place_on rows x.crossed x.id)) (forward x.newcomer (j + 1)) (back x.newcomer j)) (old_place_on x.newcomer x.id good.newcomer)
+
+  around_other : (v : ℕ) → v < length rows.rotations → v ≢ u → around_vertex after v ≡ around_vertex rows v
+  around_other v inside apart = ap (map (end_dart after v)) (rotation_other v inside apart) ∙ map_same (end_dart after v) (end_dart rows v) (rotation rows v) (λ e h. old_end_dart v e (old_known v inside e h))
+
+  parts : IsPutIn p rows.next_edge (rotation rows u)
+  parts = is_put_in p rows.next_edge (rotation rows u) p_in
+
+  known_in_parts : (e : ℕ) → IsIn e ((parts.head ∷ parts.front) ++ parts.back) → is_some (edge_row rows e) ≡ true
+  known_in_parts e h = old_known u u_in e (subst (IsIn e) (sym parts.was) h)
+
+  abbrev first_dart : Dart
+  first_dart = end_dart rows u parts.head
+
+  abbrev front_darts : List Dart
+  front_darts = map (end_dart rows u) parts.front
+
+  abbrev back_darts : List Dart
+  back_darts = map (end_dart rows u) parts.back
+
+  abbrev new_dart : Dart
+  new_dart = forward rows.next_edge 0
+
+  abbrev new_twin : Dart
+  new_twin = back rows.next_edge 0
+
+  around_u_before : around_vertex rows u ≡ first_dart ∷ front_darts ++ back_darts
+  around_u_before = ap (map (end_dart rows u)) parts.was ∙ map-append (end_dart rows u) (parts.head ∷ parts.front) parts.back
+
+  new_end_dart : (v : ℕ) → end_dart after v rows.next_edge ≡ cond {A = Dart} (u == v) new_dart new_twin
+  new_end_dart v = ap (λ (r : EdgeRow). cond {A = Dart} (r.a == v) (forward rows.next_edge 0) (back rows.next_edge (length r.crossings))) new_edge_at
+
+  around_u_after : around_vertex after u ≡ first_dart ∷ front_darts ++ new_dart ∷ back_darts
+  around_u_after =
+      let ahead_of = map_same (end_dart after u) (end_dart rows u) (parts.head ∷ parts.front) (λ e h. old_end_dart u e (known_in_parts e (in_left e (parts.head ∷ parts.front) parts.back h))) in
+      let behind_it = map_same (end_dart after u) (end_dart rows u) parts.back (λ e h. old_end_dart u e (known_in_parts e (in_right e (parts.head ∷ parts.front) parts.back h))) in
+      let at_u : end_dart after u rows.next_edge ≡ new_dart = new_end_dart u ∙ ap (λ (t : Bool). cond {A = Dart} t new_dart new_twin) (eqb_self u) in
+      ap (map (end_dart after u)) (rotation_u ∙ parts.now)
+      ∙ map-append (end_dart after u) (parts.head ∷ parts.front) (rows.next_edge ∷ parts.back)
+      ∙ ap (λ list. list ++ map (end_dart after u) (rows.next_edge ∷ parts.back)) ahead_of
+      ∙ ap (λ d. (first_dart ∷ front_darts) ++ d ∷ map (end_dart after u) parts.back) at_u
+      ∙ ap (λ list. (first_dart ∷ front_darts) ++ new_dart ∷ list) behind_it
+
+  around_new : around_vertex after (length rows.rotations) ≡ new_twin ∷ []
+  around_new =
+      ap (map (end_dart after (length rows.rotations))) rotation_new
+      ∙ ap (λ d. d ∷ []) (new_end_dart (length rows.rotations) ∙ ap (λ (t : Bool). cond {A = Dart} t new_dart new_twin) (ne_test u (length rows.rotations) u_in))
+
+  -- how many vertices stand behind u
+  abbrev others : ℕ
+  others = length rows.rotations - (u + 1)
+
+  abbrev points_before : System
+  points_before = map (around_vertex rows) (range_with_len 0 u)
+
+  abbrev points_behind : System
+  points_behind = map (around_vertex rows) (range_with_len (u + 1) others)
+
+  abbrev points_crossed : System
+  points_crossed = map (around_crossing rows) rows.crossings
+
+  vertices_in_parts : (h : ℕ → List Dart) → map h (range_with_len 0 (length rows.rotations)) ≡ map h (range_with_len 0 u) ++ h u ∷ map h (range_with_len (u + 1) others)
+  vertices_in_parts h =
+      ap (map h) (range_split 0 u others (length rows.rotations) u (omega arith) (omega arith))
+      ∙ map-append h (range_with_len 0 u) (u ∷ range_with_len (u + 1) others)
+
+  system_before : system rows ≡ old_system points_before points_behind points_crossed first_dart front_darts back_darts new_dart new_twin
+  system_before =
+      ap (λ s. s ++ points_crossed) (vertices_in_parts (around_vertex rows))
+      ∙ ap (λ around. (points_before ++ around ∷ points_behind) ++ points_crossed) around_u_before
+
+  system_after : has_good_crossings rows ≡ true → system after ≡ new_system points_before points_behind points_crossed first_dart front_darts back_darts new_dart new_twin
+  system_after crossings =
+      let before_u = map_same (around_vertex after) (around_vertex rows) (range_with_len 0 u) (λ v h.
+      let high = range_below v 0 u h in around_other v (omega arith) (omega arith)) in
+      let behind_u = map_same (around_vertex after) (around_vertex rows) (range_with_len (u + 1) others) (λ v h.
+      let low = range_from v (u + 1) others h in let high = range_below v (u + 1) others h in around_other v (omega arith) (omega arith)) in
+      let old_vertices : map (around_vertex after) (range_with_len 0 (length rows.rotations)) ≡ points_before ++ (first_dart ∷ front_darts ++ new_dart ∷ back_darts) ∷ points_behind =
+      vertices_in_parts (around_vertex after)
+      ∙ ap (λ s. s ++ around_vertex after u ∷ map (around_vertex after) (range_with_len (u + 1) others)) before_u
+      ∙ ap (λ s. points_before ++ around_vertex after u ∷ s) behind_u
+      ∙ ap (λ around. points_before ++ around ∷ points_behind) around_u_after in
+      let all_vertices : map (around_vertex after) (vertices after) ≡ (points_before ++ (first_dart ∷ front_darts ++ new_dart ∷ back_darts) ∷ points_behind) ++ (new_twin ∷ []) ∷ [] =
+      ap (λ n. map (around_vertex after) (range_with_len 0 n)) more_vertices
+      ∙ map-range_with_len_more (around_vertex after) 0 (length rows.rotations) (length rows.rotations) (omega arith)
+      ∙ ap (λ s. s ++ around_vertex after (length rows.rotations) ∷ []) old_vertices
+      ∙ ap (λ around. (points_before ++ (first_dart ∷ front_darts ++ new_dart ∷ back_darts) ∷ points_behind) ++ around ∷ []) around_new in
+      ap (λ s. s ++ map (around_crossing after) rows.crossings) all_vertices
+      ∙ ap (λ s. ((points_before ++ (first_dart ∷ front_darts ++ new_dart ∷ back_darts) ∷ points_behind) ++ (new_twin ∷ []) ∷ []) ++ s) (map_same (around_crossing after) (around_crossing rows) rows.crossings (around_crossing_after crossings))
+      ∙ append_assoc (points_before ++ (first_dart ∷ front_darts ++ new_dart ∷ back_darts) ∷ points_behind) ((new_twin ∷ []) ∷ []) points_crossed
+
+  -- the new edge has no dart before
+  nowhere_before : (d : Dart) → d.edge ≡ rows.next_edge → has_good_crossings rows ≡ true → has_dart (darts_in (system rows)) d ≡ false
+  nowhere_before d is_new crossings = counted_any (same_dart d) (darts_in (system rows)) false
+      (stands_once rows paths crossings rotations d
+      ∙ ap (λ (o : Option EdgeRow). one (is_some o && nat_lt d.seg (segment_count (edge_at rows d.edge)))) (ap (edge_row rows) is_new ∙ no_new_row_before))
+
+  at_most_one : (t : Bool) (n : ℕ) → n ≡ one t → n ≤ 1
+  at_most_one true n e = omega arith
+  at_most_one false n e = omega arith
+
+  pub connected_after_growth : has_good_crossings rows ≡ true → Connected (system rows) → Connected (system after)
+  connected_after_growth crossings connected = subst Connected (sym (system_after crossings))
+      (stays_connected points_before points_behind points_crossed first_dart front_darts back_darts new_dart new_twin
+      (subst (λ s. has_dart (darts_in s) new_dart ≡ false) system_before (nowhere_before new_dart refl crossings))
+      (subst (λ s. has_dart (darts_in s) new_twin ≡ false) system_before (nowhere_before new_twin refl crossings))
+      refl
+      (subst (λ s. (d : Dart) → count_by (same_dart d) (darts_in s) ≤ 1) system_before (λ d. at_most_one (is_of_rows rows d) _ (stands_once rows paths crossings rotations d)))
+      (subst Connected system_before connected))
+
+-- a growth at a corner makes an embedding of an embedding
+pub growth_keeps_embedding : (rows : Rows) → IsEmbedding rows → (u p kind : ℕ) → u < length rows.rotations → p < length (rotation rows u) → kind < 64 → IsEmbedding (grown rows u p kind)
+growth_keeps_embedding rows good u p kind u_in p_in known = record {
+  paths = paths_after_growth rows u p kind good.paths good.rotations u_in p_in known;
+  crossings = crossings_after_growth rows u p kind good.paths good.rotations u_in p_in good.crossings;
+  rotations = rotations_after_growth rows u p kind good.paths good.rotations u_in p_in;
+  connected = connected_after_growth rows u p kind good.paths good.rotations u_in p_in good.crossings good.connected;
+}

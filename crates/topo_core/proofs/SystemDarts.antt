@@ -173,7 +173,7 @@ pub some_of : {X : Type 0} (o : Option X) → is_some o ≡ true → (x : X) × 
 some_of None h = cc
 some_of (Some x) h = (x, refl)
 
-in_at : (x : ℕ) (xs : List ℕ) (i : ℕ) → slice_get xs i ≡ Some x → IsIn x xs
+pub in_at : (x : ℕ) (xs : List ℕ) (i : ℕ) → slice_get xs i ≡ Some x → IsIn x xs
 in_at x [] i e = cc
 in_at x (y ∷ xs) zero e = let same : y ≡ x = cc in inl (sym same)
 in_at x (y ∷ xs) (suc i) e = inr (in_at x xs i e)
@@ -202,7 +202,8 @@ crossing_darts_in rows paths crossings e row there i x at =
 
 -- ---- All darts
 
-get_there : (xs : List ℕ) (i : ℕ) → i < length xs → (x : ℕ) × (slice_get xs i ≡ Some x)
+-- what stands at a place of a list
+pub get_there : {X : Type 0} (xs : List X) (i : ℕ) → i < length xs → (x : X) × (slice_get xs i ≡ Some x)
 get_there [] i h = absurd (omega arith)
 get_there (x ∷ xs) zero h = (x, refl)
 get_there (x ∷ xs) (suc i) h = get_there xs i (omega arith)

@@ -6,6 +6,7 @@ pub mod Evidence
 pub mod History
 pub mod Items
 pub mod Lawful
+pub mod Laws
 pub mod Limits
 pub mod Picture
 pub mod Pictures

@@ -12,6 +12,7 @@ pub mod calls;
 pub mod darts;
 pub mod evidence;
 pub mod ids;
+pub mod laws;
 pub mod limits;
 pub mod listed;
 pub mod routes;

@@ -1,0 +1,72 @@
+-- Laws of the definitions, each proved as the contract of a function without a body.
+use Rattle.std.specs.Prelude.{◌≡◌, ◌<◌, ◌↔◌, ◌%◌, ◌==◌, ℕ, true, false, cond, length, count_by, slice_get, slice_index, Some}
+use Rattle.std.specs.List.{list_any}
+use Rattle.topo_core.specs.declared.darts.Dart.{Dart}
+use Rattle.topo_core.specs.declared.rows.Rows.{Rows}
+use Rattle.topo_core.specs.Cycles.{IsPermutationList, SameCycle, map_of}
+use Rattle.topo_core.specs.Rotations.{twin, face_next, IsConnected}
+use Rattle.topo_core.specs.Darts.{same_dart, dart_twin}
+use Rattle.topo_core.specs.Systems.{darts_in, has_dart, turn, Connected, SameFace}
+use Rattle.topo_core.specs.Picture.{IsDart, darts, rotation, system, index_of, turn_images}
+use Rattle.topo_core.specs.Lawful.{IsEmbedding, has_good_paths, has_good_crossings, has_good_rotations}
+use Rattle.topo_core.specs.Changes.{grown}
+
+-- ---- Embeddings
+
+-- a growth in a corner of a vertex makes a connected embedding of a connected embedding
+abbrev pub GrowthKeepsEmbedding : Type 0
+GrowthKeepsEmbedding = (rows : Rows) → IsEmbedding rows → (u p kind : ℕ) → u < length rows.rotations → p < length (rotation rows u) → kind < 64 → IsEmbedding (grown rows u p kind)
+
+-- rows whose paths, crossings and rotations are good: an embedding that need not be connected
+pub record IsWellFormed (rows : Rows) : Type 0 where
+  pub paths : has_good_paths rows ≡ true
+  pub crossings : has_good_crossings rows ≡ true
+  pub rotations : has_good_rotations rows ≡ true
+
+-- ---- Darts and turns
+
+-- d stands once round the points and once in the list of the darts if it is a dart of an edge, and else in neither
+pub record StandsOnce (rows : Rows) (d : Dart) : Type 0 where
+  pub round_points : count_by (same_dart d) (darts_in (system rows)) ≡ cond {A = ℕ} (has_dart (darts rows) d) 1 0
+  pub listed : count_by (same_dart d) (darts rows) ≡ cond {A = ℕ} (has_dart (darts rows) d) 1 0
+  pub of_an_edge : IsDart rows d ↔ (has_dart (darts rows) d ≡ true)
+
+-- round the points of well-formed rows stands each dart of their edges once, and nothing else
+abbrev pub DartsStandOnce : Type 0
+DartsStandOnce = (rows : Rows) → IsWellFormed rows → (d : Dart) → StandsOnce rows d
+
+-- the turn leads from darts of the picture to darts of the picture, no two to the same, on darts as on their numbers
+pub record TurnPermutes (rows : Rows) : Type 0 where
+  pub within : (d : Dart) → has_dart (darts rows) d ≡ true → has_dart (darts rows) (turn (system rows) d) ≡ true
+  pub apart : (c d : Dart) → has_dart (darts rows) c ≡ true → has_dart (darts rows) d ≡ true → turn (system rows) c ≡ turn (system rows) d → c ≡ d
+  pub images : IsPermutationList (turn_images rows)
+
+-- the turn of well-formed rows is a permutation of their darts
+abbrev pub TurnIsAPermutation : Type 0
+TurnIsAPermutation = (rows : Rows) → IsWellFormed rows → TurnPermutes rows
+
+-- ---- Darts as numbers
+
+-- numbers and darts name each other, the two darts of segment i are 2i and 2i + 1, and the images are the turn on numbers
+pub record NumbersStandForDarts (rows : Rows) : Type 0 where
+  pub as_many : length (turn_images rows) ≡ length (darts rows)
+  pub even : length (turn_images rows) % 2 ≡ 0
+  pub below : (d : Dart) → has_dart (darts rows) d ≡ true → index_of rows d < length (darts rows)
+  pub dart_of_number : (i : ℕ) → i < length (darts rows) → (d : Dart) × (slice_get (darts rows) i ≡ Some d)
+  pub number_of_dart : (i : ℕ) (d : Dart) → slice_get (darts rows) i ≡ Some d → index_of rows d ≡ i
+  pub dart_of_its_number : (d : Dart) → has_dart (darts rows) d ≡ true → slice_get (darts rows) (index_of rows d) ≡ Some d
+  pub twins : (d : Dart) → has_dart (darts rows) d ≡ true → (has_dart (darts rows) (dart_twin d) ≡ true) × (index_of rows (dart_twin d) ≡ twin (index_of rows d))
+  pub turns : (d : Dart) → has_dart (darts rows) d ≡ true → slice_index (turn_images rows) (index_of rows d) ≡ index_of rows (turn (system rows) d)
+
+-- in well-formed rows the numbers stand for the darts
+abbrev pub DartsAreNumbered : Type 0
+DartsAreNumbered = (rows : Rows) → IsWellFormed rows → NumbersStandForDarts rows
+
+-- the rotation system is connected just when no point is bare and the numbers are connected
+abbrev pub NumbersKeepConnection : Type 0
+NumbersKeepConnection = (rows : Rows) → IsWellFormed rows → (Connected (system rows) ↔ ((list_any (λ around. length around == 0) (system rows) ≡ false) × IsConnected (turn_images rows)))
+
+-- two darts have one face on their left just when their numbers lie on one cycle of the face map
+abbrev pub NumbersKeepFaces : Type 0
+NumbersKeepFaces = (rows : Rows) → IsWellFormed rows → (c d : Dart) → has_dart (darts rows) c ≡ true → has_dart (darts rows) d ≡ true
+    → (SameFace (system rows) c d ↔ SameCycle (face_next (map_of (turn_images rows))) (index_of rows c) (index_of rows d))

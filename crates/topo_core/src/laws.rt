@@ -1,0 +1,34 @@
+//! Laws of the definitions. The functions do nothing: their contracts are the laws.
+
+ghost use Rattle.topo_core.specs.Laws.{DartsAreNumbered, DartsStandOnce, GrowthKeepsEmbedding, NumbersKeepConnection, NumbersKeepFaces, TurnIsAPermutation};
+
+/// A growth in a corner of a vertex makes a connected embedding of a connected embedding.
+pub fn growth_keeps_embedding()
+    ensures { GrowthKeepsEmbedding }
+{}
+
+/// Round the points of well-formed rows stands each dart of their edges once, and nothing else.
+pub fn darts_stand_once()
+    ensures { DartsStandOnce }
+{}
+
+/// The turn of well-formed rows is a permutation of their darts.
+pub fn turn_is_a_permutation()
+    ensures { TurnIsAPermutation }
+{}
+
+/// In canonical order each dart has a number of its own, twins stand side by side, and the images
+/// hold for each number that of the next dart clockwise.
+pub fn darts_are_numbered()
+    ensures { DartsAreNumbered }
+{}
+
+/// A rotation system is connected just when no point is bare and the numbers of its darts are connected.
+pub fn numbers_keep_connection()
+    ensures { NumbersKeepConnection }
+{}
+
+/// Two darts have one face on their left just when their numbers lie on one cycle of the face map.
+pub fn numbers_keep_faces()
+    ensures { NumbersKeepFaces }
+{}
