@@ -44,5 +44,5 @@ rows_data rows = object
     (member (codes "rotations") (list_data (list_data number_data) rows.rotations) no_members)))))
 
 -- the text of rows: no space, and keys in the order of their bytes
-abbrev pub rows_text : Rows → List ℕ
+unfoldable pub rows_text : Rows → List ℕ
 rows_text rows = compact_text (rows_data rows)
