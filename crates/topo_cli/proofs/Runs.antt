@@ -1,11 +1,10 @@
 -- Growths one after another are a run of their list.
-use Rattle.std.proofs.Common.{◌≡◌, ℕ, zero, suc, ◌+◌, ◌<◌, take, get_or, ◌==◌, Bool, true, cond, List, [], ◌∷◌, ◌++◌, map, filter, length, slice_index_or, Option, Some, None, refl, sym, ap, ap₂, subst, ◌∙◌, ◌⊎◌, inl, inr, arith}
+use Rattle.std.proofs.Common.{◌≡◌, ℕ, zero, suc, ◌+◌, ◌<◌, take, get_or, ◌==◌, Bool, true, cond, List, [], ◌∷◌, ◌++◌, map, length, slice_index_or, Some, None, refl, sym, ap, ap₂, subst, ◌∙◌, inl, inr, arith}
 use Rattle.std.proofs.lemmas.List.{take_more}
 use Rattle.std.specs.List.{AllByRecursion}
 use Rattle.topo_core.specs.declared.rows.Rows.{Rows}
 use Rattle.topo_core.specs.declared.limits.Limits.{Limits}
 use Rattle.topo_core.specs.declared.calls.Call.{Call}
-use Rattle.topo_core.specs.declared.calls.Command.{Command}
 use Rattle.topo_core.specs.declared.calls.Command.TheVariants.{Plain}
 use Rattle.topo_core.specs.declared.calls.Entry.{Entry}
 use Rattle.topo_core.specs.declared.calls.Reply.{Reply}
@@ -15,7 +14,7 @@ use Rattle.topo_core.specs.Items.{IsIn}
 use Rattle.topo_core.specs.Changes.{grown}
 use Rattle.topo_core.specs.Steps.{Step, grow_refusal}
 use Rattle.topo_core.specs.Pictures.{seed}
-use Rattle.topo_core.specs.History.{Replays, IsRun, entries_of, call_of}
+use Rattle.topo_core.specs.History.{Replays, entries_of, call_of}
 use Rattle.topo_cli.specs.declared.growth.Growth.{Growth}
 use Rattle.topo_cli.specs.Runs.{GrowsBy, GrowTo, price_one, growth_call, growth_lists}
 

@@ -1,5 +1,5 @@
 -- What bytes and values spell.
-use Rattle.std.proofs.Common.{◌≡◌, ℕ, ◌≤◌, nat_lt, Bool, true, false, List, [], ◌∷◌, length, Option, Some, None, Err, refl, sym, ap, ◌∙◌, arith, IsUtf8}
+use Rattle.std.proofs.Common.{◌≡◌, ℕ, ◌≤◌, nat_lt, Bool, true, false, List, [], ◌∷◌, length, Option, Some, None, Err, refl, IsUtf8}
 use Rattle.std.specs.Str.{is_utf8}
 use Rattle.std.proofs.lemmas.Bool.{le-ltb}
 use Rattle.std.proofs.lemmas.Str.{IsUtf8-from_is_utf8, is_utf8-from_IsUtf8}
@@ -8,8 +8,8 @@ use Rattle.serde_json.specs.Read.{read}
 use Rattle.serde_json.specs.View.{items_view}
 use Rattle.serde_json.specs.declared.value.Value.{Value}
 use Rattle.topo_cli.specs.declared.fault.Place.TheVariants.{Workers}
-use Rattle.topo_cli.specs.declared.fault.ScriptFault.TheVariants.{BadShape, NotJson, TooLong}
-use Rattle.topo_cli.specs.Scripts.{script_of, growths_of, listed_growths, json_of, due, and_then, passes}
+use Rattle.topo_cli.specs.declared.fault.ScriptFault.TheVariants.{BadShape, NotJson}
+use Rattle.topo_cli.specs.Scripts.{script_of, growths_of, listed_growths, json_of, due, and_then}
 
 pub listed_growths-not_one : (vs : List Value) → (length vs ≡ 1 → ⊥) → listed_growths (items_view vs) ≡ Err (BadShape Workers)
 listed_growths-not_one [] h = refl

@@ -1,3 +1,4 @@
 pub mod Reading
 pub mod Runs
 pub mod Scripts
+pub mod Words

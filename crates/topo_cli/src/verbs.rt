@@ -1,8 +1,13 @@
 //! The words of a command line.
 
+ghost use Rattle.std.specs.Prelude.{◌≡◌, IfOk, IfErr, Some, map, true, is_some};
+ghost use Rattle.clap.specs.Words.{app_of, kind_of, takes};
+ghost use Rattle.topo_cli.specs.Words.{planar_app, verb_named, asked_verb};
+
 use crate::Verb;
+use clap::error::ErrorKind;
 use clap::{Command, Error};
-use std::alloc::Global;
+use std::alloc::{AllocError, Global};
 use std::convert::AsStr;
 
 /// What `planar --help` says after the list of commands.
@@ -32,16 +37,39 @@ before the edge at POSITION of its list. A command that is refused changes nothi
 
 A fault is one line on standard error: planar: NUMBER NAME PLACE";
 
-/// The command that the words ask for; the first word is the program's name. Where `clap` refuses the
-/// words, or they ask for help, its answer is the error, whose text is for the user.
-pub fn verb<'a, S: AsStr>(alloc: Global, words: &'a [S]) -> Result<Verb, Error> {
+/// The command line of the program.
+fn planar_command<'a>(alloc: Global) -> Result<Command<'a>, AllocError>
+    ensures { IfOk result (λ command. app_of command ≡ planar_app) }
+{
     let run = Command::new(alloc, "run").about(RUN).long_about(RUN_LONG);
-    let planar = Command::new(alloc, "planar")
+    Command::new(alloc, "planar")
         .about(ABOUT)
         .after_help(AFTER)
         .subcommand_required(true)
         .arg_required_else_help(true)
-        .subcommand(run)?;
-    let _matches = planar.try_get_matches_from(words)?;
-    Ok(Verb::Run)
+        .subcommand(run)
+}
+
+/// The command of this name.
+fn verb_named(name: &str) -> Option<Verb>
+    ensures { result ≡ verb_named name.now }
+{
+    if name == "run" { Some(Verb::Run) } else { None }
+}
+
+/// The command that the words ask for; the first word is the program's name. Where `clap` refuses the
+/// words, or they ask for help, its answer is the error, whose text is for the user.
+pub fn verb<'a, S: AsStr>(alloc: Global, words: &'a [S]) -> Result<Verb, Error>
+    ensures ok { IfOk result (λ v. asked_verb (map S.text words.entry.now) ≡ Some v) }
+    ensures err { IfErr result (λ e. takes planar_app (map S.text words.entry.now) ≡ true → is_some (asked_verb (map S.text words.entry.now)) ≡ true → kind_of e ≡ ErrorKind.OutOfMemory) }
+{
+    let mut planar = planar_command(alloc)?;
+    let matches = match planar.try_get_matches_from_mut(words) {
+        Ok(matches) => matches,
+        Err(error) => return Err(error),
+    };
+    match matches.subcommand_name().and_then(verb_named) {
+        Some(verb) => Ok(verb),
+        None => Err(planar.error(ErrorKind::MissingSubcommand, "a command is missing")?),
+    }
 }

@@ -1,4 +1,4 @@
-use Rattle.std.proofs.Common.{◌≡◌, inl, inr, ap}
+use Rattle.std.proofs.Common.{inl, inr, ap}
 use Rattle.topo_picture.specs.Shown.{Shown}
 use Rattle.topo_cli.proofs.Runs.{grown_by_one, refused_by_one}
 use Rattle.topo_cli.proofs.run.grow_once.Goals as goal

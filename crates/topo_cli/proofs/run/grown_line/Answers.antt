@@ -1,5 +1,4 @@
-use Rattle.std.proofs.Common.{◌≡◌, ◌∷◌, ◌++◌, [], List, ℕ, subst, sym, ap, ◌∙◌}
-use Rattle.topo_script.specs.Pictures.{rows_text}
+use Rattle.std.proofs.Common.{◌∷◌, ◌++◌, [], List, ℕ, subst, sym, ap, ◌∙◌}
 use Rattle.topo_core.specs.Pictures.{seed}
 use Rattle.topo_core.specs.declared.rows.Rows.{Rows}
 use Rattle.topo_core.specs.declared.limits.Limits.{Limits}

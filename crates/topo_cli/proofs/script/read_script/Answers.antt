@@ -1,7 +1,6 @@
-use Rattle.std.proofs.Common.{◌≡◌, Ok, IfOk, IfErr, Some, None, List, ℕ, Vec, Global, subst, sym, ◌∙◌, arith, ◌≤◌, length, true≢false}
+use Rattle.std.proofs.Common.{◌≡◌, None, sym, ◌∙◌, true≢false}
 use Rattle.serde_json.specs.View.{view}
-use Rattle.topo_cli.specs.declared.growth.Growth.{Growth}
-use Rattle.topo_cli.specs.Scripts.{Read, script_of, growths_of, IsFirstFault}
+use Rattle.topo_cli.specs.Scripts.{script_of, growths_of}
 use Rattle.topo_cli.proofs.Scripts.{script_of-json, json_of-read, json_of-none}
 use Rattle.topo_cli.proofs.script.read_script.Goals as goal
 

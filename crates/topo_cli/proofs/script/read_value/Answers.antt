@@ -1,4 +1,4 @@
-use Rattle.std.proofs.Common.{◌≡◌, ℕ, length, sym, ap, ◌∙◌, arith, rules}
+use Rattle.std.proofs.Common.{◌≡◌, length, sym, ap, ◌∙◌, arith, rules}
 use Rattle.topo_cli.specs.Scripts.{and_then, listed_growths}
 use Rattle.topo_cli.proofs.Scripts.{listed_growths-not_one}
 use Rattle.topo_cli.proofs.script.read_value.Goals as goal
