@@ -9,14 +9,11 @@ use std::{env, io};
 use topo_cli::verbs::verb;
 use topo_cli::{RunFault, Verb, run_io};
 
-/// What the process answers.
+/// The status of a run without a fault.
 const DONE: u8 = 0;
 
-const FAULT: u8 = 1;
-
+/// The status where the words were refused or asked for help.
 const REFUSED: u8 = 2;
-
-const NO_MEMORY: u8 = 3;
 
 fn main(rt: HostRuntime) -> ExitCode {
     let status = match read_verb(&rt) {
@@ -62,8 +59,5 @@ fn run<R: Input + Print + Eprint + AllocGlobal>(rt: &R) -> u8 {
 /// Prints a fault, and gives the status that goes with it.
 fn tell<R: Eprint>(rt: &R, fault: &RunFault) -> u8 {
     let _ = eprintln!(rt; "planar: {fault}");
-    match fault {
-        RunFault::Memory => NO_MEMORY,
-        _ => FAULT,
-    }
+    fault.status()
 }

@@ -1,5 +1,7 @@
 //! What can go wrong with a script, and with a run.
 
+ghost use Rattle.std.specs.Prelude.{◌≡◌};
+
 use std::fmt;
 use thiserror::Error;
 
@@ -68,4 +70,18 @@ pub enum RunFault {
     /// The writer failed. Part of the text may have been written.
     #[error("56 WriteFault")]
     WriteFault,
+}
+
+impl RunFault {
+    ghost use Rattle.topo_cli.specs.Statuses.{status_of};
+
+    /// The status that the program ends with: 3 for want of memory, and else 1.
+    pub fn status(&self) -> u8
+        ensures { result ≡ status_of self.now }
+    {
+        match self {
+            RunFault::Memory => 3,
+            RunFault::Script(_) | RunFault::ReadFault | RunFault::WriteFault => 1,
+        }
+    }
 }

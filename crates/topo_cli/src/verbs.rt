@@ -10,32 +10,38 @@ use clap::{Command, Error};
 use std::alloc::{AllocError, Global};
 use std::convert::AsStr;
 
-/// What `planar --help` says after the list of commands.
+/// What `planar --help` says before the list of commands.
 const ABOUT: &str = "\
-Keeps a planar picture of a graph: for each vertex the clockwise list of its edges, \
-and each crossing as a dummy vertex of degree four.";
+Keeps a planar picture of a graph: for each vertex the clockwise list of its
+edges, and each crossing as a dummy vertex of degree four.";
 
+/// What it says after them.
 const AFTER: &str = "\
 Example:
   echo '{\"version\":1,\"workers\":[[[\"grow\",1,0,0],[\"grow\",1,1,7]]]}' | planar run
 
-Statuses: 0 done, 1 a fault of the input or of reading and writing, 2 these words were refused or asked for help, \
-3 not enough memory.";
+Statuses:
+  0  done
+  1  a fault of the script, of reading or of writing
+  2  these words were refused, or asked for help
+  3  not enough memory";
 
 const RUN: &str = "Reads a script from standard input and prints the picture that it makes";
 
 const RUN_LONG: &str = "\
-Reads a script from standard input, carries out its commands one after another, and prints the picture \
-on one line of standard output.
+Reads a script from standard input, carries out its commands one after another,
+and prints the picture on one line of standard output.
 
-The first picture has the vertices 0 and 1 and the edge 0 between them. A script is a JSON object with the \
-version 1 and one list of commands:
+The first picture has the vertices 0 and 1, and edge 0 between them. A script is
+a JSON object with the version 1 and one list of commands:
+
   {\"version\":1,\"workers\":[[[\"grow\",1,0,0],[\"grow\",1,1,7]]]}
 
-[\"grow\",U,POSITION,KIND] puts a new vertex on a new edge of a kind from 0 to 63 into the corner of vertex U \
-before the edge at POSITION of its list. A command that is refused changes nothing, and the run goes on.
+[\"grow\",U,POSITION,KIND] puts a new vertex on a new edge, of a kind from 0 to
+63, into a corner of vertex U: the one before the edge at POSITION of its
+clockwise list. A command that is refused changes nothing, and the run goes on.
 
-A fault is one line on standard error: planar: NUMBER NAME PLACE";
+A fault is one line on standard error, as: planar: 52 BadShape $/workers";
 
 /// The command line of the program.
 fn planar_command<'a>(alloc: Global) -> Result<Command<'a>, AllocError>
