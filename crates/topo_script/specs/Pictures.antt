@@ -1,6 +1,6 @@
 -- The JSON value of a picture's rows, and its text.
 use Rattle.std.specs.Prelude.{ℕ, List, map, codes}
-use Rattle.serde_json.specs.Data.{Data, number, unsigned, string, array, object, Members, no_members, member}
+use Rattle.serde_json.specs.Data.{Data, number, unsigned, string, array, object, no_members, member}
 use Rattle.serde_json.specs.View.{items_of}
 use Rattle.serde_json.specs.Written.{compact_text}
 use Rattle.topo_core.specs.declared.darts.Sign.{Sign}
