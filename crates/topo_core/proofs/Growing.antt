@@ -11,18 +11,19 @@ use Rattle.std.proofs.lemmas.List.Sums.{sum_by-cons, sum_by_push, sum_by-insert}
 use Rattle.topo_core.specs.declared.rows.Rows.{Rows}
 use Rattle.topo_core.specs.declared.rows.EdgeRow.{EdgeRow}
 use Rattle.topo_core.specs.Items.{IsIn, occurrences, rises_below}
-use Rattle.topo_core.specs.Picture.{around_crossing, around_vertex, clockwise, cross_row, edge_at, edge_row, end_dart, place_on, rotation, segment_count, system, vertices}
+use Rattle.topo_core.specs.Picture.{around_crossing, around_vertex, clockwise, cross_row, darts, edge_at, edge_row, end_dart, place_on, rotation, segment_count, system, vertices}
 use Rattle.topo_core.specs.Pictures.{back, forward}
-use Rattle.topo_core.specs.Systems.{Connected, darts_in, has_dart, System}
+use Rattle.topo_core.specs.Systems.{Connected, darts_in, has_dart, System, turn}
 use Rattle.topo_core.specs.Darts.{same_dart}
 use Rattle.topo_core.specs.declared.darts.Dart.{Dart}
 use Rattle.topo_core.specs.declared.rows.CrossRow.{CrossRow}
 use Rattle.topo_core.specs.Lawful.{has_good_paths, has_good_path, has_good_rotation, has_good_rotations, has_good_crossings, is_good_crossing, IsEmbedding}
 use Rattle.topo_core.specs.Changes.{grown, put_in, with_end}
 use Rattle.topo_core.proofs.Members.{left_true, right_true, test_of_each, in_range, eq_true, in_left, in_map, in_right}
-use Rattle.topo_core.proofs.Standing.{good_crossing, is_of_rows, stands_once}
-use Rattle.topo_core.proofs.NewDarts.{new_system, old_system, stays_connected}
-use Rattle.topo_core.proofs.Counting.{counted_any, one}
+use Rattle.topo_core.proofs.Standing.{good_crossing, is_of_rows, stands_once, system_test}
+use Rattle.topo_core.proofs.NewDarts.{new_system, old_system, reaches_new, stays_connected, turn_of_old, turn_of_twin}
+use Rattle.topo_core.proofs.DartLaws.{same_dart_true}
+use Rattle.topo_core.proofs.Counting.{counted_any, is_or_not, one}
 use Rattle.topo_core.proofs.SystemDarts.{edge_at_row, path_facts, some_of, row_id, row_in, or_left, or_right_true, eqb_self}
 
 -- ---- Tests of lists
@@ -220,6 +221,15 @@ neither f a b h k = grind (arith, nat_tests)
 first_below : {f p : ℕ} (around : List ℕ) → ((e : ℕ) → IsIn e around → e < f) → p < length around → get_or around 0 0 ≤ f
 first_below [] below h = absurd (omega arith)
 first_below (x ∷ around) below h = let one = below x (inl refl) in omega arith
+
+-- the turn of the rows after a growth, in terms of the turn before it: the new dart comes between two old ones, its twin is by itself
+pub record IsGrownTurn (rows after : Rows) : Type 0 where
+  pub old_turns : (d : Dart) → d.edge ≢ rows.next_edge
+      → (turn (system after) d ≡ turn (system rows) d) ⊎ ((turn (system after) d ≡ forward rows.next_edge 0) × (turn (system after) (forward rows.next_edge 0) ≡ turn (system rows) d))
+  pub alone : turn (system after) (back rows.next_edge 0) ≡ back rows.next_edge 0
+  pub source : Dart
+  pub source_in : has_dart (darts rows) source ≡ true
+  pub leads_in : turn (system after) source ≡ forward rows.next_edge 0
 
 module _ (rows : Rows) (u p kind : ℕ) (paths : has_good_paths rows ≡ true) (rotations : has_good_rotations rows ≡ true) (u_in : u < length rows.rotations) (p_in : p < length (rotation rows u)) where
   row_below : (row : EdgeRow) → IsIn row rows.edges → row.id < rows.next_edge
@@ -522,6 +532,29 @@ module _ (rows : Rows) (u p kind : ℕ) (paths : has_good_paths rows ≡ true) (
       refl
       (subst (λ s. (d : Dart) → count_by (same_dart d) (darts_in s) ≤ 1) system_before (λ d. at_most_one (is_of_rows rows d) _ (stands_once rows paths crossings rotations d)))
       (subst Connected system_before connected))
+
+  not_new : (d c : Dart) → c.edge ≡ rows.next_edge → d.edge ≢ rows.next_edge → same_dart d c ≡ false
+  not_new d c is_new old = elim (is_or_not (same_dart d c)) [ inl e ↦ absurd (old (ap (λ y. y.edge) (same_dart_true d c e) ∙ is_new)) | inr e ↦ e ]
+
+  -- the new dart comes between an old one and the one that followed it
+  pub turns_after_growth : has_good_crossings rows ≡ true → IsGrownTurn rows after
+  turns_after_growth crossings =
+      let no_dart = subst (λ s. has_dart (darts_in s) new_dart ≡ false) system_before (nowhere_before new_dart refl crossings) in
+      let no_twin = subst (λ s. has_dart (darts_in s) new_twin ≡ false) system_before (nowhere_before new_twin refl crossings) in
+      let once = subst (λ s. (d : Dart) → count_by (same_dart d) (darts_in s) ≤ 1) system_before (λ d. at_most_one (is_of_rows rows d) _ (stands_once rows paths crossings rotations d)) in
+      let now = λ (d : Dart). ap (λ s. turn s d) (system_after crossings) in
+      let was = λ (d : Dart). ap (λ s. turn s d) system_before in
+      let source = reaches_new points_before points_behind points_crossed first_dart front_darts back_darts new_dart new_twin no_dart no_twin refl once in
+      record {
+        old_turns = λ d old. elim (turn_of_old points_before points_behind points_crossed first_dart front_darts back_darts new_dart new_twin no_dart no_twin refl d (not_new d new_dart refl old) (not_new d new_twin refl old)) [
+          | inl same ↦ inl (now d ∙ same ∙ sym (was d))
+          | inr between ↦ inr (now d ∙ between.0, now new_dart ∙ between.1 ∙ sym (was d))
+        ];
+        alone = now new_twin ∙ turn_of_twin points_before points_behind points_crossed first_dart front_darts back_darts new_dart new_twin no_dart no_twin refl;
+        source = source.0;
+        source_in = sym (system_test rows paths crossings rotations source.0) ∙ ap (λ s. has_dart (darts_in s) source.0) system_before ∙ source.1;
+        leads_in = now source.0 ∙ source.2;
+      }
 
 -- a growth at a corner makes an embedding of an embedding
 pub growth_keeps_embedding : (rows : Rows) → IsEmbedding rows → (u p kind : ℕ) → u < length rows.rotations → p < length (rotation rows u) → kind < 64 → IsEmbedding (grown rows u p kind)

@@ -2,9 +2,11 @@ pub mod Connection
 pub mod Counting
 pub mod DartLaws
 pub mod Growing
+pub mod Lengthening
 pub mod Members
 pub mod NewDarts
 pub mod Numbering
+pub mod Orbits
 pub mod Renumbering
 pub mod Standing
 pub mod SystemDarts

@@ -254,7 +254,7 @@ module _ (before after crossings : System) (z : Dart) (zs ys : List Dart) (x y :
         ∙ follower_new z x (z ∷ zs) ys x_not_around
 
     -- an old turn is a new turn, or two of them by way of x
-    turn_of_old : (d : Dart) → same_dart d x ≡ false → same_dart d y ≡ false
+    pub turn_of_old : (d : Dart) → same_dart d x ≡ false → same_dart d y ≡ false
         → (turn new_system d ≡ turn old_system d) ⊎ ((turn new_system d ≡ x) × (turn new_system x ≡ turn old_system d))
     turn_of_old d not_x not_y = elim (is_or_not (stands_in before d)) [
       | inl e ↦ inl (new_in_parts d not_y ∙ turn_first before ((z ∷ zs ++ x ∷ ys) ∷ (after ++ crossings)) d e ∙ sym (turn_first before ((z ∷ zs ++ ys) ∷ (after ++ crossings)) d e) ∙ sym (old_in_parts d))
@@ -274,6 +274,20 @@ module _ (before after crossings : System) (z : Dart) (zs ys : List Dart) (x y :
                 ∙ sym (turn_past (z ∷ zs ++ ys) (after ++ crossings) d elsewhere) ∙ sym was)
           ]
     ]
+
+    -- y turns to itself
+    pub turn_of_twin : turn new_system y ≡ y
+    turn_of_twin =
+        let in_parts = sym (stands_old y) ∙ new_y in
+        let points = or_left_false (stands_in before y || (has_dart (z ∷ zs ++ ys) y || stands_in after y)) (stands_in crossings y) in_parts in
+        let not_x : same_dart y x ≡ false = elim (is_or_not (same_dart y x)) [ inl e ↦ absurd (twin_apart x (twins ∙ same_dart_true y x e)) | inr e ↦ e ] in
+        let not_in_points : stands_in Q y ≡ false =
+            stands_in-append before ((z ∷ zs ++ x ∷ ys) ∷ after) y
+            ∙ ap (λ b. stands_in before y || b) (has_dart-append (z ∷ zs ++ x ∷ ys) (darts_in after) y ∙ ap (λ b. b || stands_in after y) (same_list y not_x))
+            ∙ points in
+        turn_second Q ((y ∷ []) ∷ crossings) y not_in_points
+        ∙ turn_at (y ∷ []) crossings y (or_true_left (same_dart y y) false (same_dart_self y))
+        ∙ ap (λ (b : Bool). cond b y y) (same_dart_self y)
 
     -- so what an old turn leads to is joined by new turns
     old_turn_joined : (d : Dart) → Joined (turn new_system) dart_twin d (turn old_system d)
@@ -299,12 +313,12 @@ module _ (before after crossings : System) (z : Dart) (zs ys : List Dart) (x y :
     pub stays_joined : (c d : Dart) → Joined (turn old_system) dart_twin c d → Joined (turn new_system) dart_twin c d
     stays_joined c d joined = subst (Joined (turn new_system) dart_twin c) joined.leads (moves_joined joined.moves c)
 
-    module _ (once : (d : Dart) → count_by (same_dart d) (darts_in old_system) ≤ 1) (connected : Connected old_system) where
+    module _ (once : (d : Dart) → count_by (same_dart d) (darts_in old_system) ≤ 1) where
       few_around : (d : Dart) → count_by (same_dart d) (z ∷ zs) ≤ 1
       few_around d = let all = count_old d in let most = once d in omega arith
 
       -- some old dart turns to the new one
-      reaches_new : (d : Dart) × (stands_in old_system d ≡ true) × (turn new_system d ≡ x)
+      pub reaches_new : (d : Dart) × (stands_in old_system d ≡ true) × (turn new_system d ≡ x)
       reaches_new =
           let last = dart_before z x z zs ys few_around in
           let d = last.0 in
@@ -331,6 +345,7 @@ module _ (before after crossings : System) (z : Dart) (zs ys : List Dart) (x y :
                 ∙ last.2,
           )
 
+    module _ (once : (d : Dart) → count_by (same_dart d) (darts_in old_system) ≤ 1) (connected : Connected old_system) where
       head_or : (first : Dart) (cs : List Dart) → (slice_index_or cs 0 first ≡ first) ⊎ (has_dart cs (slice_index_or cs 0 first) ≡ true)
       head_or first [] = inl refl
       head_or first (c ∷ cs) = inr (ap (λ b. b || has_dart cs c) (same_dart_self c))
@@ -369,13 +384,13 @@ module _ (before after crossings : System) (z : Dart) (zs ys : List Dart) (x y :
 
       led_from_old : (c : Dart) → stands_in new_system c ≡ true → LedFromOld c
       led_from_old c h =
-          let o = reaches_new.0 in
-          let to_x : Joined (turn new_system) dart_twin o x = subst (Joined (turn new_system) dart_twin o) reaches_new.2 (joined_move (turn new_system) dart_twin Turn o) in
+          let o = (reaches_new once).0 in
+          let to_x : Joined (turn new_system) dart_twin o x = subst (Joined (turn new_system) dart_twin o) (reaches_new once).2 (joined_move (turn new_system) dart_twin Turn o) in
           elim (new_or_old c h) [
             | inl old ↦ (c, old, joined_self (turn new_system) dart_twin c)
             | inr k ↦ elim k [
-              | inl is_x ↦ subst LedFromOld (sym is_x) (o, reaches_new.1, to_x)
-              | inr is_y ↦ subst LedFromOld (sym is_y) (o, reaches_new.1, joined_through (turn new_system) dart_twin o x y to_x x_to_y)
+              | inl is_x ↦ subst LedFromOld (sym is_x) (o, (reaches_new once).1, to_x)
+              | inr is_y ↦ subst LedFromOld (sym is_y) (o, (reaches_new once).1, joined_through (turn new_system) dart_twin o x y to_x x_to_y)
             ]
           ]
 
