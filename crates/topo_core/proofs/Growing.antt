@@ -352,7 +352,7 @@ module _ (rows : Rows) (u p kind : ℕ) (paths : has_good_paths rows ≡ true) (
 
   -- ---- Its paths and crossings
 
-  more_vertices : length after.rotations ≡ length rows.rotations + 1
+  pub more_vertices : length after.rotations ≡ length rows.rotations + 1
   more_vertices = let e = vertices_after in omega arith
 
   old_path : (row : EdgeRow) → has_good_path rows row ≡ true → has_good_path after row ≡ true
@@ -515,7 +515,7 @@ module _ (rows : Rows) (u p kind : ℕ) (paths : has_good_paths rows ≡ true) (
       ∙ append_assoc (points_before ++ (first_dart ∷ front_darts ++ new_dart ∷ back_darts) ∷ points_behind) ((new_twin ∷ []) ∷ []) points_crossed
 
   -- the new edge has no dart before
-  nowhere_before : (d : Dart) → d.edge ≡ rows.next_edge → has_good_crossings rows ≡ true → has_dart (darts_in (system rows)) d ≡ false
+  pub nowhere_before : (d : Dart) → d.edge ≡ rows.next_edge → has_good_crossings rows ≡ true → has_dart (darts_in (system rows)) d ≡ false
   nowhere_before d is_new crossings = counted_any (same_dart d) (darts_in (system rows)) false
       (stands_once rows paths crossings rotations d
       ∙ ap (λ (o : Option EdgeRow). one (is_some o && nat_lt d.seg (segment_count (edge_at rows d.edge)))) (ap (edge_row rows) is_new ∙ no_new_row_before))

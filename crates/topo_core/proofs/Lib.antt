@@ -2,6 +2,7 @@ pub mod Connection
 pub mod Counting
 pub mod DartLaws
 pub mod Growing
+pub mod GrownFaces
 pub mod Lengthening
 pub mod Members
 pub mod NewDarts

@@ -28,10 +28,10 @@ use Rattle.topo_core.proofs.Turning.{IsDistinct, turn_apart, turn_in}
 abbrev pub place_in : List Dart → Dart → ℕ
 place_in ds d = position_or_len (same_dart d) ds
 
-place_here : (ds : List Dart) (c d : Dart) → same_dart d c ≡ true → place_in (c ∷ ds) d ≡ 0
+pub place_here : (ds : List Dart) (c d : Dart) → same_dart d c ≡ true → place_in (c ∷ ds) d ≡ 0
 place_here ds c d e = ap (λ (t : Bool). cond {A = ℕ} (not t) (1 + place_in ds d) 0) e
 
-place_later : (ds : List Dart) (c d : Dart) → same_dart d c ≡ false → place_in (c ∷ ds) d ≡ 1 + place_in ds d
+pub place_later : (ds : List Dart) (c d : Dart) → same_dart d c ≡ false → place_in (c ∷ ds) d ≡ 1 + place_in ds d
 place_later ds c d e = ap (λ (t : Bool). cond {A = ℕ} (not t) (1 + place_in ds d) 0) e
 
 later : (a b : Bool) → a ≡ false → (a || b) ≡ true → b ≡ true

@@ -1,14 +1,16 @@
 -- Darts and their numbers have the same connections and the same faces.
-use Rattle.std.proofs.Common.{◌≡◌, ap, List, refl, subst, suc, sym, true, zero, ℕ, [], ◌∙◌, ◌∷◌}
+use Rattle.std.proofs.Common.{◌≡◌, ◌<◌, ap, length, List, refl, subst, suc, sym, true, zero, ℕ, [], ◌∙◌, ◌∷◌}
+use Rattle.std.specs.Prelude.{slice_get, Some}
 use Rattle.topo_core.specs.declared.darts.Dart.{Dart}
 use Rattle.topo_core.specs.declared.rows.Rows.{Rows}
-use Rattle.topo_core.specs.Cycles.{after, map_of, SameCycle}
+use Rattle.topo_core.specs.Cycles.{after, IsPermutation, map_of, SameCycle}
 use Rattle.topo_core.specs.Darts.{dart_twin}
 use Rattle.topo_core.specs.Lawful.{has_good_crossings, has_good_paths, has_good_rotations}
 use Rattle.topo_core.specs.Picture.{darts, index_of, system, turn_images}
 use Rattle.topo_core.specs.Rotations.{along, Cross, face_next, IsConnected, Joined, Move, Turn, twin}
 use Rattle.topo_core.specs.Systems.{darts_in, face_step, has_dart, SameFace, turn}
-use Rattle.topo_core.proofs.Numbering.{dart_at, has_at, image_of, index_apart, index_less, index_of_get, index_twin, turn_stays, twin_in}
+use Rattle.topo_core.proofs.DartLaws.{twin-twin}
+use Rattle.topo_core.proofs.Numbering.{dart_at, has_at, image_of, index_apart, index_less, index_of_get, index_twin, turn_stays, turns_apart, twin_in}
 use Rattle.topo_core.proofs.Standing.{system_test}
 
 -- h carries the members that P holds of, and what f makes of them, to what g makes of their images
@@ -58,6 +60,29 @@ module _ (rows : Rows) (paths : has_good_paths rows ≡ true) (crossings : has_g
   face_carried = record {
     stays = λ d h. turn_stays rows paths crossings rotations (dart_twin d) (twin_in rows d h);
     carried = λ d h. ap (map_of images) (sym (index_twin rows d h)) ∙ image_of rows paths (dart_twin d) (twin_in rows d h);
+  }
+
+  -- the face map on the number of a dart
+  pub face_at : (i : ℕ) (d : Dart) → slice_get (darts rows) i ≡ Some d → face_next (map_of images) i ≡ index_of rows (face_step (system rows) d)
+  face_at i d e = ap (face_next (map_of images)) (sym (index_of_get rows paths i d e)) ∙ face_carried.carried d (has_at (darts rows) i d e)
+
+  -- the face map is a permutation
+  pub face_permutes : IsPermutation (face_next (map_of images)) (length images)
+  face_permutes = record {
+    within = λ i h.
+        let at = dart_at rows paths crossings rotations i h in
+        subst (λ n. n < length images) (sym (face_at i at.0 at.1))
+        (index_less rows paths crossings rotations (face_step (system rows) at.0) (face_carried.stays at.0 (has_at (darts rows) i at.0 at.1)));
+    apart = λ i j h k e.
+        let c = dart_at rows paths crossings rotations i h in
+        let d = dart_at rows paths crossings rotations j k in
+        let c_in = has_at (darts rows) i c.0 c.1 in
+        let d_in = has_at (darts rows) j d.0 d.1 in
+        let stepped : face_step (system rows) c.0 ≡ face_step (system rows) d.0 =
+            index_apart rows paths (face_step (system rows) c.0) (face_step (system rows) d.0) (face_carried.stays c.0 c_in) (face_carried.stays d.0 d_in) (sym (face_at i c.0 c.1) ∙ e ∙ face_at j d.0 d.1) in
+        let twins : dart_twin c.0 ≡ dart_twin d.0 = turns_apart rows paths crossings rotations (dart_twin c.0) (dart_twin d.0) (twin_in rows c.0 c_in) (twin_in rows d.0 d_in) stepped in
+        let same : c.0 ≡ d.0 = sym (twin-twin c.0) ∙ ap dart_twin twins ∙ twin-twin d.0 in
+        sym (index_of_get rows paths i c.0 c.1) ∙ ap (index_of rows) same ∙ index_of_get rows paths j d.0 d.1;
   }
 
   -- darts are joined as their numbers are

@@ -3,12 +3,12 @@ use Rattle.std.specs.Prelude.{◌≡◌, ◌<◌, ◌↔◌, ◌%◌, ◌==◌, 
 use Rattle.std.specs.List.{list_any}
 use Rattle.topo_core.specs.declared.darts.Dart.{Dart}
 use Rattle.topo_core.specs.declared.rows.Rows.{Rows}
-use Rattle.topo_core.specs.Cycles.{IsPermutationList, SameCycle, map_of}
+use Rattle.topo_core.specs.Cycles.{IsPermutation, IsPermutationList, SameCycle, map_of}
 use Rattle.topo_core.specs.Rotations.{twin, face_next, IsConnected}
 use Rattle.topo_core.specs.Darts.{same_dart, dart_twin}
 use Rattle.topo_core.specs.Systems.{darts_in, has_dart, turn, Connected, SameFace}
-use Rattle.topo_core.specs.Picture.{IsDart, darts, rotation, system, index_of, turn_images}
-use Rattle.topo_core.specs.Lawful.{IsEmbedding, has_good_paths, has_good_crossings, has_good_rotations}
+use Rattle.topo_core.specs.Picture.{IsDart, darts, rotation, system, index_of, turn_images, face_count}
+use Rattle.topo_core.specs.Lawful.{IsEmbedding, HasGenusZero, has_good_paths, has_good_crossings, has_good_rotations}
 use Rattle.topo_core.specs.Changes.{grown}
 
 -- ---- Embeddings
@@ -23,6 +23,14 @@ pub record IsWellFormed (rows : Rows) : Type 0 where
   pub crossings : has_good_crossings rows ≡ true
   pub rotations : has_good_rotations rows ≡ true
 
+-- a growth makes no face and takes none away
+abbrev pub GrowthKeepsFaces : Type 0
+GrowthKeepsFaces = (rows : Rows) → IsWellFormed rows → (u p kind : ℕ) → u < length rows.rotations → p < length (rotation rows u) → kind < 64 → face_count (grown rows u p kind) ≡ face_count rows
+
+-- so it keeps genus zero
+abbrev pub GrowthKeepsGenus : Type 0
+GrowthKeepsGenus = (rows : Rows) → IsWellFormed rows → HasGenusZero rows → (u p kind : ℕ) → u < length rows.rotations → p < length (rotation rows u) → kind < 64 → HasGenusZero (grown rows u p kind)
+
 -- ---- Darts and turns
 
 -- d stands once round the points and once in the list of the darts if it is a dart of an edge, and else in neither
@@ -35,11 +43,13 @@ pub record StandsOnce (rows : Rows) (d : Dart) : Type 0 where
 abbrev pub DartsStandOnce : Type 0
 DartsStandOnce = (rows : Rows) → IsWellFormed rows → (d : Dart) → StandsOnce rows d
 
--- the turn leads from darts of the picture to darts of the picture, no two to the same, on darts as on their numbers
+-- the turn leads from darts of the picture to darts of the picture, no two to the same, on darts as on their numbers;
+-- and on these the face map is a permutation too
 pub record TurnPermutes (rows : Rows) : Type 0 where
   pub within : (d : Dart) → has_dart (darts rows) d ≡ true → has_dart (darts rows) (turn (system rows) d) ≡ true
   pub apart : (c d : Dart) → has_dart (darts rows) c ≡ true → has_dart (darts rows) d ≡ true → turn (system rows) c ≡ turn (system rows) d → c ≡ d
   pub images : IsPermutationList (turn_images rows)
+  pub faces : IsPermutation (face_next (map_of (turn_images rows))) (length (turn_images rows))
 
 -- the turn of well-formed rows is a permutation of their darts
 abbrev pub TurnIsAPermutation : Type 0
