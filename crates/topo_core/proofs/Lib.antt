@@ -9,6 +9,7 @@ pub mod Members
 pub mod NewDarts
 pub mod Numbering
 pub mod Renumbering
+pub mod RouteDarts
 pub mod Standing
 pub mod SystemDarts
 pub mod Turning

@@ -15,5 +15,7 @@ pub mod ids;
 pub mod laws;
 pub mod limits;
 pub mod listed;
+pub mod prices;
+pub mod route_laws;
 pub mod routes;
 pub mod rows;
