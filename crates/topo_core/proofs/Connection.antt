@@ -156,8 +156,6 @@ connected_by_spread s n reached c d from to = spread_joins s n (darts_in s) reac
 -- two vertices with an edge between them are an embedding
 pub seed_is_embedding : IsEmbedding seed
 seed_is_embedding = record {
-  paths = refl;
-  crossings = refl;
-  rotations = refl;
+  well_formed = record { paths = refl; crossings = refl; rotations = refl };
   connected = record { no_bare_point = refl; joined = connected_by_spread (system seed) 2 refl };
 }

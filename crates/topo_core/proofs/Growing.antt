@@ -559,8 +559,10 @@ module _ (rows : Rows) (u p kind : ℕ) (paths : has_good_paths rows ≡ true) (
 -- a growth at a corner makes an embedding of an embedding
 pub growth_keeps_embedding : (rows : Rows) → IsEmbedding rows → (u p kind : ℕ) → u < length rows.rotations → p < length (rotation rows u) → kind < 64 → IsEmbedding (grown rows u p kind)
 growth_keeps_embedding rows good u p kind u_in p_in known = record {
-  paths = paths_after_growth rows u p kind good.paths good.rotations u_in p_in known;
-  crossings = crossings_after_growth rows u p kind good.paths good.rotations u_in p_in good.crossings;
-  rotations = rotations_after_growth rows u p kind good.paths good.rotations u_in p_in;
-  connected = connected_after_growth rows u p kind good.paths good.rotations u_in p_in good.crossings good.connected;
+  well_formed = record {
+    paths = paths_after_growth rows u p kind good.well_formed.paths good.well_formed.rotations u_in p_in known;
+    crossings = crossings_after_growth rows u p kind good.well_formed.paths good.well_formed.rotations u_in p_in good.well_formed.crossings;
+    rotations = rotations_after_growth rows u p kind good.well_formed.paths good.well_formed.rotations u_in p_in;
+  };
+  connected = connected_after_growth rows u p kind good.well_formed.paths good.well_formed.rotations u_in p_in good.well_formed.crossings good.connected;
 }

@@ -187,8 +187,8 @@ module _ (rows : Rows) (u p kind : ℕ) (paths : has_good_paths rows ≡ true) (
 -- a growth at a corner makes a lawful picture of a lawful picture
 pub growth_keeps_lawful : (rows : Rows) → Lawful rows → (u p kind : ℕ) → u < length rows.rotations → p < length (rotation rows u) → kind < 64 → Lawful (grown rows u p kind)
 growth_keeps_lawful rows lawful u p kind u_in p_in known =
-    let good = lawful.embedding in
+    let good = lawful.embedding.well_formed in
     record {
-      embedding = growth_keeps_embedding rows good u p kind u_in p_in known;
+      embedding = growth_keeps_embedding rows lawful.embedding u p kind u_in p_in known;
       genus_zero = genus_after_growth rows u p kind good.paths good.crossings good.rotations u_in p_in known lawful.genus_zero;
     }

@@ -1,6 +1,9 @@
+pub mod Certificates
+pub mod Computed
 pub mod Connection
 pub mod Counting
 pub mod DartLaws
+pub mod DartOrder
 pub mod Growing
 pub mod GrownFaces
 pub mod Lengthening
@@ -9,6 +12,7 @@ pub mod NewDarts
 pub mod Numbering
 pub mod Orbits
 pub mod Renumbering
+pub mod RouteDarts
 pub mod Standing
 pub mod SystemDarts
 pub mod Turning

@@ -8,7 +8,7 @@ use Rattle.topo_core.specs.Rotations.{twin, face_next, IsConnected}
 use Rattle.topo_core.specs.Darts.{same_dart, dart_twin}
 use Rattle.topo_core.specs.Systems.{darts_in, has_dart, turn, Connected, SameFace}
 use Rattle.topo_core.specs.Picture.{IsDart, darts, rotation, system, index_of, turn_images, face_count}
-use Rattle.topo_core.specs.Lawful.{IsEmbedding, HasGenusZero, has_good_paths, has_good_crossings, has_good_rotations}
+use Rattle.topo_core.specs.Lawful.{IsEmbedding, HasGenusZero, IsWellFormed}
 use Rattle.topo_core.specs.Changes.{grown}
 
 -- ---- Embeddings
@@ -16,12 +16,6 @@ use Rattle.topo_core.specs.Changes.{grown}
 -- a growth in a corner of a vertex makes a connected embedding of a connected embedding
 abbrev pub GrowthKeepsEmbedding : Type 0
 GrowthKeepsEmbedding = (rows : Rows) → IsEmbedding rows → (u p kind : ℕ) → u < length rows.rotations → p < length (rotation rows u) → kind < 64 → IsEmbedding (grown rows u p kind)
-
--- rows whose paths, crossings and rotations are good: an embedding that need not be connected
-pub record IsWellFormed (rows : Rows) : Type 0 where
-  pub paths : has_good_paths rows ≡ true
-  pub crossings : has_good_crossings rows ≡ true
-  pub rotations : has_good_rotations rows ≡ true
 
 -- a growth makes no face and takes none away
 abbrev pub GrowthKeepsFaces : Type 0

@@ -2,6 +2,7 @@ pub mod Changes
 pub mod Cycles
 pub mod Darts
 pub mod Edits
+pub mod Evidence
 pub mod History
 pub mod Items
 pub mod Lawful
@@ -10,6 +11,7 @@ pub mod Limits
 pub mod Picture
 pub mod Pictures
 pub mod Rotations
+pub mod RouteLaws
 pub mod Routes
 pub mod Steps
 pub mod Systems

@@ -10,9 +10,12 @@
 
 pub mod calls;
 pub mod darts;
+pub mod evidence;
 pub mod ids;
 pub mod laws;
 pub mod limits;
 pub mod listed;
+pub mod prices;
+pub mod route_laws;
 pub mod routes;
 pub mod rows;

@@ -1,0 +1,39 @@
+-- What a stored closure promises, and the answers to questions for prices.
+use Rattle.std.specs.Prelude.{◌≡◌, ℕ, ◌≤◌, nat_le, not, ◌&&◌, Bool, true, List, [], ◌∷◌, ◌++◌, Option, Some, None, MatchOption, position}
+use Rattle.topo_core.specs.declared.rows.Facts.{Facts}
+use Rattle.topo_core.specs.Routes.{Pricing}
+
+-- what a closure answers: these facts may be answered so
+abbrev pub Asking : Type 1
+Asking = Facts → Option ℕ → Type 0
+
+-- the promise: an answer is none or from 1 to 1000, and two answers on equal facts are equal
+pub record IsPromise (answers : Asking) : Type 0 where
+  pub positive : (facts : Facts) (n : ℕ) → answers facts (Some n) → 1 ≤ n
+  pub at_most : (facts : Facts) (n : ℕ) → answers facts (Some n) → n ≤ 1000
+  pub single : (facts : Facts) (a b : Option ℕ) → answers facts a → answers facts b → a ≡ b
+
+-- the prices that the answers stand for
+abbrev pub prices_of : Asking → Pricing
+prices_of answers facts n = answers facts (Some n)
+
+-- the answer is the price of these facts, and none where they have no price
+abbrev pub IsPriceOf : Pricing → Facts → Option ℕ → Type 0
+IsPriceOf price facts answer = MatchOption answer ((n : ℕ) → price facts n → ⊥) (λ n. price facts n)
+
+-- ---- Tables of prices by kind
+
+-- an entry that may stand in a table: none, or from 1 to 1000
+abbrev pub is_good : Option ℕ → Bool
+is_good None = true
+is_good (Some n) = nat_le 1 n && nat_le n 1000
+
+-- the least kind with an entry that may not stand in a table
+abbrev pub first_bad : List (Option ℕ) → Option ℕ
+first_bad entries = position (λ entry. not (is_good entry)) entries
+
+-- the answer to one more question stands at the end
+pub record Added (answers : Asking) (facts : Facts) (before after : List (Option ℕ)) : Type 0 where
+  pub answer : Option ℕ
+  pub answered : answers facts answer
+  pub kept : after ≡ before ++ answer ∷ []

@@ -1,0 +1,72 @@
+//! A price for each kind of edge.
+
+ghost use Rattle.std.specs.Prelude.{◌≡◌, ◌<◌, ◌≤◌, Some, None, Err, IfSome, IsSomeAnd, MatchResult, slice_get, length};
+ghost use Rattle.topo_price.specs.Prices.{first_bad, is_good};
+
+use std::marker::Model;
+use thiserror::Error;
+
+/// The kinds of edges are below this number.
+pub const KINDS: usize = 64;
+
+#[derive(Clone, Copy, Debug, Drop, PartialEq, Eq, Error)]
+pub enum PriceFault {
+    /// The least kind whose price is 0 or above 1000.
+    #[error("10 BadPrice {0}")]
+    BadPrice(u8),
+}
+
+/// Whether an entry may stand in a table.
+fn is_good_price(entry: Option<u32>) -> bool
+    ensures { result ≡ is_good entry }
+{
+    match entry {
+        Some(n) => 1 <= n && n <= 1000,
+        None => true,
+    }
+}
+
+/// The least kind with an entry that may not stand in a table.
+fn first_bad_kind(prices: &[Option<u32>]) -> Option<usize>
+    ensures { result ≡ first_bad prices.now }
+{
+    prices.iter().position(|entry| !is_good_price(*entry))
+}
+
+/// A price from 1 to 1000 for each kind, or none.
+#[derive(Drop)]
+pub struct PriceTable {
+    prices: [Option<u32>; 64],
+}
+
+impl Model for PriceTable {
+    ghost use Rattle.std.specs.Prelude.{◌≡◌, ℕ, List, Option, length, None};
+    ghost use Rattle.topo_price.specs.Prices.{first_bad};
+
+    ghost Value = { List (Option ℕ) };
+
+    ghost view = { λ t. t.prices };
+
+    ghost invariant = { λ t. (length t.prices ≡ 64) × (first_bad t.prices ≡ None) };
+}
+
+impl PriceTable {
+    /// The table with these entries, by kind; else the least kind whose entry is no price.
+    pub fn new(prices: [Option<u32>; 64]) -> Result<Self, PriceFault>
+        ensures { MatchResult result (λ t. (t ≡ prices) × (first_bad prices ≡ None)) (λ e. IsSomeAnd (first_bad prices) (λ kind. e ≡ PriceFault.BadPrice kind)) }
+    {
+        match first_bad_kind(&prices) {
+            Some(kind) => Err(PriceFault::BadPrice(kind as u8)),
+            None => Ok(PriceTable { prices }),
+        }
+    }
+
+    /// The price of a kind.
+    pub fn price(&self, kind: u8) -> Option<u32>
+        requires { kind < 64 }
+        ensures entry { slice_get self.now kind ≡ Some result }
+        ensures in_range { IfSome result (λ n. (1 ≤ n) × (n ≤ 1000)) }
+    {
+        self.prices[kind as usize]
+    }
+}
