@@ -8,6 +8,7 @@ use Rattle.std.proofs.lemmas.List.{get_or_append_left, get_or-set_same, get_or-s
 use Rattle.std.proofs.lemmas.List.Folds.{find-append}
 use Rattle.std.proofs.lemmas.List.FromFn.{map-range_with_len_more}
 use Rattle.std.proofs.lemmas.List.Sums.{sum_by-cons, sum_by_push, sum_by-insert}
+use Rattle.std.proofs.lemmas.Bool.{and_from, cases_Bool, eq-eqb, eqb-true, or_left, or_right}
 use Rattle.topo_core.specs.declared.rows.Rows.{Rows}
 use Rattle.topo_core.specs.declared.rows.EdgeRow.{EdgeRow}
 use Rattle.topo_core.specs.Items.{IsIn, occurrences, rises_below}
@@ -19,12 +20,12 @@ use Rattle.topo_core.specs.declared.darts.Dart.{Dart}
 use Rattle.topo_core.specs.declared.rows.CrossRow.{CrossRow}
 use Rattle.topo_core.specs.Lawful.{has_good_paths, has_good_path, has_good_rotation, has_good_rotations, has_good_crossings, is_good_crossing, IsEmbedding}
 use Rattle.topo_core.specs.Changes.{grown, put_in, with_end}
-use Rattle.topo_core.proofs.Members.{left_true, right_true, test_of_each, in_range, eq_true, in_left, in_map, in_right}
-use Rattle.topo_core.proofs.Standing.{good_crossing, is_of_rows, stands_once, system_test}
-use Rattle.topo_core.proofs.NewDarts.{new_system, old_system, reaches_new, stays_connected, turn_of_old, turn_of_twin}
+use Rattle.topo_core.proofs.Counting.{at_most_one, counted_any, eqb_less, eqb_more, lt_of_test, lt_test, one}
 use Rattle.topo_core.proofs.DartLaws.{same_dart_true}
-use Rattle.topo_core.proofs.Counting.{counted_any, is_or_not, one}
-use Rattle.topo_core.proofs.SystemDarts.{edge_at_row, path_facts, some_of, row_id, row_in, or_left, or_right_true, eqb_self}
+use Rattle.topo_core.proofs.Members.{in_left, in_map, in_range, in_right, left_true, range_below, range_from, right_true, test_of_each}
+use Rattle.topo_core.proofs.NewDarts.{new_system, old_system, reaches_new, stays_connected, turn_of_old, turn_of_twin}
+use Rattle.topo_core.proofs.Standing.{good_crossing, is_of_rows, stands_once, system_test}
+use Rattle.topo_core.proofs.SystemDarts.{edge_at_row, eqb_self, path_facts, row_id, row_in, some_of}
 
 -- ---- Tests of lists
 
@@ -36,28 +37,13 @@ pub all_range : (p : ℕ → Bool) (a n : ℕ) → ((v : ℕ) → a ≤ v → v 
 all_range p a zero each = refl
 all_range p a (suc n) each = ap (λ b. b && list_all p (range_with_len (a + 1) n)) (each a (omega arith) (omega arith)) ∙ all_range p (a + 1) n (λ v low high. each v (omega arith) (omega arith))
 
-and_true : (a b : Bool) → a ≡ true → b ≡ true → (a && b) ≡ true
-and_true a b h k = ap (λ t. t && b) h ∙ k
-
-lt_true : (m n : ℕ) → nat_lt m n ≡ true → m < n
-lt_true m n h = grind (arith, nat_tests)
-
-eq_test : (m n : ℕ) → m ≡ n → eqb m n ≡ true
-eq_test m n h = grind (arith, nat_tests)
-
-lt_is_true : (m n : ℕ) → m < n → nat_lt m n ≡ true
-lt_is_true m n h = grind (arith, nat_tests)
-
-ne_test : (m n : ℕ) → m < n → eqb m n ≡ false
-ne_test m n h = grind (arith, nat_tests)
-
 -- ids that rise below a limit are below it
 pub below_limit : (limit : ℕ) (xs : List ℕ) → rises_below limit xs ≡ true → (x : ℕ) → IsIn x xs → x < limit
 below_limit limit [] h x k = absurd k
-below_limit limit (y ∷ []) h x (inl e) = subst (λ z. z < limit) (sym e) (lt_true y limit (left_true (nat_lt y limit) true h))
+below_limit limit (y ∷ []) h x (inl e) = subst (λ z. z < limit) (sym e) (lt_of_test y limit (left_true (nat_lt y limit) true h))
 below_limit limit (y ∷ []) h x (inr k) = absurd k
 below_limit limit (y ∷ z ∷ xs) h x (inl e) =
-    let first = lt_true y z (left_true (nat_lt y z) (rises_below limit (z ∷ xs)) h) in
+    let first = lt_of_test y z (left_true (nat_lt y z) (rises_below limit (z ∷ xs)) h) in
     let second = below_limit limit (z ∷ xs) (right_true (nat_lt y z) (rises_below limit (z ∷ xs)) h) z (inl refl) in omega arith
 below_limit limit (y ∷ z ∷ xs) h x (inr k) = below_limit limit (z ∷ xs) (right_true (nat_lt y z) (rises_below limit (z ∷ xs)) h) x k
 
@@ -71,7 +57,7 @@ pub none_counted : (x : ℕ) (xs : List ℕ) → ((y : ℕ) → IsIn y xs → y 
 none_counted x [] below = refl
 none_counted x (y ∷ xs) below =
     let step = sum_by-cons (λ y. cond (y == x) 1 0) y xs in
-    let first : cond {A = ℕ} (y == x) 1 0 ≡ 0 = ap (λ (t : Bool). cond {A = ℕ} t 1 0) (ne_test y x (below y (inl refl))) in
+    let first : cond {A = ℕ} (y == x) 1 0 ≡ 0 = ap (λ (t : Bool). cond {A = ℕ} t 1 0) (eqb_less y x (below y (inl refl))) in
     let rest = none_counted x xs (λ z h. below z (inr h)) in omega arith
 
 in_append : {X : Type 0} (x : X) (xs ys : List X) → IsIn x (xs ++ ys) → IsIn x xs ⊎ IsIn x ys
@@ -130,16 +116,6 @@ range_split a zero m n k total at =
 range_split a (suc u) m zero k total at = absurd (omega arith)
 range_split a (suc u) m (suc n) k total at = ap (λ list. a ∷ list) (range_split (a + 1) u m n k (omega arith) (omega arith))
 
-pub range_from : (v a n : ℕ) → IsIn v (range_with_len a n) → a ≤ v
-range_from v a zero h = absurd h
-range_from v a (suc n) (inl e) = omega arith
-range_from v a (suc n) (inr h) = let k = range_from v (a + 1) n h in omega arith
-
-pub range_below : (v a n : ℕ) → IsIn v (range_with_len a n) → v < a + n
-range_below v a zero h = absurd h
-range_below v a (suc n) (inl e) = omega arith
-range_below v a (suc n) (inr h) = let k = range_below v (a + 1) n h in omega arith
-
 -- ---- What is found in a longer list
 
 found_more : {X : Type 0} (q : X → Bool) (xs ys : List X) (x : X) → find q xs ≡ Some x → find q (xs ++ ys) ≡ Some x
@@ -153,14 +129,11 @@ none_found q (x ∷ xs) none = ap (λ (b : Bool). cond b (Some x) (find q xs)) (
 
 -- a list of rising ids with the next id at its end
 pub rises_push : (limit : ℕ) (xs : List ℕ) → rises_below limit xs ≡ true → rises_below (limit + 1) (xs ++ limit ∷ []) ≡ true
-rises_push limit [] h = and_true (nat_lt limit (limit + 1)) true (lt_is_true limit (limit + 1) (omega arith)) refl
-rises_push limit (x ∷ []) h = and_true (nat_lt x limit) _ (left_true (nat_lt x limit) true h) (and_true (nat_lt limit (limit + 1)) true (lt_is_true limit (limit + 1) (omega arith)) refl)
-rises_push limit (x ∷ y ∷ xs) h = and_true (nat_lt x y) _ (left_true (nat_lt x y) (rises_below limit (y ∷ xs)) h) (rises_push limit (y ∷ xs) (right_true (nat_lt x y) (rises_below limit (y ∷ xs)) h))
+rises_push limit [] h = and_from (nat_lt limit (limit + 1)) true (lt_test limit (limit + 1) (omega arith)) refl
+rises_push limit (x ∷ []) h = and_from (nat_lt x limit) _ (left_true (nat_lt x limit) true h) (and_from (nat_lt limit (limit + 1)) true (lt_test limit (limit + 1) (omega arith)) refl)
+rises_push limit (x ∷ y ∷ xs) h = and_from (nat_lt x y) _ (left_true (nat_lt x y) (rises_below limit (y ∷ xs)) h) (rises_push limit (y ∷ xs) (right_true (nat_lt x y) (rises_below limit (y ∷ xs)) h))
 
 -- ---- The rotations of a grown picture
-
-ne_test_above : (m n : ℕ) → n < m → eqb m n ≡ false
-ne_test_above m n h = grind (arith, nat_tests)
 
 le_test : (m n : ℕ) → m ≤ n → nat_le m n ≡ true
 le_test m n h = grind (arith, nat_tests)
@@ -195,7 +168,7 @@ just_one : (after before new t : ℕ) → after ≡ before + new → new ≡ 1 �
 just_one after before new t e o z h = omega arith
 
 none_here : (x f : ℕ) → x < f → occurrences x (f ∷ []) ≡ 0
-none_here x f h = ap (λ (t : Bool). 0 + cond {A = ℕ} t 1 0) (ne_test_above f x h)
+none_here x f h = ap (λ (t : Bool). 0 + cond {A = ℕ} t 1 0) (eqb_more f x h)
 
 one_here : (f : ℕ) → occurrences f (f ∷ []) ≡ 1
 one_here f = ap (λ (t : Bool). 0 + cond {A = ℕ} t 1 0) (eqb_self f)
@@ -239,7 +212,7 @@ module _ (rows : Rows) (u p kind : ℕ) (paths : has_good_paths rows ≡ true) (
   old_at v inside = test_of_each (has_good_rotation rows) v (vertices rows) rotations (in_range 0 (length rows.rotations) v (omega arith) (omega arith))
 
   old_counts : (v : ℕ) → v < length rows.rotations → (row : EdgeRow) → IsIn row rows.edges → occurrences row.id (rotation rows v) ≡ cond {A = ℕ} (row.a == v || row.b == v) 1 0
-  old_counts v inside row h = eq_true _ _ (test_of_each (λ row. occurrences row.id (rotation rows v) == (if row.a == v || row.b == v then 1 else 0)) row rows.edges (left_true _ _ (left_true _ _ (old_at v inside))) h)
+  old_counts v inside row h = eqb-true _ _ (test_of_each (λ row. occurrences row.id (rotation rows v) == (if row.a == v || row.b == v then 1 else 0)) row rows.edges (left_true _ _ (left_true _ _ (old_at v inside))) h)
 
   old_known : (v : ℕ) → v < length rows.rotations → (e : ℕ) → IsIn e (rotation rows v) → is_some (edge_row rows e) ≡ true
   old_known v inside e h = test_of_each (λ e. is_some (edge_row rows e)) e (rotation rows v) (right_true _ _ (left_true _ _ (old_at v inside))) h
@@ -268,13 +241,13 @@ module _ (rows : Rows) (u p kind : ℕ) (paths : has_good_paths rows ≡ true) (
   assemble v around same old_ones new_one known least = subst
       (λ (list : List ℕ). (list_all (λ row. occurrences row.id list == (if row.a == v || row.b == v then 1 else 0)) after.edges && list_all (λ e. is_some (edge_row after e)) list && list_all (nat_le (get_or list 0 0)) list) ≡ true)
       (sym same)
-      (and_true _ _ (and_true _ _
+      (and_from _ _ (and_from _ _
       (all_from (λ row. occurrences row.id around == (if row.a == v || row.b == v then 1 else 0)) after.edges (λ row h. elim (in_append row rows.edges (new_row ∷ []) h) [
-        | inl old ↦ eq_test _ _ (old_ones row old)
-        | inr k ↦ elim k [ inl e ↦ subst (λ (r : EdgeRow). (occurrences r.id around == (if r.a == v || r.b == v then 1 else 0)) ≡ true) (sym e) (eq_test _ _ new_one) | inr none ↦ absurd none ]
+        | inl old ↦ eq-eqb _ _ (old_ones row old)
+        | inr k ↦ elim k [ inl e ↦ subst (λ (r : EdgeRow). (occurrences r.id around == (if r.a == v || r.b == v then 1 else 0)) ≡ true) (sym e) (eq-eqb _ _ new_one) | inr none ↦ absurd none ]
       ]))
       (all_from (λ e. is_some (edge_row after e)) around (λ e h. elim (known e h) [
-        | inl is_new ↦ some_found_last (λ row. row.id == e) rows.edges new_row (eq_test rows.next_edge e (sym is_new))
+        | inl is_new ↦ some_found_last (λ row. row.id == e) rows.edges new_row (eq-eqb rows.next_edge e (sym is_new))
         | inr old ↦ some_found_more (λ row. row.id == e) rows.edges (new_row ∷ []) old
       ])))
       (all_from (nat_le (get_or around 0 0)) around least))
@@ -310,7 +283,7 @@ module _ (rows : Rows) (u p kind : ℕ) (paths : has_good_paths rows ≡ true) (
       rotation_u
       (λ row h.
       let more = occurrences-put_in p rows.next_edge (rotation rows u) row.id in
-      let none : cond {A = ℕ} (rows.next_edge == row.id) 1 0 ≡ 0 = ap (λ (t : Bool). cond {A = ℕ} t 1 0) (ne_test_above rows.next_edge row.id (row_below row h)) in
+      let none : cond {A = ℕ} (rows.next_edge == row.id) 1 0 ≡ 0 = ap (λ (t : Bool). cond {A = ℕ} t 1 0) (eqb_more rows.next_edge row.id (row_below row h)) in
       no_more _ _ _ _ more none (old_counts u u_in row h))
       (let more = occurrences-put_in p rows.next_edge (rotation rows u) rows.next_edge in
       let one : cond {A = ℕ} (rows.next_edge == rows.next_edge) 1 0 ≡ 1 = ap (λ (t : Bool). cond {A = ℕ} t 1 0) (eqb_self rows.next_edge) in
@@ -330,7 +303,7 @@ module _ (rows : Rows) (u p kind : ℕ) (paths : has_good_paths rows ≡ true) (
       (λ row h.
       let facts = path_facts rows paths row h in
       none_here row.id rows.next_edge (row_below row h) ∙ sym (untouched_by row.a row.b (length rows.rotations) facts.a_in facts.b_in))
-      (one_here rows.next_edge ∙ sym (ap (λ (t : Bool). cond {A = ℕ} t 1 0) (or_right_true (u == length rows.rotations) (length rows.rotations == length rows.rotations) (eqb_self (length rows.rotations)))))
+      (one_here rows.next_edge ∙ sym (ap (λ (t : Bool). cond {A = ℕ} t 1 0) (or_right (u == length rows.rotations) (length rows.rotations == length rows.rotations) (eqb_self (length rows.rotations)))))
       (λ e h. elim h [ inl k ↦ inl k | inr none ↦ absurd none ])
       (λ e h. elim h [ inl k ↦ le_test rows.next_edge e (same_le rows.next_edge e k) | inr none ↦ absurd none ])
 
@@ -342,10 +315,10 @@ module _ (rows : Rows) (u p kind : ℕ) (paths : has_good_paths rows ≡ true) (
   pub rotations_after_growth : has_good_rotations after ≡ true
   rotations_after_growth = all_range (has_good_rotation after) 0 (length after.rotations) (λ v low high.
       let by_u : (b : Bool) → eqb v u ≡ b → has_good_rotation after v ≡ true = λ b. elim b as (λ b. eqb v u ≡ b → has_good_rotation after v ≡ true) [
-        | true ↦ (λ passes. subst (λ w. has_good_rotation after w ≡ true) (sym (eq_true v u passes)) at_u)
+        | true ↦ (λ passes. subst (λ w. has_good_rotation after w ≡ true) (sym (eqb-true v u passes)) at_u)
         | false ↦ (λ fails.
             let by_new : (b : Bool) → nat_lt v (length rows.rotations) ≡ b → has_good_rotation after v ≡ true = λ b. elim b as (λ b. nat_lt v (length rows.rotations) ≡ b → has_good_rotation after v ≡ true) [
-              | true ↦ (λ inside. at_other v (lt_true v (length rows.rotations) inside) (ne_from v u fails))
+              | true ↦ (λ inside. at_other v (lt_of_test v (length rows.rotations) inside) (ne_from v u fails))
               | false ↦ (λ outside. subst (λ w. has_good_rotation after w ≡ true) (last_vertex v (length rows.rotations) outside (subst (λ n. v < n) (vertices_after) high)) at_new)
             ] in by_new (nat_lt v (length rows.rotations)) refl)
       ] in by_u (eqb v u) refl)
@@ -366,7 +339,7 @@ module _ (rows : Rows) (u p kind : ℕ) (paths : has_good_paths rows ≡ true) (
       (sym more_vertices) (one_edge_more u (length rows.rotations) kind u_in known)
 
   pub paths_after_growth : kind < 64 → has_good_paths after ≡ true
-  paths_after_growth known = and_true (rises_below (rows.next_edge + 1) (map (λ row. row.id) (rows.edges ++ new_row ∷ []))) _
+  paths_after_growth known = and_from (rises_below (rows.next_edge + 1) (map (λ row. row.id) (rows.edges ++ new_row ∷ []))) _
       (ap (rises_below (rows.next_edge + 1)) (map-append (λ row. row.id) rows.edges (new_row ∷ []))
       ∙ rises_push rows.next_edge (map (λ row. row.id) rows.edges) (left_true _ (list_all (has_good_path rows) rows.edges) paths))
       (all_from (has_good_path after) (rows.edges ++ new_row ∷ []) (λ row h. elim (in_append row rows.edges (new_row ∷ []) h) [
@@ -379,19 +352,19 @@ module _ (rows : Rows) (u p kind : ℕ) (paths : has_good_paths rows ≡ true) (
   known_below e known = let pick = some_of (edge_row rows e) known in subst (λ f. f < rows.next_edge) (row_id rows e pick.0 pick.1) (row_below pick.0 (row_in rows e pick.0 pick.1))
 
   pub crossings_after_growth : has_good_crossings rows ≡ true → has_good_crossings after ≡ true
-  crossings_after_growth crossings = and_true (rises_below rows.next_crossing (map (λ x. x.id) rows.crossings)) _
+  crossings_after_growth crossings = and_from (rises_below rows.next_crossing (map (λ x. x.id) rows.crossings)) _
       (left_true (rises_below rows.next_crossing (map (λ x. x.id) rows.crossings)) (list_all (is_good_crossing rows) rows.crossings) crossings)
       (all_from (is_good_crossing after) rows.crossings (λ x h.
       let good = good_crossing rows crossings x h in
-      and_true _ _ (and_true _ _ (and_true _ _
+      and_from _ _ (and_from _ _ (and_from _ _
       (ap not good.apart)
       (some_found_more (λ row. row.id == x.crossed) rows.edges (new_row ∷ []) good.crossed))
       (some_found_more (λ row. row.id == x.newcomer) rows.edges (new_row ∷ []) good.newcomer))
       (all_from (λ row. occurrences x.id row.crossings == (if row.id == x.crossed || row.id == x.newcomer then 1 else 0)) (rows.edges ++ new_row ∷ []) (λ row k. elim (in_append row rows.edges (new_row ∷ []) k) [
-        | inl old ↦ eq_test _ _ (good.counted row old)
+        | inl old ↦ eq-eqb _ _ (good.counted row old)
         | inr last ↦ elim last [
           | inl e ↦ ap (λ (r : EdgeRow). occurrences x.id r.crossings == (if r.id == x.crossed || r.id == x.newcomer then 1 else 0)) e
-              ∙ eq_test 0 _ (sym (neither rows.next_edge x.crossed x.newcomer (known_below x.crossed good.crossed) (known_below x.newcomer good.newcomer)))
+              ∙ eq-eqb 0 _ (sym (neither rows.next_edge x.crossed x.newcomer (known_below x.crossed good.crossed) (known_below x.newcomer good.newcomer)))
           | inr none ↦ absurd none
         ]
       ]))))
@@ -399,7 +372,7 @@ module _ (rows : Rows) (u p kind : ℕ) (paths : has_good_paths rows ≡ true) (
   -- ---- Its rotation system
 
   no_new_row_before : edge_row rows rows.next_edge ≡ None
-  no_new_row_before = none_found (λ row. row.id == rows.next_edge) rows.edges (λ row h. ne_test row.id rows.next_edge (row_below row h))
+  no_new_row_before = none_found (λ row. row.id == rows.next_edge) rows.edges (λ row h. eqb_less row.id rows.next_edge (row_below row h))
 
   new_edge_at : edge_at after rows.next_edge ≡ new_row
   new_edge_at = edge_at_row after rows.next_edge new_row
@@ -469,7 +442,7 @@ module _ (rows : Rows) (u p kind : ℕ) (paths : has_good_paths rows ≡ true) (
   around_new : around_vertex after (length rows.rotations) ≡ new_twin ∷ []
   around_new =
       ap (map (end_dart after (length rows.rotations))) rotation_new
-      ∙ ap (λ d. d ∷ []) (new_end_dart (length rows.rotations) ∙ ap (λ (t : Bool). cond {A = Dart} t new_dart new_twin) (ne_test u (length rows.rotations) u_in))
+      ∙ ap (λ d. d ∷ []) (new_end_dart (length rows.rotations) ∙ ap (λ (t : Bool). cond {A = Dart} t new_dart new_twin) (eqb_less u (length rows.rotations) u_in))
 
   -- how many vertices stand behind u
   abbrev others : ℕ
@@ -520,10 +493,6 @@ module _ (rows : Rows) (u p kind : ℕ) (paths : has_good_paths rows ≡ true) (
       (stands_once rows paths crossings rotations d
       ∙ ap (λ (o : Option EdgeRow). one (is_some o && nat_lt d.seg (segment_count (edge_at rows d.edge)))) (ap (edge_row rows) is_new ∙ no_new_row_before))
 
-  at_most_one : (t : Bool) (n : ℕ) → n ≡ one t → n ≤ 1
-  at_most_one true n e = omega arith
-  at_most_one false n e = omega arith
-
   pub connected_after_growth : has_good_crossings rows ≡ true → Connected (system rows) → Connected (system after)
   connected_after_growth crossings connected = subst Connected (sym (system_after crossings))
       (stays_connected points_before points_behind points_crossed first_dart front_darts back_darts new_dart new_twin
@@ -534,7 +503,7 @@ module _ (rows : Rows) (u p kind : ℕ) (paths : has_good_paths rows ≡ true) (
       (subst Connected system_before connected))
 
   not_new : (d c : Dart) → c.edge ≡ rows.next_edge → d.edge ≢ rows.next_edge → same_dart d c ≡ false
-  not_new d c is_new old = elim (is_or_not (same_dart d c)) [ inl e ↦ absurd (old (ap (λ y. y.edge) (same_dart_true d c e) ∙ is_new)) | inr e ↦ e ]
+  not_new d c is_new old = elim (cases_Bool (same_dart d c)) [ inl e ↦ absurd (old (ap (λ y. y.edge) (same_dart_true d c e) ∙ is_new)) | inr e ↦ e ]
 
   -- the new dart comes between an old one and the one that followed it
   pub turns_after_growth : has_good_crossings rows ≡ true → IsGrownTurn rows after

@@ -1,42 +1,38 @@
 -- A growth keeps the number of faces, and so the genus.
-use Rattle.std.proofs.Common.{◌≡◌, ◌≢◌, ◌&&◌, ◌==◌, ◌+◌, ◌<◌, ◌≤◌, ◌||◌, ap, arith, Bool, cond, false, inl, inr, length, List, not, refl, subst, suc, sym, true, zero, ℕ, [], ◌++◌, ◌∙◌, ◌∷◌}
-use Rattle.std.specs.Prelude.{flat_map, Some, sum_by, ◌⊎◌}
-use Rattle.std.proofs.lemmas.Bool.{false≢true}
+use Rattle.std.proofs.Common.{◌≡◌, ◌≢◌, ◌+◌, ◌<◌, ap, arith, false, inl, inr, length, List, refl, subst, suc, sym, true, ℕ, [], ◌++◌, ◌∙◌, ◌∷◌}
+use Rattle.std.specs.Prelude.{◌⊎◌}
 use Rattle.std.proofs.lemmas.List.{length-append}
 use Rattle.std.proofs.lemmas.List.Concat.{flat_map-append}
 use Rattle.std.proofs.lemmas.List.Sums.{sum_by_push}
+use Rattle.std.proofs.lemmas.Bool.{cases_Bool, false≢true, or_left, or_right}
 use Rattle.topo_core.specs.declared.darts.Dart.{Dart}
 use Rattle.topo_core.specs.declared.rows.EdgeRow.{EdgeRow}
 use Rattle.topo_core.specs.declared.rows.Rows.{Rows}
 use Rattle.topo_core.specs.Changes.{grown}
 use Rattle.topo_core.specs.Cycles.{cycle_count, IsPermutation, map_of}
 use Rattle.topo_core.specs.Darts.{dart_twin, same_dart}
-use Rattle.topo_core.specs.Lawful.{has_good_crossings, has_good_paths, has_good_rotations, HasGenusZero, IsEmbedding, Lawful}
+use Rattle.topo_core.specs.Lawful.{has_good_crossings, has_good_paths, has_good_rotations, HasGenusZero, Lawful}
 use Rattle.topo_core.specs.Picture.{darts, darts_of, face_count, index_of, rotation, segment_count, system, turn_images}
 use Rattle.topo_core.specs.Pictures.{back, forward}
 use Rattle.topo_core.specs.Rotations.{face_next}
-use Rattle.topo_core.specs.Systems.{darts_in, face_step, has_dart, turn}
-use Rattle.topo_core.proofs.Counting.{is_or_not}
+use Rattle.topo_core.specs.Systems.{has_dart, turn}
 use Rattle.topo_core.proofs.DartLaws.{same_dart_self, twin-twin}
-use Rattle.topo_core.proofs.Growing.{crossings_after_growth, growth_keeps_embedding, IsGrownTurn, more_vertices, nowhere_before, paths_after_growth, rotations_after_growth, turns_after_growth}
-use Rattle.topo_core.proofs.Lengthening.{as_many_cycles, IsLonger}
-use Rattle.topo_core.proofs.NewDarts.{has_dart-append, or_left_false, or_right_false, or_true_left, or_true_right}
-use Rattle.topo_core.proofs.Numbering.{dart_at, has_at, images_length, index_of_get, place_here, place_in, place_later, place_less, twin_in, turn_stays}
+use Rattle.topo_core.proofs.Growing.{IsGrownTurn, crossings_after_growth, growth_keeps_embedding, more_vertices, nowhere_before, paths_after_growth, rotations_after_growth, turns_after_growth}
+use Rattle.topo_core.proofs.Lengthening.{IsLonger, as_many_cycles}
+use Rattle.topo_core.proofs.Members.{or_second}
+use Rattle.topo_core.proofs.NewDarts.{has_dart-append, or_left_false, or_right_false}
+use Rattle.topo_core.proofs.Numbering.{dart_at, has_at, images_length, index_of_get, place_here, place_in, place_later, place_less, turn_stays, twin_in}
 use Rattle.topo_core.proofs.Renumbering.{face_at, face_carried, face_permutes}
-use Rattle.topo_core.proofs.Standing.{system_test}
+use Rattle.topo_core.proofs.Standing.{back_forward, system_test}
 
 -- ---- Places in a longer list
-
-later : (a b : Bool) → a ≡ false → (a || b) ≡ true → b ≡ true
-later true b e h = cc
-later false b e h = h
 
 -- what stands in the first part keeps its place
 place_first : (ds es : List Dart) (d : Dart) → has_dart ds d ≡ true → place_in (ds ++ es) d ≡ place_in ds d
 place_first [] es d h = cc
-place_first (c ∷ ds) es d h = elim (is_or_not (same_dart d c)) [
+place_first (c ∷ ds) es d h = elim (cases_Bool (same_dart d c)) [
   | inl e ↦ place_here (ds ++ es) c d e ∙ sym (place_here ds c d e)
-  | inr e ↦ place_later (ds ++ es) c d e ∙ ap (λ n. 1 + n) (place_first ds es d (later (same_dart d c) (has_dart ds d) e h)) ∙ sym (place_later ds c d e)
+  | inr e ↦ place_later (ds ++ es) c d e ∙ ap (λ n. 1 + n) (place_first ds es d (or_second (same_dart d c) (has_dart ds d) e h)) ∙ sym (place_later ds c d e)
 ]
 
 -- what does not stand there comes behind all of it
@@ -45,13 +41,6 @@ place_second [] es d h = let e : place_in es d ≡ 0 + place_in es d = omega ari
 place_second (c ∷ ds) es d h =
     let here = place_later (ds ++ es) c d (or_left_false (same_dart d c) (has_dart ds d) h) in
     let rest = place_second ds es d (or_right_false (same_dart d c) (has_dart ds d) h) in omega arith
-
-and_no : (b : Bool) → (b && false) ≡ false
-and_no true = refl
-and_no false = refl
-
-back_not_forward : (e : ℕ) → same_dart (back e 0) (forward e 0) ≡ false
-back_not_forward e = and_no (e == e && 0 == 0)
 
 -- ---- The faces of a grown picture
 
@@ -92,13 +81,13 @@ module _ (rows : Rows) (u p kind : ℕ) (paths : has_good_paths rows ≡ true) (
   is_old d h e = false≢true (sym (not_listed d e) ∙ h)
 
   old_listed : (d : Dart) → has_dart (darts rows) d ≡ true → has_dart (darts after) d ≡ true
-  old_listed d h = ap (λ ds. has_dart ds d) darts_after ∙ has_dart-append (darts rows) (new_dart ∷ new_twin ∷ []) d ∙ or_true_left (has_dart (darts rows) d) (has_dart (new_dart ∷ new_twin ∷ []) d) h
+  old_listed d h = ap (λ ds. has_dart ds d) darts_after ∙ has_dart-append (darts rows) (new_dart ∷ new_twin ∷ []) d ∙ or_left (has_dart (darts rows) d) (has_dart (new_dart ∷ new_twin ∷ []) d) h
 
   new_listed : (d : Dart) → has_dart (new_dart ∷ new_twin ∷ []) d ≡ true → has_dart (darts after) d ≡ true
-  new_listed d h = ap (λ ds. has_dart ds d) darts_after ∙ has_dart-append (darts rows) (new_dart ∷ new_twin ∷ []) d ∙ or_true_right (has_dart (darts rows) d) (has_dart (new_dart ∷ new_twin ∷ []) d) h
+  new_listed d h = ap (λ ds. has_dart ds d) darts_after ∙ has_dart-append (darts rows) (new_dart ∷ new_twin ∷ []) d ∙ or_right (has_dart (darts rows) d) (has_dart (new_dart ∷ new_twin ∷ []) d) h
 
   dart_listed : has_dart (darts after) new_dart ≡ true
-  dart_listed = new_listed new_dart (or_true_left (same_dart new_dart new_dart) (has_dart (new_twin ∷ []) new_dart) (same_dart_self new_dart))
+  dart_listed = new_listed new_dart (or_left (same_dart new_dart new_dart) (has_dart (new_twin ∷ []) new_dart) (same_dart_self new_dart))
 
   twin_listed : has_dart (darts after) new_twin ≡ true
   twin_listed = twin_in after new_dart dart_listed
@@ -118,7 +107,7 @@ module _ (rows : Rows) (u p kind : ℕ) (paths : has_good_paths rows ≡ true) (
   index_of_twin : index_of after new_twin ≡ suc many
   index_of_twin =
       let place = ap (λ ds. place_in ds new_twin) darts_after ∙ place_second (darts rows) (new_dart ∷ new_twin ∷ []) new_twin (not_listed new_twin refl) in
-      let second = place_later (new_twin ∷ []) new_dart new_twin (back_not_forward rows.next_edge) in
+      let second = place_later (new_twin ∷ []) new_dart new_twin (back_forward rows.next_edge 0 rows.next_edge 0) in
       let first = place_here [] new_twin new_twin (same_dart_self new_twin) in omega arith
 
   more_images : length (turn_images after) ≡ suc (suc (length (turn_images rows)))
@@ -154,9 +143,9 @@ module _ (rows : Rows) (u p kind : ℕ) (paths : has_good_paths rows ≡ true) (
       elim (turns.old_turns (dart_twin c) (is_old (dart_twin c) (twin_in rows c c_in))) [
         | inl same ↦ inl (now ∙ ap (index_of after) same ∙ old_index (turn (system rows) (dart_twin c)) t_in ∙ sym was)
         | inr over ↦ inr (
-            now ∙ ap (index_of after) over.0 ∙ index_of_new,
-            face_over_twin ∙ ap (index_of after) over.1 ∙ old_index (turn (system rows) (dart_twin c)) t_in ∙ sym was,
-          )
+          now ∙ ap (index_of after) over.0 ∙ index_of_new,
+          face_over_twin ∙ ap (index_of after) over.1 ∙ old_index (turn (system rows) (dart_twin c)) t_in ∙ sym was,
+        )
       ]
 
   one_face_longer : IsLonger face_before face_after (length (turn_images rows))

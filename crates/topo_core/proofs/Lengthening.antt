@@ -1,9 +1,8 @@
 -- A permutation whose cycle takes in two numbers more has as many cycles.
-use Rattle.std.proofs.Common.{◌≡◌, ◌||◌, ◌+◌, ◌<◌, ◌≤◌, ◌⊎◌, ap, ap₂, arith, Bool, cond, false, inl, inr, not, refl, subst, suc, sym, true, zero, ℕ, ◌==◌, ◌∙◌}
-use Rattle.std.proofs.lemmas.Bool.{eq-eqb, eqb-true}
-use Rattle.topo_core.specs.Cycles.{after, class_count, count_below, cycle_count, is_first, is_met, IsPermutation, SameCycle, some_below}
-use Rattle.topo_core.proofs.Counting.{is_or_not}
-use Rattle.topo_core.proofs.Orbits.{is_met-SameCycle, SameCycle-is_met, SameCycle-refl, SameCycle-step, SameCycle-trans, some_below-true}
+use Rattle.std.proofs.Common.{◌≡◌, ◌||◌, ◌+◌, ◌<◌, ◌⊎◌, ap, ap₂, arith, Bool, cond, false, inl, inr, not, refl, subst, suc, sym, true, zero, ℕ, ◌==◌, ◌∙◌}
+use Rattle.std.proofs.lemmas.Bool.{eq-eqb}
+use Rattle.topo_core.specs.Cycles.{after, count_below, cycle_count, is_first, is_met, IsPermutation, SameCycle, some_below}
+use Rattle.topo_core.proofs.Orbits.{SameCycle-is_met, SameCycle-refl, SameCycle-step, SameCycle-trans, is_met-SameCycle, some_below-true}
 
 -- ---- Counts
 
@@ -98,7 +97,7 @@ module _ (f g : ℕ → ℕ) (n : ℕ) (before : IsPermutation f n) (now : IsPer
   as_many_cycles =
       let first_g = is_first (λ a b. is_met g (suc (suc n)) a b) in
       let low : count_below first_g n ≡ cycle_count f n = count_below-same first_g (is_first (λ a b. is_met f n a b)) n (λ a la.
-          ap not (some_below-same (λ b. is_met g (suc (suc n)) b a) (λ b. is_met f n b a) a (λ b lb. same_met b a (omega arith) la))) in
+      ap not (some_below-same (λ b. is_met g (suc (suc n)) b a) (λ b. is_met f n b a) a (λ b lb. same_met b a (omega arith) la))) in
       let at_n : cond {A = ℕ} (first_g n) 1 0 ≡ 0 = ap (λ (t : Bool). cond {A = ℕ} t 1 0) (not_first n longer.source longer.source_in longer.leads_in) in
       let at_next : cond {A = ℕ} (first_g (suc n)) 1 0 ≡ 0 = ap (λ (t : Bool). cond {A = ℕ} t 1 0) (not_first (suc n) n (omega arith) longer.on) in
       let whole : cycle_count g (suc (suc n)) ≡ count_below first_g n + cond {A = ℕ} (first_g n) 1 0 + cond {A = ℕ} (first_g (suc n)) 1 0 = refl in

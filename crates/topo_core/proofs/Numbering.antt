@@ -1,11 +1,11 @@
 -- The darts of an embedding as numbers: what turns, twins and moves are on darts, they are on the numbers.
-use Rattle.std.proofs.Common.{◌≡◌, ◌+◌, ◌<◌, ◌≤◌, ◌||◌, ap, arith, Bool, cond, false, inl, inr, length, List, not, refl, Some, subst, suc, sym, true, zero, ℕ, [], ◌++◌, ◌∙◌, ◌∷◌}
+use Rattle.std.proofs.Common.{◌≡◌, ◌+◌, ◌<◌, ap, arith, Bool, cond, false, inl, inr, length, List, not, refl, Some, subst, suc, sym, true, zero, ℕ, [], ◌++◌, ◌∙◌, ◌∷◌}
 use Rattle.std.specs.Prelude.{flat_map, map, slice_get, slice_index, ◌%◌}
 use Rattle.std.specs.List.{position_or_len, range_with_len}
-use Rattle.std.proofs.lemmas.Bool.{false≢true}
 use Rattle.std.proofs.lemmas.Bool.Decides.{nat_tests}
 use Rattle.std.proofs.lemmas.List.{length-map}
 use Rattle.std.proofs.lemmas.List.Sums.{sum_by-cons}
+use Rattle.std.proofs.lemmas.Bool.{cases_Bool, false≢true, or_left, or_right}
 use Rattle.topo_core.specs.declared.darts.Dart.{Dart}
 use Rattle.topo_core.specs.declared.rows.EdgeRow.{EdgeRow}
 use Rattle.topo_core.specs.declared.rows.Rows.{Rows}
@@ -15,9 +15,9 @@ use Rattle.topo_core.specs.Lawful.{has_good_crossings, has_good_paths, has_good_
 use Rattle.topo_core.specs.Picture.{darts, darts_of, index_of, segment_count, system, turn_images}
 use Rattle.topo_core.specs.Rotations.{twin}
 use Rattle.topo_core.specs.Systems.{darts_in, has_dart, turn}
-use Rattle.topo_core.proofs.Counting.{any_counted, is_or_not, one}
+use Rattle.topo_core.proofs.Counting.{any_counted, at_most_one, one}
 use Rattle.topo_core.proofs.DartLaws.{same_dart_self, same_dart_true, twin-twin, twin_apart}
-use Rattle.topo_core.proofs.NewDarts.{or_true_left, or_true_right}
+use Rattle.topo_core.proofs.Members.{or_second}
 use Rattle.topo_core.proofs.Standing.{is_of_rows, listed_once, stands_once, system_test}
 use Rattle.topo_core.proofs.SystemDarts.{get_there}
 use Rattle.topo_core.proofs.Turning.{IsDistinct, turn_apart, turn_in}
@@ -34,26 +34,22 @@ place_here ds c d e = ap (λ (t : Bool). cond {A = ℕ} (not t) (1 + place_in ds
 pub place_later : (ds : List Dart) (c d : Dart) → same_dart d c ≡ false → place_in (c ∷ ds) d ≡ 1 + place_in ds d
 place_later ds c d e = ap (λ (t : Bool). cond {A = ℕ} (not t) (1 + place_in ds d) 0) e
 
-later : (a b : Bool) → a ≡ false → (a || b) ≡ true → b ≡ true
-later true b e h = cc
-later false b e h = h
-
 get_next : (ds : List Dart) (c : Dart) (n : ℕ) → slice_get (c ∷ ds) (1 + n) ≡ slice_get ds n
 get_next ds c n = let e : 1 + n ≡ suc n = omega arith in ap (slice_get (c ∷ ds)) e
 
 -- d stands at its place
 pub get_place : (ds : List Dart) (d : Dart) → has_dart ds d ≡ true → slice_get ds (place_in ds d) ≡ Some d
 get_place [] d h = cc
-get_place (c ∷ ds) d h = elim (is_or_not (same_dart d c)) [
+get_place (c ∷ ds) d h = elim (cases_Bool (same_dart d c)) [
   | inl e ↦ ap (slice_get (c ∷ ds)) (place_here ds c d e) ∙ ap Some (sym (same_dart_true d c e))
-  | inr e ↦ ap (slice_get (c ∷ ds)) (place_later ds c d e) ∙ get_next ds c (place_in ds d) ∙ get_place ds d (later (same_dart d c) (has_dart ds d) e h)
+  | inr e ↦ ap (slice_get (c ∷ ds)) (place_later ds c d e) ∙ get_next ds c (place_in ds d) ∙ get_place ds d (or_second (same_dart d c) (has_dart ds d) e h)
 ]
 
 -- what stands at a place is in the list
 pub has_at : (ds : List Dart) (i : ℕ) (d : Dart) → slice_get ds i ≡ Some d → has_dart ds d ≡ true
 has_at [] i d e = cc
-has_at (c ∷ ds) zero d e = let same : c ≡ d = cc in or_true_left (same_dart d c) (has_dart ds d) (ap (same_dart d) same ∙ same_dart_self d)
-has_at (c ∷ ds) (suc i) d e = or_true_right (same_dart d c) (has_dart ds d) (has_at ds i d e)
+has_at (c ∷ ds) zero d e = let same : c ≡ d = cc in or_left (same_dart d c) (has_dart ds d) (ap (same_dart d) same ∙ same_dart_self d)
+has_at (c ∷ ds) (suc i) d e = or_right (same_dart d c) (has_dart ds d) (has_at ds i d e)
 
 -- in a list that has no dart twice, what stands at a place has that place
 pub place_of_get : (ds : List Dart) → IsDistinct ds → (i : ℕ) (d : Dart) → slice_get ds i ≡ Some d → place_in ds d ≡ i
@@ -61,7 +57,7 @@ place_of_get [] distinct i d e = cc
 place_of_get (c ∷ ds) distinct zero d e = let same : c ≡ d = cc in place_here ds c d (ap (same_dart d) same ∙ same_dart_self d)
 place_of_get (c ∷ ds) distinct (suc i) d e =
     let step = λ (y : Dart). sum_by-cons (λ b. one (same_dart y b)) c ds in
-    elim (is_or_not (same_dart d c)) [
+    elim (cases_Bool (same_dart d c)) [
       | inl same ↦ absurd (
           let sum = step d in
           let here : one (same_dart d c) ≡ 1 = ap one same in
@@ -74,9 +70,9 @@ place_of_get (c ∷ ds) distinct (suc i) d e =
 
 pub place_less : (ds : List Dart) (d : Dart) → has_dart ds d ≡ true → place_in ds d < length ds
 place_less [] d h = cc
-place_less (c ∷ ds) d h = elim (is_or_not (same_dart d c)) [
+place_less (c ∷ ds) d h = elim (cases_Bool (same_dart d c)) [
   | inl e ↦ let here = place_here ds c d e in omega arith
-  | inr e ↦ let next = place_later ds c d e in let rest = place_less ds d (later (same_dart d c) (has_dart ds d) e h) in omega arith
+  | inr e ↦ let next = place_later ds c d e in let rest = place_less ds d (or_second (same_dart d c) (has_dart ds d) e h) in omega arith
 ]
 
 index_of_map : (f : Dart → ℕ) (ds : List Dart) (i : ℕ) (d : Dart) → slice_get ds i ≡ Some d → slice_index (map f ds) i ≡ f d
@@ -120,13 +116,13 @@ same_from : (c d : Dart) → c ≡ d → same_dart c d ≡ true
 same_from c d e = ap (same_dart c) (sym e) ∙ same_dart_self c
 
 not_same : (c d : Dart) → (c ≡ d → ⊥) → same_dart c d ≡ false
-not_same c d apart = elim (is_or_not (same_dart c d)) [ inl e ↦ absurd (apart (same_dart_true c d e)) | inr e ↦ e ]
+not_same c d apart = elim (cases_Bool (same_dart c d)) [ inl e ↦ absurd (apart (same_dart_true c d e)) | inr e ↦ e ]
 
 -- the place of the twin is the twin of the place
 pub place_twin : (ds : List Dart) → IsPaired ds → (d : Dart) → has_dart ds d ≡ true → (place_in ds (dart_twin d) ≡ twin (place_in ds d)) × (has_dart ds (dart_twin d) ≡ true)
 place_twin [] h d there = cc
 place_twin (c ∷ []) h d there = absurd h
-place_twin (c ∷ b ∷ ds) h d there = elim (is_or_not (same_dart d c)) [
+place_twin (c ∷ b ∷ ds) h d there = elim (cases_Bool (same_dart d c)) [
   | inl e ↦
       let d_is = same_dart_true d c e in
       let off : same_dart (dart_twin d) c ≡ false = not_same (dart_twin d) c (λ k. twin_apart d (k ∙ sym d_is)) in
@@ -135,9 +131,9 @@ place_twin (c ∷ b ∷ ds) h d there = elim (is_or_not (same_dart d c)) [
       let second = place_here ds b (dart_twin d) on in
       let at : place_in (c ∷ b ∷ ds) (dart_twin d) ≡ 1 = omega arith in (
         at ∙ sym (ap twin (place_here (b ∷ ds) c d e)),
-        or_true_right (same_dart (dart_twin d) c) (has_dart (b ∷ ds) (dart_twin d)) (or_true_left (same_dart (dart_twin d) b) (has_dart ds (dart_twin d)) on),
+        or_right (same_dart (dart_twin d) c) (has_dart (b ∷ ds) (dart_twin d)) (or_left (same_dart (dart_twin d) b) (has_dart ds (dart_twin d)) on),
       )
-  | inr not_c ↦ elim (is_or_not (same_dart d b)) [
+  | inr not_c ↦ elim (cases_Bool (same_dart d b)) [
     | inl e ↦
         let d_is = same_dart_true d b e in
         let on : same_dart (dart_twin d) c ≡ true = same_from (dart_twin d) c (ap dart_twin (d_is ∙ h.0) ∙ twin-twin c) in
@@ -145,26 +141,22 @@ place_twin (c ∷ b ∷ ds) h d there = elim (is_or_not (same_dart d c)) [
         let second = place_here ds b d e in
         let at : place_in (c ∷ b ∷ ds) d ≡ 1 = omega arith in (
           place_here (b ∷ ds) c (dart_twin d) on ∙ sym (ap twin at),
-          or_true_left (same_dart (dart_twin d) c) (has_dart (b ∷ ds) (dart_twin d)) on,
+          or_left (same_dart (dart_twin d) c) (has_dart (b ∷ ds) (dart_twin d)) on,
         )
     | inr not_b ↦
         let twin_not_c : same_dart (dart_twin d) c ≡ false = not_same (dart_twin d) c (λ k. false≢true (sym not_b ∙ same_from d b (sym (twin-twin d) ∙ ap dart_twin k ∙ sym h.0))) in
         let twin_not_b : same_dart (dart_twin d) b ≡ false = not_same (dart_twin d) b (λ k. false≢true (sym not_c ∙ same_from d c (sym (twin-twin d) ∙ ap dart_twin (k ∙ h.0) ∙ twin-twin c))) in
-        let inside = later (same_dart d b) (has_dart ds d) not_b (later (same_dart d c) (has_dart (b ∷ ds) d) not_c there) in
+        let inside = or_second (same_dart d b) (has_dart ds d) not_b (or_second (same_dart d c) (has_dart (b ∷ ds) d) not_c there) in
         let rest = place_twin ds h.1 d inside in
         let place : place_in (c ∷ b ∷ ds) d ≡ 1 + (1 + place_in ds d) = place_later (b ∷ ds) c d not_c ∙ ap (λ n. 1 + n) (place_later ds b d not_b) in
         let other : place_in (c ∷ b ∷ ds) (dart_twin d) ≡ 1 + (1 + place_in ds (dart_twin d)) = place_later (b ∷ ds) c (dart_twin d) twin_not_c ∙ ap (λ n. 1 + n) (place_later ds b (dart_twin d) twin_not_b) in (
           other ∙ ap (λ n. 1 + (1 + n)) rest.0 ∙ sym (twin_step (place_in ds d)) ∙ sym (ap twin place),
-          or_true_right (same_dart (dart_twin d) c) (has_dart (b ∷ ds) (dart_twin d)) (or_true_right (same_dart (dart_twin d) b) (has_dart ds (dart_twin d)) rest.1),
+          or_right (same_dart (dart_twin d) c) (has_dart (b ∷ ds) (dart_twin d)) (or_right (same_dart (dart_twin d) b) (has_dart ds (dart_twin d)) rest.1),
         )
   ]
 ]
 
 -- ---- The darts of good rows
-
-at_most_one : (t : Bool) (n : ℕ) → n ≡ one t → n ≤ 1
-at_most_one true n e = omega arith
-at_most_one false n e = omega arith
 
 -- twins are darts of the rows too, and stand side by side
 pub twin_in : (rows : Rows) (d : Dart) → has_dart (darts rows) d ≡ true → has_dart (darts rows) (dart_twin d) ≡ true

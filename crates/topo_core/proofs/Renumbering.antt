@@ -79,7 +79,7 @@ module _ (rows : Rows) (paths : has_good_paths rows ≡ true) (crossings : has_g
         let c_in = has_at (darts rows) i c.0 c.1 in
         let d_in = has_at (darts rows) j d.0 d.1 in
         let stepped : face_step (system rows) c.0 ≡ face_step (system rows) d.0 =
-            index_apart rows paths (face_step (system rows) c.0) (face_step (system rows) d.0) (face_carried.stays c.0 c_in) (face_carried.stays d.0 d_in) (sym (face_at i c.0 c.1) ∙ e ∙ face_at j d.0 d.1) in
+        index_apart rows paths (face_step (system rows) c.0) (face_step (system rows) d.0) (face_carried.stays c.0 c_in) (face_carried.stays d.0 d_in) (sym (face_at i c.0 c.1) ∙ e ∙ face_at j d.0 d.1) in
         let twins : dart_twin c.0 ≡ dart_twin d.0 = turns_apart rows paths crossings rotations (dart_twin c.0) (dart_twin d.0) (twin_in rows c.0 c_in) (twin_in rows d.0 d_in) stepped in
         let same : c.0 ≡ d.0 = sym (twin-twin c.0) ∙ ap dart_twin twins ∙ twin-twin d.0 in
         sym (index_of_get rows paths i c.0 c.1) ∙ ap (index_of rows) same ∙ index_of_get rows paths j d.0 d.1;

@@ -3,6 +3,7 @@ use Rattle.std.proofs.Common.{◌≡◌, ℕ, zero, suc, ◌+◌, ◌<◌, ◌�
 use Rattle.std.specs.Prelude.{◌⊎◌, ◌==◌, nat_lt, Option, map, slice_get, is_some, unwrap_or, if◌then◌else◌}
 use Rattle.std.specs.List.{list_all, position_or_len}
 use Rattle.std.proofs.lemmas.Bool.Decides.{nat_tests}
+use Rattle.std.proofs.lemmas.Bool.{eqb-true, or_left, or_right}
 use Rattle.topo_core.specs.declared.darts.Dart.{Dart}
 use Rattle.topo_core.specs.declared.darts.Way.TheVariants.{Forward, Back}
 use Rattle.topo_core.specs.declared.darts.Sign.{Sign}
@@ -14,7 +15,7 @@ use Rattle.topo_core.specs.Picture.{IsDart, edge_row, edge_at, cross_row, rotati
 use Rattle.topo_core.specs.Items.{IsIn, occurrences, rises_below}
 use Rattle.topo_core.specs.Systems.{darts_in}
 use Rattle.topo_core.specs.Lawful.{has_good_paths, has_good_path, has_good_rotations, has_good_rotation, has_good_crossings, is_good_crossing}
-use Rattle.topo_core.proofs.Members.{in_left, in_right, in_map, in_joined, left_true, right_true, test_of_each, found, in_range, in_counted, eq_true, counted_at, place_of}
+use Rattle.topo_core.proofs.Members.{counted_at, found, in_counted, in_joined, in_left, in_map, in_range, in_right, left_true, or_second, place_of, right_true, test_of_each}
 
 -- ---- What the tests say of one row
 
@@ -23,7 +24,7 @@ pub edge_at_row : (rows : Rows) (e : ℕ) (row : EdgeRow) → edge_row rows e �
 edge_at_row rows e row there = ap (λ o. unwrap_or o (record { id = e; a = 0; b = 0; kind = 0; crossings = [] })) there
 
 pub row_id : (rows : Rows) (e : ℕ) (row : EdgeRow) → edge_row rows e ≡ Some row → row.id ≡ e
-row_id rows e row there = eq_true row.id e (found (λ row. row.id == e) row rows.edges there).1
+row_id rows e row there = eqb-true row.id e (found (λ row. row.id == e) row rows.edges there).1
 
 pub row_in : (rows : Rows) (e : ℕ) (row : EdgeRow) → edge_row rows e ≡ Some row → IsIn row rows.edges
 row_in rows e row there = (found (λ row. row.id == e) row rows.edges there).0
@@ -48,7 +49,7 @@ at_end rows good row h v inside end =
     let at_v = test_of_each (has_good_rotation rows) v (vertices rows) good (in_range 0 (length rows.rotations) v (omega arith) (omega arith)) in
     let each = left_true _ _ (left_true _ _ at_v) in
     let once = test_of_each (λ row. occurrences row.id (rotation rows v) == (if row.a == v || row.b == v then 1 else 0)) row rows.edges each h in
-    in_counted row.id (rotation rows v) (eq_true (occurrences row.id (rotation rows v)) (cond {A = ℕ} (row.a == v || row.b == v) 1 0) once ∙ ap (λ (t : Bool). cond {A = ℕ} t 1 0) end)
+    in_counted row.id (rotation rows v) (eqb-true (occurrences row.id (rotation rows v)) (cond {A = ℕ} (row.a == v || row.b == v) 1 0) once ∙ ap (λ (t : Bool). cond {A = ℕ} t 1 0) end)
 
 -- ---- Darts that start at a vertex
 
@@ -58,13 +59,6 @@ at_vertex_in rows v d inside h =
     in_joined d (around_vertex rows v) (system rows) h
     (in_left (around_vertex rows v) (map (around_vertex rows) (vertices rows)) (map (around_crossing rows) rows.crossings)
     (in_map (around_vertex rows) v (vertices rows) (in_range 0 (length rows.rotations) v (omega arith) (omega arith))))
-
-pub or_left : (a b : Bool) → a ≡ true → (a || b) ≡ true
-or_left a b h = ap (λ t. t || b) h
-
-pub or_right_true : (a b : Bool) → b ≡ true → (a || b) ≡ true
-or_right_true true b h = refl
-or_right_true false b h = h
 
 pub eqb_self : (n : ℕ) → eqb n n ≡ true
 eqb_self n = grind (arith, nat_tests)
@@ -94,7 +88,7 @@ pub last_dart_in : (rows : Rows) → has_good_paths rows ≡ true → has_good_r
 last_dart_in rows paths rotations e row there =
     let h = row_in rows e row there in
     let facts = path_facts rows paths row h in
-    let here = at_end rows rotations row h row.b facts.b_in (or_right_true (eqb row.a row.b) (eqb row.b row.b) (eqb_self row.b)) in
+    let here = at_end rows rotations row h row.b facts.b_in (or_right (eqb row.a row.b) (eqb row.b row.b) (eqb_self row.b)) in
     let e_here = subst (λ f. IsIn f (rotation rows row.b)) (row_id rows e row there) here in
     let dart = in_map (end_dart rows row.b) e (rotation rows row.b) e_here in
     at_vertex_in rows row.b _ facts.b_in (subst (λ d. IsIn d (around_vertex rows row.b)) (end_dart_b rows e row there facts.apart) dart)
@@ -117,11 +111,11 @@ crossing_facts rows good row h x crossing there =
     let here = found (λ c. c.id == x) crossing rows.crossings there in
     let each = test_of_each (is_good_crossing rows) crossing rows.crossings (right_true (rises_below rows.next_crossing (map (λ x. x.id) rows.crossings)) (list_all (is_good_crossing rows) rows.crossings) good) here.0 in
     let once = test_of_each (λ row. occurrences crossing.id row.crossings == (if row.id == crossing.crossed || row.id == crossing.newcomer then 1 else 0)) row rows.edges (right_true _ _ each) h in
-    let same = eq_true crossing.id x here.1 in
+    let same = eqb-true crossing.id x here.1 in
     record {
       is_in = here.0;
       id = same;
-      counted = subst (λ y. occurrences y row.crossings ≡ cond {A = ℕ} (row.id == crossing.crossed || row.id == crossing.newcomer) 1 0) same (eq_true (occurrences crossing.id row.crossings) (cond {A = ℕ} (row.id == crossing.crossed || row.id == crossing.newcomer) 1 0) once);
+      counted = subst (λ y. occurrences y row.crossings ≡ cond {A = ℕ} (row.id == crossing.crossed || row.id == crossing.newcomer) 1 0) same (eqb-true (occurrences crossing.id row.crossings) (cond {A = ℕ} (row.id == crossing.crossed || row.id == crossing.newcomer) 1 0) once);
     }
 
 -- what stands round a crossing is in the system
@@ -147,15 +141,11 @@ newcomer_behind_in : (s : Sign) (a b c d : Dart) → IsIn d (clockwise s a b c d
 newcomer_behind_in LeftToRight a b c d = inr (inr (inr (inl refl)))
 newcomer_behind_in RightToLeft a b c d = inr (inl refl)
 
-later : (a b : Bool) → a ≡ false → (a || b) ≡ true → b ≡ true
-later true b e h = cc
-later false b e h = h
-
 one_of : (e a b : ℕ) → (e == a || e == b) ≡ true → (e ≡ a) ⊎ (e ≡ b)
 one_of e a b h =
     let by_test : (t : Bool) → eqb e a ≡ t → (e ≡ a) ⊎ (e ≡ b) = λ t. elim t as (λ t. eqb e a ≡ t → (e ≡ a) ⊎ (e ≡ b)) [
-      | true ↦ (λ passes. inl (eq_true e a passes))
-      | false ↦ (λ fails. inr (eq_true e b (later (eqb e a) (eqb e b) fails h)))
+      | true ↦ (λ passes. inl (eqb-true e a passes))
+      | false ↦ (λ fails. inr (eqb-true e b (or_second (eqb e a) (eqb e b) fails h)))
     ] in by_test (eqb e a) refl
 
 -- the four darts round a crossing
