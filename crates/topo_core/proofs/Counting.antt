@@ -14,26 +14,27 @@ one b = cond {A = ℕ} b 1 0
 
 -- ---- Tests
 
+-- numbers in order are not equal
 pub eqb_less : (m n : ℕ) → m < n → eqb m n ≡ false
 eqb_less m n h = grind (arith, nat_tests)
 
 pub eqb_more : (m n : ℕ) → n < m → eqb m n ≡ false
 eqb_more m n h = grind (arith, nat_tests)
 
+-- the test of two numbers, the other way round
 pub eqb_symm : (m n : ℕ) → eqb m n ≡ eqb n m
 eqb_symm m n = grind (arith, nat_tests)
 
+-- what the test of an order says
 pub lt_of_test : (m n : ℕ) → nat_lt m n ≡ true → m < n
 lt_of_test m n h = grind (arith, nat_tests)
 
 pub le_of_test : (m n : ℕ) → nat_lt m n ≡ false → n ≤ m
 le_of_test m n h = grind (arith, nat_tests)
 
+-- and that an order passes it
 pub lt_test : (m n : ℕ) → m < n → nat_lt m n ≡ true
 lt_test m n h = grind (arith, nat_tests)
-
-pub not_lt_test : (m n : ℕ) → n ≤ m → nat_lt m n ≡ false
-not_lt_test m n h = grind (arith, nat_tests)
 
 eqb_suc : (m n : ℕ) → eqb (suc m) (1 + n) ≡ eqb m n
 eqb_suc m n = grind (arith, nat_tests)
@@ -62,6 +63,7 @@ sum_nothing f (x ∷ xs) none =
     let rest = sum_nothing f xs (λ y h. none y (inr h)) in
     let left = sum_by-cons f x xs in omega arith
 
+-- a sum over images
 pub sum_of_map : {X Y : Type 0} (g : Y → ℕ) (f : X → Y) (xs : List X) → sum_by g (map f xs) ≡ sum_by (λ x. g (f x)) xs
 sum_of_map g f [] = refl
 sum_of_map g f (x ∷ xs) =
@@ -164,6 +166,7 @@ in_first k n = elim (cases_Bool (nat_lt k n)) [
 
 -- ---- Places in a list of numbers
 
+-- a number under a test
 pub weigh_yes : (t : Bool) (n : ℕ) → t ≡ true → cond {A = ℕ} t n 0 ≡ n
 weigh_yes t n e = ap (λ (b : Bool). cond {A = ℕ} b n 0) e
 
@@ -241,6 +244,7 @@ any_counted p (x ∷ xs) h =
       | inr e ↦ let rest = any_counted p xs (sym (ap (λ b. b || list_any p xs) e) ∙ h) in omega arith
     ]
 
+-- where none passes none is counted
 pub none_counted_any : {X : Type 0} (p : X → Bool) (xs : List X) → list_any p xs ≡ false → count_by p xs ≡ 0
 none_counted_any p [] h = refl
 none_counted_any p (x ∷ xs) h =

@@ -29,10 +29,12 @@ use Rattle.topo_core.proofs.SystemDarts.{edge_at_row, eqb_self, path_facts, row_
 
 -- ---- Tests of lists
 
+-- a test of all, from a test of each
 pub all_from : {X : Type 0} (p : X → Bool) (xs : List X) → ((x : X) → IsIn x xs → p x ≡ true) → list_all p xs ≡ true
 all_from p [] each = refl
 all_from p (x ∷ xs) each = ap (λ b. b && list_all p xs) (each x (inl refl)) ∙ all_from p xs (λ y h. each y (inr h))
 
+-- a test of all numbers of a range
 pub all_range : (p : ℕ → Bool) (a n : ℕ) → ((v : ℕ) → a ≤ v → v < a + n → p v ≡ true) → list_all p (range_with_len a n) ≡ true
 all_range p a zero each = refl
 all_range p a (suc n) each = ap (λ b. b && list_all p (range_with_len (a + 1) n)) (each a (omega arith) (omega arith)) ∙ all_range p (a + 1) n (λ v low high. each v (omega arith) (omega arith))
@@ -49,10 +51,12 @@ below_limit limit (y ∷ z ∷ xs) h x (inr k) = below_limit limit (z ∷ xs) (r
 
 -- ---- An edge put into a rotation
 
+-- how often x stands once f is put in
 pub occurrences-put_in : (p f : ℕ) (around : List ℕ) (x : ℕ) → occurrences x (put_in p f around) ≡ occurrences x around + cond {A = ℕ} (f == x) 1 0
 occurrences-put_in zero f around x = sum_by_push (λ y. cond (y == x) 1 0) around f
 occurrences-put_in (suc p) f around x = sum_by-insert (λ y. cond (y == x) 1 0) around (suc p) f
 
+-- what is above all of a list does not stand in it
 pub none_counted : (x : ℕ) (xs : List ℕ) → ((y : ℕ) → IsIn y xs → y < x) → occurrences x xs ≡ 0
 none_counted x [] below = refl
 none_counted x (y ∷ xs) below =
@@ -76,6 +80,7 @@ in_drop x zero xs h = h
 in_drop x (suc n) [] h = absurd h
 in_drop x (suc n) (y ∷ xs) h = inr (in_drop x n xs h)
 
+-- what stands in the list once f is put in
 pub in_put_in : (x p f : ℕ) (around : List ℕ) → IsIn x (put_in p f around) → (x ≡ f) ⊎ IsIn x around
 in_put_in x zero f around h = elim (in_append x around (f ∷ []) h) [ inl k ↦ inr k | inr k ↦ elim k [ inl e ↦ inl e | inr none ↦ absurd none ] ]
 in_put_in x (suc p) f around h = elim (in_append x (take (suc p) around) (f ∷ drop (suc p) around) h) [
@@ -83,6 +88,7 @@ in_put_in x (suc p) f around h = elim (in_append x (take (suc p) around) (f ∷ 
   | inr k ↦ elim k [ inl e ↦ inl e | inr k ↦ inr (in_drop x (suc p) around k) ]
 ]
 
+-- the first of the list stays the first
 pub first_put_in : (p f : ℕ) (around : List ℕ) → p < length around → get_or (put_in p f around) 0 0 ≡ get_or around 0 0
 first_put_in p f [] h = absurd (omega arith)
 first_put_in zero f (x ∷ around) h = refl
@@ -96,6 +102,7 @@ pub record IsPutIn (p f : ℕ) (around : List ℕ) : Type 0 where
   pub was : around ≡ head ∷ front ++ back
   pub now : put_in p f around ≡ head ∷ front ++ f ∷ back
 
+-- where it stands
 pub is_put_in : (p f : ℕ) (around : List ℕ) → p < length around → IsPutIn p f around
 is_put_in p f [] h = absurd (omega arith)
 is_put_in zero f (e ∷ around) h = record { head = e; front = around; back = []; was = ap (λ list. e ∷ list) (sym (append-nil around)); now = refl }
@@ -103,6 +110,7 @@ is_put_in (suc p) f (e ∷ around) h = record { head = e; front = take p around;
 
 -- ---- Lists made from equal functions, and ranges in parts
 
+-- functions that agree on a list make the same list of it
 pub map_same : {X Y : Type 0} (f g : X → Y) (xs : List X) → ((x : X) → IsIn x xs → f x ≡ g x) → map f xs ≡ map g xs
 map_same f g [] same = refl
 map_same f g (x ∷ xs) same = let here = same x (inl refl) in let rest = map_same f g xs (λ y h. same y (inr h)) in cc
@@ -137,9 +145,6 @@ rises_push limit (x ∷ y ∷ xs) h = and_from (nat_lt x y) _ (left_true (nat_lt
 
 le_test : (m n : ℕ) → m ≤ n → nat_le m n ≡ true
 le_test m n h = grind (arith, nat_tests)
-
-le_true : (m n : ℕ) → nat_le m n ≡ true → m ≤ n
-le_true m n h = grind (arith, nat_tests)
 
 some_found_more : {X : Type 0} (q : X → Bool) (xs ys : List X) → is_some (find q xs) ≡ true → is_some (find q (xs ++ ys)) ≡ true
 some_found_more q [] ys h = cc
@@ -325,6 +330,7 @@ module _ (rows : Rows) (u p kind : ℕ) (paths : has_good_paths rows ≡ true) (
 
   -- ---- Its paths and crossings
 
+  -- one vertex more
   pub more_vertices : length after.rotations ≡ length rows.rotations + 1
   more_vertices = let e = vertices_after in omega arith
 
@@ -338,6 +344,7 @@ module _ (rows : Rows) (u p kind : ℕ) (paths : has_good_paths rows ≡ true) (
       subst (λ n. (nat_lt u n && nat_lt (length rows.rotations) n && not (u == length rows.rotations) && nat_lt kind 64 && true) ≡ true)
       (sym more_vertices) (one_edge_more u (length rows.rotations) kind u_in known)
 
+  -- the paths of the grown picture are good
   pub paths_after_growth : kind < 64 → has_good_paths after ≡ true
   paths_after_growth known = and_from (rises_below (rows.next_edge + 1) (map (λ row. row.id) (rows.edges ++ new_row ∷ []))) _
       (ap (rises_below (rows.next_edge + 1)) (map-append (λ row. row.id) rows.edges (new_row ∷ []))
@@ -351,6 +358,7 @@ module _ (rows : Rows) (u p kind : ℕ) (paths : has_good_paths rows ≡ true) (
   known_below : (e : ℕ) → is_some (edge_row rows e) ≡ true → e < rows.next_edge
   known_below e known = let pick = some_of (edge_row rows e) known in subst (λ f. f < rows.next_edge) (row_id rows e pick.0 pick.1) (row_below pick.0 (row_in rows e pick.0 pick.1))
 
+  -- and so are its crossings
   pub crossings_after_growth : has_good_crossings rows ≡ true → has_good_crossings after ≡ true
   crossings_after_growth crossings = and_from (rises_below rows.next_crossing (map (λ x. x.id) rows.crossings)) _
       (left_true (rises_below rows.next_crossing (map (λ x. x.id) rows.crossings)) (list_all (is_good_crossing rows) rows.crossings) crossings)
@@ -493,6 +501,7 @@ module _ (rows : Rows) (u p kind : ℕ) (paths : has_good_paths rows ≡ true) (
       (stands_once rows paths crossings rotations d
       ∙ ap (λ (o : Option EdgeRow). one (is_some o && nat_lt d.seg (segment_count (edge_at rows d.edge)))) (ap (edge_row rows) is_new ∙ no_new_row_before))
 
+  -- the grown picture is connected
   pub connected_after_growth : has_good_crossings rows ≡ true → Connected (system rows) → Connected (system after)
   connected_after_growth crossings connected = subst Connected (sym (system_after crossings))
       (stays_connected points_before points_behind points_crossed first_dart front_darts back_darts new_dart new_twin

@@ -167,6 +167,7 @@ module _ (rows : Rows) (u p kind : ℕ) (paths : has_good_paths rows ≡ true) (
       ∙ as_many_cycles face_before face_after (length (turn_images rows)) (face_permutes rows paths crossings rotations)
       (subst (IsPermutation face_after) more_images (face_permutes after paths_after crossings_after rotations_after)) one_face_longer
 
+  -- and so the genus stays zero
   pub genus_after_growth : HasGenusZero rows → HasGenusZero after
   genus_after_growth zero_before =
       let faces = faces_after_growth in

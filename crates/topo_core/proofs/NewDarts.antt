@@ -16,6 +16,7 @@ use Rattle.topo_core.proofs.DartLaws.{same_dart_self, same_dart_true, twin-twin,
 
 -- ---- Tests
 
+-- the parts of a test that fails
 pub or_left_false : (a b : Bool) → (a || b) ≡ false → a ≡ false
 or_left_false true b h = h
 or_left_false false b h = refl
@@ -26,6 +27,7 @@ or_right_false false b h = h
 
 -- ---- Darts of joined lists
 
+-- a dart of one part or of the other
 pub has_dart-append : (xs ys : List Dart) (d : Dart) → has_dart (xs ++ ys) d ≡ (has_dart xs d || has_dart ys d)
 has_dart-append [] ys d = refl
 has_dart-append (x ∷ xs) ys d = ap (λ b. same_dart d x || b) (has_dart-append xs ys d) ∙ sym (or_assoc (same_dart d x) (has_dart xs d) (has_dart ys d))
@@ -34,6 +36,7 @@ has_dart-append (x ∷ xs) ys d = ap (λ b. same_dart d x || b) (has_dart-append
 abbrev pub stands_in : System → Dart → Bool
 stands_in s d = has_dart (darts_in s) d
 
+-- a dart that stands in one part or in the other
 pub stands_in-append : (s t : System) (d : Dart) → stands_in (s ++ t) d ≡ (stands_in s d || stands_in t d)
 stands_in-append s t d = ap (λ ds. has_dart ds d) (flat_map-append (λ around. around) s t) ∙ has_dart-append (darts_in s) (darts_in t) d
 
@@ -47,6 +50,7 @@ turn_outside (around ∷ s) d h =
     ap (λ (b : Bool). cond b (follower (slice_index_or around 0 d) around d) (turn s d)) (or_left_false (has_dart around d) (stands_in s d) both)
     ∙ turn_outside s d (or_right_false (has_dart around d) (stands_in s d) both)
 
+-- a dart of the first part turns as there
 pub turn_first : (s t : System) (d : Dart) → stands_in s d ≡ true → turn (s ++ t) d ≡ turn s d
 turn_first [] t d h = cc
 turn_first (around ∷ s) t d h = elim (cases_Bool (has_dart around d)) [
@@ -58,6 +62,7 @@ turn_first (around ∷ s) t d h = elim (cases_Bool (has_dart around d)) [
       ap (λ (y : Dart). cond (has_dart around d) (follower (slice_index_or around 0 d) around d) y) rest
 ]
 
+-- a dart of no point of the first part turns as in the second
 pub turn_second : (s t : System) (d : Dart) → stands_in s d ≡ false → turn (s ++ t) d ≡ turn t d
 turn_second [] t d h = refl
 turn_second (around ∷ s) t d h =
@@ -69,6 +74,7 @@ turn_second (around ∷ s) t d h =
 pub turn_at : (around : List Dart) (t : System) (d : Dart) → has_dart around d ≡ true → turn (around ∷ t) d ≡ follower (slice_index_or around 0 d) around d
 turn_at around t d h = ap (λ (b : Bool). cond b (follower (slice_index_or around 0 d) around d) (turn t d)) h
 
+-- the turn, where d does not stand at the first point
 pub turn_past : (around : List Dart) (t : System) (d : Dart) → has_dart around d ≡ false → turn (around ∷ t) d ≡ turn t d
 turn_past around t d h = ap (λ (b : Bool). cond b (follower (slice_index_or around 0 d) around d) (turn t d)) h
 

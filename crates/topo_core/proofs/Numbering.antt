@@ -28,9 +28,11 @@ use Rattle.topo_core.proofs.Turning.{IsDistinct, turn_apart, turn_in}
 abbrev pub place_in : List Dart → Dart → ℕ
 place_in ds d = position_or_len (same_dart d) ds
 
+-- d is the head
 pub place_here : (ds : List Dart) (c d : Dart) → same_dart d c ≡ true → place_in (c ∷ ds) d ≡ 0
 place_here ds c d e = ap (λ (t : Bool). cond {A = ℕ} (not t) (1 + place_in ds d) 0) e
 
+-- d is not the head
 pub place_later : (ds : List Dart) (c d : Dart) → same_dart d c ≡ false → place_in (c ∷ ds) d ≡ 1 + place_in ds d
 place_later ds c d e = ap (λ (t : Bool). cond {A = ℕ} (not t) (1 + place_in ds d) 0) e
 
@@ -68,6 +70,7 @@ place_of_get (c ∷ ds) distinct (suc i) d e =
           let next = place_later ds c d apart in omega arith
     ]
 
+-- the place of a dart of the list is below its length
 pub place_less : (ds : List Dart) (d : Dart) → has_dart ds d ≡ true → place_in ds d < length ds
 place_less [] d h = cc
 place_less (c ∷ ds) d h = elim (cases_Bool (same_dart d c)) [
@@ -104,6 +107,7 @@ paired_edges (row ∷ edges) = paired_append (darts_of row) (flat_map darts_of e
 even_step : (n : ℕ) → n % 2 ≡ 0 → suc (suc n) % 2 ≡ 0
 even_step n e = omega arith
 
+-- lists of pairs have even length
 pub paired_even : (ds : List Dart) → IsPaired ds → length ds % 2 ≡ 0
 paired_even [] h = refl
 paired_even (c ∷ []) h = absurd h
@@ -162,16 +166,20 @@ place_twin (c ∷ b ∷ ds) h d there = elim (cases_Bool (same_dart d c)) [
 pub twin_in : (rows : Rows) (d : Dart) → has_dart (darts rows) d ≡ true → has_dart (darts rows) (dart_twin d) ≡ true
 twin_in rows d h = (place_twin (darts rows) (paired_edges rows.edges) d h).1
 
+-- the number of the twin is the twin of the number
 pub index_twin : (rows : Rows) (d : Dart) → has_dart (darts rows) d ≡ true → index_of rows (dart_twin d) ≡ twin (index_of rows d)
 index_twin rows d h = (place_twin (darts rows) (paired_edges rows.edges) d h).0
 
+-- as many images as darts
 pub images_length : (rows : Rows) → length (turn_images rows) ≡ length (darts rows)
 images_length rows = length-map (darts rows) (λ d. index_of rows (turn (system rows) d))
 
+-- an even number of them
 pub even_images : (rows : Rows) → length (turn_images rows) % 2 ≡ 0
 even_images rows = ap (λ n. n % 2) (images_length rows) ∙ paired_even (darts rows) (paired_edges rows.edges)
 
 module _ (rows : Rows) (paths : has_good_paths rows ≡ true) where
+  -- no dart is listed twice
   pub distinct_darts : IsDistinct (darts rows)
   distinct_darts = record { once = λ d. at_most_one (is_of_rows rows d) _ (listed_once rows paths d) }
 
@@ -193,6 +201,7 @@ module _ (rows : Rows) (paths : has_good_paths rows ≡ true) where
   image_of d h = index_of_map (λ d. index_of rows (turn (system rows) d)) (darts rows) (index_of rows d) d (get_index d h)
 
   module _ (crossings : has_good_crossings rows ≡ true) (rotations : has_good_rotations rows ≡ true) where
+    -- and none stands twice
     pub distinct_system : IsDistinct (darts_in (system rows))
     distinct_system = record { once = λ d. at_most_one (is_of_rows rows d) _ (stands_once rows paths crossings rotations d) }
 
@@ -211,6 +220,7 @@ module _ (rows : Rows) (paths : has_good_paths rows ≡ true) where
     image_at : (i : ℕ) (d : Dart) → slice_get (darts rows) i ≡ Some d → map_of (turn_images rows) i ≡ index_of rows (turn (system rows) d)
     image_at i d e = index_of_map (λ d. index_of rows (turn (system rows) d)) (darts rows) i d e
 
+    -- numbers are below the number of images
     pub index_less : (d : Dart) → has_dart (darts rows) d ≡ true → index_of rows d < length (turn_images rows)
     index_less d h = subst (λ n. index_of rows d < n) (sym (images_length rows)) (place_less (darts rows) d h)
 

@@ -8,6 +8,7 @@ pub record FirstAt (p : ℕ → Bool) (k : ℕ) : Type 0 where
   pub here : p k ≡ true
   pub before : (j : ℕ) → j < k → p j ≡ false
 
+-- it is found, or there is none
 pub search_below : (p : ℕ → Bool) (n : ℕ) → ((k : ℕ) × (k < n) × FirstAt p k) ⊎ ((k : ℕ) → k < n → p k ≡ false)
 search_below p zero = inr (below_none _)
 search_below p (suc n) =
@@ -19,6 +20,7 @@ search_below p (suc n) =
       ]
     ]
 
+-- some number passes
 pub some_below-true : (p : ℕ → Bool) (n k : ℕ) → k < n → p k ≡ true → some_below p n ≡ true
 some_below-true p zero k l e = absurd (omega arith)
 some_below-true p (suc n) k l e =
@@ -27,11 +29,13 @@ some_below-true p (suc n) k l e =
       | inr ne ↦ or_right (p n) (some_below p n) (some_below-true p n k (omega arith) e)
     ]
 
+-- none does
 pub some_below-false : (p : ℕ → Bool) (n : ℕ) → ((k : ℕ) → k < n → p k ≡ false) → some_below p n ≡ false
 some_below-false p zero h = refl
 some_below-false p (suc n) h =
     or_from (p n) (some_below p n) (h n (omega arith)) (some_below-false p n (λ k l. h k (omega arith)))
 
+-- the number that passes
 pub from_some_below : (p : ℕ → Bool) (n : ℕ) → some_below p n ≡ true → (k : ℕ) × (k < n) × (p k ≡ true)
 from_some_below p zero e = cc
 from_some_below p (suc n) e =
@@ -40,15 +44,18 @@ from_some_below p (suc n) e =
       | inr there ↦ let (k, l, pass) = from_some_below p n there in (k, omega arith, pass)
     ]
 
+-- steps after steps
 pub after-add : (f : ℕ → ℕ) (k m a : ℕ) → after f (k + m) a ≡ after f k (after f m a)
 after-add f zero m a = let e : 0 + m ≡ m = omega arith in ap (λ n. after f n a) e
 after-add f (suc k) m a =
     let e : suc k + m ≡ suc (k + m) = omega arith in ap (λ n. after f n a) e ∙ ap f (after-add f k m a)
 
+-- steps stay below n
 pub after-within : (f : ℕ → ℕ) (n : ℕ) → IsPermutation f n → (k a : ℕ) → a < n → after f k a < n
 after-within f n h zero a l = l
 after-within f n h (suc k) a l = h.within _ (after-within f n h k a l)
 
+-- steps lead no two to the same
 pub after-apart : (f : ℕ → ℕ) (n : ℕ) → IsPermutation f n → (k a b : ℕ) → a < n → b < n → after f k a ≡ after f k b → a ≡ b
 after-apart f n h zero a b la lb e = e
 after-apart f n h (suc k) a b la lb e =
@@ -86,6 +93,7 @@ closed-apart v x y nx ny e =
       ]
     ]
 
+-- n + 1 numbers below n are not all different
 pub two_alike : (n : ℕ) (g : ℕ → ℕ) → ((i : ℕ) → i ≤ n → g i < n) → TwoAlike g n
 two_alike zero g h = absurd (omega (arith, h 0 (omega arith)))
 two_alike (suc n) g h =
@@ -109,6 +117,7 @@ pub record IsPeriod (f : ℕ → ℕ) (a d : ℕ) : Type 0 where
   pub some : 0 < d
   pub home : after f d a ≡ a
 
+-- each number comes back within n steps
 pub period : (f : ℕ → ℕ) (n : ℕ) → IsPermutation f n → (a : ℕ) → a < n → (d : ℕ) × (d ≤ n) × IsPeriod f a d
 period f n h a l =
     let t : TwoAlike (λ k. after f k a) n = two_alike n (λ k. after f k a) (λ k _. after-within f n h k a l) in
@@ -134,18 +143,22 @@ wraps f a d h (suc k) =
       | inr ne ↦ (suc m, omega arith, ap f e)
     ]
 
+-- a number lies on its own cycle
 pub SameCycle-refl : (f : ℕ → ℕ) (a : ℕ) → SameCycle f a a
 SameCycle-refl f a = record { steps = 0; leads = refl }
 
+-- on one cycle with the same number
 pub SameCycle-trans : (f : ℕ → ℕ) (a b c : ℕ) → SameCycle f a b → SameCycle f b c → SameCycle f a c
 SameCycle-trans f a b c g h = record {
   steps = h.steps + g.steps;
   leads = after-add f h.steps g.steps a ∙ ap (λ x. after f h.steps x) g.leads ∙ h.leads;
 }
 
+-- one step more
 pub SameCycle-step : (f : ℕ → ℕ) (a b : ℕ) → SameCycle f a b → SameCycle f a (f b)
 SameCycle-step f a b g = record { steps = suc g.steps; leads = ap f g.leads }
 
+-- cycles lead both ways
 pub SameCycle-sym : (f : ℕ → ℕ) (n : ℕ) → IsPermutation f n → (a b : ℕ) → a < n → SameCycle f a b → SameCycle f b a
 SameCycle-sym f n h a b l g =
     let (d, ld, p) = period f n h a l in
@@ -156,10 +169,12 @@ SameCycle-sym f n h a b l g =
       leads = ap (λ x. after f (d - m) x) (sym g.leads ∙ e) ∙ sym (after-add f (d - m) m a) ∙ ap (λ k. after f k a) whole ∙ p.home;
     }
 
+-- what is met lies on the cycle
 pub is_met-SameCycle : (f : ℕ → ℕ) (n a b : ℕ) → is_met f n a b ≡ true → SameCycle f a b
 is_met-SameCycle f n a b e =
     let (k, l, pass) = from_some_below (λ k. after f k a == b) n e in record { steps = k; leads = eqb-true _ _ pass }
 
+-- and what lies on the cycle is met within n steps
 pub SameCycle-is_met : (f : ℕ → ℕ) (n : ℕ) → IsPermutation f n → (a b : ℕ) → a < n → SameCycle f a b → is_met f n a b ≡ true
 SameCycle-is_met f n h a b l g =
     let (d, ld, p) = period f n h a l in

@@ -92,6 +92,7 @@ module _ (rows : Rows) (paths : has_good_paths rows ≡ true) (crossings : has_g
     leads = (along_carried (index_of rows) IsHere (turn (system rows)) dart_twin (map_of images) twin turn_carried twin_carried joined.moves c c_in).1 ∙ ap (index_of rows) joined.leads;
   }
 
+  -- and numbers only as their darts are
   pub joined_darts : (c d : Dart) → IsHere c → IsHere d → Joined (map_of images) twin (index_of rows c) (index_of rows d) → Joined (turn (system rows)) dart_twin c d
   joined_darts c d c_in d_in joined =
       let led = along_carried (index_of rows) IsHere (turn (system rows)) dart_twin (map_of images) twin turn_carried twin_carried joined.moves c c_in in
@@ -107,6 +108,7 @@ module _ (rows : Rows) (paths : has_good_paths rows ≡ true) (crossings : has_g
     leads = (after_carried (index_of rows) IsHere (face_step (system rows)) (face_next (map_of images)) face_carried same.steps c c_in).1 ∙ ap (index_of rows) same.leads;
   }
 
+  -- and numbers only as their darts do
   pub face_darts : (c d : Dart) → IsHere c → IsHere d → SameCycle (face_next (map_of images)) (index_of rows c) (index_of rows d) → SameFace (system rows) c d
   face_darts c d c_in d_in same =
       let led = after_carried (index_of rows) IsHere (face_step (system rows)) (face_next (map_of images)) face_carried same.steps c c_in in
@@ -125,6 +127,7 @@ module _ (rows : Rows) (paths : has_good_paths rows ≡ true) (crossings : has_g
       let numbers = joined_numbers c.0 d.0 c_in (joined c.0 d.0 (system_test rows paths crossings rotations c.0 ∙ c_in) (system_test rows paths crossings rotations d.0 ∙ d_in)) in
       subst (λ i. Joined (map_of images) twin i b) (index_of_get rows paths a c.0 c.1) (subst (Joined (map_of images) twin (index_of rows c.0)) (index_of_get rows paths b d.0 d.1) numbers)
 
+  -- and any two darts are joined if any two numbers are
   pub darts_connected : IsConnected images → (c d : Dart) → has_dart (darts_in (system rows)) c ≡ true → has_dart (darts_in (system rows)) d ≡ true → Joined (turn (system rows)) dart_twin c d
   darts_connected connected c d c_in d_in =
       let c_here = sym (system_test rows paths crossings rotations c) ∙ c_in in

@@ -35,12 +35,15 @@ and_yes : (b : Bool) → (b && true) ≡ b
 and_yes true = refl
 and_yes false = refl
 
+-- two forward darts
 pub forward_forward : (e s a p : ℕ) → same_dart (forward e s) (forward a p) ≡ (e == a && s == p)
 forward_forward e s a p = and_yes (e == a && s == p)
 
+-- two back darts
 pub back_back : (e s a p : ℕ) → same_dart (back e s) (back a p) ≡ (e == a && s == p)
 back_back e s a p = and_yes (e == a && s == p)
 
+-- darts of different ways are different
 pub forward_back : (e s a p : ℕ) → same_dart (forward e s) (back a p) ≡ false
 forward_back e s a p = and_no (e == a && s == p)
 
@@ -169,6 +172,7 @@ pub record GoodCrossing (rows : Rows) (x : CrossRow) : Type 0 where
   pub newcomer : is_some (edge_row rows x.newcomer) ≡ true
   pub counted : (row : EdgeRow) → IsIn row rows.edges → occurrences x.id row.crossings ≡ one (row.id == x.crossed || row.id == x.newcomer)
 
+-- from the tests of the rows
 pub good_crossing : (rows : Rows) → has_good_crossings rows ≡ true → (x : CrossRow) → IsIn x rows.crossings → GoodCrossing rows x
 good_crossing rows good x h =
     let tests = test_of_each (is_good_crossing rows) x rows.crossings (right_true (rises_below rows.next_crossing (map (λ x. x.id) rows.crossings)) (list_all (is_good_crossing rows) rows.crossings) good) h in
@@ -184,6 +188,7 @@ pub record GoodRotation (rows : Rows) (v : ℕ) : Type 0 where
   pub counted : (row : EdgeRow) → IsIn row rows.edges → occurrences row.id (rotation rows v) ≡ one (row.a == v || row.b == v)
   pub known : (e : ℕ) → IsIn e (rotation rows v) → is_some (edge_row rows e) ≡ true
 
+-- from the tests of the rows
 pub good_rotation : (rows : Rows) → has_good_rotations rows ≡ true → (v : ℕ) → IsIn v (vertices rows) → GoodRotation rows v
 good_rotation rows good v h =
     let tests = test_of_each (has_good_rotation rows) v (vertices rows) good h in
@@ -408,6 +413,7 @@ listed_once rows paths d =
 pub is_dart_of_rows : (rows : Rows) (d : Dart) → IsDart rows d → is_of_rows rows d ≡ true
 is_dart_of_rows rows d (row, there, inside) = of_row rows d row there ∙ lt_test d.seg (segment_count row) inside
 
+-- and only they do
 pub of_rows_is_dart : (rows : Rows) (d : Dart) → is_of_rows rows d ≡ true → IsDart rows d
 of_rows_is_dart rows d passes = elim (some_or_none (edge_row rows d.edge)) [
   | inl (row, there) ↦ (row, there, lt_of_test d.seg (segment_count row) (sym (of_row rows d row there) ∙ passes))

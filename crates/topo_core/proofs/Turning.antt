@@ -99,10 +99,6 @@ follower_apart first z (b ∷ cs) distinct outside c d c_in d_in e =
 abbrev next_around : List Dart → Dart → Dart
 next_around around d = follower (slice_index_or around 0 d) around d
 
-same_twice : (a b : Bool) → (a || b) ≡ true → (a || (a || b)) ≡ true
-same_twice true b h = refl
-same_twice false b h = h
-
 next_around_in : (around : List Dart) (d : Dart) → has_dart around d ≡ true → has_dart around (next_around around d) ≡ true
 next_around_in [] d h = cc
 next_around_in (c ∷ cs) d h = follower_behind c c d cs h
