@@ -1,5 +1,5 @@
 -- The rotation system of good rows has the rows' darts.
-use Rattle.std.proofs.Common.{◌≡◌, ℕ, zero, suc, ◌+◌, ◌<◌, ◌≤◌, Bool, true, false, cond, not, ◌&&◌, ◌||◌, List, [], ◌∷◌, length, Some, None, eqb, refl, sym, ap, subst, ◌∙◌, arith, add-one, inl, inr}
+use Rattle.std.proofs.Common.{rules, ◌≡◌, ℕ, zero, suc, ◌+◌, ◌<◌, ◌≤◌, Bool, true, false, cond, not, ◌&&◌, ◌||◌, List, [], ◌∷◌, length, Some, None, eqb, refl, sym, ap, subst, ◌∙◌, arith, add-one, inl, inr}
 use Rattle.std.specs.Prelude.{◌⊎◌, ◌==◌, nat_lt, Option, map, slice_get, is_some, unwrap_or, if◌then◌else◌}
 use Rattle.std.specs.List.{list_all, position_or_len}
 use Rattle.std.proofs.lemmas.Bool.Decides.{nat_tests}
@@ -131,6 +131,13 @@ at_crossing_in rows crossing d h k =
     (in_right (around_crossing rows crossing) (map (around_vertex rows) (vertices rows)) (map (around_crossing rows) rows.crossings)
     (in_map (around_crossing rows) crossing rows.crossings h))
 
+-- where the newcomer stands in either sign: the proofs below hold whichever sign has which
+in_second : {X : Type 0} (a x c d : X) → IsIn x (a ∷ x ∷ c ∷ d ∷ [])
+in_second a x c d = inr (inl refl)
+
+in_fourth : {X : Type 0} (a b c x : X) → IsIn x (a ∷ b ∷ c ∷ x ∷ [])
+in_fourth a b c x = inr (inr (inr (inl refl)))
+
 crossed_ahead_in : (s : Sign) (a b c d : Dart) → IsIn a (clockwise s a b c d)
 crossed_ahead_in LeftToRight a b c d = inl refl
 crossed_ahead_in RightToLeft a b c d = inl refl
@@ -140,12 +147,12 @@ crossed_behind_in LeftToRight a b c d = inr (inr (inl refl))
 crossed_behind_in RightToLeft a b c d = inr (inr (inl refl))
 
 newcomer_ahead_in : (s : Sign) (a b c d : Dart) → IsIn c (clockwise s a b c d)
-newcomer_ahead_in LeftToRight a b c d = inr (inl refl)
-newcomer_ahead_in RightToLeft a b c d = inr (inr (inr (inl refl)))
+newcomer_ahead_in LeftToRight a b c d = search (rules, in_second, in_fourth)
+newcomer_ahead_in RightToLeft a b c d = search (rules, in_second, in_fourth)
 
 newcomer_behind_in : (s : Sign) (a b c d : Dart) → IsIn d (clockwise s a b c d)
-newcomer_behind_in LeftToRight a b c d = inr (inr (inr (inl refl)))
-newcomer_behind_in RightToLeft a b c d = inr (inl refl)
+newcomer_behind_in LeftToRight a b c d = search (rules, in_second, in_fourth)
+newcomer_behind_in RightToLeft a b c d = search (rules, in_second, in_fourth)
 
 later : (a b : Bool) → a ≡ false → (a || b) ≡ true → b ≡ true
 later true b e h = cc
