@@ -7,10 +7,11 @@ use Rattle.std.proofs.lemmas.List.{length-map}
 use Rattle.std.proofs.lemmas.List.Sums.{sum_by-cons}
 use Rattle.std.proofs.lemmas.Bool.{cases_Bool, false≢true, or_left, or_right}
 use Rattle.topo_core.specs.declared.darts.Dart.{Dart}
+use Rattle.topo_core.specs.declared.darts.Way.TheVariants.{Forward, Back}
 use Rattle.topo_core.specs.declared.rows.EdgeRow.{EdgeRow}
 use Rattle.topo_core.specs.declared.rows.Rows.{Rows}
 use Rattle.topo_core.specs.Cycles.{IsPermutationList, map_of}
-use Rattle.topo_core.specs.Darts.{both_ways, dart_twin, same_dart}
+use Rattle.topo_core.specs.Darts.{both_ways, dart_twin, reversed, same_dart}
 use Rattle.topo_core.specs.Lawful.{has_good_crossings, has_good_paths, has_good_rotations}
 use Rattle.topo_core.specs.Picture.{darts, darts_of, index_of, segment_count, system, turn_images}
 use Rattle.topo_core.specs.Rotations.{twin}
@@ -85,20 +86,20 @@ index_of_map f (c ∷ ds) (suc i) d e = index_of_map f ds i d e
 
 -- ---- Twins stand side by side
 
--- each dart at an even place is followed by its twin
+-- each dart at an even place leads forward and is followed by its twin
 abbrev pub IsPaired : List Dart → Type 0
 IsPaired [] = Unit {0}
 IsPaired (c ∷ []) = ⊥
-IsPaired (c ∷ d ∷ ds) = (d ≡ dart_twin c) × IsPaired ds
+IsPaired (c ∷ d ∷ ds) = (c.way ≡ Forward) × (d ≡ dart_twin c) × IsPaired ds
 
 paired_append : (xs ys : List Dart) → IsPaired xs → IsPaired ys → IsPaired (xs ++ ys)
 paired_append [] ys h k = k
 paired_append (c ∷ []) ys h k = absurd h
-paired_append (c ∷ d ∷ xs) ys h k = (h.0, paired_append xs ys h.1 k)
+paired_append (c ∷ d ∷ xs) ys h k = (h.0, h.1, paired_append xs ys h.2 k)
 
 paired_segments : (e : ℕ) (segments : List ℕ) → IsPaired (flat_map (both_ways e) segments)
 paired_segments e [] = tt
-paired_segments e (s ∷ segments) = (refl, paired_segments e segments)
+paired_segments e (s ∷ segments) = (refl, refl, paired_segments e segments)
 
 paired_edges : (edges : List EdgeRow) → IsPaired (flat_map darts_of edges)
 paired_edges [] = tt
@@ -111,7 +112,7 @@ even_step n e = omega arith
 pub paired_even : (ds : List Dart) → IsPaired ds → length ds % 2 ≡ 0
 paired_even [] h = refl
 paired_even (c ∷ []) h = absurd h
-paired_even (c ∷ d ∷ ds) h = even_step (length ds) (paired_even ds h.1)
+paired_even (c ∷ d ∷ ds) h = even_step (length ds) (paired_even ds h.2)
 
 twin_step : (n : ℕ) → twin (1 + (1 + n)) ≡ 1 + (1 + twin n)
 twin_step n = grind (arith, nat_tests)
@@ -130,7 +131,7 @@ place_twin (c ∷ b ∷ ds) h d there = elim (cases_Bool (same_dart d c)) [
   | inl e ↦
       let d_is = same_dart_true d c e in
       let off : same_dart (dart_twin d) c ≡ false = not_same (dart_twin d) c (λ k. twin_apart d (k ∙ sym d_is)) in
-      let on : same_dart (dart_twin d) b ≡ true = same_from (dart_twin d) b (ap dart_twin d_is ∙ sym h.0) in
+      let on : same_dart (dart_twin d) b ≡ true = same_from (dart_twin d) b (ap dart_twin d_is ∙ sym h.1) in
       let first = place_later (b ∷ ds) c (dart_twin d) off in
       let second = place_here ds b (dart_twin d) on in
       let at : place_in (c ∷ b ∷ ds) (dart_twin d) ≡ 1 = omega arith in (
@@ -140,7 +141,7 @@ place_twin (c ∷ b ∷ ds) h d there = elim (cases_Bool (same_dart d c)) [
   | inr not_c ↦ elim (cases_Bool (same_dart d b)) [
     | inl e ↦
         let d_is = same_dart_true d b e in
-        let on : same_dart (dart_twin d) c ≡ true = same_from (dart_twin d) c (ap dart_twin (d_is ∙ h.0) ∙ twin-twin c) in
+        let on : same_dart (dart_twin d) c ≡ true = same_from (dart_twin d) c (ap dart_twin (d_is ∙ h.1) ∙ twin-twin c) in
         let first = place_later (b ∷ ds) c d not_c in
         let second = place_here ds b d e in
         let at : place_in (c ∷ b ∷ ds) d ≡ 1 = omega arith in (
@@ -148,15 +149,33 @@ place_twin (c ∷ b ∷ ds) h d there = elim (cases_Bool (same_dart d c)) [
           or_left (same_dart (dart_twin d) c) (has_dart (b ∷ ds) (dart_twin d)) on,
         )
     | inr not_b ↦
-        let twin_not_c : same_dart (dart_twin d) c ≡ false = not_same (dart_twin d) c (λ k. false≢true (sym not_b ∙ same_from d b (sym (twin-twin d) ∙ ap dart_twin k ∙ sym h.0))) in
-        let twin_not_b : same_dart (dart_twin d) b ≡ false = not_same (dart_twin d) b (λ k. false≢true (sym not_c ∙ same_from d c (sym (twin-twin d) ∙ ap dart_twin (k ∙ h.0) ∙ twin-twin c))) in
+        let twin_not_c : same_dart (dart_twin d) c ≡ false = not_same (dart_twin d) c (λ k. false≢true (sym not_b ∙ same_from d b (sym (twin-twin d) ∙ ap dart_twin k ∙ sym h.1))) in
+        let twin_not_b : same_dart (dart_twin d) b ≡ false = not_same (dart_twin d) b (λ k. false≢true (sym not_c ∙ same_from d c (sym (twin-twin d) ∙ ap dart_twin (k ∙ h.1) ∙ twin-twin c))) in
         let inside = or_second (same_dart d b) (has_dart ds d) not_b (or_second (same_dart d c) (has_dart (b ∷ ds) d) not_c there) in
-        let rest = place_twin ds h.1 d inside in
+        let rest = place_twin ds h.2 d inside in
         let place : place_in (c ∷ b ∷ ds) d ≡ 1 + (1 + place_in ds d) = place_later (b ∷ ds) c d not_c ∙ ap (λ n. 1 + n) (place_later ds b d not_b) in
         let other : place_in (c ∷ b ∷ ds) (dart_twin d) ≡ 1 + (1 + place_in ds (dart_twin d)) = place_later (b ∷ ds) c (dart_twin d) twin_not_c ∙ ap (λ n. 1 + n) (place_later ds b (dart_twin d) twin_not_b) in (
           other ∙ ap (λ n. 1 + (1 + n)) rest.0 ∙ sym (twin_step (place_in ds d)) ∙ sym (ap twin place),
           or_right (same_dart (dart_twin d) c) (has_dart (b ∷ ds) (dart_twin d)) (or_right (same_dart (dart_twin d) b) (has_dart ds (dart_twin d)) rest.1),
         )
+  ]
+]
+
+-- forward darts stand at even places
+pub forward_even : (ds : List Dart) → IsPaired ds → (d : Dart) → has_dart ds d ≡ true → d.way ≡ Forward → place_in ds d % 2 ≡ 0
+forward_even [] h d there forward = cc
+forward_even (c ∷ []) h d there forward = absurd h
+forward_even (c ∷ b ∷ ds) h d there forward = elim (cases_Bool (same_dart d c)) [
+  | inl e ↦ ap (λ n. n % 2) (place_here (b ∷ ds) c d e)
+  | inr not_c ↦ elim (cases_Bool (same_dart d b)) [
+    | inl e ↦
+        let leads_back : d.way ≡ Back = ap (λ y. y.way) (same_dart_true d b e ∙ h.1) ∙ ap reversed h.0 in
+        let both : Forward ≡ Back = sym forward ∙ leads_back in cc
+    | inr not_b ↦
+        let inside = or_second (same_dart d b) (has_dart ds d) not_b (or_second (same_dart d c) (has_dart (b ∷ ds) d) not_c there) in
+        let rest = forward_even ds h.2 d inside forward in
+        let first = place_later (b ∷ ds) c d not_c in
+        let second = place_later ds b d not_b in omega arith
   ]
 ]
 
@@ -169,6 +188,10 @@ twin_in rows d h = (place_twin (darts rows) (paired_edges rows.edges) d h).1
 -- the number of the twin is the twin of the number
 pub index_twin : (rows : Rows) (d : Dart) → has_dart (darts rows) d ≡ true → index_of rows (dart_twin d) ≡ twin (index_of rows d)
 index_twin rows d h = (place_twin (darts rows) (paired_edges rows.edges) d h).0
+
+-- forward darts have even numbers
+pub index_forward : (rows : Rows) (d : Dart) → has_dart (darts rows) d ≡ true → d.way ≡ Forward → index_of rows d % 2 ≡ 0
+index_forward rows d h forward = forward_even (darts rows) (paired_edges rows.edges) d h forward
 
 -- as many images as darts
 pub images_length : (rows : Rows) → length (turn_images rows) ≡ length (darts rows)

@@ -2,6 +2,7 @@
 use Rattle.std.specs.Prelude.{◌≡◌, ◌<◌, ◌↔◌, ◌%◌, ◌==◌, ℕ, true, false, cond, length, count_by, slice_get, slice_index, Some}
 use Rattle.std.specs.List.{list_any}
 use Rattle.topo_core.specs.declared.darts.Dart.{Dart}
+use Rattle.topo_core.specs.declared.darts.Way.TheVariants.{Forward}
 use Rattle.topo_core.specs.declared.rows.Rows.{Rows}
 use Rattle.topo_core.specs.Cycles.{IsPermutation, IsPermutationList, SameCycle, map_of}
 use Rattle.topo_core.specs.Rotations.{twin, face_next, IsConnected}
@@ -51,7 +52,7 @@ TurnIsAPermutation = (rows : Rows) → IsWellFormed rows → TurnPermutes rows
 
 -- ---- Darts as numbers
 
--- numbers and darts name each other, the two darts of segment i are 2i and 2i + 1, and the images are the turn on numbers
+-- numbers and darts name each other, the forward dart of a segment is 2i and its twin 2i + 1, and the images are the turn on numbers
 pub record NumbersStandForDarts (rows : Rows) : Type 0 where
   pub as_many : length (turn_images rows) ≡ length (darts rows)
   pub even : length (turn_images rows) % 2 ≡ 0
@@ -60,6 +61,7 @@ pub record NumbersStandForDarts (rows : Rows) : Type 0 where
   pub number_of_dart : (i : ℕ) (d : Dart) → slice_get (darts rows) i ≡ Some d → index_of rows d ≡ i
   pub dart_of_its_number : (d : Dart) → has_dart (darts rows) d ≡ true → slice_get (darts rows) (index_of rows d) ≡ Some d
   pub twins : (d : Dart) → has_dart (darts rows) d ≡ true → (has_dart (darts rows) (dart_twin d) ≡ true) × (index_of rows (dart_twin d) ≡ twin (index_of rows d))
+  pub forward_even : (d : Dart) → has_dart (darts rows) d ≡ true → d.way ≡ Forward → index_of rows d % 2 ≡ 0
   pub turns : (d : Dart) → has_dart (darts rows) d ≡ true → slice_index (turn_images rows) (index_of rows d) ≡ index_of rows (turn (system rows) d)
 
 -- in well-formed rows the numbers stand for the darts
