@@ -1,0 +1,12 @@
+pub mod Orbits
+pub mod Classes
+pub mod Exchange
+pub mod Lists
+pub mod Points
+pub mod Labels
+pub mod EulerLemmas
+pub mod Cuts
+pub mod Live
+pub mod Search
+pub mod Faces
+pub mod Splitting

@@ -1,0 +1,13 @@
+use Rattle.std.proofs.Common.{◌≡◌, ℕ, ◌<◌, length, slice_index}
+use Rattle.topo_core.specs.Cycles.{map_of}
+use Rattle.topo_core.specs.Rotations.{face_next}
+use Rattle.topo_perm.proofs.laws.euler.Given as goal
+
+-- the labels and the turns of the faces so far
+abbrev pub invariant-loop-dart : goal.invariant-loop-dart
+invariant-loop-dart g l = record {
+  labelled : length l.labels.items ≡ l.dart;
+  own : (a : ℕ) → a < l.dart → slice_index l.labels.items a ≡ a;
+  turned : length l.faces.items ≡ l.dart;
+  next : (a : ℕ) → a < l.dart → slice_index l.faces.items a ≡ face_next (map_of l.images) a;
+}
