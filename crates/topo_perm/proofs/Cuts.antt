@@ -7,10 +7,10 @@ use Rattle.topo_core.specs.Rotations.{twin, partly, face_by, Move, along, Joined
 use Rattle.topo_core.specs.Rotations.Move.{Turn, Cross}
 use Rattle.topo_perm.proofs.Orbits.{SameCycle-sym, is_met-SameCycle, SameCycle-is_met}
 use Rattle.topo_perm.proofs.Classes.{class_count-same, count_below-same, count_below-more}
-use Rattle.topo_perm.proofs.Points.{IsExchangeBelow, cycle_count-same, exchanged-permutation, exchanged_splits, exchanged_joins, exchanged_apart, leader, leader-first, leaders_same, IsFirstOf, firsts_same}
+use Rattle.topo_perm.proofs.Points.{IsExchangeBelow, cycle_count-same, IsPermutation-same, exchanged-permutation, exchanged_splits, exchanged_joins, exchanged_apart, leader, leader-first, leaders_same, IsFirstOf, firsts_same}
 use Rattle.topo_perm.proofs.Labels.{same_label, IsRelabel, relabel-keeps, relabel-meets, relabel-from, relabel-apart, relabel-same}
 use Rattle.topo_perm.proofs.Exchange.{is_met-equivalence}
-use Rattle.topo_perm.proofs.EulerLemmas.{twin-within, twin-cases, Joined-refl, Joined-trans, Joined-cross, Joined-turn, Joined-SameCycle, keeps_label, IsClassCount-unique}
+use Rattle.topo_perm.proofs.Walks.{twin-within, twin-cases, Joined-refl, Joined-trans, Joined-cross, Joined-turn, Joined-SameCycle, keeps_label, IsClassCount-unique}
 
 -- t has segment k, and s has all of t but k
 pub record IsWithout (s t : ℕ → Bool) (k : ℕ) : Type 0 where
@@ -276,24 +276,33 @@ stage_below f n s h even (suc k) l =
       | inr ge ↦ le-ltb i k ge ∙ sym (le-ltb i (suc k) (omega arith))
     ]
 
--- points and faces are at most as many as the segments and twice the components
-pub euler_bound : (f : ℕ → ℕ) (n : ℕ) (s : ℕ → Bool) (c : ℕ) → IsPermutation f n → n % 2 ≡ 0 → IsClassCount (Joined f (partly s)) n c → cycle_count f n + cycle_count (face_by f s) n ≤ count_below s (n / 2) + 2 * c
+-- how many components there are where the segments of s alone are crossed, with the bound
+pub record HasComponents (f : ℕ → ℕ) (n : ℕ) (s : ℕ → Bool) : Type 0 where
+  pub count : ℕ
+  pub components : IsClassCount (Joined f (partly s)) n count
+  pub faces : IsPermutation (face_by f s) n
+  pub bound : cycle_count f n + cycle_count (face_by f s) n ≤ count_below s (n / 2) + 2 * count
+
+pub components_of : (f : ℕ → ℕ) (n : ℕ) (s : ℕ → Bool) → IsPermutation f n → n % 2 ≡ 0 → HasComponents f n s
 unfolding below
-euler_bound f n s c h even comps =
+components_of f n s h even =
     let last : HasStage f n (below s (n / 2)) = stage_below f n s h even (n / 2) (omega arith) in
     let t : ℕ → Bool = below s (n / 2) in
     let part : (d : ℕ) → d < n → partly t d ≡ partly s d = λ d ld. ap (λ b. cond b (twin d) d) (within s (n / 2) (d / 2) (omega arith)) in
     let faces : cycle_count (face_by f t) n ≡ cycle_count (face_by f s) n =
     cycle_count-same (face_by f t) (face_by f s) n last.stage.faces (λ a la. ap f (part a la)) in
     let size : count_below t (n / 2) ≡ count_below s (n / 2) = count_below-same t s (n / 2) (λ a la. within s (n / 2) a la) in
-    let same : class_count (same_label last.labels) n ≡ c =
-    IsClassCount-unique (Joined f (partly s)) n _ c (record {
-      test = same_label last.labels;
-      sound = λ a b la lb e. moved_to part a b la (last.stage.sound a b la lb (eqb-true _ _ e));
-      complete = λ a b la lb j. eq-eqb _ _ (stage_complete f n t last.labels h even last.stage a b la (moved_back part a b la j));
-      count = refl;
-    }) comps in
-    omega (arith, last.stage.bound, faces, size, same)
+    record {
+      count = class_count (same_label last.labels) n;
+      components = record {
+        test = same_label last.labels;
+        sound = λ a b la lb e. moved_to part a b la (last.stage.sound a b la lb (eqb-true _ _ e));
+        complete = λ a b la lb j. eq-eqb _ _ (stage_complete f n t last.labels h even last.stage a b la (moved_back part a b la j));
+        count = refl;
+      };
+      faces = IsPermutation-same (face_by f t) (face_by f s) n last.stage.faces (λ a la. ap f (part a la));
+      bound = omega (arith, last.stage.bound, faces, size);
+    }
   where
     within : (s : ℕ → Bool) (k i : ℕ) → i < k → below s k i ≡ s i
     within s k i l = elim (cases_Bool (s i)) [
@@ -311,6 +320,12 @@ euler_bound f n s c h even comps =
 
     moved_back : ((d : ℕ) → d < n → partly (below s (n / 2)) d ≡ partly s d) → (a b : ℕ) → a < n → Joined f (partly s) a b → Joined f (partly (below s (n / 2))) a b
     moved_back e a b la j = record { moves = j.moves; leads = sym (walk s (below s (n / 2)) (λ d ld. sym (e d ld)) j.moves a la) ∙ j.leads }
+
+-- points and faces are at most as many as the segments and twice the components
+pub euler_bound : (f : ℕ → ℕ) (n : ℕ) (s : ℕ → Bool) (c : ℕ) → IsPermutation f n → n % 2 ≡ 0 → IsClassCount (Joined f (partly s)) n c → cycle_count f n + cycle_count (face_by f s) n ≤ count_below s (n / 2) + 2 * c
+euler_bound f n s c h even comps =
+    let k : HasComponents f n s = components_of f n s h even in
+    omega (arith, k.bound, IsClassCount-unique (Joined f (partly s)) n k.count c k.components comps)
 
 -- a segment with two faces does not cut: without it its ends are still joined
 pub two_faces_joined : (f : ℕ → ℕ) (n : ℕ) (s t : ℕ → Bool) (k : ℕ) → IsPermutation (face_by f t) n → 2 * k + 1 < n → IsWithout s t k → (SameCycle (face_by f t) (2 * k) (2 * k + 1) → ⊥) → Joined f (partly s) (2 * k) (2 * k + 1)
@@ -353,6 +368,9 @@ returned f s n h even (Cross ∷ ms) a la =
 
 pub Joined-sym : (f : ℕ → ℕ) (s : ℕ → Bool) (n : ℕ) → IsPermutation f n → n % 2 ≡ 0 → (a b : ℕ) → a < n → Joined f (partly s) a b → Joined f (partly s) b a
 Joined-sym f s n h even a b la j = subst (λ v. Joined f (partly s) v a) j.leads (returned f s n h even j.moves a la)
+
+pub Joined-back : (f : ℕ → ℕ) (n : ℕ) → IsPermutation f n → n % 2 ≡ 0 → (a b : ℕ) → a < n → Joined f twin a b → Joined f twin b a
+Joined-back f n h even a b la j = Joined-sym f (λ _. true) n h even a b la j
 
 -- where the ends are joined without the segment, all is joined as with it
 around : (f : ℕ → ℕ) (n : ℕ) (s t : ℕ → Bool) (k : ℕ) → IsPermutation f n → n % 2 ≡ 0 → 2 * k + 1 < n → IsWithout s t k → Joined f (partly s) (2 * k) (2 * k + 1) → (ms : List Move) (a : ℕ) → Joined f (partly s) a (along f (partly t) ms a)

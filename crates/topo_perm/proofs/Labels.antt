@@ -88,23 +88,3 @@ relabel-same l m n i j h e =
   where
     kept : (a : ℕ) → a < n → m a ≡ l a
     kept a la = elim (relabel-at l m n i j a h la) [ inl x ↦ x.1 ∙ e ∙ sym x.0 | inr x ↦ x.1 ]
-
--- as many classes as numbers, where the labels are the numbers
-pub own_labels : (l : ℕ → ℕ) (n : ℕ) → ((a : ℕ) → a < n → l a ≡ a) → class_count (same_label l) n ≡ n
-own_labels l n h = count_below-same (is_first (same_label l)) (λ _. true) n
-    (λ a la. is_first-from (same_label l) a (λ b lb. ne_eqb _ _ (λ e. absurd (omega (arith, e, h a la, h b (omega arith)))))) ∙ all n
-  where
-    all : (k : ℕ) → count_below (λ _. true) k ≡ k
-    all zero = refl
-    all (suc k) = omega (arith, all k)
-
--- counting down at a relabelling of two labels
-pub counted_apart : (l m : ℕ → ℕ) (n i j c d : ℕ) → IsRelabel l m n i j → i < n → j < n → l i ≢ l j → c ≡ class_count (same_label l) n → d ≡ c - 1 → d ≡ class_count (same_label m) n
-counted_apart l m n i j c d h li lj ne e down = omega (arith, relabel-apart l m n i j h li lj ne)
-
-pub counted_some : (l m : ℕ → ℕ) (n i j c : ℕ) → IsRelabel l m n i j → i < n → j < n → l i ≢ l j → c ≡ class_count (same_label l) n → 1 ≤ c
-counted_some l m n i j c h li lj ne e = omega (arith, relabel-apart l m n i j h li lj ne)
-
-pub counted_same : (l m : ℕ → ℕ) (n i j c d : ℕ) → IsRelabel l m n i j → ¬ (l i ≢ l j) → c ≡ class_count (same_label l) n → d ≡ c → d ≡ class_count (same_label m) n
-counted_same l m n i j c d h same e stays =
-    stays ∙ e ∙ relabel-same l m n i j h (elim (cases_eq (l i) (l j)) [ inl met ↦ met | inr apart ↦ absurd (same apart) ])

@@ -4,9 +4,10 @@ pub mod Exchange
 pub mod Lists
 pub mod Points
 pub mod Labels
-pub mod EulerLemmas
+pub mod Walks
 pub mod Cuts
 pub mod Live
 pub mod Search
+pub mod Counting
 pub mod Faces
 pub mod Splitting

@@ -130,7 +130,7 @@ count_below-into p q (suc n) m h w t s =
           let r : ℕ → Bool = λ y. q y && not (y == h n) in
           let low : count_below p n ≤ count_below r m =
           count_below-into p r n m h (λ a la. w a (omega arith))
-          (λ a la e. and_from _ _ (t a (omega arith) e) (not_from_false _ (ne_eqb _ _ (λ same. absurd (omega (arith, s a n (omega arith) (omega arith) e here same))))))
+          (λ a la e. and_from _ _ (t a (omega arith) e) (not_from_false _ (ne_eqb _ _ (λ (same : h a ≡ h n). absurd (omega (arith, s a n (omega arith) (omega arith) e here same))))))
           (λ a b la lb. s a b (omega arith) (omega arith)) in
           let one : count_below q m ≡ count_below r m + 1 =
           count_below-more q r m (h n) (w n (omega arith) here) (t n (omega arith) here)

@@ -6,8 +6,10 @@ ghost use Rattle.topo_core.specs.Cycles.{IsPermutationList, SameCycle, cycles_of
 
 use std::alloc::{AllocError, Allocator};
 
-pub mod connection;
+mod connection;
 pub mod laws;
+
+pub use connection::is_connected;
 
 /// The numbers of a rotation system.
 #[derive(Clone, Copy, Debug, PartialEq, Eq)]
@@ -86,7 +88,6 @@ pub fn same_cycle(images: &[u32], a: u32, b: u32) -> bool
 #[cfg(test)]
 mod tests {
     use super::*;
-    use crate::connection::is_connected;
     use crate::laws::{bypass, euler, exchange};
     use std::test::Fail;
 

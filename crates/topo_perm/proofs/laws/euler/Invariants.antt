@@ -3,11 +3,9 @@ use Rattle.topo_core.specs.Cycles.{map_of}
 use Rattle.topo_core.specs.Rotations.{face_next}
 use Rattle.topo_perm.proofs.laws.euler.Given as goal
 
--- the labels and the turns of the faces so far
+-- the turns of the faces so far
 abbrev pub invariant-loop-dart : goal.invariant-loop-dart
 invariant-loop-dart g l = record {
-  labelled : length l.labels.items ≡ l.dart;
-  own : (a : ℕ) → a < l.dart → slice_index l.labels.items a ≡ a;
   turned : length l.faces.items ≡ l.dart;
   next : (a : ℕ) → a < l.dart → slice_index l.faces.items a ≡ face_next (map_of l.images) a;
 }
