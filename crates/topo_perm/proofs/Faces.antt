@@ -62,7 +62,7 @@ pub twin-other : (x : ℕ) → twin x ≢ x
 twin-other x e = absurd (omega (arith, e, twin-cases x))
 
 -- the face of an isolated segment has its two darts alone
-isolated_face : (f : ℕ → ℕ) (x a : ℕ) → IsIsolated f x → SameCycle (face_next f) (twin x) a → (a ≡ twin x) ⊎ (a ≡ x)
+pub isolated_face : (f : ℕ → ℕ) (x a : ℕ) → IsIsolated f x → SameCycle (face_next f) (twin x) a → (a ≡ twin x) ⊎ (a ≡ x)
 isolated_face f x a o s =
     let first : face_next f (twin x) ≡ x = ap f (twin-twin x) ∙ o.this in
     let turn : IsPeriod (face_next f) (twin x) 2 = record { some = omega arith; home = ap (face_next f) first ∙ o.other } in

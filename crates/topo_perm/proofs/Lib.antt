@@ -11,3 +11,4 @@ pub mod Search
 pub mod Counting
 pub mod Faces
 pub mod Splitting
+pub mod EditCounts

@@ -12,13 +12,13 @@ use Rattle.topo_perm.proofs.Faces.{twin-twin, twin-apart, twin-other}
 abbrev pub without : (ℕ → ℕ) → ℕ → ℕ → ℕ
 without f i a = cond (a == i) i (cond (f a == i) (f i) (f a))
 
-without-self : (f : ℕ → ℕ) (i a : ℕ) → a ≡ i → without f i a ≡ i
+pub without-self : (f : ℕ → ℕ) (i a : ℕ) → a ≡ i → without f i a ≡ i
 without-self f i a e = cond-true _ _ _ (eq-eqb _ _ e)
 
-without-onward : (f : ℕ → ℕ) (i a : ℕ) → a ≢ i → f a ≡ i → without f i a ≡ f i
+pub without-onward : (f : ℕ → ℕ) (i a : ℕ) → a ≢ i → f a ≡ i → without f i a ≡ f i
 without-onward f i a ne e = cond-false _ _ _ (ne_eqb _ _ ne) ∙ cond-true _ _ _ (eq-eqb _ _ e)
 
-without-elsewhere : (f : ℕ → ℕ) (i a : ℕ) → a ≢ i → f a ≢ i → without f i a ≡ f a
+pub without-elsewhere : (f : ℕ → ℕ) (i a : ℕ) → a ≢ i → f a ≢ i → without f i a ≡ f a
 without-elsewhere f i a ne e = cond-false _ _ _ (ne_eqb _ _ ne) ∙ cond-false _ _ _ (ne_eqb _ _ e)
 
 pub without-bypass : (f : ℕ → ℕ) (n i : ℕ) → IsBypass f (without f i) n i
