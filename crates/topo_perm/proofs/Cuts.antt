@@ -373,7 +373,7 @@ pub Joined-back : (f : ℕ → ℕ) (n : ℕ) → IsPermutation f n → n % 2 �
 Joined-back f n h even a b la j = Joined-sym f (λ _. true) n h even a b la j
 
 -- where the ends are joined without the segment, all is joined as with it
-around : (f : ℕ → ℕ) (n : ℕ) (s t : ℕ → Bool) (k : ℕ) → IsPermutation f n → n % 2 ≡ 0 → 2 * k + 1 < n → IsWithout s t k → Joined f (partly s) (2 * k) (2 * k + 1) → (ms : List Move) (a : ℕ) → Joined f (partly s) a (along f (partly t) ms a)
+pub around : (f : ℕ → ℕ) (n : ℕ) (s t : ℕ → Bool) (k : ℕ) → IsPermutation f n → n % 2 ≡ 0 → 2 * k + 1 < n → IsWithout s t k → Joined f (partly s) (2 * k) (2 * k + 1) → (ms : List Move) (a : ℕ) → Joined f (partly s) a (along f (partly t) ms a)
 around f n s t k h even lk w j [] a = Joined-refl f (partly s) a
 around f n s t k h even lk w j (Turn ∷ ms) a =
     Joined-trans f (partly s) a _ _ (around f n s t k h even lk w j ms a) (Joined-turn f (partly s) _ _ refl)

@@ -4,9 +4,9 @@ use Rattle.std.proofs.lemmas.Bool.{cases_eq, cond-true, cond-false, eq-eqb, ne_e
 use Rattle.topo_core.specs.Cycles.{IsPermutation, SameCycle, IsBypass, cycle_count}
 use Rattle.topo_core.specs.Rotations.{twin, face_next}
 use Rattle.topo_core.specs.Edits.{IsBefore, IsIsolated, IsHang, IsChord, IsUnchord, IsSplit, IsSmooth}
-use Rattle.topo_perm.specs.Edits.{IsPutBefore, IsSmoothing, AreTurns, IsApart, IsAllowedHang, IsAllowedChord, IsAllowedUnchord, IsAllowedSplit, IsAllowedSmooth, PutBeforeIsPermutation, PutBeforeIsBefore, BypassIsPermutation, SplitIsPermutation, SmoothingIsPermutation, SmoothingIsSmooth, HangPoints, HangFaces, ChordPoints, ChordFaces, UnchordPoints, UnchordFaces, SplitPoints, SplitFaces, SmoothPoints, SmoothFaces}
+use Rattle.topo_perm.specs.Edits.{IsPutBefore, IsSmoothing, AreTurns, IsApart, IsAllowedHang, IsAllowedChord, IsAllowedUnchord, IsAllowedSplit, IsAllowedSmooth, PutBeforeIsPermutation, PutBeforeIsBefore, BypassIsPermutation, BypassSplits, BypassStays, SplitIsPermutation, SmoothingIsPermutation, SmoothingIsSmooth, HangPoints, HangFaces, ChordPoints, ChordFaces, UnchordPoints, UnchordFaces, SplitPoints, SplitFaces, SmoothPoints, SmoothFaces}
 use Rattle.topo_perm.proofs.Orbits.{SameCycle-sym, SameCycle-trans}
-use Rattle.topo_perm.proofs.Points.{IsExchangeBelow, HasBefore, before_of, exchanged-permutation, bypass_splits}
+use Rattle.topo_perm.proofs.Points.{IsExchangeBelow, HasBefore, before_of, exchanged-permutation, bypass_splits, cycle_count-same}
 use Rattle.topo_perm.proofs.Walks.{twin-within, face_next-permutation}
 use Rattle.topo_perm.proofs.Faces.{Hung, Chord, twin-twin, twin-apart, twin-other, insert_points, hang_faces, chord_points, chord_faces, unchord_faces, isolated_face}
 use Rattle.topo_perm.proofs.Splitting.{Splitting, without, without-self, without-onward, without-elsewhere, without-bypass, bypassed-permutation, split_points, split_faces}
@@ -43,6 +43,16 @@ put_before f g n x c h lx lc ne e = record {
 
 pub bypass_permutation : BypassIsPermutation
 bypass_permutation f g n i h li x = bypassed-permutation f g n i h li x
+
+pub bypass_splits_law : BypassSplits
+bypass_splits_law f g n i h li x moved = bypass_splits f g n i h li x moved
+
+pub bypass_stays_law : BypassStays
+bypass_stays_law f g n i h li x fixed =
+    sym (cycle_count-same f g n h (λ a la. elim (cases_eq a i) [
+      | inl same ↦ ap f same ∙ fixed ∙ sym (ap g same ∙ x.alone)
+      | inr other ↦ sym (x.elsewhere a la other (λ w. other (h.apart a i la li (w ∙ sym fixed))))
+    ]))
 
 -- f with x put before c
 abbrev put : (ℕ → ℕ) → ℕ → ℕ → ℕ → ℕ
@@ -180,7 +190,7 @@ smoothing_smooth f g n x hf even lx na nl e =
 
 -- ---- Points and faces
 
-hung : (f g : ℕ → ℕ) (n c x : ℕ) → IsAllowedHang f g n c x → Hung f g n x c
+pub hung : (f g : ℕ → ℕ) (n c x : ℕ) → IsAllowedHang f g n c x → Hung f g n x c
 hung f g n c x k = record {
   permutation = k.turns.after;
   even = k.turns.even;
@@ -209,7 +219,7 @@ far_apart f n c d x hf even k room s =
       λ e. from_twin (subst (λ v. SameCycle (face_next f) v c) e back),
     )
 
-chorded : (f g : ℕ → ℕ) (n c d x : ℕ) → IsAllowedChord f g n c d x → Chord f g n x c d
+pub chorded : (f g : ℕ → ℕ) (n c d x : ℕ) → IsAllowedChord f g n c d x → Chord f g n x c d
 chorded f g n c d x k = record {
   half = k.edit.half;
   hung = record {

@@ -12,3 +12,5 @@ pub mod Counting
 pub mod Faces
 pub mod Splitting
 pub mod EditCounts
+pub mod Bypassing
+pub mod Connecting

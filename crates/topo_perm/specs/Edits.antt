@@ -80,6 +80,13 @@ PutBeforeIsBefore = (f g : ℕ → ℕ) (n x c : ℕ) → IsPermutation f n → 
 abbrev pub BypassIsPermutation : Type 0
 BypassIsPermutation = (f g : ℕ → ℕ) (n i : ℕ) → IsPermutation f n → i < n → IsBypass f g n i → IsPermutation g n
 
+-- a dart that is taken out becomes a cycle, unless it was one
+abbrev pub BypassSplits : Type 0
+BypassSplits = (f g : ℕ → ℕ) (n i : ℕ) → IsPermutation f n → i < n → IsBypass f g n i → f i ≢ i → cycle_count g n ≡ cycle_count f n + 1
+
+abbrev pub BypassStays : Type 0
+BypassStays = (f g : ℕ → ℕ) (n i : ℕ) → IsPermutation f n → i < n → IsBypass f g n i → f i ≡ i → cycle_count g n ≡ cycle_count f n
+
 abbrev pub SplitIsPermutation : Type 0
 SplitIsPermutation = (f g : ℕ → ℕ) (n h x : ℕ) → IsPermutation f n → n % 2 ≡ 0 → x < n → IsApart n h x → IsSplit f g n h x → IsPermutation g n
 

@@ -1,2 +1,4 @@
+pub mod Cuts
 pub mod Edits
+pub mod Joins
 pub mod Reach

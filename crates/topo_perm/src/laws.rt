@@ -4,6 +4,9 @@ ghost use Rattle.std.specs.Prelude.{◌≡◌, ◌≢◌, ℕ, ◌+◌, ◌*◌,
 ghost use Rattle.topo_core.specs.Cycles.{IsBypass, IsPermutationList, SameCycle, cycles_of, map_of};
 ghost use Rattle.topo_core.specs.Rotations.{IsComponentCount, face_next, faces_of, twin};
 
+pub mod cuts;
+pub mod edits;
+
 use crate::connection::{components, other_dart};
 use crate::{Euler, cycles};
 use std::alloc::{AllocError, Allocator};
