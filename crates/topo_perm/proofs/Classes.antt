@@ -2,6 +2,7 @@
 use Rattle.std.proofs.Common.{◌≡◌, ◌≢◌, ℕ, zero, suc, ◌+◌, ◌<◌, ◌≤◌, Bool, true, false, cond, ◌||◌, ◌⊎◌, not, inl, inr, refl, sym, ◌∙◌, ap, ap₂, arith}
 use Rattle.std.proofs.lemmas.Bool.{cases_Bool, cases_eq, cases_order, not_from_true, not_from_false, both_ways}
 use Rattle.topo_core.specs.Cycles.{some_below, count_below, is_first, class_count}
+pub use Rattle.topo_perm.specs.Renumbering.{IsEquivalence}
 use Rattle.topo_perm.proofs.Orbits.{search_below, some_below-true, some_below-false}
 
 pub count_below-same : (p q : ℕ → Bool) (n : ℕ) → ((a : ℕ) → a < n → p a ≡ q a) → count_below p n ≡ count_below q n
@@ -57,11 +58,6 @@ is_first-iff r s a f g =
         | inr not_there ↦ not_here ∙ sym not_there
       ]
     ]
-
-pub record IsEquivalence (r : ℕ → ℕ → Bool) (n : ℕ) : Type 0 where
-  pub reflexive : (a : ℕ) → a < n → r a a ≡ true
-  pub symmetric : (a b : ℕ) → a < n → b < n → r a b ≡ true → r b a ≡ true
-  pub transitive : (a b c : ℕ) → a < n → b < n → c < n → r a b ≡ true → r b c ≡ true → r a c ≡ true
 
 -- a and b are related by r, or one to i and the other to j
 abbrev pub AreJoined : (ℕ → ℕ → Bool) → ℕ → ℕ → ℕ → ℕ → Type 0

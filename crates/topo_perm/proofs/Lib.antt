@@ -14,3 +14,5 @@ pub mod Splitting
 pub mod EditCounts
 pub mod Bypassing
 pub mod Connecting
+pub mod Renumbered
+pub mod Slabs

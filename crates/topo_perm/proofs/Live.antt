@@ -2,12 +2,9 @@
 use Rattle.std.proofs.Common.{◌≡◌, ℕ, zero, suc, ◌+◌, ◌<◌, ◌≤◌, Bool, true, false, ◌&&◌, not, inl, inr, refl, sym, ◌∙◌, arith}
 use Rattle.std.proofs.lemmas.Bool.{cases_Bool, and_parts, and_from}
 use Rattle.topo_core.specs.Cycles.{is_first, count_below, class_count}
+use Rattle.topo_perm.specs.Live.{live_class_count}
 use Rattle.topo_perm.proofs.Classes.{IsEquivalence}
 use Rattle.topo_perm.proofs.Points.{count_below-into, leader, leader-first, leaders_same, firsts_same, IsFirstOf}
-
--- how many classes r has among the live numbers below n
-abbrev pub live_class_count : (ℕ → Bool) → (ℕ → ℕ → Bool) → ℕ → ℕ
-live_class_count live r n = count_below (λ a. live a && is_first r a) n
 
 -- h carries r on all numbers below n to s on the live ones below m, and meets each live class
 pub record CarriesLive (h : ℕ → ℕ) (r : ℕ → ℕ → Bool) (n : ℕ) (live : ℕ → Bool) (s : ℕ → ℕ → Bool) (m : ℕ) : Type 0 where
@@ -43,16 +40,3 @@ live_class_count-carries h r n live s m e w c =
     (w.transitive y (h (c.from y)) z ly (c.within _ ry) lz (w.symmetric _ _ (c.within _ ry) ly (c.meets y ly (both y ty).0))
     (w.transitive (h (c.from y)) (h (c.from z)) z (c.within _ ry) (c.within _ rz) lz met (c.meets z lz (both z tz).0)))) in
     omega (arith, up, down)
-
--- all classes are those of the live numbers and one for each other number
-pub live_and_alone : (live : ℕ → Bool) (s : ℕ → ℕ → Bool) (m : ℕ) → ((y : ℕ) → y < m → live y ≡ false → is_first s y ≡ true) → class_count s m ≡ live_class_count live s m + count_below (λ y. not (live y)) m
-live_and_alone live s m h = parts m (λ y ly. h y ly)
-  where
-    parts : (k : ℕ) → ((y : ℕ) → y < k → live y ≡ false → is_first s y ≡ true) → count_below (is_first s) k ≡ count_below (λ a. live a && is_first s a) k + count_below (λ y. not (live y)) k
-    parts zero h = refl
-    parts (suc k) h =
-        let low = parts k (λ y ly. h y (omega arith)) in
-        elim (cases_Bool (live k)) [
-          | inl e ↦ rw e (omega (arith, low))
-          | inr e ↦ let one : is_first s k ≡ true = h k (omega arith) e in rw (e, one) (omega (arith, low))
-        ]

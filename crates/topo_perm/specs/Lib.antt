@@ -1,4 +1,6 @@
 pub mod Cuts
 pub mod Edits
 pub mod Joins
+pub mod Live
 pub mod Reach
+pub mod Renumbering

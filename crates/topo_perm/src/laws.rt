@@ -6,6 +6,8 @@ ghost use Rattle.topo_core.specs.Rotations.{IsComponentCount, face_next, faces_o
 
 pub mod cuts;
 pub mod edits;
+pub mod renumbering;
+pub mod slabs;
 
 use crate::connection::{components, other_dart};
 use crate::{Euler, cycles};
