@@ -50,8 +50,9 @@ fn reach(images: &[u32], seen: &mut [bool], order: &mut [usize], before: usize, 
             return found;
         }
         let dart = order[done];
+        let other = other_dart(dart, images.len());
         found = visit(seen, order, found, images[dart] as usize);
-        found = visit(seen, order, found, other_dart(dart, images.len()));
+        found = visit(seen, order, found, other);
     }
     found
 }

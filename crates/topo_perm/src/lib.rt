@@ -1,4 +1,24 @@
-//! Permutations as lists of images: their cycles, and how an exchange of two images changes them.
+//! Permutations as lists of images, and rotation systems: counts, and what changes do to them.
+//!
+//! A list of images stands for the map that sends each place to its entry. `cycles` and `same_cycle`
+//! answer exactly for a permutation. In a rotation system darts `2i` and `2i + 1` are the two of
+//! segment `i`, and the permutation turns to the next dart clockwise: `is_connected` and
+//! `laws::euler` answer exactly for it, in linear time, and points, segments, faces and components
+//! keep Euler's bound.
+//!
+//! The interface for the crates above is the contracts of the functions in `laws`. Those without a
+//! body are laws on maps of the numbers below n, with their statements in `specs/`:
+//!
+//! - `laws::exchange`, `laws::bypass`: the code of the two changes that all others consist of.
+//! - `laws::edits`: the five edits of an embedding. `put_before` and `take_out` (and `split` and
+//!   `smooth`) lead from the images that are written to a permutation and to the edit's definition;
+//!   `hang`, `chord`, `unchord`, `split` and `smooth` say what becomes of the points and faces of
+//!   the whole slab, and that live darts stay joined.
+//! - `laws::slabs`: counts, components and genus of the whole slab, against those of the live darts.
+//! - `laws::renumbering`: darts under new numbers keep counts of classes and cycles, faces, and what
+//!   is joined.
+//! - `laws::cuts`: a segment with two faces on its sides leaves its ends joined, one with a single
+//!   face in genus zero parts them, whether it is not crossed or its darts are taken out of the turn.
 #![tactic(auto)]
 
 ghost use Rattle.std.specs.Prelude.{◌≡◌, ◌≢◌, ◌↔◌, ℕ, ◌<◌, ◌≤◌, ◌||◌, ◌^◌, true, false, length, slice_index_or, IsTrue, IfOk};

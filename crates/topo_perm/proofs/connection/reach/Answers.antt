@@ -38,7 +38,7 @@ visit-found-requires-in-loop-done-2-clause-room c fresh =
     let s : Searched f n c.args.seen.now c.args.start c.args.before c.loop-done.seen c.loop-done.order c.loop-done.found c.loop-done.done = c.loop-done.invariant in
     let l : c.loop-done.done < c.loop-done.found = omega (arith, s.behind, c.if-done-found.false) in
     let v = first_visit f n c.args.seen.now c.args.start c.args.before c.loop-done.seen c.visit-found-in-loop-done.new.seen c.loop-done.order c.visit-found-in-loop-done.new.order c.loop-done.found c.visit-found-in-loop-done.result c.loop-done.done c.requires.permutation s (omega arith) l c.visit-found-in-loop-done.ensures in
-    omega (arith, count_room n _ _ _ v.state.count c.other_dart.ensures.within fresh, v.state.order_length)
+    omega (arith, count_room n _ _ _ v.state.count c.other_dart-other.ensures.within fresh, v.state.order_length)
 
 pub loop-done-preserved : goal.loop-done-preserved
 loop-done-preserved c =
@@ -51,4 +51,4 @@ loop-done-preserved c =
     c.loop-done.found c.visit-found-in-loop-done.result c.visit-found-in-loop-done-2.result c.loop-done.done
     c.requires.permutation c.requires.even c.requires.within s (omega arith) l c.visit-found-in-loop-done.ensures
     (subst (λ d. IsVisit c.visit-found-in-loop-done.new.seen c.visit-found-in-loop-done-2.new.seen c.visit-found-in-loop-done.new.order c.visit-found-in-loop-done-2.new.order c.visit-found-in-loop-done.result c.visit-found-in-loop-done-2.result d)
-    c.other_dart.ensures.other c.visit-found-in-loop-done-2.ensures)
+    c.other_dart-other.ensures.other c.visit-found-in-loop-done-2.ensures)
