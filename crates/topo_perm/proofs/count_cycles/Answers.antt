@@ -1,4 +1,4 @@
-use Rattle.std.proofs.Common.{sym, ◌∙◌, ap, arith, length, ◌||◌, ◌≡◌, true, false, slice_index_or}
+use Rattle.std.proofs.Common.{sym, ◌∙◌, ap, arith, length, ◌+◌, ◌||◌, ◌≡◌, true, false, slice_index_or}
 use Rattle.topo_perm.proofs.Lists.{count_below-le, first_counted, later_not_counted, marked_already, some_below_more}
 use Rattle.topo_perm.proofs.Exchange.{is_met-equivalence}
 use Rattle.topo_core.specs.Cycles.{map_of, is_met, is_first, some_below}
@@ -18,14 +18,14 @@ loop-start-preserved c =
       | then-not-seen-start w ↦
           let new : some_below (λ b. r b k) k ≡ false = sym at_start ∙ w.if-not-seen-start.true in
           record {
-            counted = cc (first_counted r k new, c.loop-start.invariant.counted, w.count-is);
+            counted = w.count-is ∙ ap (λ v. v + 1) c.loop-start.invariant.counted ∙ sym (first_counted r k new);
             marked = λ a la. ap (λ s. slice_index_or s a false) w.seen-is ∙ w.mark_cycle.ensures a la
                 ∙ ap (λ v. r k a || v) (c.loop-start.invariant.marked a la) ∙ sym (some_below_more (λ b. r b a) k);
           }
       | else-not-seen-start w ↦
           let met : some_below (λ b. r b k) k ≡ true = sym at_start ∙ w.if-not-seen-start.false in
           record {
-            counted = cc (later_not_counted r k met, c.loop-start.invariant.counted, w.count-is);
+            counted = w.count-is ∙ c.loop-start.invariant.counted ∙ sym (later_not_counted r k met);
             marked = λ a la. ap (λ s. slice_index_or s a false) w.seen-is ∙ c.loop-start.invariant.marked a la
                 ∙ sym (marked_already r (length c.args.images.now) k a (is_met-equivalence f (length c.args.images.now) c.requires.permutation) c.loop-start-test.true la met);
           }
