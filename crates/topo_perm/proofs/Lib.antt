@@ -16,3 +16,4 @@ pub mod Bypassing
 pub mod Connecting
 pub mod Renumbered
 pub mod Slabs
+pub mod SlabEdits

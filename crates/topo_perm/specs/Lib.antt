@@ -2,5 +2,6 @@ pub mod Cuts
 pub mod Edits
 pub mod Joins
 pub mod Live
+pub mod LiveEdits
 pub mod Reach
 pub mod Renumbering
