@@ -29,7 +29,9 @@ fn stir(images: &mut [u32])
 {
     let mut state: u64 = 1;
     for i in 0..images.len() {
-        state = state.wrapping_mul(6364136223846793005).wrapping_add(1442695040888963407);
+        state = state
+            .wrapping_mul(6364136223846793005)
+            .wrapping_add(1442695040888963407);
         let other = i + 1 + (state >> 60) as usize;
         if other < images.len() {
             exchange(images, i as u32, other as u32);

@@ -6,7 +6,13 @@ use std::io;
 use std::time::Duration;
 
 /// Prints nanoseconds a call and a dart, the latter with one digit behind the point.
-pub(crate) fn print_line(rt: &impl Print, name: &str, darts: u32, calls: u32, taken: Duration) -> io::Result<()>
+pub(crate) fn print_line(
+    rt: &impl Print,
+    name: &str,
+    darts: u32,
+    calls: u32,
+    taken: Duration,
+) -> io::Result<()>
     requires some_darts { 0 < darts }
     requires some_calls { 0 < calls }
 {

@@ -1,12 +1,11 @@
 -- Walks in a turn from which darts are taken out, and segments that are not crossed.
-use Rattle.std.proofs.Common.{◌≡◌, ◌≢◌, ℕ, zero, suc, ◌+◌, ◌*◌, ◌/◌, ◌%◌, ◌<◌, ◌==◌, Bool, true, false, cond, ◌↔◌, not, ◌⊎◌, List, inl, inr, refl, sym, ◌∙◌, ap, subst, arith}
-use Rattle.std.proofs.lemmas.Bool.{cases_Bool, cases_eq, cond-true, cond-false, eq-eqb, ne_eqb, eqb-true, eqb-false, not_from_true, not_from_false}
-use Rattle.topo_core.specs.Cycles.{IsPermutation, SameCycle, IsBypass, cycle_count, count_below}
-use Rattle.topo_core.specs.Rotations.{twin, face_next, face_by, partly, Joined, IsClassCount, along}
-use Rattle.topo_core.specs.Edits.{IsUnchord}
-use Rattle.topo_perm.specs.Cuts.{all_but, JoinedWithout, IsSegmentOf, HasGenusZero, IsElsewhere, TwoFacesJoined, TwoFacesKeep, OneFaceParts, TakenOutJoined, TakenOutKeeps, TakenOutParts}
+use Rattle.std.proofs.Common.{◌≡◌, ◌≢◌, ℕ, zero, suc, ◌+◌, ◌*◌, ◌/◌, ◌%◌, ◌<◌, true, ◌↔◌, ◌⊎◌, inl, inr, refl, sym, ◌∙◌, ap, subst, arith}
+use Rattle.std.proofs.lemmas.Bool.{cases_eq, cond-true, cond-false, eq-eqb, ne_eqb, not_from_true, not_from_false}
+use Rattle.topo_core.specs.Cycles.{IsPermutation, SameCycle, IsBypass, count_below}
+use Rattle.topo_core.specs.Rotations.{twin, face_next, partly, Joined}
+use Rattle.topo_perm.specs.Cuts.{all_but, JoinedWithout, IsSegmentOf, TwoFacesJoined, TwoFacesKeep, OneFaceParts, TakenOutJoined, TakenOutKeeps, TakenOutParts}
 use Rattle.topo_perm.proofs.Orbits.{SameCycle-sym}
-use Rattle.topo_perm.proofs.Walks.{Joined-refl, Joined-trans, Joined-turn, Joined-turned, Joined-crossed, Joined-SameCycle, kept_joined, twin-within, twin-cases, face_next-permutation}
+use Rattle.topo_perm.proofs.Walks.{Joined-refl, Joined-trans, Joined-turned, Joined-crossed, Joined-SameCycle, kept_joined, twin-within, twin-cases, face_next-permutation}
 use Rattle.topo_perm.proofs.Cuts.{IsWithout, two_faces_joined, one_face_cuts, around, Joined-sym, partly-within}
 use Rattle.topo_perm.proofs.Faces.{twin-twin, twin-apart, twin-other}
 use Rattle.topo_perm.proofs.Splitting.{bypassed-permutation}
@@ -30,14 +29,20 @@ bypassed_joined f g o n i a b h li x w la na nb j =
     ]
   where
     turned : (v : ℕ) → Through f g o n i a v → Through f g o n i a (f v)
-    turned v (lv, inl (nv, k)) = (h.within v lv, elim (cases_eq (f v) i) [
-      | inl e ↦ inr (e, subst (λ z. Joined g o a z) (x.onward v lv nv e) (Joined-turned g o a v k))
-      | inr ne ↦ inl (ne, subst (λ z. Joined g o a z) (x.elsewhere v lv nv ne) (Joined-turned g o a v k))
-    ])
-    turned v (lv, inr (e, k)) = (h.within v lv, elim (cases_eq (f v) i) [
-      | inl same ↦ inr (same, k)
-      | inr ne ↦ inl (ne, subst (λ z. Joined g o a z) (ap f (sym e)) k)
-    ])
+    turned v (lv, inl (nv, k)) = (
+      h.within v lv,
+      elim (cases_eq (f v) i) [
+        | inl e ↦ inr (e, subst (λ z. Joined g o a z) (x.onward v lv nv e) (Joined-turned g o a v k))
+        | inr ne ↦ inl (ne, subst (λ z. Joined g o a z) (x.elsewhere v lv nv ne) (Joined-turned g o a v k))
+      ],
+    )
+    turned v (lv, inr (e, k)) = (
+      h.within v lv,
+      elim (cases_eq (f v) i) [
+        | inl same ↦ inr (same, k)
+        | inr ne ↦ inl (ne, subst (λ z. Joined g o a z) (ap f (sym e)) k)
+      ],
+    )
 
     crossed : (v : ℕ) → Through f g o n i a v → Through f g o n i a (o v)
     crossed v (lv, inl (nv, k)) = (w.within v lv, inl (w.away v lv nv, Joined-crossed g o a v k))
@@ -48,13 +53,16 @@ pub unbypassed_joined : (f g o : ℕ → ℕ) (n i a b : ℕ) → IsPermutation 
 unbypassed_joined f g o n i a b h x w la j = (kept_joined g o (λ v. (v < n) × Joined f o a v) turned crossed a b j (la, Joined-refl f o a)).1
   where
     turned : (v : ℕ) → (v < n) × Joined f o a v → (g v < n) × Joined f o a (g v)
-    turned v (lv, k) = (h.within v lv, elim (cases_eq v i) [
-      | inl e ↦ subst (λ z. Joined f o a z) (e ∙ sym x.alone ∙ ap g (sym e)) k
-      | inr nv ↦ elim (cases_eq (f v) i) [
-        | inl e ↦ subst (λ z. Joined f o a z) (ap f e ∙ sym (x.onward v lv nv e)) (Joined-turned f o a (f v) (Joined-turned f o a v k))
-        | inr ne ↦ subst (λ z. Joined f o a z) (sym (x.elsewhere v lv nv ne)) (Joined-turned f o a v k)
-      ]
-    ])
+    turned v (lv, k) = (
+      h.within v lv,
+      elim (cases_eq v i) [
+        | inl e ↦ subst (λ z. Joined f o a z) (e ∙ sym x.alone ∙ ap g (sym e)) k
+        | inr nv ↦ elim (cases_eq (f v) i) [
+          | inl e ↦ subst (λ z. Joined f o a z) (ap f e ∙ sym (x.onward v lv nv e)) (Joined-turned f o a (f v) (Joined-turned f o a v k))
+          | inr ne ↦ subst (λ z. Joined f o a z) (sym (x.elsewhere v lv nv ne)) (Joined-turned f o a v k)
+        ]
+      ],
+    )
 
     crossed : (v : ℕ) → (v < n) × Joined f o a v → (o v < n) × Joined f o a (o v)
     crossed v (lv, k) = (w v lv, Joined-crossed f o a v k)

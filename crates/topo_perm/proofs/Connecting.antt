@@ -1,16 +1,15 @@
 -- The laws of the edits on what is joined.
-use Rattle.std.proofs.Common.{◌≡◌, ◌≢◌, ℕ, ◌%◌, ◌<◌, Bool, true, false, ◌⊎◌, inl, inr, refl, sym, ◌∙◌, ap, subst, arith}
+use Rattle.std.proofs.Common.{◌≡◌, ◌≢◌, ℕ, ◌%◌, ◌<◌, Bool, true, ◌⊎◌, inl, inr, refl, sym, ◌∙◌, ap, subst}
 use Rattle.std.proofs.lemmas.Bool.{cases_eq, both_ways}
-use Rattle.topo_core.specs.Cycles.{IsPermutation, SameCycle}
-use Rattle.topo_core.specs.Rotations.{twin, face_next, Joined}
-use Rattle.topo_core.specs.Edits.{IsBefore, IsSplit}
-use Rattle.topo_perm.specs.Edits.{AreTurns, IsApart, IsAllowedHang, IsAllowedChord, IsAllowedUnchord, IsAllowedSplit, IsAllowedSmooth}
+use Rattle.topo_core.specs.Cycles.{IsPermutation}
+use Rattle.topo_core.specs.Rotations.{twin, Joined}
+use Rattle.topo_core.specs.Edits.{IsSplit}
+use Rattle.topo_perm.specs.Edits.{IsAllowedSplit, IsAllowedSmooth}
 use Rattle.topo_perm.specs.Joins.{IsConnectedAmong, AddsSegment, HangConnects, ChordConnects, SplitConnects, UnchordConnects, SmoothConnects}
 use Rattle.topo_perm.proofs.Walks.{Joined-refl, Joined-trans, Joined-turn, Joined-cross, Joined-turned, Joined-crossed, kept_joined, twin-within}
 use Rattle.topo_perm.proofs.Cuts.{Joined-back}
-use Rattle.topo_perm.proofs.Faces.{Hung, Chord, Insertion, insertion, twin-twin, twin-apart, twin-other}
-use Rattle.topo_perm.proofs.Splitting.{bypassed-permutation}
-use Rattle.topo_perm.proofs.EditCounts.{hung, chorded, smoothed}
+use Rattle.topo_perm.proofs.Faces.{Hung, Chord, Insertion, insertion, twin-twin, twin-apart}
+use Rattle.topo_perm.proofs.EditCounts.{hung, chorded}
 use Rattle.topo_perm.proofs.Bypassing.{taken_out_keeps}
 
 -- where each turn of f is a walk of g, a walk of f is one too
@@ -154,37 +153,42 @@ smooth_connects f g live live' n x k s all a b la lb va vb =
         let hf = k.turns.before in
         let back : f t ≡ x = ap f (sym is_t) ∙ k.edit.point_back in
         let to_x : (u : ℕ) → u < n → f u ≡ x → u ≡ t = λ u lu e. hf.apart u t lu (hf.within x lx) (e ∙ sym back) in
-        let yt : twin x ≢ t = λ e. k.not_loop (sym e) in
-        (hf.within v lv, elim w [
-          | inl q ↦ elim q.0 [
-            | inl e ↦ inr (λ z. k.not_alone (ap f (sym e) ∙ z), λ z. k.not_loop (ap f (sym e) ∙ z), subst (λ z. Joined g twin a z) (ap f (sym e)) q.1)
-            | inr e ↦ elim (cases_eq (f (twin x)) (twin x)) [
-              | inl alone ↦ inl (inr (ap f e ∙ alone), q.1)
-              | inr more ↦
-                  let moved : g t ≡ f v = elim (cases_eq (g t) t) [
-                    | inl fixed ↦ absurd (more (k.edit.leads_itself (ap g is_t ∙ fixed ∙ sym is_t)))
-                    | inr free ↦ ap g (sym is_t) ∙ sym (k.edit.leads_on (λ z. free (ap g (sym is_t) ∙ z ∙ is_t))) ∙ ap f (sym e)
-                  ] in
-                  inr (λ z. yt (to_x (twin x) ly (ap f (sym e) ∙ z)), λ z. more (ap f (sym e) ∙ z), subst (λ z. Joined g twin a z) moved (Joined-turned g twin a t q.1))
+        let yt : twin x ≢ t = λ e. k.not_loop (sym e) in (
+          hf.within v lv,
+          elim w [
+            | inl q ↦ elim q.0 [
+              | inl e ↦ inr (λ z. k.not_alone (ap f (sym e) ∙ z), λ z. k.not_loop (ap f (sym e) ∙ z), subst (λ z. Joined g twin a z) (ap f (sym e)) q.1)
+              | inr e ↦ elim (cases_eq (f (twin x)) (twin x)) [
+                | inl alone ↦ inl (inr (ap f e ∙ alone), q.1)
+                | inr more ↦
+                    let moved : g t ≡ f v = elim (cases_eq (g t) t) [
+                      | inl fixed ↦ absurd (more (k.edit.leads_itself (ap g is_t ∙ fixed ∙ sym is_t)))
+                      | inr free ↦ ap g (sym is_t) ∙ sym (k.edit.leads_on (λ z. free (ap g (sym is_t) ∙ z ∙ is_t))) ∙ ap f (sym e)
+                    ] in
+                    inr (λ z. yt (to_x (twin x) ly (ap f (sym e) ∙ z)), λ z. more (ap f (sym e) ∙ z), subst (λ z. Joined g twin a z) moved (Joined-turned g twin a t q.1))
+              ]
             ]
-          ]
-          | inr q ↦ elim (cases_eq v t) [
-            | inl e ↦ inl (inl (ap f e ∙ back), subst (λ z. Joined g twin a z) e q.2)
-            | inr nt ↦ elim (cases_eq (g v) t) [
-              | inl e ↦ inl (inr (k.edit.led_to v lv (λ z. nt (z ∙ is_t)) (e ∙ sym is_t)), subst (λ z. Joined g twin a z) e (Joined-turned g twin a v q.2))
-              | inr ne ↦
-                  let same : f v ≡ g v = k.edit.elsewhere v lv q.0 q.1 (λ z. nt (z ∙ is_t)) (λ z. ne (z ∙ is_t)) in
-                  inr (
-                    λ z. nt (to_x v lv z),
-                    λ z. q.1 (k.turns.after.apart v (twin x) lv ly (sym same ∙ z ∙ sym k.edit.isolated.other)),
-                    subst (λ z. Joined g twin a z) (sym same) (Joined-turned g twin a v q.2),
-                  )
+            | inr q ↦ elim (cases_eq v t) [
+              | inl e ↦ inl (inl (ap f e ∙ back), subst (λ z. Joined g twin a z) e q.2)
+              | inr nt ↦ elim (cases_eq (g v) t) [
+                | inl e ↦ inl (inr (k.edit.led_to v lv (λ z. nt (z ∙ is_t)) (e ∙ sym is_t)), subst (λ z. Joined g twin a z) e (Joined-turned g twin a v q.2))
+                | inr ne ↦
+                    let same : f v ≡ g v = k.edit.elsewhere v lv q.0 q.1 (λ z. nt (z ∙ is_t)) (λ z. ne (z ∙ is_t)) in
+                    inr (
+                      λ z. nt (to_x v lv z),
+                      λ z. q.1 (k.turns.after.apart v (twin x) lv ly (sym same ∙ z ∙ sym k.edit.isolated.other)),
+                      subst (λ z. Joined g twin a z) (sym same) (Joined-turned g twin a v q.2),
+                    )
+              ]
             ]
-          ]
-        ])
+          ],
+        )
 
     crossed : IsAllowedSmooth f g n x → (a v : ℕ) → Smoothed g n x t a v → Smoothed g n x t a (twin v)
-    crossed k a v (lv, w) = (twin-within n v k.turns.even lv, elim w [
-      | inl q ↦ inl (elim q.0 [ inl e ↦ inr (ap twin e) | inr e ↦ inl (ap twin e ∙ twin-twin x) ], q.1)
-      | inr q ↦ inr (λ z. q.1 (sym (twin-twin v) ∙ ap twin z), λ z. q.0 (twin-apart v x z), Joined-crossed g twin a v q.2)
-    ])
+    crossed k a v (lv, w) = (
+      twin-within n v k.turns.even lv,
+      elim w [
+        | inl q ↦ inl (elim q.0 [ inl e ↦ inr (ap twin e) | inr e ↦ inl (ap twin e ∙ twin-twin x) ], q.1)
+        | inr q ↦ inr (λ z. q.1 (sym (twin-twin v) ∙ ap twin z), λ z. q.0 (twin-apart v x z), Joined-crossed g twin a v q.2)
+      ],
+    )

@@ -1,10 +1,10 @@
 -- The laws of the edits: the new turn is a permutation, and what becomes of the points and the faces.
-use Rattle.std.proofs.Common.{◌≡◌, ◌≢◌, ℕ, ◌+◌, ◌%◌, ◌<◌, ◌==◌, cond, ◌⊎◌, inl, inr, refl, sym, ◌∙◌, ap, subst, arith}
+use Rattle.std.proofs.Common.{◌≡◌, ◌≢◌, ℕ, ◌%◌, ◌<◌, ◌==◌, cond, inl, inr, refl, sym, ◌∙◌, ap, subst, arith}
 use Rattle.std.proofs.lemmas.Bool.{cases_eq, cond-true, cond-false, eq-eqb, ne_eqb}
-use Rattle.topo_core.specs.Cycles.{IsPermutation, SameCycle, IsBypass, cycle_count}
+use Rattle.topo_core.specs.Cycles.{IsPermutation, SameCycle}
 use Rattle.topo_core.specs.Rotations.{twin, face_next}
-use Rattle.topo_core.specs.Edits.{IsBefore, IsIsolated, IsHang, IsChord, IsUnchord, IsSplit, IsSmooth}
-use Rattle.topo_perm.specs.Edits.{IsPutBefore, IsSmoothing, AreTurns, IsApart, IsAllowedHang, IsAllowedChord, IsAllowedUnchord, IsAllowedSplit, IsAllowedSmooth, PutBeforeIsPermutation, PutBeforeIsBefore, BypassIsPermutation, BypassSplits, BypassStays, SplitIsPermutation, SmoothingIsPermutation, SmoothingIsSmooth, HangPoints, HangFaces, ChordPoints, ChordFaces, UnchordPoints, UnchordFaces, SplitPoints, SplitFaces, SmoothPoints, SmoothFaces}
+use Rattle.topo_core.specs.Edits.{IsBefore, IsIsolated}
+use Rattle.topo_perm.specs.Edits.{IsPutBefore, IsApart, IsAllowedHang, IsAllowedChord, IsAllowedUnchord, IsAllowedSplit, IsAllowedSmooth, PutBeforeIsPermutation, PutBeforeIsBefore, BypassIsPermutation, BypassSplits, BypassStays, SplitIsPermutation, SmoothingIsPermutation, SmoothingIsSmooth, HangPoints, HangFaces, ChordPoints, ChordFaces, UnchordPoints, UnchordFaces, SplitPoints, SplitFaces, SmoothPoints, SmoothFaces}
 use Rattle.topo_perm.proofs.Orbits.{SameCycle-sym, SameCycle-trans}
 use Rattle.topo_perm.proofs.Points.{IsExchangeBelow, HasBefore, before_of, exchanged-permutation, bypass_splits, cycle_count-same}
 use Rattle.topo_perm.proofs.Walks.{twin-within, face_next-permutation}

@@ -1,8 +1,8 @@
 -- Classes by labels: a relabelling joins two classes.
-use Rattle.std.proofs.Common.{◌≡◌, ◌≢◌, ℕ, zero, suc, ◌+◌, ◌-◌, ◌<◌, ◌≤◌, ◌==◌, Bool, true, cond, ◌⊎◌, inl, inr, refl, sym, ◌∙◌, ap, arith, ◌-◌}
+use Rattle.std.proofs.Common.{◌≡◌, ◌≢◌, ℕ, ◌+◌, ◌<◌, ◌==◌, Bool, cond, ◌⊎◌, inl, inr, refl, sym, ◌∙◌, ap}
 use Rattle.std.proofs.lemmas.Bool.{cases_eq, eqb-true, eq-eqb, ne_eqb, cond-true, cond-false}
-use Rattle.topo_core.specs.Cycles.{class_count, count_below, is_first}
-use Rattle.topo_perm.proofs.Classes.{IsEquivalence, IsJoin, class_count-join, class_count-same, is_first-from, count_below-same}
+use Rattle.topo_core.specs.Cycles.{class_count}
+use Rattle.topo_perm.proofs.Classes.{IsEquivalence, IsJoin, class_count-join, class_count-same}
 
 -- a and b have one label
 abbrev pub same_label : (ℕ → ℕ) → ℕ → ℕ → Bool

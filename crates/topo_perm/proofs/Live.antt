@@ -1,7 +1,7 @@
 -- Classes among the numbers that are live: the others are each alone.
-use Rattle.std.proofs.Common.{◌≡◌, ℕ, zero, suc, ◌+◌, ◌<◌, ◌≤◌, Bool, true, false, ◌&&◌, not, inl, inr, refl, sym, ◌∙◌, arith}
-use Rattle.std.proofs.lemmas.Bool.{cases_Bool, and_parts, and_from}
-use Rattle.topo_core.specs.Cycles.{is_first, count_below, class_count}
+use Rattle.std.proofs.Common.{◌≡◌, ℕ, ◌<◌, ◌≤◌, Bool, true, ◌&&◌, sym, ◌∙◌, arith}
+use Rattle.std.proofs.lemmas.Bool.{and_parts, and_from}
+use Rattle.topo_core.specs.Cycles.{is_first, class_count}
 use Rattle.topo_perm.specs.Live.{live_class_count}
 use Rattle.topo_perm.proofs.Classes.{IsEquivalence}
 use Rattle.topo_perm.proofs.Points.{count_below-into, leader, leader-first, leaders_same, firsts_same, IsFirstOf}

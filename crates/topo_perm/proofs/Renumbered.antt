@@ -1,12 +1,10 @@
 -- The laws of renumbering, and walks carried from one set of darts to another.
-use Rattle.std.proofs.Common.{◌≡◌, ◌↔◌, ℕ, zero, suc, ◌%◌, ◌<◌, Bool, true, false, List, [], ◌∷◌, inl, inr, refl, sym, ◌∙◌, ap, subst, arith}
+use Rattle.std.proofs.Common.{◌≡◌, ℕ, zero, suc, ◌<◌, Bool, true, List, [], ◌∷◌, inl, inr, refl, sym, ◌∙◌, ap, subst}
 use Rattle.std.proofs.lemmas.Bool.{cases_Bool, both_ways}
-use Rattle.topo_core.specs.Cycles.{IsPermutation, SameCycle, after, is_met, class_count, cycle_count}
-use Rattle.topo_core.specs.Rotations.{twin, face_next, Joined, Move, along}
+use Rattle.topo_core.specs.Cycles.{IsPermutation, SameCycle, after, is_met}
+use Rattle.topo_core.specs.Rotations.{twin, Joined, Move, along}
 use Rattle.topo_core.specs.Rotations.Move.{Turn, Cross}
-use Rattle.topo_perm.specs.Joins.{IsConnectedAmong}
-use Rattle.topo_perm.specs.Live.{live_class_count, live_cycle_count}
-use Rattle.topo_perm.specs.Renumbering.{IsEquivalence, IsRenumbering, IsCarried, Renumbers, RenumbersTurn, CarriesClasses, RenumberedClasses, RenumberedSameCycle, RenumberedCycles, RenumberedWhole, RenumberedFaces, RenumberedJoined, RenumberedConnected}
+use Rattle.topo_perm.specs.Renumbering.{IsRenumbering, IsCarried, RenumberedClasses, RenumberedSameCycle, RenumberedCycles, RenumberedWhole, RenumberedFaces, RenumberedJoined, RenumberedConnected}
 use Rattle.topo_perm.proofs.Live.{live_class_count-carries}
 use Rattle.topo_perm.proofs.Orbits.{after-within, SameCycle-sym, SameCycle-is_met, is_met-SameCycle}
 use Rattle.topo_perm.proofs.Exchange.{is_met-equivalence}

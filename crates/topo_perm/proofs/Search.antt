@@ -1,5 +1,5 @@
 -- A search over a rotation system from a start dart, where some darts were marked before.
-use Rattle.std.proofs.Common.{◌≡◌, ◌≢◌, ℕ, zero, suc, ◌+◌, ◌%◌, ◌<◌, ◌≤◌, Bool, true, false, cond, ◌↔◌, ◌⊎◌, List, length, slice_index, slice_index_or, eqb, inl, inr, refl, sym, ◌∙◌, ap, subst, arith}
+use Rattle.std.proofs.Common.{◌≡◌, ◌≢◌, ℕ, ◌+◌, ◌%◌, ◌<◌, ◌≤◌, Bool, true, false, cond, ◌↔◌, ◌⊎◌, List, length, slice_index, eqb, inl, inr, refl, sym, ◌∙◌, ap, subst, arith}
 use Rattle.std.proofs.lemmas.Bool.{cases_Bool, cases_eq, eq-eqb, ne_eqb, cond-true, cond-false, MatchBool-at_true, MatchBool-at_false}
 use Rattle.std.proofs.lemmas.List.{get_or-set_same, get_or-set_other, length-set}
 use Rattle.topo_core.specs.Cycles.{IsPermutation, count_below}
@@ -164,16 +164,22 @@ searched_all f n old start begin seen order found done h even ls c s l a la = (
 )
   where
     turned : (v : ℕ) → (v < n) × (mark seen v ≡ true) → (f v < n) × (mark seen (f v) ≡ true)
-    turned v (lv, e) = (h.within v lv, elim (s.state.listed v lv e) [
-      | inl first ↦ s.state.kept (f v) (h.within v lv) (c.turned v lv first)
-      | inr place ↦ let (j, lo, lj, w) = place in subst (λ z. mark seen (f z) ≡ true) w (s.each j lo (omega arith)).0
-    ])
+    turned v (lv, e) = (
+      h.within v lv,
+      elim (s.state.listed v lv e) [
+        | inl first ↦ s.state.kept (f v) (h.within v lv) (c.turned v lv first)
+        | inr place ↦ let (j, lo, lj, w) = place in subst (λ z. mark seen (f z) ≡ true) w (s.each j lo (omega arith)).0
+      ],
+    )
 
     crossed : (v : ℕ) → (v < n) × (mark seen v ≡ true) → (twin v < n) × (mark seen (twin v) ≡ true)
-    crossed v (lv, e) = (twin-within n v even lv, elim (s.state.listed v lv e) [
-      | inl first ↦ s.state.kept (twin v) (twin-within n v even lv) (c.crossed v lv first)
-      | inr place ↦ let (j, lo, lj, w) = place in subst (λ z. mark seen (twin z) ≡ true) w (s.each j lo (omega arith)).1
-    ])
+    crossed v (lv, e) = (
+      twin-within n v even lv,
+      elim (s.state.listed v lv e) [
+        | inl first ↦ s.state.kept (twin v) (twin-within n v even lv) (c.crossed v lv first)
+        | inr place ↦ let (j, lo, lj, w) = place in subst (λ z. mark seen (twin z) ≡ true) w (s.each j lo (omega arith)).1
+      ],
+    )
 
 pub found_most : (f : ℕ → ℕ) (n : ℕ) (old : List Bool) (start begin : ℕ) (seen : List Bool) (order : List ℕ) (found : ℕ) → Found f n old start begin seen order found → found ≤ n
 found_most f n old start begin seen order found s = omega (arith, s.count, count_below-le (mark seen) n)

@@ -1,14 +1,12 @@
 -- The laws of the edits on slabs.
-use Rattle.std.proofs.Common.{◌≡◌, ◌≢◌, ℕ, ◌+◌, ◌*◌, ◌/◌, ◌%◌, ◌<◌, Bool, true, false, not, ◌⊎◌, inl, inr, refl, sym, ◌∙◌, ap, arith}
-use Rattle.std.proofs.lemmas.Bool.{cases_Bool, cases_eq, both_ways}
-use Rattle.topo_core.specs.Cycles.{IsPermutation, IsBypass, count_below, cycle_count}
-use Rattle.topo_core.specs.Rotations.{twin, face_next}
-use Rattle.topo_perm.specs.Edits.{IsAllowedHang, IsAllowedChord, IsAllowedUnchord, IsAllowedSplit, IsAllowedSmooth}
+use Rattle.std.proofs.Common.{◌≡◌, ◌≢◌, ℕ, ◌+◌, ◌*◌, ◌/◌, ◌%◌, ◌<◌, Bool, true, false, inl, inr, sym, ◌∙◌, ap, arith}
+use Rattle.std.proofs.lemmas.Bool.{cases_eq, both_ways}
+use Rattle.topo_core.specs.Rotations.{twin}
 use Rattle.topo_perm.specs.Joins.{AddsSegment}
-use Rattle.topo_perm.specs.Live.{IsSlab, live_cycle_count, live_segments, free_segments}
-use Rattle.topo_perm.specs.LiveEdits.{GrowsSlab, ShrinksSlab, AreMore, SegmentsGrow, FreeSegmentsFall, HangLivePoints, HangLiveFaces, ChordLivePoints, ChordLiveFaces, SplitLivePoints, SplitLiveFaces, UnchordLivePoints, UnchordLiveFaces, SmoothLivePoints, SmoothLiveFaces, HangKeepsSlab, ChordKeepsSlab, SplitKeepsSlab, UnchordKeepsSlab, SmoothKeepsSlab}
+use Rattle.topo_perm.specs.Live.{IsSlab, live_segments}
+use Rattle.topo_perm.specs.LiveEdits.{GrowsSlab, ShrinksSlab, SegmentsGrow, FreeSegmentsFall, HangLivePoints, HangLiveFaces, ChordLivePoints, ChordLiveFaces, SplitLivePoints, SplitLiveFaces, UnchordLivePoints, UnchordLiveFaces, SmoothLivePoints, SmoothLiveFaces, HangKeepsSlab, ChordKeepsSlab, SplitKeepsSlab, UnchordKeepsSlab, SmoothKeepsSlab}
 use Rattle.topo_perm.proofs.Classes.{count_below-more}
-use Rattle.topo_perm.proofs.Walks.{twin-within, twin-cases}
+use Rattle.topo_perm.proofs.Walks.{twin-within}
 use Rattle.topo_perm.proofs.Bypassing.{halves}
 use Rattle.topo_perm.proofs.Faces.{Hung, Chord, Insertion, insertion, twin-twin, twin-apart}
 use Rattle.topo_perm.proofs.EditCounts.{hung, chorded, Unchorded, unchorded, hang_points_law, hang_faces_law, chord_points_law, chord_faces_law, unchord_points_law, unchord_faces_law, split_points_law, split_faces_law, smooth_points_law, smooth_faces_law}

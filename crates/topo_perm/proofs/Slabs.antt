@@ -1,18 +1,16 @@
 -- The laws of slabs: all is what is live, and the isolated segments.
-use Rattle.std.proofs.Common.{◌≡◌, ◌≢◌, ℕ, zero, suc, ◌+◌, ◌*◌, ◌/◌, ◌%◌, ◌<◌, ◌≤◌, Bool, true, false, cond, ◌&&◌, not, ◌⊎◌, inl, inr, refl, sym, ◌∙◌, ap, subst, arith}
-use Rattle.std.proofs.lemmas.Bool.{cases_Bool, cases_eq, both_ways, and_parts, and_from, and_left, and_right}
-use Rattle.topo_core.specs.Cycles.{IsPermutation, SameCycle, after, is_first, is_met, count_below, class_count, cycle_count}
+use Rattle.std.proofs.Common.{◌≡◌, ℕ, zero, suc, ◌+◌, ◌*◌, ◌/◌, ◌%◌, ◌<◌, Bool, true, false, cond, ◌&&◌, not, ◌⊎◌, inl, inr, refl, sym, ◌∙◌, ap, arith}
+use Rattle.std.proofs.lemmas.Bool.{cases_Bool, both_ways, and_parts, and_from}
+use Rattle.topo_core.specs.Cycles.{IsPermutation, SameCycle, after, is_first, is_met, count_below, class_count}
 use Rattle.topo_core.specs.Rotations.{twin, face_next, Joined, IsClassCount}
-use Rattle.topo_perm.specs.Cuts.{HasGenusZero}
-use Rattle.topo_perm.specs.Joins.{IsConnectedAmong}
-use Rattle.topo_perm.specs.Live.{live_class_count, live_cycle_count, live_segments, free_segments, IsSlab, LivePoints, LiveFaces, LiveSegments, LiveComponents, LiveGenusZero, LiveBound}
-use Rattle.topo_perm.proofs.Orbits.{SameCycle-sym, SameCycle-trans, SameCycle-is_met, is_met-SameCycle, wraps, IsPeriod}
+use Rattle.topo_perm.specs.Live.{live_class_count, free_segments, IsSlab, LivePoints, LiveFaces, LiveSegments, LiveComponents, LiveGenusZero, LiveBound}
+use Rattle.topo_perm.proofs.Orbits.{SameCycle-sym, SameCycle-trans, SameCycle-is_met, is_met-SameCycle, wraps}
 use Rattle.topo_perm.proofs.Classes.{IsEquivalence, is_first-from, is_first-not, count_below-more}
 use Rattle.topo_perm.proofs.Points.{IsFirstOf, leader, leader-first, firsts_same}
 use Rattle.topo_perm.proofs.Walks.{twin-within, twin-cases, face_next-permutation, kept_joined, Joined-cross}
 use Rattle.topo_perm.proofs.Cuts.{HasComponents, components_of, Joined-back}
 use Rattle.topo_perm.proofs.Counting.{IsJoinTest-equivalence, euler_bound_all}
-use Rattle.topo_perm.proofs.Faces.{twin-twin, twin-other, isolated_face}
+use Rattle.topo_perm.proofs.Faces.{twin-twin, isolated_face}
 
 -- ---- Counts by parts and by pairs
 
@@ -143,10 +141,14 @@ free_joined live f n a b s la e j = kept_joined f twin (λ v. (v ≡ a) ⊎ (v �
 -- one number passes
 one_passes : (p : ℕ → Bool) (n x : ℕ) → x < n → p x ≡ true → ((a : ℕ) → a < n → p a ≡ true → a ≡ x) → count_below p n ≡ 1
 one_passes p n x lx here others =
-    omega (arith, zero_below n, count_below-more p (λ _. false) n x lx here refl (λ a la ne. elim (cases_Bool (p a)) [
-      | inl e ↦ absurd (ne (others a la e))
-      | inr e ↦ e
-    ]))
+    omega (
+      arith,
+      zero_below n,
+      count_below-more p (λ _. false) n x lx here refl (λ a la ne. elim (cases_Bool (p a)) [
+        | inl e ↦ absurd (ne (others a la e))
+        | inr e ↦ e
+      ]),
+    )
   where
     zero_below : (k : ℕ) → count_below (λ _. false) k ≡ 0
     zero_below zero = refl

@@ -1,14 +1,12 @@
 -- Walks by turns and along segments, and the two darts of a segment.
-use Rattle.std.proofs.Common.{◌≡◌, ◌≢◌, ℕ, zero, suc, ◌+◌, ◌-◌, ◌*◌, ◌%◌, ◌<◌, ◌≤◌, ◌==◌, cond, ◌⊎◌, List, [], ◌∷◌, ◌++◌, inl, inr, refl, sym, ◌∙◌, ap, subst, arith, length, slice_index, ltb}
-use Rattle.std.proofs.lemmas.Bool.{cases_Bool, cases_eq, cases_lt, eqb-true, eqb-false, eq-eqb, ne_eqb, both_ways, cond-true, cond-false, lt-ltb, le-ltb}
-use Rattle.topo_core.specs.Cycles.{IsPermutation, IsPermutationList, cycles_of, map_of, after, SameCycle, is_met, class_count, cycle_count}
+use Rattle.std.proofs.Common.{◌≡◌, ◌≢◌, ℕ, zero, suc, ◌+◌, ◌-◌, ◌%◌, ◌<◌, ◌==◌, ◌⊎◌, List, [], ◌∷◌, ◌++◌, inl, inr, refl, sym, ◌∙◌, ap, subst, arith, length, slice_index}
+use Rattle.std.proofs.lemmas.Bool.{cases_Bool, eqb-true, eqb-false, both_ways, cond-true, cond-false}
+use Rattle.topo_core.specs.Cycles.{IsPermutation, IsPermutationList, cycles_of, map_of, after, SameCycle, cycle_count}
 use Rattle.topo_core.specs.Rotations.{twin, face_next, faces_of, Move, moved, along, Joined, IsClassCount}
 use Rattle.topo_core.specs.Rotations.Move.{Turn, Cross}
-use Rattle.topo_perm.proofs.Orbits.{after-within, is_met-SameCycle, SameCycle-is_met, SameCycle-trans, SameCycle-sym}
+use Rattle.topo_perm.proofs.Orbits.{after-within}
 use Rattle.topo_perm.proofs.Classes.{class_count-same}
-use Rattle.topo_perm.proofs.Exchange.{IsExchange, IsExchange-permutation, exchange_splits, exchange_joins}
-use Rattle.topo_perm.proofs.Points.{cycle_count-same, IsPermutation-same}
-use Rattle.topo_perm.proofs.Labels.{same_label, IsRelabel, relabel-keeps, relabel-meets, relabel-from, relabel-apart, relabel-same}
+use Rattle.topo_perm.proofs.Points.{cycle_count-same}
 
 along-append : (f o : ℕ → ℕ) (ms ns : List Move) (a : ℕ) → along f o (ms ++ ns) a ≡ along f o ms (along f o ns a)
 along-append f o [] ns a = refl

@@ -1,6 +1,6 @@
 -- Counts among the live darts of a slab, in which each segment that stands for nothing is isolated.
 use Rattle.std.specs.Prelude.{◌≡◌, ℕ, ◌+◌, ◌*◌, ◌/◌, ◌%◌, ◌<◌, ◌≤◌, Bool, true, false, ◌&&◌, not}
-use Rattle.topo_core.specs.Cycles.{IsPermutation, is_first, is_met, count_below, class_count, cycle_count}
+use Rattle.topo_core.specs.Cycles.{IsPermutation, is_first, is_met, count_below, cycle_count}
 use Rattle.topo_core.specs.Rotations.{twin, face_next, Joined, IsClassCount}
 use Rattle.topo_perm.specs.Joins.{IsConnectedAmong}
 use Rattle.topo_perm.specs.Cuts.{HasGenusZero}

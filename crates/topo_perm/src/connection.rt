@@ -32,7 +32,13 @@ fn visit(seen: &mut [bool], order: &mut [usize], found: usize, dart: usize) -> u
 }
 
 /// Marks what is joined to `start`, and puts it into the order behind what was found before.
-fn reach(images: &[u32], seen: &mut [bool], order: &mut [usize], before: usize, start: usize) -> usize
+fn reach(
+    images: &[u32],
+    seen: &mut [bool],
+    order: &mut [usize],
+    before: usize,
+    start: usize,
+) -> usize
     requires permutation { IsPermutationList images.now }
     requires even { length images.now % 2 ≡ 0 }
     requires within { start < length images.now }
