@@ -1,0 +1,81 @@
+//! The words of a command line.
+
+ghost use Rattle.std.specs.Prelude.{◌≡◌, IfOk, IfErr, Some, map, true, is_some};
+ghost use Rattle.clap.specs.Words.{app_of, kind_of, takes};
+ghost use Rattle.topo_cli.specs.Words.{planar_app, verb_named, asked_verb};
+
+use crate::Verb;
+use clap::error::ErrorKind;
+use clap::{Command, Error};
+use std::alloc::{AllocError, Global};
+use std::convert::AsStr;
+
+/// What `planar --help` says before the list of commands.
+const ABOUT: &str = "\
+Keeps a planar picture of a graph: for each vertex the clockwise list of its
+edges, and each crossing as a dummy vertex of degree four.";
+
+/// What it says after them.
+const AFTER: &str = "\
+Example:
+  echo '{\"version\":1,\"workers\":[[[\"grow\",1,0,0],[\"grow\",1,1,7]]]}' | planar run
+
+Statuses:
+  0  done
+  1  a fault of the script, of reading or of writing
+  2  these words were refused, or asked for help
+  3  not enough memory";
+
+const RUN: &str = "Reads a script from standard input and prints the picture that it makes";
+
+const RUN_LONG: &str = "\
+Reads a script from standard input, carries out its commands one after another,
+and prints the picture on one line of standard output.
+
+The first picture has the vertices 0 and 1, and edge 0 between them. A script is
+a JSON object with the version 1 and one list of commands:
+
+  {\"version\":1,\"workers\":[[[\"grow\",1,0,0],[\"grow\",1,1,7]]]}
+
+[\"grow\",U,POSITION,KIND] puts a new vertex on a new edge, of a kind from 0 to
+63, into a corner of vertex U: the one before the edge at POSITION of its
+clockwise list. A command that is refused changes nothing, and the run goes on.
+
+A fault is one line on standard error, as: planar: 52 BadShape $/workers";
+
+/// The command line of the program.
+fn planar_command<'a>(alloc: Global) -> Result<Command<'a>, AllocError>
+    ensures { IfOk result (λ command. app_of command ≡ planar_app) }
+{
+    let run = Command::new(alloc, "run").about(RUN).long_about(RUN_LONG);
+    Command::new(alloc, "planar")
+        .about(ABOUT)
+        .after_help(AFTER)
+        .subcommand_required(true)
+        .arg_required_else_help(true)
+        .subcommand(run)
+}
+
+/// The command of this name.
+fn verb_named(name: &str) -> Option<Verb>
+    ensures { result ≡ verb_named name.now }
+{
+    if name == "run" { Some(Verb::Run) } else { None }
+}
+
+/// The command that the words ask for; the first word is the program's name. Where `clap` refuses the
+/// words, or they ask for help, its answer is the error, whose text is for the user.
+pub fn verb<'a, S: AsStr>(alloc: Global, words: &'a [S]) -> Result<Verb, Error>
+    ensures ok { IfOk result (λ v. asked_verb (map S.text words.entry.now) ≡ Some v) }
+    ensures err { IfErr result (λ e. takes planar_app (map S.text words.entry.now) ≡ true → is_some (asked_verb (map S.text words.entry.now)) ≡ true → kind_of e ≡ ErrorKind.OutOfMemory) }
+{
+    let mut planar = planar_command(alloc)?;
+    let matches = match planar.try_get_matches_from_mut(words) {
+        Ok(matches) => matches,
+        Err(error) => return Err(error),
+    };
+    match matches.subcommand_name().and_then(verb_named) {
+        Some(verb) => Ok(verb),
+        None => Err(planar.error(ErrorKind::MissingSubcommand, "a command is missing")?),
+    }
+}

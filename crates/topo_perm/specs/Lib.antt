@@ -1,0 +1,7 @@
+pub mod Cuts
+pub mod Edits
+pub mod Joins
+pub mod Live
+pub mod LiveEdits
+pub mod Reach
+pub mod Renumbering

@@ -1,0 +1,66 @@
+-- What a growth that is not refused makes of a picture is a picture.
+use Rattle.std.proofs.Common.{◌≡◌, ℕ, ◌+◌, ◌<◌, ◌≤◌, nat_lt, Bool, true, false, cond, not, ◌&&◌, List, [], ◌∷◌, ◌++◌, length, Option, Some, None, ◌⊎◌, inl, inr, refl, sym, ap, arith, rules, length-append, length-set, subst, Result, Ok, Err, OnOk, OnErr}
+use Rattle.std.proofs.lemmas.Bool.{ltb-true}
+use Rattle.topo_core.specs.declared.rows.Rows.{Rows}
+use Rattle.topo_core.specs.declared.limits.Limits.{Limits}
+use Rattle.topo_core.specs.declared.calls.Refusal.{Refusal}
+use Rattle.topo_core.specs.declared.calls.Refusal.TheVariants.{NoVertex, NoPosition, BadKind, Full}
+use Rattle.topo_core.specs.Picture.{rotation}
+use Rattle.topo_core.specs.Pictures.{seed}
+use Rattle.topo_core.specs.Changes.{grown, with_end}
+use Rattle.topo_core.specs.Steps.{grow_refusal, has_vertex}
+use Rattle.topo_picture.specs.Shown.{IsPicture}
+use Rattle.topo_core.proofs.Connection.{seed_is_embedding}
+use Rattle.topo_core.proofs.Growing.{growth_keeps_embedding}
+
+pub seed_is_picture : (limits : Limits) → IsPicture limits seed
+seed_is_picture limits = record {
+  embedding = seed_is_embedding;
+  vertices = limits.two_vertices;
+  edges = limits.one_edge;
+  crossings = omega arith;
+}
+
+-- what holds where a growth is not refused
+pub record IsGrowable (limits : Limits) (rows : Rows) (u p kind : ℕ) : Type 0 where
+  pub vertex : u < length rows.rotations
+  pub position : p < length (rotation rows u)
+  pub known : kind < 64
+  pub vertex_left : length rows.rotations < limits.vertices
+  pub edge_left : rows.next_edge < limits.edges
+
+-- four tests that all pass
+passes : (a b c d e : Bool) → cond (not a) (Some NoVertex) (cond (not b) (Some NoPosition) (cond (not c) (Some BadKind) (cond (not (d && e)) (Some Full) None))) ≡ None
+    → (a ≡ true) × (b ≡ true) × (c ≡ true) × (d ≡ true) × (e ≡ true)
+passes false b c d e h = cc
+passes true false c d e h = cc
+passes true true false d e h = cc
+passes true true true false e h = cc
+passes true true true true false h = cc
+passes true true true true true h = (refl, refl, refl, refl, refl)
+
+pub growable : (limits : Limits) (rows : Rows) (u p kind : ℕ) → grow_refusal limits rows u p kind ≡ None → IsGrowable limits rows u p kind
+growable limits rows u p kind h =
+    let all = passes (has_vertex rows u) (nat_lt p (length (rotation rows u))) (nat_lt kind 64) (nat_lt (length rows.rotations) limits.vertices) (nat_lt rows.next_edge limits.edges) h in
+    record {
+      vertex = ltb-true _ _ all.0;
+      position = ltb-true _ _ all.1;
+      known = ltb-true _ _ all.2;
+      vertex_left = ltb-true _ _ all.3;
+      edge_left = ltb-true _ _ all.4;
+    }
+
+pub grown_is_picture : (limits : Limits) (rows : Rows) (u p kind : ℕ) → IsPicture limits rows → grow_refusal limits rows u p kind ≡ None → IsPicture limits (grown rows u p kind)
+grown_is_picture limits rows u p kind was accepted =
+    let may = growable limits rows u p kind accepted in record {
+      embedding = growth_keeps_embedding rows was.embedding u p kind may.vertex may.position may.known;
+      vertices = simp (length-append, length-set) (omega (arith, may.vertex_left));
+      edges = omega (arith, may.edge_left);
+      crossings = was.crossings;
+    }
+
+-- after a growth that is not refused, with or without memory for it
+pub after_growth : {A E : Type 0} (r : Result A E) (limits : Limits) (rows new : Rows) (u p kind : ℕ) → OnOk r (new ≡ grown rows u p kind) → OnErr r (new ≡ rows)
+    → IsPicture limits rows → None ≡ grow_refusal limits rows u p kind → IsPicture limits new
+after_growth (Ok done) limits rows new u p kind ok err was accepted = subst (IsPicture limits) (sym ok) (grown_is_picture limits rows u p kind was (sym accepted))
+after_growth (Err refused) limits rows new u p kind ok err was accepted = subst (IsPicture limits) (sym err) was

@@ -1,0 +1,151 @@
+//! A picture, with its limits.
+
+use crate::copies::copy_rows;
+use crate::growth::grow_rows;
+use std::alloc::{AllocError, Global};
+use std::marker::Model;
+use topo_core::calls::Refusal;
+use topo_core::ids::{EdgeId, VertexId};
+use topo_core::limits::Limits;
+use topo_core::listed::Listed;
+use topo_core::rows::{EdgeRow, Rows};
+
+/// A connected embedding of a graph, within limits.
+#[derive(Drop)]
+pub struct Picture {
+    limits: Limits,
+    rows: Rows,
+}
+
+impl Model for Picture {
+    ghost use Rattle.topo_picture.specs.Shown.{Shown, IsPicture};
+
+    ghost Value = { Shown };
+
+    ghost view = { λ p. record { limits = p.limits; rows = p.rows } };
+
+    ghost invariant = { λ p. IsPicture p.limits p.rows };
+}
+
+impl Picture {
+    ghost use Rattle.std.specs.Prelude.{◌≡◌, ◌⊎◌, IfOk, IfErr, OnErr, length, Some, None};
+    ghost use Rattle.topo_core.specs.Pictures.{seed};
+    ghost use Rattle.topo_core.specs.Changes.{grown};
+    ghost use Rattle.topo_core.specs.Steps.{grow_refusal};
+    ghost use Rattle.topo_picture.specs.Shown.{IsPicture};
+
+    /// The picture of two vertices, 0 and 1, and edge 0 of kind 0 from the one to the other.
+    pub fn seed(alloc: Global, limits: Limits) -> Result<Self, AllocError>
+        ensures rows { IfOk result (λ p. p.rows ≡ seed) }
+        ensures limits { IfOk result (λ p. p.limits ≡ limits) }
+    {
+        let rows = seed_rows(alloc)?;
+        Ok(Picture { limits, rows })
+    }
+
+    /// How large it may grow.
+    pub fn limits(&self) -> Limits
+        ensures { result ≡ self.now.limits }
+    {
+        self.limits
+    }
+
+    /// A copy of its rows.
+    pub fn rows(&self, alloc: Global) -> Result<Rows, AllocError>
+        ensures rows { IfOk result (λ r. r ≡ self.now.rows) }
+        ensures lawful { IsPicture self.now.limits self.now.rows }
+    {
+        copy_rows(alloc, &self.rows)
+    }
+
+    /// Puts a new vertex on a new edge of the given kind into the corner at `position` of vertex
+    /// `u`, and answers their numbers. It is refused as NoVertex where `u` is no vertex, as
+    /// NoPosition where `u` has fewer corners, as BadKind where the kind is above 63, and as Full
+    /// where it would pass a limit: the first of these that holds. Memory is answered only where
+    /// none of them holds.
+    pub fn grow(
+        &mut self,
+        alloc: Global,
+        u: u32,
+        position: u32,
+        kind: u32,
+    ) -> Result<(VertexId, EdgeId), Refusal>
+        ensures accepted { IfOk result (λ _. grow_refusal self.old.limits self.old.rows u position kind ≡ None) }
+        ensures numbers { IfOk result (λ made. (made.0 ≡ length self.old.rows.rotations) × (made.1 ≡ self.old.rows.next_edge)) }
+        ensures grown { IfOk result (λ _. self.new.rows ≡ grown self.old.rows u position kind) }
+
+        ensures refused { IfErr result (λ why. (grow_refusal self.old.limits self.old.rows u position kind ≡ Some why)
+            ⊎ ((why ≡ Refusal.Memory) × (grow_refusal self.old.limits self.old.rows u position kind ≡ None))) }
+        ensures unchanged { OnErr result (self.new ≡ self.old) }
+
+        ensures same_limits { self.new.limits ≡ self.old.limits }
+        ensures lawful { IsPicture self.new.limits self.new.rows }
+    {
+        match grow_fault(&self.limits, &self.rows, u, position, kind) {
+            Some(why) => Err(why),
+            None => {
+                let vertex = VertexId::new(self.rows.rotations.as_slice().len() as u32);
+                let edge = EdgeId::new(self.rows.next_edge);
+                match grow_rows(alloc, &mut self.rows, u, position, kind) {
+                    Ok(()) => Ok((vertex, edge)),
+                    Err(_) => Err(Refusal::Memory),
+                }
+            }
+        }
+    }
+}
+
+ghost use Rattle.std.specs.Prelude.{◌≡◌, IfOk, [], ◌∷◌};
+ghost use Rattle.topo_core.specs.Pictures.{seed};
+ghost use Rattle.topo_core.specs.Steps.{grow_refusal};
+
+/// The rows of two vertices and the edge between them.
+fn seed_rows(alloc: Global) -> Result<Rows, AllocError>
+    ensures { IfOk result (λ rows. rows ≡ seed) }
+{
+    let mut rotations = Vec::new(alloc);
+    rotations.push(one_listed(alloc, 0)?)?;
+    rotations.push(one_listed(alloc, 0)?)?;
+    let mut edges = Vec::new(alloc);
+    edges.push(EdgeRow {
+        id: 0,
+        a: 0,
+        b: 1,
+        kind: 0,
+        crossings: Listed::new(alloc),
+    })?;
+    Ok(Rows {
+        rotations: Listed::from_vec(rotations),
+        edges: Listed::from_vec(edges),
+        crossings: Listed::new(alloc),
+        next_edge: 1,
+        next_crossing: 0,
+    })
+}
+
+/// The list of one number.
+pub(crate) fn one_listed(alloc: Global, x: u32) -> Result<Listed<u32>, AllocError>
+    ensures { IfOk result (λ list. list ≡ x ∷ []) }
+{
+    let mut items = Vec::new(alloc);
+    items.push(x)?;
+    Ok(Listed::from_vec(items))
+}
+
+/// The first reason to refuse a growth.
+fn grow_fault(limits: &Limits, rows: &Rows, u: u32, position: u32, kind: u32) -> Option<Refusal>
+    ensures { result ≡ grow_refusal limits.now rows.now u position kind }
+{
+    let vertices = rows.rotations.as_slice().len();
+    if u as usize >= vertices {
+        Some(Refusal::NoVertex)
+    } else if position as usize >= rows.degree(u) {
+        Some(Refusal::NoPosition)
+    } else if kind >= 64 {
+        Some(Refusal::BadKind)
+    } else if vertices >= limits.vertices as usize || rows.next_edge >= limits.edges {
+        Some(Refusal::Full)
+    } else {
+        None
+    }
+}

@@ -1,0 +1,7 @@
+//! Tests that cross the crates: worked scripts and what comes of them, as tables.
+#![tactic(auto)]
+
+#[cfg(test)]
+mod first_path;
+#[cfg(test)]
+mod streams;

@@ -1,0 +1,25 @@
+//! The JSON forms of the project, and their texts.
+//!
+//! `picture_text` gives the text of rows: compact, keys in the order of their bytes, nothing else. The
+//! text is the one that `serde_json`'s own definition gives for the value that `rows_data` names, and
+//! it is written in one pass.
+#![tactic(auto)]
+
+mod rows;
+pub mod written;
+
+ghost use Rattle.std.specs.Prelude.{◌≡◌, IfOk, string_bytes};
+ghost use Rattle.topo_script.specs.Pictures.{rows_text};
+
+use crate::written::Written;
+use std::alloc::{AllocError, Global};
+use topo_core::rows::Rows;
+
+/// The text of a picture's rows, on one line and without a line feed.
+pub fn picture_text(alloc: Global, rows: &Rows) -> Result<String, AllocError>
+    ensures { IfOk result (λ text. string_bytes text ≡ rows_text rows.now) }
+{
+    let mut text = String::new(alloc);
+    rows.write(&mut text)?;
+    Ok(text)
+}

@@ -1,0 +1,58 @@
+//! What has a JSON text.
+
+ghost use Rattle.std.specs.Prelude.{◌≡◌, ◌++◌, ◌==◌, ℕ, OnOk, not, string_bytes, map};
+ghost use Rattle.serde_json.specs.Data.{Data, number, unsigned, array};
+ghost use Rattle.serde_json.specs.View.{items_of};
+ghost use Rattle.serde_json.specs.Written.{compact_text, comma_if};
+
+use std::alloc::AllocError;
+use std::fmt::Write;
+use topo_core::listed::Listed;
+
+/// A value that can be written as JSON. Its `value` says which JSON value that is.
+pub trait Written {
+    ghost use Rattle.serde_json.specs.Data.{Data};
+
+    ghost value: { Self → Data };
+
+    /// Writes the compact text of the value at the end of `out`.
+    fn write(&self, out: &mut String) -> Result<(), AllocError>
+        ensures { OnOk result (string_bytes out.new ≡ string_bytes out.old ++ compact_text (value self.now)) };
+}
+
+impl Written for u32 {
+    ghost value = { λ n. number (unsigned n) };
+
+    fn write(&self, out: &mut String) -> Result<(), AllocError> {
+        let n = *self;
+        write!(out, "{n}")
+    }
+}
+
+impl<T: Written> Written for Listed<T> {
+    ghost value = { λ list. array (items_of (map T.value list)) };
+
+    fn write(&self, out: &mut String) -> Result<(), AllocError> {
+        let items = self.as_slice();
+        out.push_str("[")?;
+        for (i, item) in items.iter().enumerate() {
+            write_after(out, comma(i), item)?;
+        }
+        out.push_str("]")
+    }
+}
+
+/// What stands before the item at place `i` of an array.
+fn comma(i: usize) -> &'static str
+    ensures { result.now ≡ comma_if (not (i == 0)) }
+{
+    if i == 0 { "" } else { "," }
+}
+
+/// Writes what stands before an item, and then the item.
+pub fn write_after<T: Written>(out: &mut String, before: &str, item: &T) -> Result<(), AllocError>
+    ensures { OnOk result (string_bytes out.new ≡ string_bytes out.old ++ (before.now ++ compact_text (T.value item.now))) }
+{
+    out.push_str(before)?;
+    item.write(out)
+}
