@@ -17,3 +17,4 @@ pub mod Connecting
 pub mod Renumbered
 pub mod Slabs
 pub mod SlabEdits
+pub mod FacesKept
