@@ -1,16 +1,16 @@
 -- The laws on which darts lie in one face after an edit.
-use Rattle.std.proofs.Common.{◌≡◌, ◌≢◌, ℕ, zero, suc, ◌+◌, ◌%◌, ◌<◌, ◌⊎◌, inl, inr, refl, sym, ◌∙◌, ap, subst, arith}
-use Rattle.std.proofs.lemmas.Bool.{cases_Bool, cases_eq, both_ways}
-use Rattle.topo_core.specs.Cycles.{IsPermutation, SameCycle, after, is_met, cycle_count}
+use Rattle.std.proofs.Common.{◌≡◌, ◌≢◌, ℕ, zero, suc, ◌<◌, ◌⊎◌, inl, inr, refl, sym, ◌∙◌, ap, subst, arith}
+use Rattle.std.proofs.lemmas.Bool.{cases_eq}
+use Rattle.topo_core.specs.Cycles.{IsPermutation, SameCycle, after}
 use Rattle.topo_core.specs.Rotations.{twin, face_next}
-use Rattle.topo_core.specs.Edits.{IsBefore, IsSplit}
-use Rattle.topo_perm.specs.Edits.{AreTurns, IsApart, IsAllowedHang, IsAllowedChord, IsAllowedSplit}
-use Rattle.topo_perm.specs.Faces.{HangKeepsFaces, HangSides, SplitKeepsFaces, SplitSides, ChordKeepsFaces, ChordSides}
+use Rattle.topo_core.specs.Edits.{IsSplit}
+use Rattle.topo_perm.specs.Edits.{IsAllowedSplit, IsAllowedSmooth}
+use Rattle.topo_perm.specs.Faces.{HangKeepsFaces, HangSides, SplitKeepsFaces, SplitSides, ChordKeepsFaces, ChordSides, UnchordKeepsFaces, SmoothKeepsFaces}
 use Rattle.topo_perm.proofs.Orbits.{after-within, SameCycle-refl, SameCycle-trans, SameCycle-sym, SameCycle-step}
-use Rattle.topo_perm.proofs.Points.{IsExchangeBelow, exchanged_splits, exchanged_spread, exchanged-permutation}
+use Rattle.topo_perm.proofs.Points.{IsExchangeBelow, exchanged_splits, exchanged_spread, exchanged_keeps, exchanged_apart, exchanged-permutation}
 use Rattle.topo_perm.proofs.Walks.{twin-within, face_next-permutation}
 use Rattle.topo_perm.proofs.Faces.{Hung, Chord, Insertion, insertion, exchange_faces, IsExchangeBelow-back, hang_keeps, hang_twin, isolated_face, twin-twin, twin-apart, twin-other}
-use Rattle.topo_perm.proofs.EditCounts.{hung, chorded}
+use Rattle.topo_perm.proofs.EditCounts.{hung, chorded, Unchorded, unchorded}
 
 -- ---- Hang
 
@@ -172,3 +172,139 @@ chord_sides f g n c d x k other =
       λ s. exchange_parted (face_next q.half) (face_next g) n e.place x e.half_faces e.place_within lx e.apart e.exchange e.met
           (SameCycle-trans (face_next g) e.place (twin x) x (record { steps = 1; leads = e.leads }) (SameCycle-sym (face_next g) n hg x (twin x) lx s)),
     )
+
+-- ---- Unchord
+
+-- with one end of a segment left, and that taken out too, no face is parted
+unhung_faces : (f g : ℕ → ℕ) (n x c a b : ℕ) → Hung f g n x c → a < n → a ≢ x → a ≢ twin x → b ≢ x → b ≢ twin x → SameCycle (face_next g) a b → SameCycle (face_next f) a b
+unhung_faces f g n x c a b h la ax ay bx by' s =
+    let p : Insertion f g n x c = insertion f g n x c h.permutation h.within h.not_self h.before in
+    let lp : twin p.place < n = twin-within n p.place h.even p.within in
+    let lt : twin x < n = twin-within n x h.even h.within in
+    let hff : IsPermutation (face_next f) n = face_next-permutation f n p.permutation h.even in
+    let ex : IsExchangeBelow (face_next f) (face_next g) n (twin p.place) (twin x) = exchange_faces f g n p.place x h.even p.exchange in
+    elim (exchanged_spread (face_next f) (face_next g) n (twin p.place) (twin x) hff lp lt ex a b la s) [
+      | inl w ↦ w
+      | inr v ↦ elim v [
+        | inl w ↦ elim (isolated_face f x b h.isolated w.1) [ inl e ↦ absurd (by' e) | inr e ↦ absurd (bx e) ]
+        | inr w ↦ elim (isolated_face f x a h.isolated (SameCycle-sym (face_next f) n hff a (twin x) la w.0)) [ inl e ↦ absurd (ay e) | inr e ↦ absurd (ax e) ]
+      ]
+    ]
+
+pub unchord_keeps_faces : UnchordKeepsFaces
+unchord_keeps_faces f g n h a b k pa pb s =
+    let u : Unchorded f k.edit.half g n h = unchorded f g n h k in
+    let half : ℕ → ℕ = k.edit.half in
+    let even = k.turns.even in
+    let lh : h < n = k.turns.within in
+    let lt : twin h < n = twin-within n h even lh in
+    let hff : IsPermutation (face_next f) n = face_next-permutation f n k.turns.before even in
+    let p : Insertion half f n h (f h) = insertion half f n h (f h) k.turns.before lh u.not_fixed (record { turns = refl; without = k.edit.first }) in
+    let lp : twin p.place < n = twin-within n p.place even p.within in
+    let ex : IsExchangeBelow (face_next f) (face_next half) n (twin p.place) (twin h) =
+    IsExchangeBelow-back (face_next half) (face_next f) n (twin p.place) (twin h) (exchange_faces half f n p.place h even p.exchange) in
+    let to_h : SameCycle (face_next f) (twin p.place) h = record { steps = 1; leads = ap f (twin-twin p.place) ∙ p.leads } in
+    let near : SameCycle (face_next half) (twin p.place) (twin h) =
+    exchanged_apart (face_next f) (face_next half) n (twin p.place) (twin h) hff lp lt (λ e. p.other (twin-apart _ _ e)) ex
+    (λ w. k.two_faces (SameCycle-trans (face_next f) h (twin p.place) (twin h) (SameCycle-sym (face_next f) n hff (twin p.place) h lp to_h) w)) in
+    let kept : SameCycle (face_next half) a b = exchanged_keeps (face_next f) (face_next half) n (twin p.place) (twin h) hff lp lt ex near a b pa.within s in
+    let back : twin (twin h) ≡ h = twin-twin h in
+    unhung_faces g half n (twin h) (half (twin h)) a b
+    (record {
+      permutation = u.half_permutation;
+      even = even;
+      within = lt;
+      not_self = u.half_moved;
+      not_twin = λ e. u.half_apart (e ∙ back);
+      isolated = u.isolated;
+      before = record { turns = refl; without = k.edit.second };
+    })
+    pa.within pa.not_twin (λ e. pa.not_self (e ∙ back)) pb.not_twin (λ e. pb.not_self (e ∙ back)) kept
+
+-- ---- Smooth
+
+-- where a walk round a face is after the smoothing, which passes by the segment that goes
+Passed : (ℕ → ℕ) → (ℕ → ℕ) → ℕ → ℕ → ℕ → ℕ → Type 0
+Passed f g n x a v =
+    (v < n) × (((v ≡ x) × SameCycle (face_next g) a (g (f x))) ⊎ (((v ≡ twin x) × SameCycle (face_next g) a (f x)) ⊎ ((v ≢ x) × (v ≢ twin x) × SameCycle (face_next g) a v)))
+
+pass_step : (f g : ℕ → ℕ) (n x a v : ℕ) → IsAllowedSmooth f g n x → Passed f g n x a v → Passed f g n x a (face_next f v)
+unfolding Passed
+pass_step f g n x a v k (lv, w) =
+    let t : ℕ = f x in
+    let y : ℕ = twin x in
+    let is_t : twin (twin t) ≡ t = twin-twin t in
+    let lx : x < n = k.turns.within in
+    let ly : y < n = twin-within n x k.turns.even lx in
+    let lw : twin v < n = twin-within n v k.turns.even lv in
+    let back : f t ≡ x = ap f (sym is_t) ∙ k.edit.point_back in
+    let to_x : (u : ℕ) → u < n → f u ≡ x → u ≡ t = λ u lu e. k.turns.before.apart u t lu (k.turns.before.within x lx) (e ∙ sym back) in
+    let yx : y ≢ x = twin-other x in
+    let yt : y ≢ t = λ e. k.not_loop (sym e) in (
+      k.turns.before.within (twin v) lw,
+      elim w [
+        | inl q ↦
+            let next : face_next f v ≡ f y = ap (λ z. f (twin z)) q.0 in
+            elim (cases_eq (f y) y) [
+              | inl alone ↦ inr (inl (next ∙ alone, subst (λ z. SameCycle (face_next g) a z) (fixed alone) q.1))
+              | inr more ↦ inr (inr (
+                λ e. yt (to_x y ly (sym next ∙ e)),
+                λ e. more (sym next ∙ e),
+                subst (λ z. SameCycle (face_next g) a z) (onward more ∙ sym next) q.1,
+              ))
+            ]
+        | inr r ↦ elim r [
+          | inl q ↦
+              let next : face_next f v ≡ t = ap (λ z. f (twin z)) q.0 ∙ ap f (twin-twin x) in
+              inr (inr (λ e. k.not_alone (sym next ∙ e), λ e. k.not_loop (sym next ∙ e), subst (λ z. SameCycle (face_next g) a z) (sym next) q.1))
+          | inr q ↦
+              let bx : twin v ≢ x = λ e. q.1 (sym (twin-twin v) ∙ ap twin e) in
+              let by' : twin v ≢ y = λ e. q.0 (twin-apart v x e) in
+              let on : SameCycle (face_next g) a (g (twin v)) = SameCycle-step (face_next g) a v q.2 in
+              elim (cases_eq (twin v) t) [
+                | inl e ↦ inl (ap f e ∙ back, subst (λ z. SameCycle (face_next g) a (g z)) e on)
+                | inr nt ↦
+                    let far : twin v ≢ twin (twin t) = λ e. nt (e ∙ is_t) in
+                    elim (cases_eq (g (twin v)) t) [
+                      | inl e ↦ inr (inl (k.edit.led_to (twin v) lw far (e ∙ sym is_t), subst (λ z. SameCycle (face_next g) a z) e on))
+                      | inr ne ↦
+                          let same : f (twin v) ≡ g (twin v) = k.edit.elsewhere (twin v) lw bx by' far (λ e. ne (e ∙ is_t)) in
+                          inr (inr (
+                            λ e. nt (to_x (twin v) lw e),
+                            λ e. by' (k.turns.after.apart (twin v) y lw ly (sym same ∙ e ∙ sym k.edit.isolated.other)),
+                            subst (λ z. SameCycle (face_next g) a z) (sym same) on,
+                          ))
+                    ]
+              ]
+        ]
+      ],
+    )
+  where
+    onward_free : g (f x) ≢ f x → f (twin x) ≡ g (f x)
+    onward_free free = k.edit.leads_on (λ z. free (ap g (sym (twin-twin (f x))) ∙ z ∙ twin-twin (f x))) ∙ ap g (twin-twin (f x))
+
+    fixed : f (twin x) ≡ twin x → g (f x) ≡ f x
+    fixed alone = elim (cases_eq (g (f x)) (f x)) [
+      | inl e ↦ e
+      | inr free ↦
+          let to_y : g (f x) ≡ twin x = sym (onward_free free) ∙ alone in
+          absurd (k.not_loop (k.turns.after.apart (f x) (twin x) (k.turns.before.within x k.turns.within) (twin-within n x k.turns.even k.turns.within) (to_y ∙ sym k.edit.isolated.other)))
+    ]
+
+    onward : f (twin x) ≢ twin x → g (f x) ≡ f (twin x)
+    onward more = elim (cases_eq (g (f x)) (f x)) [
+      | inl e ↦ absurd (more (k.edit.leads_itself (ap g (twin-twin (f x)) ∙ e ∙ sym (twin-twin (f x)))))
+      | inr free ↦ sym (onward_free free)
+    ]
+
+pub smooth_keeps_faces : SmoothKeepsFaces
+unfolding Passed
+smooth_keeps_faces f g n x a b k pa pb s =
+    elim (subst (Passed f g n x a) s.leads (walked s.steps)).1 [
+      | inl q ↦ absurd (pb.not_self q.0)
+      | inr r ↦ elim r [ inl q ↦ absurd (pb.not_twin q.0) | inr q ↦ q.2 ]
+    ]
+  where
+    walked : (m : ℕ) → Passed f g n x a (after (face_next f) m a)
+    walked zero = (pa.within, inr (inr (pa.not_self, pa.not_twin, SameCycle-refl (face_next g) a)))
+    walked (suc m) = pass_step f g n x a (after (face_next f) m a) k (walked m)

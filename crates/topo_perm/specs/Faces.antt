@@ -1,8 +1,8 @@
--- Which darts lie in one face after an edit that adds a segment.
+-- Which darts lie in one face after an edit.
 use Rattle.std.specs.Prelude.{◌≢◌, ℕ, ◌<◌}
 use Rattle.topo_core.specs.Cycles.{SameCycle}
 use Rattle.topo_core.specs.Rotations.{twin, face_next}
-use Rattle.topo_perm.specs.Edits.{IsApart, IsAllowedHang, IsAllowedChord, IsAllowedSplit}
+use Rattle.topo_perm.specs.Edits.{IsApart, IsAllowedHang, IsAllowedChord, IsAllowedSplit, IsAllowedUnchord, IsAllowedSmooth}
 
 -- darts in one face stay in one face
 abbrev pub HangKeepsFaces : Type 0
@@ -26,3 +26,10 @@ ChordKeepsFaces = (f g : ℕ → ℕ) (n c d x a b : ℕ) → IsAllowedChord f g
 -- with two different corners, the new segment has the corner that it leads to in the face on its one side, the one that it leaves in the face on its other, and these are two
 abbrev pub ChordSides : Type 0
 ChordSides = (f g : ℕ → ℕ) (n c d x : ℕ) → IsAllowedChord f g n c d x → c ≢ d → SameCycle (face_next g) x d × SameCycle (face_next g) (twin x) c × ¬ SameCycle (face_next g) x (twin x)
+
+-- the two faces at a segment that goes become one, and no other is parted
+abbrev pub UnchordKeepsFaces : Type 0
+UnchordKeepsFaces = (f g : ℕ → ℕ) (n h a b : ℕ) → IsAllowedUnchord f g n h → IsApart n a h → IsApart n b h → SameCycle (face_next f) a b → SameCycle (face_next g) a b
+
+abbrev pub SmoothKeepsFaces : Type 0
+SmoothKeepsFaces = (f g : ℕ → ℕ) (n x a b : ℕ) → IsAllowedSmooth f g n x → IsApart n a x → IsApart n b x → SameCycle (face_next f) a b → SameCycle (face_next g) a b

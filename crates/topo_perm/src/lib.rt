@@ -14,7 +14,7 @@
 //!   `smooth`) lead from the images that are written to a permutation and to the edit's definition;
 //!   `hang`, `chord`, `unchord`, `split` and `smooth` say what becomes of the points and faces of
 //!   the whole slab, and that live darts stay joined.
-//! - `laws::faces`: which darts lie in one face after a hang, a chord and a split.
+//! - `laws::faces`: which darts lie in one face after each edit.
 //! - `laws::slabs`: counts, components and genus of the whole slab, against those of the live darts,
 //!   and the five edits in terms of live counts.
 //! - `laws::renumbering`: darts under new numbers keep counts of classes and cycles, faces, and what

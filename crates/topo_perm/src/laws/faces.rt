@@ -1,6 +1,6 @@
-//! Which darts lie in one face once a segment is added.
+//! Which darts lie in one face after an edit.
 
-ghost use Rattle.topo_perm.specs.Faces.{ChordKeepsFaces, ChordSides, HangKeepsFaces, HangSides, SplitKeepsFaces, SplitSides};
+ghost use Rattle.topo_perm.specs.Faces.{ChordKeepsFaces, ChordSides, HangKeepsFaces, HangSides, SmoothKeepsFaces, SplitKeepsFaces, SplitSides, UnchordKeepsFaces};
 
 /// Darts in one face stay together, and both sides of the new segment lie in the face of the corner.
 pub fn hang()
@@ -18,4 +18,14 @@ pub fn chord()
 pub fn split()
     ensures kept { SplitKeepsFaces }
     ensures sides { SplitSides }
+{}
+
+/// The two faces at the segment become one, and no other is parted.
+pub fn unchord()
+    ensures { UnchordKeepsFaces }
+{}
+
+/// Darts in one face stay together.
+pub fn smooth()
+    ensures { SmoothKeepsFaces }
 {}
