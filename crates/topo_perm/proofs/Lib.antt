@@ -18,3 +18,4 @@ pub mod Renumbered
 pub mod Slabs
 pub mod SlabEdits
 pub mod FacesKept
+pub mod Possible
