@@ -55,19 +55,19 @@ bypass_stays_law f g n i h li x fixed =
     ]))
 
 -- f with x put before c
-abbrev put : (ℕ → ℕ) → ℕ → ℕ → ℕ → ℕ
+abbrev pub put : (ℕ → ℕ) → ℕ → ℕ → ℕ → ℕ
 put f x c a = cond (a == x) c (cond (f a == c) x (f a))
 
-put-self : (f : ℕ → ℕ) (x c a : ℕ) → a ≡ x → put f x c a ≡ c
+pub put-self : (f : ℕ → ℕ) (x c a : ℕ) → a ≡ x → put f x c a ≡ c
 put-self f x c a e = cond-true _ _ _ (eq-eqb _ _ e)
 
-put-led : (f : ℕ → ℕ) (x c a : ℕ) → a ≢ x → f a ≡ c → put f x c a ≡ x
+pub put-led : (f : ℕ → ℕ) (x c a : ℕ) → a ≢ x → f a ≡ c → put f x c a ≡ x
 put-led f x c a ne e = cond-false _ _ _ (ne_eqb _ _ ne) ∙ cond-true _ _ _ (eq-eqb _ _ e)
 
-put-elsewhere : (f : ℕ → ℕ) (x c a : ℕ) → a ≢ x → f a ≢ c → put f x c a ≡ f a
+pub put-elsewhere : (f : ℕ → ℕ) (x c a : ℕ) → a ≢ x → f a ≢ c → put f x c a ≡ f a
 put-elsewhere f x c a ne e = cond-false _ _ _ (ne_eqb _ _ ne) ∙ cond-false _ _ _ (ne_eqb _ _ e)
 
-put-is : (f : ℕ → ℕ) (n x c : ℕ) → f x ≡ x → c ≢ x → IsPutBefore f (put f x c) n x c
+pub put-is : (f : ℕ → ℕ) (n x c : ℕ) → f x ≡ x → c ≢ x → IsPutBefore f (put f x c) n x c
 put-is f n x c alone ne = record {
   alone = alone;
   turns = put-self f x c x refl;

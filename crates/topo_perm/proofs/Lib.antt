@@ -17,3 +17,5 @@ pub mod Connecting
 pub mod Renumbered
 pub mod Slabs
 pub mod SlabEdits
+pub mod FacesKept
+pub mod Possible

@@ -69,6 +69,28 @@ pub record IsAllowedSmooth (f g : ℕ → ℕ) (n x : ℕ) : Type 0 where
   pub not_loop : f x ≢ twin x
   pub edit : IsSmooth f g n x
 
+-- ---- Each edit can be made where its conditions hold
+
+-- some turn g after the edit
+pub record Leads (Edit : (ℕ → ℕ) → Type 0) : Type 0 where
+  pub turn : ℕ → ℕ
+  pub edit : Edit turn
+
+abbrev pub HangIsPossible : Type 0
+HangIsPossible = (f : ℕ → ℕ) (n c x : ℕ) → IsPermutation f n → n % 2 ≡ 0 → x < n → IsIsolated f x → IsApart n c x → Leads (λ g. IsAllowedHang f g n c x)
+
+abbrev pub ChordIsPossible : Type 0
+ChordIsPossible = (f : ℕ → ℕ) (n c d x : ℕ) → IsPermutation f n → n % 2 ≡ 0 → x < n → IsIsolated f x → IsApart n c x → SameCycle (face_next f) c d → Leads (λ g. IsAllowedChord f g n c d x)
+
+abbrev pub UnchordIsPossible : Type 0
+UnchordIsPossible = (f : ℕ → ℕ) (n h : ℕ) → IsPermutation f n → n % 2 ≡ 0 → h < n → ¬ SameCycle (face_next f) h (twin h) → (f h ≡ twin h → f (twin h) ≢ h) → Leads (λ g. IsAllowedUnchord f g n h)
+
+abbrev pub SplitIsPossible : Type 0
+SplitIsPossible = (f : ℕ → ℕ) (n h x : ℕ) → IsPermutation f n → n % 2 ≡ 0 → x < n → IsIsolated f x → IsApart n h x → Leads (λ g. IsAllowedSplit f g n h x)
+
+abbrev pub SmoothIsPossible : Type 0
+SmoothIsPossible = (f : ℕ → ℕ) (n x : ℕ) → IsPermutation f n → n % 2 ≡ 0 → x < n → f (f x) ≡ x → f x ≢ x → f x ≢ twin x → Leads (λ g. IsAllowedSmooth f g n x)
+
 -- ---- The new turn is a permutation
 
 abbrev pub PutBeforeIsPermutation : Type 0

@@ -1,6 +1,6 @@
 //! What of a rotation system hangs together: its components, found by a search.
 
-ghost use Rattle.std.specs.Prelude.{◌≡◌, ◌⊎◌, ℕ, ◌+◌, ◌*◌, ◌%◌, ◌<◌, ◌≤◌, ◌↔◌, true, false, length, slice_index, slice_index_or, IfOk, IsTrue};
+ghost use Rattle.std.specs.Prelude.{◌≡◌, ◌⊎◌, ℕ, ◌%◌, ◌<◌, ◌↔◌, true, false, length, IfOk, IsTrue};
 ghost use Rattle.topo_core.specs.Cycles.{IsPermutationList, map_of};
 ghost use Rattle.topo_core.specs.Rotations.{IsComponentCount, IsConnected, Joined, twin};
 ghost use Rattle.topo_perm.specs.Reach.{IsClosed, IsVisit, mark, marked_count};

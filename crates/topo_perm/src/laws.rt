@@ -1,11 +1,12 @@
 //! What changes of a permutation do to its cycles.
 
-ghost use Rattle.std.specs.Prelude.{◌≡◌, ◌≢◌, ℕ, ◌+◌, ◌*◌, ◌/◌, ◌%◌, ◌<◌, ◌≤◌, length, swap, slice_index, IfOk};
+ghost use Rattle.std.specs.Prelude.{◌≡◌, ◌≢◌, ◌+◌, ◌*◌, ◌%◌, ◌<◌, ◌≤◌, length, swap, slice_index, IfOk};
 ghost use Rattle.topo_core.specs.Cycles.{IsBypass, IsPermutationList, SameCycle, cycles_of, map_of};
-ghost use Rattle.topo_core.specs.Rotations.{IsComponentCount, face_next, faces_of, twin};
+ghost use Rattle.topo_core.specs.Rotations.{IsComponentCount, faces_of};
 
 pub mod cuts;
 pub mod edits;
+pub mod faces;
 pub mod renumbering;
 pub mod slabs;
 

@@ -12,8 +12,10 @@
 //! - `laws::exchange`, `laws::bypass`: the code of the two changes that all others consist of.
 //! - `laws::edits`: the five edits of an embedding. `put_before` and `take_out` (and `split` and
 //!   `smooth`) lead from the images that are written to a permutation and to the edit's definition;
-//!   `hang`, `chord`, `unchord`, `split` and `smooth` say what becomes of the points and faces of
-//!   the whole slab, and that live darts stay joined.
+//!   `hang`, `chord`, `unchord`, `split` and `smooth` say that the edit can be made where its
+//!   conditions hold, what becomes of the points and faces of the whole slab, and that live darts
+//!   stay joined.
+//! - `laws::faces`: which darts lie in one face after each edit.
 //! - `laws::slabs`: counts, components and genus of the whole slab, against those of the live darts,
 //!   and the five edits in terms of live counts.
 //! - `laws::renumbering`: darts under new numbers keep counts of classes and cycles, faces, and what
@@ -22,7 +24,7 @@
 //!   face in genus zero parts them, whether it is not crossed or its darts are taken out of the turn.
 #![tactic(auto)]
 
-ghost use Rattle.std.specs.Prelude.{◌≡◌, ◌≢◌, ◌↔◌, ℕ, ◌<◌, ◌≤◌, ◌||◌, ◌^◌, true, false, length, slice_index_or, IsTrue, IfOk};
+ghost use Rattle.std.specs.Prelude.{◌≡◌, ◌↔◌, ℕ, ◌<◌, ◌||◌, false, length, slice_index_or, IsTrue, IfOk};
 ghost use Rattle.topo_core.specs.Cycles.{IsPermutationList, SameCycle, cycles_of, is_met, map_of};
 
 use std::alloc::{AllocError, Allocator};

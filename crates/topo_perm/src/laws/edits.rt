@@ -4,7 +4,7 @@
 //! isolated: two points of its own, and one face. With live segments alone counted, a hang and a
 //! split make one point more, a chord one face more, and an unchord and a smooth take them away.
 
-ghost use Rattle.topo_perm.specs.Edits.{BypassIsPermutation, BypassSplits, BypassStays, ChordFaces, ChordPoints, HangFaces, HangPoints, PutBeforeIsBefore, PutBeforeIsPermutation, SmoothFaces, SmoothPoints, SmoothingIsPermutation, SmoothingIsSmooth, SplitFaces, SplitIsPermutation, SplitPoints, UnchordFaces, UnchordPoints};
+ghost use Rattle.topo_perm.specs.Edits.{BypassIsPermutation, BypassSplits, BypassStays, ChordFaces, ChordIsPossible, ChordPoints, HangFaces, HangIsPossible, HangPoints, PutBeforeIsBefore, PutBeforeIsPermutation, SmoothFaces, SmoothIsPossible, SmoothPoints, SmoothingIsPermutation, SmoothingIsSmooth, SplitFaces, SplitIsPermutation, SplitIsPossible, SplitPoints, UnchordFaces, UnchordIsPossible, UnchordPoints};
 ghost use Rattle.topo_perm.specs.Joins.{ChordConnects, HangConnects, SmoothConnects, SplitConnects, UnchordConnects};
 
 /// A dart by itself is put before another: its two images are written, and all is a turn again.
@@ -22,6 +22,7 @@ pub fn take_out()
 
 /// A new point on a new segment, from a corner.
 pub fn hang()
+    ensures possible { HangIsPossible }
     ensures points { HangPoints }
     ensures faces { HangFaces }
     ensures connected { HangConnects }
@@ -29,6 +30,7 @@ pub fn hang()
 
 /// A new segment between two corners of one face.
 pub fn chord()
+    ensures possible { ChordIsPossible }
     ensures points { ChordPoints }
     ensures faces { ChordFaces }
     ensures connected { ChordConnects }
@@ -36,6 +38,7 @@ pub fn chord()
 
 /// A segment with two faces on its sides goes.
 pub fn unchord()
+    ensures possible { UnchordIsPossible }
     ensures points { UnchordPoints }
     ensures faces { UnchordFaces }
     ensures connected { UnchordConnects }
@@ -43,6 +46,7 @@ pub fn unchord()
 
 /// A new point on a segment.
 pub fn split()
+    ensures possible { SplitIsPossible }
     ensures permutation { SplitIsPermutation }
     ensures points { SplitPoints }
     ensures faces { SplitFaces }
@@ -51,6 +55,7 @@ pub fn split()
 
 /// A point of degree two goes, and one of its two segments.
 pub fn smooth()
+    ensures possible { SmoothIsPossible }
     ensures permutation { SmoothingIsPermutation }
     ensures smooth { SmoothingIsSmooth }
     ensures points { SmoothPoints }

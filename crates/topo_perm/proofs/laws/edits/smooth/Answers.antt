@@ -1,5 +1,6 @@
 use Rattle.topo_perm.proofs.Connecting.{smooth_connects}
 use Rattle.topo_perm.proofs.EditCounts.{smoothing_permutation, smoothing_smooth, smooth_points_law, smooth_faces_law}
+use Rattle.topo_perm.proofs.Possible.{smooth_is_possible}
 use Rattle.topo_perm.proofs.laws.edits.smooth.Goals as goal
 
 pub returns-clause-permutation : goal.returns-clause-permutation
@@ -16,3 +17,6 @@ returns-clause-faces c = smooth_faces_law
 
 pub returns-clause-connected : goal.returns-clause-connected
 returns-clause-connected c = smooth_connects
+
+pub returns-clause-possible : goal.returns-clause-possible
+returns-clause-possible c = smooth_is_possible

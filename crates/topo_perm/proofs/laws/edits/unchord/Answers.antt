@@ -1,5 +1,6 @@
 use Rattle.topo_perm.proofs.Connecting.{unchord_connects}
 use Rattle.topo_perm.proofs.EditCounts.{unchord_points_law, unchord_faces_law}
+use Rattle.topo_perm.proofs.Possible.{unchord_is_possible}
 use Rattle.topo_perm.proofs.laws.edits.unchord.Goals as goal
 
 pub returns-clause-points : goal.returns-clause-points
@@ -10,3 +11,6 @@ returns-clause-faces c = unchord_faces_law
 
 pub returns-clause-connected : goal.returns-clause-connected
 returns-clause-connected c = unchord_connects
+
+pub returns-clause-possible : goal.returns-clause-possible
+returns-clause-possible c = unchord_is_possible
