@@ -19,3 +19,5 @@ pub mod prices;
 pub mod route_laws;
 pub mod routes;
 pub mod rows;
+#[cfg(test)]
+mod tests;
