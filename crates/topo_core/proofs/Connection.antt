@@ -1,7 +1,7 @@
 -- Joined darts, and connectedness by computing what moves reach.
 use Rattle.std.proofs.Common.{◌≡◌, ◌&&◌, ◌||◌, ap, Bool, cond, false, List, refl, subst, suc, sym, true, zero, ℕ, [], ◌++◌, ◌∙◌, ◌∷◌}
-use Rattle.std.proofs.lemmas.Bool.{cond_both}
 use Rattle.std.specs.List.{list_all}
+use Rattle.std.proofs.lemmas.Bool.{cond_both}
 use Rattle.topo_core.specs.declared.darts.Dart.{Dart}
 use Rattle.topo_core.specs.Darts.{dart_twin, same_dart}
 use Rattle.topo_core.specs.Lawful.{IsEmbedding}
@@ -10,6 +10,7 @@ use Rattle.topo_core.specs.Pictures.{seed}
 use Rattle.topo_core.specs.Rotations.{along, moved, Cross, Joined, Move, Turn}
 use Rattle.topo_core.specs.Systems.{darts_in, has_dart, System, turn}
 use Rattle.topo_core.proofs.DartLaws.{for_each, same_dart_true}
+use Rattle.topo_core.proofs.Members.{left_true, or_second, right_true}
 
 -- ---- Moves one after another
 
@@ -66,16 +67,12 @@ AllFrom P (d ∷ ds) = P d × AllFrom P ds
 add_keeps : (P : Dart → Type 0) (d : Dart) (ds : List Dart) → P d → AllFrom P ds → AllFrom P (add d ds)
 add_keeps P d ds h all = cond_both (has_dart ds d) ds (d ∷ ds) (AllFrom P) (λ _. all) (λ _. (h, all))
 
-later : (a b : Bool) → a ≡ false → (a || b) ≡ true → b ≡ true
-later true b e h = cc
-later false b e h = h
-
 all_from_at : (P : Dart → Type 0) (ds : List Dart) (d : Dart) → AllFrom P ds → has_dart ds d ≡ true → P d
 all_from_at P [] d all h = cc
 all_from_at P (x ∷ ds) d all h =
     let by_test : (b : Bool) → same_dart d x ≡ b → P d = λ b. elim b as (λ b. same_dart d x ≡ b → P d) [
       | true ↦ (λ passes. subst P (sym (same_dart_true d x passes)) all.0)
-      | false ↦ (λ fails. all_from_at P ds d all.1 (later (same_dart d x) (has_dart ds d) fails h))
+      | false ↦ (λ fails. all_from_at P ds d all.1 (or_second (same_dart d x) (has_dart ds d) fails h))
     ] in by_test (same_dart d x) refl
 
 module _ (s : System) (root : Dart) where
@@ -100,7 +97,7 @@ module _ (s : System) (root : Dart) where
   source_to c ds all h =
       let by_test : (b : Bool) → has_dart ds (turn s c) ≡ b → To c = λ b. elim b as (λ b. has_dart ds (turn s c) ≡ b → To c) [
         | true ↦ (λ e. joined_through (turn s) dart_twin c (turn s c) root (joined_move (turn s) dart_twin Turn c) (all_from_at To ds (turn s c) all e))
-        | false ↦ (λ e. joined_through (turn s) dart_twin c (dart_twin c) root (joined_move (turn s) dart_twin Cross c) (all_from_at To ds (dart_twin c) all (later (has_dart ds (turn s c)) (has_dart ds (dart_twin c)) e h)))
+        | false ↦ (λ e. joined_through (turn s) dart_twin c (dart_twin c) root (joined_move (turn s) dart_twin Cross c) (all_from_at To ds (dart_twin c) all (or_second (has_dart ds (turn s c)) (has_dart ds (dart_twin c)) e h)))
       ] in by_test (has_dart ds (turn s c)) refl
 
   sources_to : (cs ds : List Dart) → AllFrom To ds → AllFrom To (add_sources s cs ds)
@@ -134,14 +131,6 @@ spreads_from s n (root ∷ ds) = all_in (root ∷ ds) (reached_in s n (root ∷ 
 abbrev pub spreads_in : System → ℕ → Bool
 spreads_in s n = spreads_from s n (darts_in s)
 
-left_true : (a b : Bool) → (a && b) ≡ true → a ≡ true
-left_true true b h = refl
-left_true false b h = h
-
-right_true : (a b : Bool) → (a && b) ≡ true → b ≡ true
-right_true true b h = h
-right_true false b h = cc
-
 spread_joins : (s : System) (n : ℕ) (ds : List Dart) → spreads_from s n ds ≡ true → (c d : Dart) → has_dart ds c ≡ true → has_dart ds d ≡ true → Joined (turn s) dart_twin c d
 spread_joins s n [] reached c d from to = cc
 spread_joins s n (root ∷ ds) reached c d from to =
@@ -156,8 +145,6 @@ connected_by_spread s n reached c d from to = spread_joins s n (darts_in s) reac
 -- two vertices with an edge between them are an embedding
 pub seed_is_embedding : IsEmbedding seed
 seed_is_embedding = record {
-  paths = refl;
-  crossings = refl;
-  rotations = refl;
+  well_formed = record { paths = refl; crossings = refl; rotations = refl };
   connected = record { no_bare_point = refl; joined = connected_by_spread (system seed) 2 refl };
 }

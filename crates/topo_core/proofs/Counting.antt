@@ -1,12 +1,12 @@
 -- Sums and counts over lists, and what stands in a list whose ids rise.
 use Rattle.std.proofs.Common.{◌≡◌, ◌+◌, ◌<◌, ◌≤◌, ◌||◌, ap, arith, Bool, cond, eqb, false, inl, inr, length, List, not, refl, Some, subst, suc, sym, true, zero, ℕ, [], ◌∙◌, ◌∷◌}
-use Rattle.std.specs.Prelude.{count_by, find, flat_map, map, nat_lt, option_map, slice_get, sum_by, unwrap_or, ◌==◌, ◌⊎◌}
+use Rattle.std.specs.Prelude.{count_by, find, flat_map, map, nat_lt, option_map, slice_get, sum_by, unwrap_or, ◌==◌}
 use Rattle.std.specs.List.{list_any, position_or_len, range_with_len}
-use Rattle.std.proofs.lemmas.Bool.{false≢true}
 use Rattle.std.proofs.lemmas.Bool.Decides.{nat_tests}
 use Rattle.std.proofs.lemmas.List.Sums.{sum_by-append, sum_by-cons}
+use Rattle.std.proofs.lemmas.Bool.{cases_Bool, eq-eqb, eqb-true, false≢true}
 use Rattle.topo_core.specs.Items.{IsIn, occurrences, rises_below}
-use Rattle.topo_core.proofs.Members.{counted_at, eq_true, right_true, left_true}
+use Rattle.topo_core.proofs.Members.{counted_at, left_true, right_true}
 
 -- 1 where the test holds, and else 0
 abbrev pub one : Bool → ℕ
@@ -14,37 +14,35 @@ one b = cond {A = ℕ} b 1 0
 
 -- ---- Tests
 
--- a test is true or false
-pub is_or_not : (b : Bool) → (b ≡ true) ⊎ (b ≡ false)
-is_or_not true = inl refl
-is_or_not false = inr refl
-
-pub eqb_is : (m n : ℕ) → m ≡ n → eqb m n ≡ true
-eqb_is m n h = grind (arith, nat_tests)
-
+-- numbers in order are not equal
 pub eqb_less : (m n : ℕ) → m < n → eqb m n ≡ false
 eqb_less m n h = grind (arith, nat_tests)
 
 pub eqb_more : (m n : ℕ) → n < m → eqb m n ≡ false
 eqb_more m n h = grind (arith, nat_tests)
 
+-- the test of two numbers, the other way round
 pub eqb_symm : (m n : ℕ) → eqb m n ≡ eqb n m
 eqb_symm m n = grind (arith, nat_tests)
 
+-- what the test of an order says
 pub lt_of_test : (m n : ℕ) → nat_lt m n ≡ true → m < n
 lt_of_test m n h = grind (arith, nat_tests)
 
 pub le_of_test : (m n : ℕ) → nat_lt m n ≡ false → n ≤ m
 le_of_test m n h = grind (arith, nat_tests)
 
+-- and that an order passes it
 pub lt_test : (m n : ℕ) → m < n → nat_lt m n ≡ true
 lt_test m n h = grind (arith, nat_tests)
 
-pub not_lt_test : (m n : ℕ) → n ≤ m → nat_lt m n ≡ false
-not_lt_test m n h = grind (arith, nat_tests)
-
 eqb_suc : (m n : ℕ) → eqb (suc m) (1 + n) ≡ eqb m n
 eqb_suc m n = grind (arith, nat_tests)
+
+-- what a test counts is at most 1
+pub at_most_one : (t : Bool) (n : ℕ) → n ≡ one t → n ≤ 1
+at_most_one true n e = omega arith
+at_most_one false n e = omega arith
 
 -- ---- Sums
 
@@ -65,6 +63,7 @@ sum_nothing f (x ∷ xs) none =
     let rest = sum_nothing f xs (λ y h. none y (inr h)) in
     let left = sum_by-cons f x xs in omega arith
 
+-- a sum over images
 pub sum_of_map : {X Y : Type 0} (g : Y → ℕ) (f : X → Y) (xs : List X) → sum_by g (map f xs) ≡ sum_by (λ x. g (f x)) xs
 sum_of_map g f [] = refl
 sum_of_map g f (x ∷ xs) =
@@ -116,7 +115,7 @@ sum_found id g limit k (x ∷ xs) rises = by_test (sum_found id g limit k xs (ri
       → sum_by (λ x. cond {A = ℕ} (id x == k) (g x) 0) (x ∷ xs) ≡ unwrap_or (option_map g (cond (id x == k) (Some x) (find (λ x. id x == k) xs))) 0
   by_test rest_found true e =
       let here : cond {A = ℕ} (id x == k) (g x) 0 ≡ g x = ap (λ (t : Bool). cond {A = ℕ} t (g x) 0) e in
-      let rest = no_other (eq_true (id x) k e) in
+      let rest = no_other (eqb-true (id x) k e) in
       let all : sum_by (λ x. cond {A = ℕ} (id x == k) (g x) 0) (x ∷ xs) ≡ g x = omega (arith, step) in
       all ∙ sym (ap (λ (t : Bool). unwrap_or (option_map g (cond t (Some x) (find (λ x. id x == k) xs))) 0) e)
   by_test rest false e =
@@ -145,7 +144,7 @@ once_in_range k a (suc n) low high = by_test (λ more. once_in_range k (a + 1) n
   by_test : (a + 1 ≤ k → sum_by (λ v. one (k == v)) (range_with_len (a + 1) n) ≡ 1) → (t : Bool) → (k == a) ≡ t → sum_by (λ v. one (k == v)) (range_with_len a (suc n)) ≡ 1
   by_test later true e =
       let here : one (k == a) ≡ 1 = ap one e in
-      let same = eq_true k a e in
+      let same = eqb-true k a e in
       let rest = not_in_range k (a + 1) n (omega arith) in omega (arith, step)
   by_test later false e =
       let here : one (k == a) ≡ 0 = ap one e in
@@ -160,13 +159,14 @@ past_range k a (suc n) high =
 
 -- how often k stands in the range of the first n numbers
 pub in_first : (k n : ℕ) → sum_by (λ v. one (k == v)) (range_with_len 0 n) ≡ one (nat_lt k n)
-in_first k n = elim (is_or_not (nat_lt k n)) [
+in_first k n = elim (cases_Bool (nat_lt k n)) [
   | inl e ↦ once_in_range k 0 n (omega arith) (let h = lt_of_test k n e in omega arith) ∙ sym (ap one e)
   | inr e ↦ past_range k 0 n (let h = le_of_test k n e in omega arith) ∙ sym (ap one e)
 ]
 
 -- ---- Places in a list of numbers
 
+-- a number under a test
 pub weigh_yes : (t : Bool) (n : ℕ) → t ≡ true → cond {A = ℕ} t n 0 ≡ n
 weigh_yes t n e = ap (λ (b : Bool). cond {A = ℕ} b n 0) e
 
@@ -185,13 +185,13 @@ place_test [] i z x at once = cc
 place_test (y ∷ path) zero z x at once =
     let same : y ≡ z = cc in
     let step = sum_by-cons (λ y. one (y == x)) y path in
-    elim (is_or_not (y == x)) [
+    elim (cases_Bool (y == x)) [
       | inl e ↦
-          let e_is = eq_true y x e in
-          let at_place : eqb 0 (position_or_len (λ y. y == x) (y ∷ path)) ≡ true = eqb_is 0 _ (sym (place_here x y path e)) in
+          let e_is = eqb-true y x e in
+          let at_place : eqb 0 (position_or_len (λ y. y == x) (y ∷ path)) ≡ true = eq-eqb 0 _ (sym (place_here x y path e)) in
           let here = weigh_yes _ (occurrences x (y ∷ path)) at_place in
           let counted : one (y == x) ≡ 1 = ap one e in
-          let wanted : one (x == z) ≡ 1 = ap one (eqb_is x z (sym e_is ∙ same)) in omega arith
+          let wanted : one (x == z) ≡ 1 = ap one (eq-eqb x z (sym e_is ∙ same)) in omega arith
       | inr e ↦
           let off : eqb 0 (position_or_len (λ y. y == x) (y ∷ path)) ≡ false = eqb_less 0 _ (let p = place_later x y path e in omega arith) in
           let here = weigh_no _ (occurrences x (y ∷ path)) off in
@@ -199,13 +199,13 @@ place_test (y ∷ path) zero z x at once =
     ]
 place_test (y ∷ path) (suc i) z x at once =
     let step = sum_by-cons (λ y. one (y == x)) y path in
-    elim (is_or_not (y == x)) [
+    elim (cases_Bool (y == x)) [
       | inl e ↦
           let off : eqb (suc i) (position_or_len (λ y. y == x) (y ∷ path)) ≡ false = eqb_more (suc i) _ (let p = place_here x y path e in omega arith) in
           let here = weigh_no _ (occurrences x (y ∷ path)) off in
           let counted : one (y == x) ≡ 1 = ap one e in
-          let wanted : one (x == z) ≡ 0 = elim (is_or_not (x == z)) [
-            | inl f ↦ absurd (let more = counted_at x path i (at ∙ ap Some (sym (eq_true x z f))) in omega arith)
+          let wanted : one (x == z) ≡ 0 = elim (cases_Bool (x == z)) [
+            | inl f ↦ absurd (let more = counted_at x path i (at ∙ ap Some (sym (eqb-true x z f))) in omega arith)
             | inr f ↦ ap one f
           ] in omega arith
       | inr e ↦
@@ -218,11 +218,11 @@ place_test (y ∷ path) (suc i) z x at once =
 
 -- and past the end it is never counted
 pub place_past : (path : List ℕ) (i x : ℕ) → length path ≤ i → cond {A = ℕ} (i == position_or_len (λ y. y == x) path) (occurrences x path) 0 ≡ 0
-place_past [] i x past = elim (is_or_not (i == 0)) [ inl e ↦ weigh_yes (i == 0) 0 e | inr e ↦ weigh_no (i == 0) 0 e ]
+place_past [] i x past = elim (cases_Bool (i == 0)) [ inl e ↦ weigh_yes (i == 0) 0 e | inr e ↦ weigh_no (i == 0) 0 e ]
 place_past (y ∷ path) zero x past = absurd (omega arith)
 place_past (y ∷ path) (suc i) x past =
     let step = sum_by-cons (λ y. one (y == x)) y path in
-    elim (is_or_not (y == x)) [
+    elim (cases_Bool (y == x)) [
       | inl e ↦ weigh_no _ (occurrences x (y ∷ path)) (eqb_more (suc i) _ (let p = place_here x y path e in omega arith))
       | inr e ↦
           let counted : one (y == x) ≡ 0 = ap one e in
@@ -239,16 +239,17 @@ pub any_counted : {X : Type 0} (p : X → Bool) (xs : List X) → list_any p xs 
 any_counted p [] h = cc
 any_counted p (x ∷ xs) h =
     let step = sum_by-cons (λ x. one (p x)) x xs in
-    elim (is_or_not (p x)) [
+    elim (cases_Bool (p x)) [
       | inl e ↦ let here : one (p x) ≡ 1 = ap one e in omega arith
       | inr e ↦ let rest = any_counted p xs (sym (ap (λ b. b || list_any p xs) e) ∙ h) in omega arith
     ]
 
+-- where none passes none is counted
 pub none_counted_any : {X : Type 0} (p : X → Bool) (xs : List X) → list_any p xs ≡ false → count_by p xs ≡ 0
 none_counted_any p [] h = refl
 none_counted_any p (x ∷ xs) h =
     let step = sum_by-cons (λ x. one (p x)) x xs in
-    elim (is_or_not (p x)) [
+    elim (cases_Bool (p x)) [
       | inl e ↦ absurd (false≢true (sym h ∙ ap (λ b. b || list_any p xs) e))
       | inr e ↦
           let here : one (p x) ≡ 0 = ap one e in
@@ -257,5 +258,5 @@ none_counted_any p (x ∷ xs) h =
 
 -- what is counted once or never stands in the list or does not
 pub counted_any : {X : Type 0} (p : X → Bool) (xs : List X) (t : Bool) → count_by p xs ≡ one t → list_any p xs ≡ t
-counted_any p xs true e = elim (is_or_not (list_any p xs)) [ inl h ↦ h | inr h ↦ absurd (let z = none_counted_any p xs h in omega arith) ]
-counted_any p xs false e = elim (is_or_not (list_any p xs)) [ inl h ↦ absurd (let z = any_counted p xs h in omega arith) | inr h ↦ h ]
+counted_any p xs true e = elim (cases_Bool (list_any p xs)) [ inl h ↦ h | inr h ↦ absurd (let z = none_counted_any p xs h in omega arith) ]
+counted_any p xs false e = elim (cases_Bool (list_any p xs)) [ inl h ↦ absurd (let z = any_counted p xs h in omega arith) | inr h ↦ h ]

@@ -1,5 +1,5 @@
 -- Darts: twins, and the test that tells whether two darts are the same.
-use Rattle.std.proofs.Common.{◌≡◌, ◌≢◌, ◌&&◌, ◌||◌, ap, arith, Bool, false, List, refl, true, [], ◌∙◌, ◌∷◌}
+use Rattle.std.proofs.Common.{◌≡◌, ◌≢◌, ap, arith, Bool, false, List, refl, true, [], ◌∙◌, ◌∷◌}
 use Rattle.std.proofs.lemmas.Bool.Decides.{nat_tests}
 use Rattle.std.specs.List.{list_all}
 use Rattle.topo_core.specs.declared.darts.Dart.{Dart}
@@ -7,6 +7,7 @@ use Rattle.topo_core.specs.declared.darts.Way.{Way}
 use Rattle.topo_core.specs.declared.darts.Way.TheVariants.{Forward, Back}
 use Rattle.topo_core.specs.Darts.{dart_twin, reversed, same_dart, same_way}
 use Rattle.topo_core.specs.Systems.{has_dart}
+use Rattle.topo_core.proofs.Members.{left_true, or_second, right_true}
 
 -- ---- Twins
 
@@ -51,23 +52,11 @@ same_dart_true c d e = let parts = same_parts c d e in let ways = same_way_true 
 
 -- ---- A test of each dart of a list
 
-left_true : (a b : Bool) → (a && b) ≡ true → a ≡ true
-left_true true b h = refl
-left_true false b h = h
-
-right_true : (a b : Bool) → (a && b) ≡ true → b ≡ true
-right_true true b h = h
-right_true false b h = cc
-
-later : (a b : Bool) → a ≡ false → (a || b) ≡ true → b ≡ true
-later true b e h = cc
-later false b e h = h
-
 -- what a test says of each dart of a list
 pub for_each : (p : Dart → Bool) (ds : List Dart) → list_all p ds ≡ true → (d : Dart) → has_dart ds d ≡ true → p d ≡ true
 for_each p [] all d h = cc
 for_each p (c ∷ ds) all d h =
     let by_test : (b : Bool) → same_dart d c ≡ b → p d ≡ true = λ b. elim b as (λ b. same_dart d c ≡ b → p d ≡ true) [
       | true ↦ (λ e. ap p (same_dart_true d c e) ∙ left_true (p c) (list_all p ds) all)
-      | false ↦ (λ e. for_each p ds (right_true (p c) (list_all p ds) all) d (later (same_dart d c) (has_dart ds d) e h))
+      | false ↦ (λ e. for_each p ds (right_true (p c) (list_all p ds) all) d (or_second (same_dart d c) (has_dart ds d) e h))
     ] in by_test (same_dart d c) refl

@@ -8,69 +8,60 @@ use Rattle.std.proofs.lemmas.List.{get_or_append_left, get_or-set_same, get_or-s
 use Rattle.std.proofs.lemmas.List.Folds.{find-append}
 use Rattle.std.proofs.lemmas.List.FromFn.{map-range_with_len_more}
 use Rattle.std.proofs.lemmas.List.Sums.{sum_by-cons, sum_by_push, sum_by-insert}
+use Rattle.std.proofs.lemmas.Bool.{and_from, cases_Bool, eq-eqb, eqb-true, or_left, or_right}
 use Rattle.topo_core.specs.declared.rows.Rows.{Rows}
 use Rattle.topo_core.specs.declared.rows.EdgeRow.{EdgeRow}
 use Rattle.topo_core.specs.Items.{IsIn, occurrences, rises_below}
-use Rattle.topo_core.specs.Picture.{around_crossing, around_vertex, clockwise, cross_row, edge_at, edge_row, end_dart, place_on, rotation, segment_count, system, vertices}
+use Rattle.topo_core.specs.Picture.{around_crossing, around_vertex, clockwise, cross_row, darts, edge_at, edge_row, end_dart, place_on, rotation, segment_count, system, vertices}
 use Rattle.topo_core.specs.Pictures.{back, forward}
-use Rattle.topo_core.specs.Systems.{Connected, darts_in, has_dart, System}
+use Rattle.topo_core.specs.Systems.{Connected, darts_in, has_dart, System, turn}
 use Rattle.topo_core.specs.Darts.{same_dart}
 use Rattle.topo_core.specs.declared.darts.Dart.{Dart}
 use Rattle.topo_core.specs.declared.rows.CrossRow.{CrossRow}
 use Rattle.topo_core.specs.Lawful.{has_good_paths, has_good_path, has_good_rotation, has_good_rotations, has_good_crossings, is_good_crossing, IsEmbedding}
 use Rattle.topo_core.specs.Changes.{grown, put_in, with_end}
-use Rattle.topo_core.proofs.Members.{left_true, right_true, test_of_each, in_range, eq_true, in_left, in_map, in_right}
-use Rattle.topo_core.proofs.Standing.{good_crossing, is_of_rows, stands_once}
-use Rattle.topo_core.proofs.NewDarts.{new_system, old_system, stays_connected}
-use Rattle.topo_core.proofs.Counting.{counted_any, one}
-use Rattle.topo_core.proofs.SystemDarts.{edge_at_row, path_facts, some_of, row_id, row_in, or_left, or_right_true, eqb_self}
+use Rattle.topo_core.proofs.Counting.{at_most_one, counted_any, eqb_less, eqb_more, lt_of_test, lt_test, one}
+use Rattle.topo_core.proofs.DartLaws.{same_dart_true}
+use Rattle.topo_core.proofs.Members.{in_left, in_map, in_range, in_right, left_true, range_below, range_from, right_true, test_of_each}
+use Rattle.topo_core.proofs.NewDarts.{new_system, old_system, reaches_new, stays_connected, turn_of_old, turn_of_twin}
+use Rattle.topo_core.proofs.Standing.{good_crossing, is_of_rows, stands_once, system_test}
+use Rattle.topo_core.proofs.SystemDarts.{edge_at_row, eqb_self, path_facts, row_id, row_in, some_of}
 
 -- ---- Tests of lists
 
+-- a test of all, from a test of each
 pub all_from : {X : Type 0} (p : X → Bool) (xs : List X) → ((x : X) → IsIn x xs → p x ≡ true) → list_all p xs ≡ true
 all_from p [] each = refl
 all_from p (x ∷ xs) each = ap (λ b. b && list_all p xs) (each x (inl refl)) ∙ all_from p xs (λ y h. each y (inr h))
 
+-- a test of all numbers of a range
 pub all_range : (p : ℕ → Bool) (a n : ℕ) → ((v : ℕ) → a ≤ v → v < a + n → p v ≡ true) → list_all p (range_with_len a n) ≡ true
 all_range p a zero each = refl
 all_range p a (suc n) each = ap (λ b. b && list_all p (range_with_len (a + 1) n)) (each a (omega arith) (omega arith)) ∙ all_range p (a + 1) n (λ v low high. each v (omega arith) (omega arith))
 
-and_true : (a b : Bool) → a ≡ true → b ≡ true → (a && b) ≡ true
-and_true a b h k = ap (λ t. t && b) h ∙ k
-
-lt_true : (m n : ℕ) → nat_lt m n ≡ true → m < n
-lt_true m n h = grind (arith, nat_tests)
-
-eq_test : (m n : ℕ) → m ≡ n → eqb m n ≡ true
-eq_test m n h = grind (arith, nat_tests)
-
-lt_is_true : (m n : ℕ) → m < n → nat_lt m n ≡ true
-lt_is_true m n h = grind (arith, nat_tests)
-
-ne_test : (m n : ℕ) → m < n → eqb m n ≡ false
-ne_test m n h = grind (arith, nat_tests)
-
 -- ids that rise below a limit are below it
 pub below_limit : (limit : ℕ) (xs : List ℕ) → rises_below limit xs ≡ true → (x : ℕ) → IsIn x xs → x < limit
 below_limit limit [] h x k = absurd k
-below_limit limit (y ∷ []) h x (inl e) = subst (λ z. z < limit) (sym e) (lt_true y limit (left_true (nat_lt y limit) true h))
+below_limit limit (y ∷ []) h x (inl e) = subst (λ z. z < limit) (sym e) (lt_of_test y limit (left_true (nat_lt y limit) true h))
 below_limit limit (y ∷ []) h x (inr k) = absurd k
 below_limit limit (y ∷ z ∷ xs) h x (inl e) =
-    let first = lt_true y z (left_true (nat_lt y z) (rises_below limit (z ∷ xs)) h) in
+    let first = lt_of_test y z (left_true (nat_lt y z) (rises_below limit (z ∷ xs)) h) in
     let second = below_limit limit (z ∷ xs) (right_true (nat_lt y z) (rises_below limit (z ∷ xs)) h) z (inl refl) in omega arith
 below_limit limit (y ∷ z ∷ xs) h x (inr k) = below_limit limit (z ∷ xs) (right_true (nat_lt y z) (rises_below limit (z ∷ xs)) h) x k
 
 -- ---- An edge put into a rotation
 
+-- how often x stands once f is put in
 pub occurrences-put_in : (p f : ℕ) (around : List ℕ) (x : ℕ) → occurrences x (put_in p f around) ≡ occurrences x around + cond {A = ℕ} (f == x) 1 0
 occurrences-put_in zero f around x = sum_by_push (λ y. cond (y == x) 1 0) around f
 occurrences-put_in (suc p) f around x = sum_by-insert (λ y. cond (y == x) 1 0) around (suc p) f
 
+-- what is above all of a list does not stand in it
 pub none_counted : (x : ℕ) (xs : List ℕ) → ((y : ℕ) → IsIn y xs → y < x) → occurrences x xs ≡ 0
 none_counted x [] below = refl
 none_counted x (y ∷ xs) below =
     let step = sum_by-cons (λ y. cond (y == x) 1 0) y xs in
-    let first : cond {A = ℕ} (y == x) 1 0 ≡ 0 = ap (λ (t : Bool). cond {A = ℕ} t 1 0) (ne_test y x (below y (inl refl))) in
+    let first : cond {A = ℕ} (y == x) 1 0 ≡ 0 = ap (λ (t : Bool). cond {A = ℕ} t 1 0) (eqb_less y x (below y (inl refl))) in
     let rest = none_counted x xs (λ z h. below z (inr h)) in omega arith
 
 in_append : {X : Type 0} (x : X) (xs ys : List X) → IsIn x (xs ++ ys) → IsIn x xs ⊎ IsIn x ys
@@ -89,6 +80,7 @@ in_drop x zero xs h = h
 in_drop x (suc n) [] h = absurd h
 in_drop x (suc n) (y ∷ xs) h = inr (in_drop x n xs h)
 
+-- what stands in the list once f is put in
 pub in_put_in : (x p f : ℕ) (around : List ℕ) → IsIn x (put_in p f around) → (x ≡ f) ⊎ IsIn x around
 in_put_in x zero f around h = elim (in_append x around (f ∷ []) h) [ inl k ↦ inr k | inr k ↦ elim k [ inl e ↦ inl e | inr none ↦ absurd none ] ]
 in_put_in x (suc p) f around h = elim (in_append x (take (suc p) around) (f ∷ drop (suc p) around) h) [
@@ -96,6 +88,7 @@ in_put_in x (suc p) f around h = elim (in_append x (take (suc p) around) (f ∷ 
   | inr k ↦ elim k [ inl e ↦ inl e | inr k ↦ inr (in_drop x (suc p) around k) ]
 ]
 
+-- the first of the list stays the first
 pub first_put_in : (p f : ℕ) (around : List ℕ) → p < length around → get_or (put_in p f around) 0 0 ≡ get_or around 0 0
 first_put_in p f [] h = absurd (omega arith)
 first_put_in zero f (x ∷ around) h = refl
@@ -109,6 +102,7 @@ pub record IsPutIn (p f : ℕ) (around : List ℕ) : Type 0 where
   pub was : around ≡ head ∷ front ++ back
   pub now : put_in p f around ≡ head ∷ front ++ f ∷ back
 
+-- where it stands
 pub is_put_in : (p f : ℕ) (around : List ℕ) → p < length around → IsPutIn p f around
 is_put_in p f [] h = absurd (omega arith)
 is_put_in zero f (e ∷ around) h = record { head = e; front = around; back = []; was = ap (λ list. e ∷ list) (sym (append-nil around)); now = refl }
@@ -116,6 +110,7 @@ is_put_in (suc p) f (e ∷ around) h = record { head = e; front = take p around;
 
 -- ---- Lists made from equal functions, and ranges in parts
 
+-- functions that agree on a list make the same list of it
 pub map_same : {X Y : Type 0} (f g : X → Y) (xs : List X) → ((x : X) → IsIn x xs → f x ≡ g x) → map f xs ≡ map g xs
 map_same f g [] same = refl
 map_same f g (x ∷ xs) same = let here = same x (inl refl) in let rest = map_same f g xs (λ y h. same y (inr h)) in cc
@@ -128,16 +123,6 @@ range_split a zero m n k total at =
     ap (range_with_len a) n_is ∙ ap (λ j. j ∷ range_with_len (j + 1) m) (sym k_is)
 range_split a (suc u) m zero k total at = absurd (omega arith)
 range_split a (suc u) m (suc n) k total at = ap (λ list. a ∷ list) (range_split (a + 1) u m n k (omega arith) (omega arith))
-
-pub range_from : (v a n : ℕ) → IsIn v (range_with_len a n) → a ≤ v
-range_from v a zero h = absurd h
-range_from v a (suc n) (inl e) = omega arith
-range_from v a (suc n) (inr h) = let k = range_from v (a + 1) n h in omega arith
-
-pub range_below : (v a n : ℕ) → IsIn v (range_with_len a n) → v < a + n
-range_below v a zero h = absurd h
-range_below v a (suc n) (inl e) = omega arith
-range_below v a (suc n) (inr h) = let k = range_below v (a + 1) n h in omega arith
 
 -- ---- What is found in a longer list
 
@@ -152,20 +137,14 @@ none_found q (x ∷ xs) none = ap (λ (b : Bool). cond b (Some x) (find q xs)) (
 
 -- a list of rising ids with the next id at its end
 pub rises_push : (limit : ℕ) (xs : List ℕ) → rises_below limit xs ≡ true → rises_below (limit + 1) (xs ++ limit ∷ []) ≡ true
-rises_push limit [] h = and_true (nat_lt limit (limit + 1)) true (lt_is_true limit (limit + 1) (omega arith)) refl
-rises_push limit (x ∷ []) h = and_true (nat_lt x limit) _ (left_true (nat_lt x limit) true h) (and_true (nat_lt limit (limit + 1)) true (lt_is_true limit (limit + 1) (omega arith)) refl)
-rises_push limit (x ∷ y ∷ xs) h = and_true (nat_lt x y) _ (left_true (nat_lt x y) (rises_below limit (y ∷ xs)) h) (rises_push limit (y ∷ xs) (right_true (nat_lt x y) (rises_below limit (y ∷ xs)) h))
+rises_push limit [] h = and_from (nat_lt limit (limit + 1)) true (lt_test limit (limit + 1) (omega arith)) refl
+rises_push limit (x ∷ []) h = and_from (nat_lt x limit) _ (left_true (nat_lt x limit) true h) (and_from (nat_lt limit (limit + 1)) true (lt_test limit (limit + 1) (omega arith)) refl)
+rises_push limit (x ∷ y ∷ xs) h = and_from (nat_lt x y) _ (left_true (nat_lt x y) (rises_below limit (y ∷ xs)) h) (rises_push limit (y ∷ xs) (right_true (nat_lt x y) (rises_below limit (y ∷ xs)) h))
 
 -- ---- The rotations of a grown picture
 
-ne_test_above : (m n : ℕ) → n < m → eqb m n ≡ false
-ne_test_above m n h = grind (arith, nat_tests)
-
 le_test : (m n : ℕ) → m ≤ n → nat_le m n ≡ true
 le_test m n h = grind (arith, nat_tests)
-
-le_true : (m n : ℕ) → nat_le m n ≡ true → m ≤ n
-le_true m n h = grind (arith, nat_tests)
 
 some_found_more : {X : Type 0} (q : X → Bool) (xs ys : List X) → is_some (find q xs) ≡ true → is_some (find q (xs ++ ys)) ≡ true
 some_found_more q [] ys h = cc
@@ -194,7 +173,7 @@ just_one : (after before new t : ℕ) → after ≡ before + new → new ≡ 1 �
 just_one after before new t e o z h = omega arith
 
 none_here : (x f : ℕ) → x < f → occurrences x (f ∷ []) ≡ 0
-none_here x f h = ap (λ (t : Bool). 0 + cond {A = ℕ} t 1 0) (ne_test_above f x h)
+none_here x f h = ap (λ (t : Bool). 0 + cond {A = ℕ} t 1 0) (eqb_more f x h)
 
 one_here : (f : ℕ) → occurrences f (f ∷ []) ≡ 1
 one_here f = ap (λ (t : Bool). 0 + cond {A = ℕ} t 1 0) (eqb_self f)
@@ -221,6 +200,15 @@ first_below : {f p : ℕ} (around : List ℕ) → ((e : ℕ) → IsIn e around �
 first_below [] below h = absurd (omega arith)
 first_below (x ∷ around) below h = let one = below x (inl refl) in omega arith
 
+-- the turn of the rows after a growth, in terms of the turn before it: the new dart comes between two old ones, its twin is by itself
+pub record IsGrownTurn (rows after : Rows) : Type 0 where
+  pub old_turns : (d : Dart) → d.edge ≢ rows.next_edge
+      → (turn (system after) d ≡ turn (system rows) d) ⊎ ((turn (system after) d ≡ forward rows.next_edge 0) × (turn (system after) (forward rows.next_edge 0) ≡ turn (system rows) d))
+  pub alone : turn (system after) (back rows.next_edge 0) ≡ back rows.next_edge 0
+  pub source : Dart
+  pub source_in : has_dart (darts rows) source ≡ true
+  pub leads_in : turn (system after) source ≡ forward rows.next_edge 0
+
 module _ (rows : Rows) (u p kind : ℕ) (paths : has_good_paths rows ≡ true) (rotations : has_good_rotations rows ≡ true) (u_in : u < length rows.rotations) (p_in : p < length (rotation rows u)) where
   row_below : (row : EdgeRow) → IsIn row rows.edges → row.id < rows.next_edge
   row_below row h = below_limit rows.next_edge (map (λ row. row.id) rows.edges) (left_true _ (list_all (has_good_path rows) rows.edges) paths) row.id (in_map (λ row. row.id) row rows.edges h)
@@ -229,7 +217,7 @@ module _ (rows : Rows) (u p kind : ℕ) (paths : has_good_paths rows ≡ true) (
   old_at v inside = test_of_each (has_good_rotation rows) v (vertices rows) rotations (in_range 0 (length rows.rotations) v (omega arith) (omega arith))
 
   old_counts : (v : ℕ) → v < length rows.rotations → (row : EdgeRow) → IsIn row rows.edges → occurrences row.id (rotation rows v) ≡ cond {A = ℕ} (row.a == v || row.b == v) 1 0
-  old_counts v inside row h = eq_true _ _ (test_of_each (λ row. occurrences row.id (rotation rows v) == (if row.a == v || row.b == v then 1 else 0)) row rows.edges (left_true _ _ (left_true _ _ (old_at v inside))) h)
+  old_counts v inside row h = eqb-true _ _ (test_of_each (λ row. occurrences row.id (rotation rows v) == (if row.a == v || row.b == v then 1 else 0)) row rows.edges (left_true _ _ (left_true _ _ (old_at v inside))) h)
 
   old_known : (v : ℕ) → v < length rows.rotations → (e : ℕ) → IsIn e (rotation rows v) → is_some (edge_row rows e) ≡ true
   old_known v inside e h = test_of_each (λ e. is_some (edge_row rows e)) e (rotation rows v) (right_true _ _ (left_true _ _ (old_at v inside))) h
@@ -258,13 +246,13 @@ module _ (rows : Rows) (u p kind : ℕ) (paths : has_good_paths rows ≡ true) (
   assemble v around same old_ones new_one known least = subst
       (λ (list : List ℕ). (list_all (λ row. occurrences row.id list == (if row.a == v || row.b == v then 1 else 0)) after.edges && list_all (λ e. is_some (edge_row after e)) list && list_all (nat_le (get_or list 0 0)) list) ≡ true)
       (sym same)
-      (and_true _ _ (and_true _ _
+      (and_from _ _ (and_from _ _
       (all_from (λ row. occurrences row.id around == (if row.a == v || row.b == v then 1 else 0)) after.edges (λ row h. elim (in_append row rows.edges (new_row ∷ []) h) [
-        | inl old ↦ eq_test _ _ (old_ones row old)
-        | inr k ↦ elim k [ inl e ↦ subst (λ (r : EdgeRow). (occurrences r.id around == (if r.a == v || r.b == v then 1 else 0)) ≡ true) (sym e) (eq_test _ _ new_one) | inr none ↦ absurd none ]
+        | inl old ↦ eq-eqb _ _ (old_ones row old)
+        | inr k ↦ elim k [ inl e ↦ subst (λ (r : EdgeRow). (occurrences r.id around == (if r.a == v || r.b == v then 1 else 0)) ≡ true) (sym e) (eq-eqb _ _ new_one) | inr none ↦ absurd none ]
       ]))
       (all_from (λ e. is_some (edge_row after e)) around (λ e h. elim (known e h) [
-        | inl is_new ↦ some_found_last (λ row. row.id == e) rows.edges new_row (eq_test rows.next_edge e (sym is_new))
+        | inl is_new ↦ some_found_last (λ row. row.id == e) rows.edges new_row (eq-eqb rows.next_edge e (sym is_new))
         | inr old ↦ some_found_more (λ row. row.id == e) rows.edges (new_row ∷ []) old
       ])))
       (all_from (nat_le (get_or around 0 0)) around least))
@@ -300,7 +288,7 @@ module _ (rows : Rows) (u p kind : ℕ) (paths : has_good_paths rows ≡ true) (
       rotation_u
       (λ row h.
       let more = occurrences-put_in p rows.next_edge (rotation rows u) row.id in
-      let none : cond {A = ℕ} (rows.next_edge == row.id) 1 0 ≡ 0 = ap (λ (t : Bool). cond {A = ℕ} t 1 0) (ne_test_above rows.next_edge row.id (row_below row h)) in
+      let none : cond {A = ℕ} (rows.next_edge == row.id) 1 0 ≡ 0 = ap (λ (t : Bool). cond {A = ℕ} t 1 0) (eqb_more rows.next_edge row.id (row_below row h)) in
       no_more _ _ _ _ more none (old_counts u u_in row h))
       (let more = occurrences-put_in p rows.next_edge (rotation rows u) rows.next_edge in
       let one : cond {A = ℕ} (rows.next_edge == rows.next_edge) 1 0 ≡ 1 = ap (λ (t : Bool). cond {A = ℕ} t 1 0) (eqb_self rows.next_edge) in
@@ -320,7 +308,7 @@ module _ (rows : Rows) (u p kind : ℕ) (paths : has_good_paths rows ≡ true) (
       (λ row h.
       let facts = path_facts rows paths row h in
       none_here row.id rows.next_edge (row_below row h) ∙ sym (untouched_by row.a row.b (length rows.rotations) facts.a_in facts.b_in))
-      (one_here rows.next_edge ∙ sym (ap (λ (t : Bool). cond {A = ℕ} t 1 0) (or_right_true (u == length rows.rotations) (length rows.rotations == length rows.rotations) (eqb_self (length rows.rotations)))))
+      (one_here rows.next_edge ∙ sym (ap (λ (t : Bool). cond {A = ℕ} t 1 0) (or_right (u == length rows.rotations) (length rows.rotations == length rows.rotations) (eqb_self (length rows.rotations)))))
       (λ e h. elim h [ inl k ↦ inl k | inr none ↦ absurd none ])
       (λ e h. elim h [ inl k ↦ le_test rows.next_edge e (same_le rows.next_edge e k) | inr none ↦ absurd none ])
 
@@ -332,17 +320,18 @@ module _ (rows : Rows) (u p kind : ℕ) (paths : has_good_paths rows ≡ true) (
   pub rotations_after_growth : has_good_rotations after ≡ true
   rotations_after_growth = all_range (has_good_rotation after) 0 (length after.rotations) (λ v low high.
       let by_u : (b : Bool) → eqb v u ≡ b → has_good_rotation after v ≡ true = λ b. elim b as (λ b. eqb v u ≡ b → has_good_rotation after v ≡ true) [
-        | true ↦ (λ passes. subst (λ w. has_good_rotation after w ≡ true) (sym (eq_true v u passes)) at_u)
+        | true ↦ (λ passes. subst (λ w. has_good_rotation after w ≡ true) (sym (eqb-true v u passes)) at_u)
         | false ↦ (λ fails.
             let by_new : (b : Bool) → nat_lt v (length rows.rotations) ≡ b → has_good_rotation after v ≡ true = λ b. elim b as (λ b. nat_lt v (length rows.rotations) ≡ b → has_good_rotation after v ≡ true) [
-              | true ↦ (λ inside. at_other v (lt_true v (length rows.rotations) inside) (ne_from v u fails))
+              | true ↦ (λ inside. at_other v (lt_of_test v (length rows.rotations) inside) (ne_from v u fails))
               | false ↦ (λ outside. subst (λ w. has_good_rotation after w ≡ true) (last_vertex v (length rows.rotations) outside (subst (λ n. v < n) (vertices_after) high)) at_new)
             ] in by_new (nat_lt v (length rows.rotations)) refl)
       ] in by_u (eqb v u) refl)
 
   -- ---- Its paths and crossings
 
-  more_vertices : length after.rotations ≡ length rows.rotations + 1
+  -- one vertex more
+  pub more_vertices : length after.rotations ≡ length rows.rotations + 1
   more_vertices = let e = vertices_after in omega arith
 
   old_path : (row : EdgeRow) → has_good_path rows row ≡ true → has_good_path after row ≡ true
@@ -355,8 +344,9 @@ module _ (rows : Rows) (u p kind : ℕ) (paths : has_good_paths rows ≡ true) (
       subst (λ n. (nat_lt u n && nat_lt (length rows.rotations) n && not (u == length rows.rotations) && nat_lt kind 64 && true) ≡ true)
       (sym more_vertices) (one_edge_more u (length rows.rotations) kind u_in known)
 
+  -- the paths of the grown picture are good
   pub paths_after_growth : kind < 64 → has_good_paths after ≡ true
-  paths_after_growth known = and_true (rises_below (rows.next_edge + 1) (map (λ row. row.id) (rows.edges ++ new_row ∷ []))) _
+  paths_after_growth known = and_from (rises_below (rows.next_edge + 1) (map (λ row. row.id) (rows.edges ++ new_row ∷ []))) _
       (ap (rises_below (rows.next_edge + 1)) (map-append (λ row. row.id) rows.edges (new_row ∷ []))
       ∙ rises_push rows.next_edge (map (λ row. row.id) rows.edges) (left_true _ (list_all (has_good_path rows) rows.edges) paths))
       (all_from (has_good_path after) (rows.edges ++ new_row ∷ []) (λ row h. elim (in_append row rows.edges (new_row ∷ []) h) [
@@ -368,20 +358,21 @@ module _ (rows : Rows) (u p kind : ℕ) (paths : has_good_paths rows ≡ true) (
   known_below : (e : ℕ) → is_some (edge_row rows e) ≡ true → e < rows.next_edge
   known_below e known = let pick = some_of (edge_row rows e) known in subst (λ f. f < rows.next_edge) (row_id rows e pick.0 pick.1) (row_below pick.0 (row_in rows e pick.0 pick.1))
 
+  -- and so are its crossings
   pub crossings_after_growth : has_good_crossings rows ≡ true → has_good_crossings after ≡ true
-  crossings_after_growth crossings = and_true (rises_below rows.next_crossing (map (λ x. x.id) rows.crossings)) _
+  crossings_after_growth crossings = and_from (rises_below rows.next_crossing (map (λ x. x.id) rows.crossings)) _
       (left_true (rises_below rows.next_crossing (map (λ x. x.id) rows.crossings)) (list_all (is_good_crossing rows) rows.crossings) crossings)
       (all_from (is_good_crossing after) rows.crossings (λ x h.
       let good = good_crossing rows crossings x h in
-      and_true _ _ (and_true _ _ (and_true _ _
+      and_from _ _ (and_from _ _ (and_from _ _
       (ap not good.apart)
       (some_found_more (λ row. row.id == x.crossed) rows.edges (new_row ∷ []) good.crossed))
       (some_found_more (λ row. row.id == x.newcomer) rows.edges (new_row ∷ []) good.newcomer))
       (all_from (λ row. occurrences x.id row.crossings == (if row.id == x.crossed || row.id == x.newcomer then 1 else 0)) (rows.edges ++ new_row ∷ []) (λ row k. elim (in_append row rows.edges (new_row ∷ []) k) [
-        | inl old ↦ eq_test _ _ (good.counted row old)
+        | inl old ↦ eq-eqb _ _ (good.counted row old)
         | inr last ↦ elim last [
           | inl e ↦ ap (λ (r : EdgeRow). occurrences x.id r.crossings == (if r.id == x.crossed || r.id == x.newcomer then 1 else 0)) e
-              ∙ eq_test 0 _ (sym (neither rows.next_edge x.crossed x.newcomer (known_below x.crossed good.crossed) (known_below x.newcomer good.newcomer)))
+              ∙ eq-eqb 0 _ (sym (neither rows.next_edge x.crossed x.newcomer (known_below x.crossed good.crossed) (known_below x.newcomer good.newcomer)))
           | inr none ↦ absurd none
         ]
       ]))))
@@ -389,7 +380,7 @@ module _ (rows : Rows) (u p kind : ℕ) (paths : has_good_paths rows ≡ true) (
   -- ---- Its rotation system
 
   no_new_row_before : edge_row rows rows.next_edge ≡ None
-  no_new_row_before = none_found (λ row. row.id == rows.next_edge) rows.edges (λ row h. ne_test row.id rows.next_edge (row_below row h))
+  no_new_row_before = none_found (λ row. row.id == rows.next_edge) rows.edges (λ row h. eqb_less row.id rows.next_edge (row_below row h))
 
   new_edge_at : edge_at after rows.next_edge ≡ new_row
   new_edge_at = edge_at_row after rows.next_edge new_row
@@ -459,7 +450,7 @@ module _ (rows : Rows) (u p kind : ℕ) (paths : has_good_paths rows ≡ true) (
   around_new : around_vertex after (length rows.rotations) ≡ new_twin ∷ []
   around_new =
       ap (map (end_dart after (length rows.rotations))) rotation_new
-      ∙ ap (λ d. d ∷ []) (new_end_dart (length rows.rotations) ∙ ap (λ (t : Bool). cond {A = Dart} t new_dart new_twin) (ne_test u (length rows.rotations) u_in))
+      ∙ ap (λ d. d ∷ []) (new_end_dart (length rows.rotations) ∙ ap (λ (t : Bool). cond {A = Dart} t new_dart new_twin) (eqb_less u (length rows.rotations) u_in))
 
   -- how many vertices stand behind u
   abbrev others : ℕ
@@ -505,15 +496,12 @@ module _ (rows : Rows) (u p kind : ℕ) (paths : has_good_paths rows ≡ true) (
       ∙ append_assoc (points_before ++ (first_dart ∷ front_darts ++ new_dart ∷ back_darts) ∷ points_behind) ((new_twin ∷ []) ∷ []) points_crossed
 
   -- the new edge has no dart before
-  nowhere_before : (d : Dart) → d.edge ≡ rows.next_edge → has_good_crossings rows ≡ true → has_dart (darts_in (system rows)) d ≡ false
+  pub nowhere_before : (d : Dart) → d.edge ≡ rows.next_edge → has_good_crossings rows ≡ true → has_dart (darts_in (system rows)) d ≡ false
   nowhere_before d is_new crossings = counted_any (same_dart d) (darts_in (system rows)) false
       (stands_once rows paths crossings rotations d
       ∙ ap (λ (o : Option EdgeRow). one (is_some o && nat_lt d.seg (segment_count (edge_at rows d.edge)))) (ap (edge_row rows) is_new ∙ no_new_row_before))
 
-  at_most_one : (t : Bool) (n : ℕ) → n ≡ one t → n ≤ 1
-  at_most_one true n e = omega arith
-  at_most_one false n e = omega arith
-
+  -- the grown picture is connected
   pub connected_after_growth : has_good_crossings rows ≡ true → Connected (system rows) → Connected (system after)
   connected_after_growth crossings connected = subst Connected (sym (system_after crossings))
       (stays_connected points_before points_behind points_crossed first_dart front_darts back_darts new_dart new_twin
@@ -523,11 +511,36 @@ module _ (rows : Rows) (u p kind : ℕ) (paths : has_good_paths rows ≡ true) (
       (subst (λ s. (d : Dart) → count_by (same_dart d) (darts_in s) ≤ 1) system_before (λ d. at_most_one (is_of_rows rows d) _ (stands_once rows paths crossings rotations d)))
       (subst Connected system_before connected))
 
+  not_new : (d c : Dart) → c.edge ≡ rows.next_edge → d.edge ≢ rows.next_edge → same_dart d c ≡ false
+  not_new d c is_new old = elim (cases_Bool (same_dart d c)) [ inl e ↦ absurd (old (ap (λ y. y.edge) (same_dart_true d c e) ∙ is_new)) | inr e ↦ e ]
+
+  -- the new dart comes between an old one and the one that followed it
+  pub turns_after_growth : has_good_crossings rows ≡ true → IsGrownTurn rows after
+  turns_after_growth crossings =
+      let no_dart = subst (λ s. has_dart (darts_in s) new_dart ≡ false) system_before (nowhere_before new_dart refl crossings) in
+      let no_twin = subst (λ s. has_dart (darts_in s) new_twin ≡ false) system_before (nowhere_before new_twin refl crossings) in
+      let once = subst (λ s. (d : Dart) → count_by (same_dart d) (darts_in s) ≤ 1) system_before (λ d. at_most_one (is_of_rows rows d) _ (stands_once rows paths crossings rotations d)) in
+      let now = λ (d : Dart). ap (λ s. turn s d) (system_after crossings) in
+      let was = λ (d : Dart). ap (λ s. turn s d) system_before in
+      let source = reaches_new points_before points_behind points_crossed first_dart front_darts back_darts new_dart new_twin no_dart no_twin refl once in
+      record {
+        old_turns = λ d old. elim (turn_of_old points_before points_behind points_crossed first_dart front_darts back_darts new_dart new_twin no_dart no_twin refl d (not_new d new_dart refl old) (not_new d new_twin refl old)) [
+          | inl same ↦ inl (now d ∙ same ∙ sym (was d))
+          | inr between ↦ inr (now d ∙ between.0, now new_dart ∙ between.1 ∙ sym (was d))
+        ];
+        alone = now new_twin ∙ turn_of_twin points_before points_behind points_crossed first_dart front_darts back_darts new_dart new_twin no_dart no_twin refl;
+        source = source.0;
+        source_in = sym (system_test rows paths crossings rotations source.0) ∙ ap (λ s. has_dart (darts_in s) source.0) system_before ∙ source.1;
+        leads_in = now source.0 ∙ source.2;
+      }
+
 -- a growth at a corner makes an embedding of an embedding
 pub growth_keeps_embedding : (rows : Rows) → IsEmbedding rows → (u p kind : ℕ) → u < length rows.rotations → p < length (rotation rows u) → kind < 64 → IsEmbedding (grown rows u p kind)
 growth_keeps_embedding rows good u p kind u_in p_in known = record {
-  paths = paths_after_growth rows u p kind good.paths good.rotations u_in p_in known;
-  crossings = crossings_after_growth rows u p kind good.paths good.rotations u_in p_in good.crossings;
-  rotations = rotations_after_growth rows u p kind good.paths good.rotations u_in p_in;
-  connected = connected_after_growth rows u p kind good.paths good.rotations u_in p_in good.crossings good.connected;
+  well_formed = record {
+    paths = paths_after_growth rows u p kind good.well_formed.paths good.well_formed.rotations u_in p_in known;
+    crossings = crossings_after_growth rows u p kind good.well_formed.paths good.well_formed.rotations u_in p_in good.well_formed.crossings;
+    rotations = rotations_after_growth rows u p kind good.well_formed.paths good.well_formed.rotations u_in p_in;
+  };
+  connected = connected_after_growth rows u p kind good.well_formed.paths good.well_formed.rotations u_in p_in good.well_formed.crossings good.connected;
 }

@@ -5,10 +5,14 @@ pub mod Counting
 pub mod DartLaws
 pub mod DartOrder
 pub mod Growing
+pub mod GrownFaces
+pub mod Lengthening
 pub mod Members
 pub mod NewDarts
 pub mod Numbering
+pub mod Orbits
 pub mod Renumbering
+pub mod RouteDarts
 pub mod Standing
 pub mod SystemDarts
 pub mod Turning

@@ -1,20 +1,24 @@
 -- Members of lists.
-use Rattle.std.proofs.Common.{◌≡◌, ℕ, zero, suc, ◌+◌, ◌<◌, ◌≤◌, Bool, true, false, cond, not, ◌&&◌, List, [], ◌∷◌, ◌++◌, Some, eqb, refl, sym, ap, subst, ◌∙◌, arith, inl, inr}
+use Rattle.std.proofs.Common.{◌≡◌, ◌||◌, ℕ, zero, suc, ◌+◌, ◌<◌, ◌≤◌, Bool, true, false, cond, ◌&&◌, List, [], ◌∷◌, ◌++◌, Some, eqb, refl, sym, ap, subst, ◌∙◌, arith, inl, inr}
 use Rattle.std.specs.Prelude.{map, flat_map, find, slice_get, count_by}
-use Rattle.std.specs.List.{list_all, range_with_len, position_or_len}
+use Rattle.std.specs.List.{list_all, range_with_len}
 use Rattle.std.proofs.lemmas.Bool.Decides.{nat_tests}
 use Rattle.topo_core.specs.Items.{IsIn}
 use Rattle.std.proofs.lemmas.List.Sums.{sum_by-cons}
+use Rattle.std.proofs.lemmas.Bool.{eq-eqb, eqb-true}
 
+-- items of the first part
 pub in_left : {X : Type 0} (x : X) (xs ys : List X) → IsIn x xs → IsIn x (xs ++ ys)
 in_left x (y ∷ xs) ys (inl e) = inl e
 in_left x (y ∷ xs) ys (inr h) = inr (in_left x xs ys h)
 in_left x [] ys h = absurd h
 
+-- items of the second part
 pub in_right : {X : Type 0} (x : X) (xs ys : List X) → IsIn x ys → IsIn x (xs ++ ys)
 in_right x [] ys h = h
 in_right x (y ∷ xs) ys h = inr (in_right x xs ys h)
 
+-- images of items
 pub in_map : {X Y : Type 0} (f : X → Y) (x : X) (xs : List X) → IsIn x xs → IsIn (f x) (map f xs)
 in_map f x [] h = absurd h
 in_map f x (y ∷ xs) (inl e) = inl (ap f e)
@@ -26,6 +30,7 @@ in_joined x xs [] h k = absurd k
 in_joined x xs (list ∷ lists) h (inl e) = in_left x list (flat_map (λ list. list) lists) (subst (IsIn x) e h)
 in_joined x xs (list ∷ lists) h (inr k) = in_right x list (flat_map (λ list. list) lists) (in_joined x xs lists h k)
 
+-- the parts of a test that holds
 pub left_true : (a b : Bool) → (a && b) ≡ true → a ≡ true
 left_true true b h = refl
 left_true false b h = h
@@ -33,6 +38,11 @@ left_true false b h = h
 pub right_true : (a b : Bool) → (a && b) ≡ true → b ≡ true
 right_true true b h = h
 right_true false b h = cc
+
+-- the second of two tests, where the first fails
+pub or_second : (a b : Bool) → a ≡ false → (a || b) ≡ true → b ≡ true
+or_second true b e h = cc
+or_second false b e h = h
 
 -- what a test says of each item
 pub test_of_each : {X : Type 0} (p : X → Bool) (x : X) (xs : List X) → list_all p xs ≡ true → IsIn x xs → p x ≡ true
@@ -55,60 +65,38 @@ found p x (y ∷ xs) e =
       | false ↦ (λ fails. let rest = found p x xs (found_later p x y xs fails e) in (inr rest.0, rest.1))
     ] in by_test (p y) refl
 
-pub eq_true : (y x : ℕ) → eqb y x ≡ true → y ≡ x
-eq_true y x e = grind (arith, nat_tests)
-
 past : (v a : ℕ) → eqb v a ≡ false → a ≤ v → a + 1 ≤ v
 past v a fails low = grind (arith, nat_tests)
 
+-- the numbers from a on, n in all
 pub in_range : (a n v : ℕ) → a ≤ v → v < a + n → IsIn v (range_with_len a n)
 in_range a zero v low high = absurd (omega arith)
 in_range a (suc n) v low high =
     let by_test : (b : Bool) → eqb v a ≡ b → IsIn v (range_with_len a (suc n)) = λ b. elim b as (λ b. eqb v a ≡ b → IsIn v (range_with_len a (suc n))) [
-      | true ↦ (λ passes. inl (eq_true v a passes))
+      | true ↦ (λ passes. inl (eqb-true v a passes))
       | false ↦ (λ fails. inr (in_range (a + 1) n v (past v a fails low) (omega arith)))
     ] in by_test (eqb v a) refl
 
-count_later : (x y : ℕ) (xs : List ℕ) → eqb y x ≡ false → count_by (λ y. eqb y x) (y ∷ xs) ≡ 1 → count_by (λ y. eqb y x) xs ≡ 1
-count_later x y xs fails e = let step = sum_by-cons (λ y. cond (eqb y x) 1 0) y xs in let drop : cond {A = ℕ} (eqb y x) 1 0 ≡ 0 = ap (λ (b : Bool). cond {A = ℕ} b 1 0) fails in omega arith
+-- the numbers of a range
+pub range_from : (v a n : ℕ) → IsIn v (range_with_len a n) → a ≤ v
+range_from v a zero h = absurd h
+range_from v a (suc n) (inl e) = omega arith
+range_from v a (suc n) (inr h) = let k = range_from v (a + 1) n h in omega arith
 
--- what is counted once is an item
-pub in_counted : (x : ℕ) (xs : List ℕ) → count_by (λ y. eqb y x) xs ≡ 1 → IsIn x xs
-in_counted x [] e = cc
-in_counted x (y ∷ xs) e =
-    let by_test : (b : Bool) → eqb y x ≡ b → IsIn x (y ∷ xs) = λ b. elim b as (λ b. eqb y x ≡ b → IsIn x (y ∷ xs)) [
-      | true ↦ (λ passes. inl (sym (eq_true y x passes)))
-      | false ↦ (λ fails. inr (in_counted x xs (count_later x y xs fails e)))
-    ] in by_test (eqb y x) refl
+pub range_below : (v a n : ℕ) → IsIn v (range_with_len a n) → v < a + n
+range_below v a zero h = absurd h
+range_below v a (suc n) (inl e) = omega arith
+range_below v a (suc n) (inr h) = let k = range_below v (a + 1) n h in omega arith
 
--- ---- The place of a number that stands once
+-- ---- Places
 
-eq_test : (y x : ℕ) → y ≡ x → eqb y x ≡ true
-eq_test y x e = grind (arith, nat_tests)
-
-twice : (x y : ℕ) (xs : List ℕ) (i : ℕ) → eqb y x ≡ true → 1 ≤ count_by (λ y. eqb y x) xs → count_by (λ y. eqb y x) (y ∷ xs) ≡ 1 → ⊥
-twice x y xs i passes more once =
-    let one : cond {A = ℕ} (eqb y x) 1 0 ≡ 1 = ap (λ (t : Bool). cond {A = ℕ} t 1 0) passes in
-    let step = sum_by-cons (λ y. cond (eqb y x) 1 0) y xs in omega arith
-
-next_place : (m i : ℕ) → m ≡ i → 1 + m ≡ suc i
-next_place m i e = omega arith
-
+-- what stands at a place is counted
 pub counted_at : (x : ℕ) (xs : List ℕ) (i : ℕ) → slice_get xs i ≡ Some x → 1 ≤ count_by (λ y. eqb y x) xs
 counted_at x [] i e = cc
 counted_at x (y ∷ xs) zero e =
     let same : y ≡ x = cc in
-    let one : cond {A = ℕ} (eqb y x) 1 0 ≡ 1 = ap (λ (t : Bool). cond {A = ℕ} t 1 0) (eq_test y x same) in
+    let one : cond {A = ℕ} (eqb y x) 1 0 ≡ 1 = ap (λ (t : Bool). cond {A = ℕ} t 1 0) (eq-eqb y x same) in
     let step = sum_by-cons (λ y. cond (eqb y x) 1 0) y xs in omega arith
 counted_at x (y ∷ xs) (suc i) e =
     let step = sum_by-cons (λ y. cond (eqb y x) 1 0) y xs in
     let rest = counted_at x xs i e in omega arith
-
-pub place_of : (x : ℕ) (xs : List ℕ) (i : ℕ) → slice_get xs i ≡ Some x → count_by (λ y. eqb y x) xs ≡ 1 → position_or_len (λ y. eqb y x) xs ≡ i
-place_of x [] i e once = cc
-place_of x (y ∷ xs) zero e once = let same : y ≡ x = cc in ap (λ (t : Bool). cond {A = ℕ} (not t) (1 + position_or_len (λ y. eqb y x) xs) 0) (eq_test y x same)
-place_of x (y ∷ xs) (suc i) e once =
-    let by_test : (b : Bool) → eqb y x ≡ b → position_or_len (λ y. eqb y x) (y ∷ xs) ≡ suc i = λ b. elim b as (λ b. eqb y x ≡ b → position_or_len (λ y. eqb y x) (y ∷ xs) ≡ suc i) [
-      | true ↦ (λ passes. absurd (twice x y xs i passes (counted_at x xs i e) once))
-      | false ↦ (λ fails. ap (λ (t : Bool). cond {A = ℕ} (not t) (1 + position_or_len (λ y. eqb y x) xs) 0) fails ∙ next_place _ i (place_of x xs i e (count_later x y xs fails once)))
-    ] in by_test (eqb y x) refl

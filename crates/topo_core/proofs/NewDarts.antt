@@ -2,20 +2,21 @@
 use Rattle.std.proofs.Common.{◌≡◌, ◌+◌, ◌≤◌, ◌||◌, ap, append_assoc, arith, Bool, cond, false, inl, inr, length, List, refl, subst, sym, true, [], ◌++◌, ◌∙◌, ◌∷◌}
 use Rattle.std.specs.Prelude.{count_by, slice_index_or, ◌==◌, ◌⊎◌}
 use Rattle.std.specs.List.{list_any}
-use Rattle.std.proofs.lemmas.Bool.{false≢true}
 use Rattle.std.proofs.lemmas.List.Concat.{flat_map-append}
 use Rattle.std.proofs.lemmas.List.Sums.{sum_by-append, sum_by-cons}
 use Rattle.std.proofs.Math.Bool.{or_assoc}
+use Rattle.std.proofs.lemmas.Bool.{cases_Bool, false≢true, or_left, or_right}
 use Rattle.topo_core.specs.declared.darts.Dart.{Dart}
 use Rattle.topo_core.specs.Darts.{dart_twin, same_dart}
 use Rattle.topo_core.specs.Rotations.{along, Cross, Joined, Move, Turn}
 use Rattle.topo_core.specs.Systems.{Connected, darts_in, follower, has_dart, System, turn}
 use Rattle.topo_core.proofs.Connection.{joined_move, joined_self, joined_through}
-use Rattle.topo_core.proofs.Counting.{any_counted, eqb_more, is_or_not, one}
+use Rattle.topo_core.proofs.Counting.{any_counted, eqb_more, one}
 use Rattle.topo_core.proofs.DartLaws.{same_dart_self, same_dart_true, twin-twin, twin_apart}
 
 -- ---- Tests
 
+-- the parts of a test that fails
 pub or_left_false : (a b : Bool) → (a || b) ≡ false → a ≡ false
 or_left_false true b h = h
 or_left_false false b h = refl
@@ -24,19 +25,9 @@ pub or_right_false : (a b : Bool) → (a || b) ≡ false → b ≡ false
 or_right_false true b h = cc
 or_right_false false b h = h
 
-pub or_either : (a b : Bool) → (a || b) ≡ true → (a ≡ true) ⊎ (b ≡ true)
-or_either true b h = inl refl
-or_either false b h = inr h
-
-pub or_true_left : (a b : Bool) → a ≡ true → (a || b) ≡ true
-or_true_left a b h = ap (λ t. t || b) h
-
-pub or_true_right : (a b : Bool) → b ≡ true → (a || b) ≡ true
-or_true_right true b h = refl
-or_true_right false b h = h
-
 -- ---- Darts of joined lists
 
+-- a dart of one part or of the other
 pub has_dart-append : (xs ys : List Dart) (d : Dart) → has_dart (xs ++ ys) d ≡ (has_dart xs d || has_dart ys d)
 has_dart-append [] ys d = refl
 has_dart-append (x ∷ xs) ys d = ap (λ b. same_dart d x || b) (has_dart-append xs ys d) ∙ sym (or_assoc (same_dart d x) (has_dart xs d) (has_dart ys d))
@@ -45,6 +36,7 @@ has_dart-append (x ∷ xs) ys d = ap (λ b. same_dart d x || b) (has_dart-append
 abbrev pub stands_in : System → Dart → Bool
 stands_in s d = has_dart (darts_in s) d
 
+-- a dart that stands in one part or in the other
 pub stands_in-append : (s t : System) (d : Dart) → stands_in (s ++ t) d ≡ (stands_in s d || stands_in t d)
 stands_in-append s t d = ap (λ ds. has_dart ds d) (flat_map-append (λ around. around) s t) ∙ has_dart-append (darts_in s) (darts_in t) d
 
@@ -58,9 +50,10 @@ turn_outside (around ∷ s) d h =
     ap (λ (b : Bool). cond b (follower (slice_index_or around 0 d) around d) (turn s d)) (or_left_false (has_dart around d) (stands_in s d) both)
     ∙ turn_outside s d (or_right_false (has_dart around d) (stands_in s d) both)
 
+-- a dart of the first part turns as there
 pub turn_first : (s t : System) (d : Dart) → stands_in s d ≡ true → turn (s ++ t) d ≡ turn s d
 turn_first [] t d h = cc
-turn_first (around ∷ s) t d h = elim (is_or_not (has_dart around d)) [
+turn_first (around ∷ s) t d h = elim (cases_Bool (has_dart around d)) [
   | inl e ↦
       ap (λ (b : Bool). cond b (follower (slice_index_or around 0 d) around d) (turn (s ++ t) d)) e
       ∙ sym (ap (λ (b : Bool). cond b (follower (slice_index_or around 0 d) around d) (turn s d)) e)
@@ -69,6 +62,7 @@ turn_first (around ∷ s) t d h = elim (is_or_not (has_dart around d)) [
       ap (λ (y : Dart). cond (has_dart around d) (follower (slice_index_or around 0 d) around d) y) rest
 ]
 
+-- a dart of no point of the first part turns as in the second
 pub turn_second : (s t : System) (d : Dart) → stands_in s d ≡ false → turn (s ++ t) d ≡ turn t d
 turn_second [] t d h = refl
 turn_second (around ∷ s) t d h =
@@ -80,6 +74,7 @@ turn_second (around ∷ s) t d h =
 pub turn_at : (around : List Dart) (t : System) (d : Dart) → has_dart around d ≡ true → turn (around ∷ t) d ≡ follower (slice_index_or around 0 d) around d
 turn_at around t d h = ap (λ (b : Bool). cond b (follower (slice_index_or around 0 d) around d) (turn t d)) h
 
+-- the turn, where d does not stand at the first point
 pub turn_past : (around : List Dart) (t : System) (d : Dart) → has_dart around d ≡ false → turn (around ∷ t) d ≡ turn t d
 turn_past around t d h = ap (λ (b : Bool). cond b (follower (slice_index_or around 0 d) around d) (turn t d)) h
 
@@ -96,7 +91,7 @@ follower_new first x (y ∷ xs) ys h =
 follower_old : (first x d : Dart) (xs ys : List Dart) → same_dart d x ≡ false → has_dart xs x ≡ false
     → (follower first (xs ++ x ∷ ys) d ≡ follower first (xs ++ ys) d) ⊎ ((follower first (xs ++ x ∷ ys) d ≡ x) × (slice_index_or ys 0 first ≡ follower first (xs ++ ys) d))
 follower_old first x d [] ys other new = inl (ap (λ (b : Bool). cond b (slice_index_or ys 0 first) (follower first ys d)) other)
-follower_old first x d (y ∷ []) ys other new = elim (is_or_not (same_dart d y)) [
+follower_old first x d (y ∷ []) ys other new = elim (cases_Bool (same_dart d y)) [
   | inl e ↦ inr (
     ap (λ (b : Bool). cond b x (follower first (x ∷ ys) d)) e,
     sym (ap (λ (b : Bool). cond b (slice_index_or ys 0 first) (follower first ys d)) e),
@@ -106,7 +101,7 @@ follower_old first x d (y ∷ []) ys other new = elim (is_or_not (same_dart d y)
       ∙ ap (λ (b : Bool). cond b (slice_index_or ys 0 first) (follower first ys d)) other
       ∙ sym (ap (λ (b : Bool). cond b (slice_index_or ys 0 first) (follower first ys d)) e))
 ]
-follower_old first x d (y ∷ w ∷ xs) ys other new = elim (is_or_not (same_dart d y)) [
+follower_old first x d (y ∷ w ∷ xs) ys other new = elim (cases_Bool (same_dart d y)) [
   | inl e ↦ inl (
       ap (λ (b : Bool). cond b w (follower first (w ∷ xs ++ x ∷ ys) d)) e
       ∙ sym (ap (λ (b : Bool). cond b w (follower first (w ∷ xs ++ ys) d)) e))
@@ -126,14 +121,14 @@ dart_before first x z (w ∷ zs) ys once =
     let fewer : (d : Dart) → count_by (same_dart d) (w ∷ zs) ≤ 1 = λ d. let step = sum_by-cons (λ c. one (same_dart d c)) z (w ∷ zs) in let most = once d in omega arith in
     let rest = dart_before first x w zs ys fewer in
     let y = rest.0 in
-    let apart : same_dart y z ≡ false = elim (is_or_not (same_dart y z)) [
+    let apart : same_dart y z ≡ false = elim (cases_Bool (same_dart y z)) [
       | inl e ↦ absurd (
           let step = sum_by-cons (λ c. one (same_dart y c)) z (w ∷ zs) in
           let here : one (same_dart y z) ≡ 1 = ap one e in
           let more = any_counted (same_dart y) (w ∷ zs) rest.1 in
           let most = once y in omega arith)
       | inr e ↦ e
-    ] in (y, or_true_right (same_dart y z) (has_dart (w ∷ zs) y) rest.1, ap (λ (b : Bool). cond b w (follower first (w ∷ zs ++ x ∷ ys) y)) apart ∙ rest.2)
+    ] in (y, or_right (same_dart y z) (has_dart (w ∷ zs) y) rest.1, ap (λ (b : Bool). cond b w (follower first (w ∷ zs ++ x ∷ ys) y)) apart ∙ rest.2)
 
 -- ---- Bare points
 
@@ -184,9 +179,9 @@ module _ (before after crossings : System) (z : Dart) (zs ys : List Dart) (x y :
 
   -- the darts of the new system are those of the old one, x and y
   new_or_old : (d : Dart) → stands_in new_system d ≡ true → (stands_in old_system d ≡ true) ⊎ ((d ≡ x) ⊎ (d ≡ y))
-  new_or_old d h = elim (is_or_not (same_dart d x)) [
+  new_or_old d h = elim (cases_Bool (same_dart d x)) [
     | inl e ↦ inr (inl (same_dart_true d x e))
-    | inr not_x ↦ elim (is_or_not (same_dart d y)) [
+    | inr not_x ↦ elim (cases_Bool (same_dart d y)) [
       | inl e ↦ inr (inr (same_dart_true d y e))
       | inr not_y ↦ inl (
           stands_old d
@@ -197,8 +192,8 @@ module _ (before after crossings : System) (z : Dart) (zs ys : List Dart) (x y :
   ]
 
   in_old : (d : Dart) → has_dart (z ∷ zs ++ ys) d ≡ true → stands_in old_system d ≡ true
-  in_old d h = stands_old d ∙ or_true_left (stands_in before d || (has_dart (z ∷ zs ++ ys) d || stands_in after d)) (stands_in crossings d)
-      (or_true_right (stands_in before d) (has_dart (z ∷ zs ++ ys) d || stands_in after d) (or_true_left (has_dart (z ∷ zs ++ ys) d) (stands_in after d) h))
+  in_old d h = stands_old d ∙ or_left (stands_in before d || (has_dart (z ∷ zs ++ ys) d || stands_in after d)) (stands_in crossings d)
+      (or_right (stands_in before d) (has_dart (z ∷ zs ++ ys) d || stands_in after d) (or_left (has_dart (z ∷ zs ++ ys) d) (stands_in after d) h))
 
   abbrev P : System
   P = before ++ (z ∷ zs ++ ys) ∷ after
@@ -208,7 +203,7 @@ module _ (before after crossings : System) (z : Dart) (zs ys : List Dart) (x y :
 
   -- the point of y changes the turn of no other dart
   turn_beside : (s : System) (d : Dart) → same_dart d y ≡ false → turn (s ++ (y ∷ []) ∷ crossings) d ≡ turn (s ++ crossings) d
-  turn_beside s d other = elim (is_or_not (stands_in s d)) [
+  turn_beside s d other = elim (cases_Bool (stands_in s d)) [
     | inl e ↦ turn_first s ((y ∷ []) ∷ crossings) d e ∙ sym (turn_first s crossings d e)
     | inr e ↦ turn_second s ((y ∷ []) ∷ crossings) d e ∙ turn_past (y ∷ []) crossings d (ap (λ b. b || false) other) ∙ sym (turn_second s crossings d e)
   ]
@@ -230,7 +225,7 @@ module _ (before after crossings : System) (z : Dart) (zs ys : List Dart) (x y :
 
   module _ (new_x : stands_in old_system x ≡ false) (new_y : stands_in old_system y ≡ false) (twins : dart_twin x ≡ y) where
     twins_apart : same_dart x y ≡ false
-    twins_apart = elim (is_or_not (same_dart x y)) [ inl e ↦ absurd (twin_apart x (twins ∙ sym (same_dart_true x y e))) | inr e ↦ e ]
+    twins_apart = elim (cases_Bool (same_dart x y)) [ inl e ↦ absurd (twin_apart x (twins ∙ sym (same_dart_true x y e))) | inr e ↦ e ]
 
     x_in_parts : ((stands_in before x || (has_dart (z ∷ zs ++ ys) x || stands_in after x)) || stands_in crossings x) ≡ false
     x_in_parts = sym (stands_old x) ∙ new_x
@@ -243,7 +238,7 @@ module _ (before after crossings : System) (z : Dart) (zs ys : List Dart) (x y :
         ∙ or_left_false (has_dart (z ∷ zs ++ ys) x) (stands_in after x) (or_right_false (stands_in before x) _ (or_left_false _ (stands_in crossings x) x_in_parts)))
 
     in_new_list : has_dart (z ∷ zs ++ x ∷ ys) x ≡ true
-    in_new_list = has_dart-append (z ∷ zs) (x ∷ ys) x ∙ or_true_right (has_dart (z ∷ zs) x) (has_dart (x ∷ ys) x) (ap (λ b. b || has_dart ys x) (same_dart_self x))
+    in_new_list = has_dart-append (z ∷ zs) (x ∷ ys) x ∙ or_right (has_dart (z ∷ zs) x) (has_dart (x ∷ ys) x) (ap (λ b. b || has_dart ys x) (same_dart_self x))
 
     -- the new dart turns to what stands behind it
     turn_of_new : turn new_system x ≡ slice_index_or ys 0 z
@@ -254,14 +249,14 @@ module _ (before after crossings : System) (z : Dart) (zs ys : List Dart) (x y :
         ∙ follower_new z x (z ∷ zs) ys x_not_around
 
     -- an old turn is a new turn, or two of them by way of x
-    turn_of_old : (d : Dart) → same_dart d x ≡ false → same_dart d y ≡ false
+    pub turn_of_old : (d : Dart) → same_dart d x ≡ false → same_dart d y ≡ false
         → (turn new_system d ≡ turn old_system d) ⊎ ((turn new_system d ≡ x) × (turn new_system x ≡ turn old_system d))
-    turn_of_old d not_x not_y = elim (is_or_not (stands_in before d)) [
+    turn_of_old d not_x not_y = elim (cases_Bool (stands_in before d)) [
       | inl e ↦ inl (new_in_parts d not_y ∙ turn_first before ((z ∷ zs ++ x ∷ ys) ∷ (after ++ crossings)) d e ∙ sym (turn_first before ((z ∷ zs ++ ys) ∷ (after ++ crossings)) d e) ∙ sym (old_in_parts d))
       | inr e ↦
           let now = new_in_parts d not_y ∙ turn_second before ((z ∷ zs ++ x ∷ ys) ∷ (after ++ crossings)) d e in
           let was = old_in_parts d ∙ turn_second before ((z ∷ zs ++ ys) ∷ (after ++ crossings)) d e in
-          elim (is_or_not (has_dart (z ∷ zs ++ ys) d)) [
+          elim (cases_Bool (has_dart (z ∷ zs ++ ys) d)) [
             | inl here ↦
                 let now_here = now ∙ turn_at (z ∷ zs ++ x ∷ ys) (after ++ crossings) d (same_list d not_x ∙ here) in
                 let was_here = was ∙ turn_at (z ∷ zs ++ ys) (after ++ crossings) d here in
@@ -275,11 +270,25 @@ module _ (before after crossings : System) (z : Dart) (zs ys : List Dart) (x y :
           ]
     ]
 
+    -- y turns to itself
+    pub turn_of_twin : turn new_system y ≡ y
+    turn_of_twin =
+        let in_parts = sym (stands_old y) ∙ new_y in
+        let points = or_left_false (stands_in before y || (has_dart (z ∷ zs ++ ys) y || stands_in after y)) (stands_in crossings y) in_parts in
+        let not_x : same_dart y x ≡ false = elim (cases_Bool (same_dart y x)) [ inl e ↦ absurd (twin_apart x (twins ∙ same_dart_true y x e)) | inr e ↦ e ] in
+        let not_in_points : stands_in Q y ≡ false =
+        stands_in-append before ((z ∷ zs ++ x ∷ ys) ∷ after) y
+        ∙ ap (λ b. stands_in before y || b) (has_dart-append (z ∷ zs ++ x ∷ ys) (darts_in after) y ∙ ap (λ b. b || stands_in after y) (same_list y not_x))
+        ∙ points in
+        turn_second Q ((y ∷ []) ∷ crossings) y not_in_points
+        ∙ turn_at (y ∷ []) crossings y (or_left (same_dart y y) false (same_dart_self y))
+        ∙ ap (λ (b : Bool). cond b y y) (same_dart_self y)
+
     -- so what an old turn leads to is joined by new turns
     old_turn_joined : (d : Dart) → Joined (turn new_system) dart_twin d (turn old_system d)
-    old_turn_joined d = elim (is_or_not (same_dart d x)) [
+    old_turn_joined d = elim (cases_Bool (same_dart d x)) [
       | inl e ↦ subst (Joined (turn new_system) dart_twin d) (sym (turn_outside old_system d (ap (stands_in old_system) (same_dart_true d x e) ∙ new_x))) (joined_self (turn new_system) dart_twin d)
-      | inr not_x ↦ elim (is_or_not (same_dart d y)) [
+      | inr not_x ↦ elim (cases_Bool (same_dart d y)) [
         | inl e ↦ subst (Joined (turn new_system) dart_twin d) (sym (turn_outside old_system d (ap (stands_in old_system) (same_dart_true d y e) ∙ new_y))) (joined_self (turn new_system) dart_twin d)
         | inr not_y ↦ elim (turn_of_old d not_x not_y) [
           | inl same ↦ subst (Joined (turn new_system) dart_twin d) same (joined_move (turn new_system) dart_twin Turn d)
@@ -299,23 +308,23 @@ module _ (before after crossings : System) (z : Dart) (zs ys : List Dart) (x y :
     pub stays_joined : (c d : Dart) → Joined (turn old_system) dart_twin c d → Joined (turn new_system) dart_twin c d
     stays_joined c d joined = subst (Joined (turn new_system) dart_twin c) joined.leads (moves_joined joined.moves c)
 
-    module _ (once : (d : Dart) → count_by (same_dart d) (darts_in old_system) ≤ 1) (connected : Connected old_system) where
+    module _ (once : (d : Dart) → count_by (same_dart d) (darts_in old_system) ≤ 1) where
       few_around : (d : Dart) → count_by (same_dart d) (z ∷ zs) ≤ 1
       few_around d = let all = count_old d in let most = once d in omega arith
 
       -- some old dart turns to the new one
-      reaches_new : (d : Dart) × (stands_in old_system d ≡ true) × (turn new_system d ≡ x)
+      pub reaches_new : (d : Dart) × (stands_in old_system d ≡ true) × (turn new_system d ≡ x)
       reaches_new =
           let last = dart_before z x z zs ys few_around in
           let d = last.0 in
-          let in_list : has_dart (z ∷ zs ++ ys) d ≡ true = has_dart-append (z ∷ zs) ys d ∙ or_true_left (has_dart (z ∷ zs) d) (has_dart ys d) last.1 in
-          let in_new : has_dart (z ∷ zs ++ x ∷ ys) d ≡ true = has_dart-append (z ∷ zs) (x ∷ ys) d ∙ or_true_left (has_dart (z ∷ zs) d) (has_dart (x ∷ ys) d) last.1 in
+          let in_list : has_dart (z ∷ zs ++ ys) d ≡ true = has_dart-append (z ∷ zs) ys d ∙ or_left (has_dart (z ∷ zs) d) (has_dart ys d) last.1 in
+          let in_new : has_dart (z ∷ zs ++ x ∷ ys) d ≡ true = has_dart-append (z ∷ zs) (x ∷ ys) d ∙ or_left (has_dart (z ∷ zs) d) (has_dart (x ∷ ys) d) last.1 in
           let old = in_old d in_list in
-          let not_y : same_dart d y ≡ false = elim (is_or_not (same_dart d y)) [
+          let not_y : same_dart d y ≡ false = elim (cases_Bool (same_dart d y)) [
             | inl e ↦ absurd (false≢true (sym new_y ∙ ap (stands_in old_system) (sym (same_dart_true d y e)) ∙ old))
             | inr e ↦ e
           ] in
-          let not_before : stands_in before d ≡ false = elim (is_or_not (stands_in before d)) [
+          let not_before : stands_in before d ≡ false = elim (cases_Bool (stands_in before d)) [
             | inl e ↦ absurd (
                 let all = count_old d in
                 let most = once d in
@@ -331,6 +340,7 @@ module _ (before after crossings : System) (z : Dart) (zs ys : List Dart) (x y :
                 ∙ last.2,
           )
 
+    module _ (once : (d : Dart) → count_by (same_dart d) (darts_in old_system) ≤ 1) (connected : Connected old_system) where
       head_or : (first : Dart) (cs : List Dart) → (slice_index_or cs 0 first ≡ first) ⊎ (has_dart cs (slice_index_or cs 0 first) ≡ true)
       head_or first [] = inl refl
       head_or first (c ∷ cs) = inr (ap (λ b. b || has_dart cs c) (same_dart_self c))
@@ -339,7 +349,7 @@ module _ (before after crossings : System) (z : Dart) (zs ys : List Dart) (x y :
       next_is_old : stands_in old_system (slice_index_or ys 0 z) ≡ true
       next_is_old = elim (head_or z ys) [
         | inl first ↦ ap (stands_in old_system) first ∙ in_old z (ap (λ b. b || has_dart (zs ++ ys) z) (same_dart_self z))
-        | inr behind ↦ in_old (slice_index_or ys 0 z) (has_dart-append (z ∷ zs) ys (slice_index_or ys 0 z) ∙ or_true_right (has_dart (z ∷ zs) (slice_index_or ys 0 z)) (has_dart ys (slice_index_or ys 0 z)) behind)
+        | inr behind ↦ in_old (slice_index_or ys 0 z) (has_dart-append (z ∷ zs) ys (slice_index_or ys 0 z) ∙ or_right (has_dart (z ∷ zs) (slice_index_or ys 0 z)) (has_dart ys (slice_index_or ys 0 z)) behind)
       ]
 
       x_leads : Joined (turn new_system) dart_twin x (slice_index_or ys 0 z)
@@ -369,13 +379,13 @@ module _ (before after crossings : System) (z : Dart) (zs ys : List Dart) (x y :
 
       led_from_old : (c : Dart) → stands_in new_system c ≡ true → LedFromOld c
       led_from_old c h =
-          let o = reaches_new.0 in
-          let to_x : Joined (turn new_system) dart_twin o x = subst (Joined (turn new_system) dart_twin o) reaches_new.2 (joined_move (turn new_system) dart_twin Turn o) in
+          let o = (reaches_new once).0 in
+          let to_x : Joined (turn new_system) dart_twin o x = subst (Joined (turn new_system) dart_twin o) (reaches_new once).2 (joined_move (turn new_system) dart_twin Turn o) in
           elim (new_or_old c h) [
             | inl old ↦ (c, old, joined_self (turn new_system) dart_twin c)
             | inr k ↦ elim k [
-              | inl is_x ↦ subst LedFromOld (sym is_x) (o, reaches_new.1, to_x)
-              | inr is_y ↦ subst LedFromOld (sym is_y) (o, reaches_new.1, joined_through (turn new_system) dart_twin o x y to_x x_to_y)
+              | inl is_x ↦ subst LedFromOld (sym is_x) (o, (reaches_new once).1, to_x)
+              | inr is_y ↦ subst LedFromOld (sym is_y) (o, (reaches_new once).1, joined_through (turn new_system) dart_twin o x y to_x x_to_y)
             ]
           ]
 

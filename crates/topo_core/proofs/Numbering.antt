@@ -1,23 +1,24 @@
 -- The darts of an embedding as numbers: what turns, twins and moves are on darts, they are on the numbers.
-use Rattle.std.proofs.Common.{◌≡◌, ◌+◌, ◌<◌, ◌≤◌, ◌||◌, ap, arith, Bool, cond, false, inl, inr, length, List, not, refl, Some, subst, suc, sym, true, zero, ℕ, [], ◌++◌, ◌∙◌, ◌∷◌}
+use Rattle.std.proofs.Common.{◌≡◌, ◌+◌, ◌<◌, ap, arith, Bool, cond, false, inl, inr, length, List, not, refl, Some, subst, suc, sym, true, zero, ℕ, [], ◌++◌, ◌∙◌, ◌∷◌}
 use Rattle.std.specs.Prelude.{flat_map, map, slice_get, slice_index, ◌%◌}
 use Rattle.std.specs.List.{position_or_len, range_with_len}
-use Rattle.std.proofs.lemmas.Bool.{false≢true}
 use Rattle.std.proofs.lemmas.Bool.Decides.{nat_tests}
 use Rattle.std.proofs.lemmas.List.{length-map}
 use Rattle.std.proofs.lemmas.List.Sums.{sum_by-cons}
+use Rattle.std.proofs.lemmas.Bool.{cases_Bool, false≢true, or_left, or_right}
 use Rattle.topo_core.specs.declared.darts.Dart.{Dart}
+use Rattle.topo_core.specs.declared.darts.Way.TheVariants.{Forward, Back}
 use Rattle.topo_core.specs.declared.rows.EdgeRow.{EdgeRow}
 use Rattle.topo_core.specs.declared.rows.Rows.{Rows}
 use Rattle.topo_core.specs.Cycles.{IsPermutationList, map_of}
-use Rattle.topo_core.specs.Darts.{both_ways, dart_twin, same_dart}
+use Rattle.topo_core.specs.Darts.{both_ways, dart_twin, reversed, same_dart}
 use Rattle.topo_core.specs.Lawful.{has_good_crossings, has_good_paths, has_good_rotations}
 use Rattle.topo_core.specs.Picture.{darts, darts_of, index_of, segment_count, system, turn_images}
 use Rattle.topo_core.specs.Rotations.{twin}
 use Rattle.topo_core.specs.Systems.{darts_in, has_dart, turn}
-use Rattle.topo_core.proofs.Counting.{any_counted, is_or_not, one}
+use Rattle.topo_core.proofs.Counting.{any_counted, at_most_one, one}
 use Rattle.topo_core.proofs.DartLaws.{same_dart_self, same_dart_true, twin-twin, twin_apart}
-use Rattle.topo_core.proofs.NewDarts.{or_true_left, or_true_right}
+use Rattle.topo_core.proofs.Members.{or_second}
 use Rattle.topo_core.proofs.Standing.{is_of_rows, listed_once, stands_once, system_test}
 use Rattle.topo_core.proofs.SystemDarts.{get_there}
 use Rattle.topo_core.proofs.Turning.{IsDistinct, turn_apart, turn_in}
@@ -28,15 +29,13 @@ use Rattle.topo_core.proofs.Turning.{IsDistinct, turn_apart, turn_in}
 abbrev pub place_in : List Dart → Dart → ℕ
 place_in ds d = position_or_len (same_dart d) ds
 
-place_here : (ds : List Dart) (c d : Dart) → same_dart d c ≡ true → place_in (c ∷ ds) d ≡ 0
+-- d is the head
+pub place_here : (ds : List Dart) (c d : Dart) → same_dart d c ≡ true → place_in (c ∷ ds) d ≡ 0
 place_here ds c d e = ap (λ (t : Bool). cond {A = ℕ} (not t) (1 + place_in ds d) 0) e
 
-place_later : (ds : List Dart) (c d : Dart) → same_dart d c ≡ false → place_in (c ∷ ds) d ≡ 1 + place_in ds d
+-- d is not the head
+pub place_later : (ds : List Dart) (c d : Dart) → same_dart d c ≡ false → place_in (c ∷ ds) d ≡ 1 + place_in ds d
 place_later ds c d e = ap (λ (t : Bool). cond {A = ℕ} (not t) (1 + place_in ds d) 0) e
-
-later : (a b : Bool) → a ≡ false → (a || b) ≡ true → b ≡ true
-later true b e h = cc
-later false b e h = h
 
 get_next : (ds : List Dart) (c : Dart) (n : ℕ) → slice_get (c ∷ ds) (1 + n) ≡ slice_get ds n
 get_next ds c n = let e : 1 + n ≡ suc n = omega arith in ap (slice_get (c ∷ ds)) e
@@ -44,16 +43,16 @@ get_next ds c n = let e : 1 + n ≡ suc n = omega arith in ap (slice_get (c ∷ 
 -- d stands at its place
 pub get_place : (ds : List Dart) (d : Dart) → has_dart ds d ≡ true → slice_get ds (place_in ds d) ≡ Some d
 get_place [] d h = cc
-get_place (c ∷ ds) d h = elim (is_or_not (same_dart d c)) [
+get_place (c ∷ ds) d h = elim (cases_Bool (same_dart d c)) [
   | inl e ↦ ap (slice_get (c ∷ ds)) (place_here ds c d e) ∙ ap Some (sym (same_dart_true d c e))
-  | inr e ↦ ap (slice_get (c ∷ ds)) (place_later ds c d e) ∙ get_next ds c (place_in ds d) ∙ get_place ds d (later (same_dart d c) (has_dart ds d) e h)
+  | inr e ↦ ap (slice_get (c ∷ ds)) (place_later ds c d e) ∙ get_next ds c (place_in ds d) ∙ get_place ds d (or_second (same_dart d c) (has_dart ds d) e h)
 ]
 
 -- what stands at a place is in the list
 pub has_at : (ds : List Dart) (i : ℕ) (d : Dart) → slice_get ds i ≡ Some d → has_dart ds d ≡ true
 has_at [] i d e = cc
-has_at (c ∷ ds) zero d e = let same : c ≡ d = cc in or_true_left (same_dart d c) (has_dart ds d) (ap (same_dart d) same ∙ same_dart_self d)
-has_at (c ∷ ds) (suc i) d e = or_true_right (same_dart d c) (has_dart ds d) (has_at ds i d e)
+has_at (c ∷ ds) zero d e = let same : c ≡ d = cc in or_left (same_dart d c) (has_dart ds d) (ap (same_dart d) same ∙ same_dart_self d)
+has_at (c ∷ ds) (suc i) d e = or_right (same_dart d c) (has_dart ds d) (has_at ds i d e)
 
 -- in a list that has no dart twice, what stands at a place has that place
 pub place_of_get : (ds : List Dart) → IsDistinct ds → (i : ℕ) (d : Dart) → slice_get ds i ≡ Some d → place_in ds d ≡ i
@@ -61,7 +60,7 @@ place_of_get [] distinct i d e = cc
 place_of_get (c ∷ ds) distinct zero d e = let same : c ≡ d = cc in place_here ds c d (ap (same_dart d) same ∙ same_dart_self d)
 place_of_get (c ∷ ds) distinct (suc i) d e =
     let step = λ (y : Dart). sum_by-cons (λ b. one (same_dart y b)) c ds in
-    elim (is_or_not (same_dart d c)) [
+    elim (cases_Bool (same_dart d c)) [
       | inl same ↦ absurd (
           let sum = step d in
           let here : one (same_dart d c) ≡ 1 = ap one same in
@@ -72,11 +71,12 @@ place_of_get (c ∷ ds) distinct (suc i) d e =
           let next = place_later ds c d apart in omega arith
     ]
 
+-- the place of a dart of the list is below its length
 pub place_less : (ds : List Dart) (d : Dart) → has_dart ds d ≡ true → place_in ds d < length ds
 place_less [] d h = cc
-place_less (c ∷ ds) d h = elim (is_or_not (same_dart d c)) [
+place_less (c ∷ ds) d h = elim (cases_Bool (same_dart d c)) [
   | inl e ↦ let here = place_here ds c d e in omega arith
-  | inr e ↦ let next = place_later ds c d e in let rest = place_less ds d (later (same_dart d c) (has_dart ds d) e h) in omega arith
+  | inr e ↦ let next = place_later ds c d e in let rest = place_less ds d (or_second (same_dart d c) (has_dart ds d) e h) in omega arith
 ]
 
 index_of_map : (f : Dart → ℕ) (ds : List Dart) (i : ℕ) (d : Dart) → slice_get ds i ≡ Some d → slice_index (map f ds) i ≡ f d
@@ -86,20 +86,20 @@ index_of_map f (c ∷ ds) (suc i) d e = index_of_map f ds i d e
 
 -- ---- Twins stand side by side
 
--- each dart at an even place is followed by its twin
+-- each dart at an even place leads forward and is followed by its twin
 abbrev pub IsPaired : List Dart → Type 0
 IsPaired [] = Unit {0}
 IsPaired (c ∷ []) = ⊥
-IsPaired (c ∷ d ∷ ds) = (d ≡ dart_twin c) × IsPaired ds
+IsPaired (c ∷ d ∷ ds) = (c.way ≡ Forward) × (d ≡ dart_twin c) × IsPaired ds
 
 paired_append : (xs ys : List Dart) → IsPaired xs → IsPaired ys → IsPaired (xs ++ ys)
 paired_append [] ys h k = k
 paired_append (c ∷ []) ys h k = absurd h
-paired_append (c ∷ d ∷ xs) ys h k = (h.0, paired_append xs ys h.1 k)
+paired_append (c ∷ d ∷ xs) ys h k = (h.0, h.1, paired_append xs ys h.2 k)
 
 paired_segments : (e : ℕ) (segments : List ℕ) → IsPaired (flat_map (both_ways e) segments)
 paired_segments e [] = tt
-paired_segments e (s ∷ segments) = (refl, paired_segments e segments)
+paired_segments e (s ∷ segments) = (refl, refl, paired_segments e segments)
 
 paired_edges : (edges : List EdgeRow) → IsPaired (flat_map darts_of edges)
 paired_edges [] = tt
@@ -108,10 +108,11 @@ paired_edges (row ∷ edges) = paired_append (darts_of row) (flat_map darts_of e
 even_step : (n : ℕ) → n % 2 ≡ 0 → suc (suc n) % 2 ≡ 0
 even_step n e = omega arith
 
+-- lists of pairs have even length
 pub paired_even : (ds : List Dart) → IsPaired ds → length ds % 2 ≡ 0
 paired_even [] h = refl
 paired_even (c ∷ []) h = absurd h
-paired_even (c ∷ d ∷ ds) h = even_step (length ds) (paired_even ds h.1)
+paired_even (c ∷ d ∷ ds) h = even_step (length ds) (paired_even ds h.2)
 
 twin_step : (n : ℕ) → twin (1 + (1 + n)) ≡ 1 + (1 + twin n)
 twin_step n = grind (arith, nat_tests)
@@ -120,66 +121,88 @@ same_from : (c d : Dart) → c ≡ d → same_dart c d ≡ true
 same_from c d e = ap (same_dart c) (sym e) ∙ same_dart_self c
 
 not_same : (c d : Dart) → (c ≡ d → ⊥) → same_dart c d ≡ false
-not_same c d apart = elim (is_or_not (same_dart c d)) [ inl e ↦ absurd (apart (same_dart_true c d e)) | inr e ↦ e ]
+not_same c d apart = elim (cases_Bool (same_dart c d)) [ inl e ↦ absurd (apart (same_dart_true c d e)) | inr e ↦ e ]
 
 -- the place of the twin is the twin of the place
 pub place_twin : (ds : List Dart) → IsPaired ds → (d : Dart) → has_dart ds d ≡ true → (place_in ds (dart_twin d) ≡ twin (place_in ds d)) × (has_dart ds (dart_twin d) ≡ true)
 place_twin [] h d there = cc
 place_twin (c ∷ []) h d there = absurd h
-place_twin (c ∷ b ∷ ds) h d there = elim (is_or_not (same_dart d c)) [
+place_twin (c ∷ b ∷ ds) h d there = elim (cases_Bool (same_dart d c)) [
   | inl e ↦
       let d_is = same_dart_true d c e in
       let off : same_dart (dart_twin d) c ≡ false = not_same (dart_twin d) c (λ k. twin_apart d (k ∙ sym d_is)) in
-      let on : same_dart (dart_twin d) b ≡ true = same_from (dart_twin d) b (ap dart_twin d_is ∙ sym h.0) in
+      let on : same_dart (dart_twin d) b ≡ true = same_from (dart_twin d) b (ap dart_twin d_is ∙ sym h.1) in
       let first = place_later (b ∷ ds) c (dart_twin d) off in
       let second = place_here ds b (dart_twin d) on in
       let at : place_in (c ∷ b ∷ ds) (dart_twin d) ≡ 1 = omega arith in (
         at ∙ sym (ap twin (place_here (b ∷ ds) c d e)),
-        or_true_right (same_dart (dart_twin d) c) (has_dart (b ∷ ds) (dart_twin d)) (or_true_left (same_dart (dart_twin d) b) (has_dart ds (dart_twin d)) on),
+        or_right (same_dart (dart_twin d) c) (has_dart (b ∷ ds) (dart_twin d)) (or_left (same_dart (dart_twin d) b) (has_dart ds (dart_twin d)) on),
       )
-  | inr not_c ↦ elim (is_or_not (same_dart d b)) [
+  | inr not_c ↦ elim (cases_Bool (same_dart d b)) [
     | inl e ↦
         let d_is = same_dart_true d b e in
-        let on : same_dart (dart_twin d) c ≡ true = same_from (dart_twin d) c (ap dart_twin (d_is ∙ h.0) ∙ twin-twin c) in
+        let on : same_dart (dart_twin d) c ≡ true = same_from (dart_twin d) c (ap dart_twin (d_is ∙ h.1) ∙ twin-twin c) in
         let first = place_later (b ∷ ds) c d not_c in
         let second = place_here ds b d e in
         let at : place_in (c ∷ b ∷ ds) d ≡ 1 = omega arith in (
           place_here (b ∷ ds) c (dart_twin d) on ∙ sym (ap twin at),
-          or_true_left (same_dart (dart_twin d) c) (has_dart (b ∷ ds) (dart_twin d)) on,
+          or_left (same_dart (dart_twin d) c) (has_dart (b ∷ ds) (dart_twin d)) on,
         )
     | inr not_b ↦
-        let twin_not_c : same_dart (dart_twin d) c ≡ false = not_same (dart_twin d) c (λ k. false≢true (sym not_b ∙ same_from d b (sym (twin-twin d) ∙ ap dart_twin k ∙ sym h.0))) in
-        let twin_not_b : same_dart (dart_twin d) b ≡ false = not_same (dart_twin d) b (λ k. false≢true (sym not_c ∙ same_from d c (sym (twin-twin d) ∙ ap dart_twin (k ∙ h.0) ∙ twin-twin c))) in
-        let inside = later (same_dart d b) (has_dart ds d) not_b (later (same_dart d c) (has_dart (b ∷ ds) d) not_c there) in
-        let rest = place_twin ds h.1 d inside in
+        let twin_not_c : same_dart (dart_twin d) c ≡ false = not_same (dart_twin d) c (λ k. false≢true (sym not_b ∙ same_from d b (sym (twin-twin d) ∙ ap dart_twin k ∙ sym h.1))) in
+        let twin_not_b : same_dart (dart_twin d) b ≡ false = not_same (dart_twin d) b (λ k. false≢true (sym not_c ∙ same_from d c (sym (twin-twin d) ∙ ap dart_twin (k ∙ h.1) ∙ twin-twin c))) in
+        let inside = or_second (same_dart d b) (has_dart ds d) not_b (or_second (same_dart d c) (has_dart (b ∷ ds) d) not_c there) in
+        let rest = place_twin ds h.2 d inside in
         let place : place_in (c ∷ b ∷ ds) d ≡ 1 + (1 + place_in ds d) = place_later (b ∷ ds) c d not_c ∙ ap (λ n. 1 + n) (place_later ds b d not_b) in
         let other : place_in (c ∷ b ∷ ds) (dart_twin d) ≡ 1 + (1 + place_in ds (dart_twin d)) = place_later (b ∷ ds) c (dart_twin d) twin_not_c ∙ ap (λ n. 1 + n) (place_later ds b (dart_twin d) twin_not_b) in (
           other ∙ ap (λ n. 1 + (1 + n)) rest.0 ∙ sym (twin_step (place_in ds d)) ∙ sym (ap twin place),
-          or_true_right (same_dart (dart_twin d) c) (has_dart (b ∷ ds) (dart_twin d)) (or_true_right (same_dart (dart_twin d) b) (has_dart ds (dart_twin d)) rest.1),
+          or_right (same_dart (dart_twin d) c) (has_dart (b ∷ ds) (dart_twin d)) (or_right (same_dart (dart_twin d) b) (has_dart ds (dart_twin d)) rest.1),
         )
+  ]
+]
+
+-- forward darts stand at even places
+pub forward_even : (ds : List Dart) → IsPaired ds → (d : Dart) → has_dart ds d ≡ true → d.way ≡ Forward → place_in ds d % 2 ≡ 0
+forward_even [] h d there forward = cc
+forward_even (c ∷ []) h d there forward = absurd h
+forward_even (c ∷ b ∷ ds) h d there forward = elim (cases_Bool (same_dart d c)) [
+  | inl e ↦ ap (λ n. n % 2) (place_here (b ∷ ds) c d e)
+  | inr not_c ↦ elim (cases_Bool (same_dart d b)) [
+    | inl e ↦
+        let leads_back : d.way ≡ Back = ap (λ y. y.way) (same_dart_true d b e ∙ h.1) ∙ ap reversed h.0 in
+        let both : Forward ≡ Back = sym forward ∙ leads_back in cc
+    | inr not_b ↦
+        let inside = or_second (same_dart d b) (has_dart ds d) not_b (or_second (same_dart d c) (has_dart (b ∷ ds) d) not_c there) in
+        let rest = forward_even ds h.2 d inside forward in
+        let first = place_later (b ∷ ds) c d not_c in
+        let second = place_later ds b d not_b in omega arith
   ]
 ]
 
 -- ---- The darts of good rows
 
-at_most_one : (t : Bool) (n : ℕ) → n ≡ one t → n ≤ 1
-at_most_one true n e = omega arith
-at_most_one false n e = omega arith
-
 -- twins are darts of the rows too, and stand side by side
 pub twin_in : (rows : Rows) (d : Dart) → has_dart (darts rows) d ≡ true → has_dart (darts rows) (dart_twin d) ≡ true
 twin_in rows d h = (place_twin (darts rows) (paired_edges rows.edges) d h).1
 
+-- the number of the twin is the twin of the number
 pub index_twin : (rows : Rows) (d : Dart) → has_dart (darts rows) d ≡ true → index_of rows (dart_twin d) ≡ twin (index_of rows d)
 index_twin rows d h = (place_twin (darts rows) (paired_edges rows.edges) d h).0
 
+-- forward darts have even numbers
+pub index_forward : (rows : Rows) (d : Dart) → has_dart (darts rows) d ≡ true → d.way ≡ Forward → index_of rows d % 2 ≡ 0
+index_forward rows d h forward = forward_even (darts rows) (paired_edges rows.edges) d h forward
+
+-- as many images as darts
 pub images_length : (rows : Rows) → length (turn_images rows) ≡ length (darts rows)
 images_length rows = length-map (darts rows) (λ d. index_of rows (turn (system rows) d))
 
+-- an even number of them
 pub even_images : (rows : Rows) → length (turn_images rows) % 2 ≡ 0
 even_images rows = ap (λ n. n % 2) (images_length rows) ∙ paired_even (darts rows) (paired_edges rows.edges)
 
 module _ (rows : Rows) (paths : has_good_paths rows ≡ true) where
+  -- no dart is listed twice
   pub distinct_darts : IsDistinct (darts rows)
   distinct_darts = record { once = λ d. at_most_one (is_of_rows rows d) _ (listed_once rows paths d) }
 
@@ -201,6 +224,7 @@ module _ (rows : Rows) (paths : has_good_paths rows ≡ true) where
   image_of d h = index_of_map (λ d. index_of rows (turn (system rows) d)) (darts rows) (index_of rows d) d (get_index d h)
 
   module _ (crossings : has_good_crossings rows ≡ true) (rotations : has_good_rotations rows ≡ true) where
+    -- and none stands twice
     pub distinct_system : IsDistinct (darts_in (system rows))
     distinct_system = record { once = λ d. at_most_one (is_of_rows rows d) _ (stands_once rows paths crossings rotations d) }
 
@@ -219,6 +243,7 @@ module _ (rows : Rows) (paths : has_good_paths rows ≡ true) where
     image_at : (i : ℕ) (d : Dart) → slice_get (darts rows) i ≡ Some d → map_of (turn_images rows) i ≡ index_of rows (turn (system rows) d)
     image_at i d e = index_of_map (λ d. index_of rows (turn (system rows) d)) (darts rows) i d e
 
+    -- numbers are below the number of images
     pub index_less : (d : Dart) → has_dart (darts rows) d ≡ true → index_of rows d < length (turn_images rows)
     index_less d h = subst (λ n. index_of rows d < n) (sym (images_length rows)) (place_less (darts rows) d h)
 

@@ -1,10 +1,10 @@
 -- How often a dart stands in the rotation system of good rows: once if it is theirs, and else never.
-use Rattle.std.proofs.Common.{◌≡◌, ◌&&◌, ◌+◌, ◌<◌, ◌≤◌, ◌||◌, ap, arith, Bool, cond, eqb, false, inl, inr, length, List, None, not, refl, Some, subst, suc, sym, true, zero, ℕ, [], ◌++◌, ◌∙◌, ◌∷◌}
+use Rattle.std.proofs.Common.{◌≡◌, ◌&&◌, ◌+◌, ◌≤◌, ◌||◌, ap, arith, Bool, cond, eqb, false, inl, inr, length, List, None, refl, Some, subst, suc, sym, true, zero, ℕ, [], ◌++◌, ◌∙◌, ◌∷◌}
 use Rattle.std.specs.Prelude.{count_by, if◌then◌else◌, is_some, map, nat_lt, Option, option_map, sum_by, unwrap_or, ◌==◌, ◌⊎◌}
 use Rattle.std.specs.List.{list_all, position_or_len, range_with_len}
-use Rattle.std.proofs.lemmas.Bool.{false≢true}
 use Rattle.std.proofs.lemmas.Bool.Decides.{nat_tests}
 use Rattle.std.proofs.lemmas.List.Sums.{sum_by-append, sum_by-cons}
+use Rattle.std.proofs.lemmas.Bool.{cases_Bool, eqb-true, false≢true, not-true}
 use Rattle.topo_core.specs.declared.darts.Dart.{Dart}
 use Rattle.topo_core.specs.declared.darts.Sign.{Sign}
 use Rattle.topo_core.specs.declared.darts.Sign.TheVariants.{LeftToRight, RightToLeft}
@@ -18,8 +18,8 @@ use Rattle.topo_core.specs.Lawful.{has_good_crossings, has_good_path, has_good_p
 use Rattle.topo_core.specs.Picture.{around_crossing, around_vertex, clockwise, cross_row, darts, darts_of, edge_at, edge_row, end_dart, IsDart, place_on, rotation, segment_count, system, vertices}
 use Rattle.topo_core.specs.Pictures.{back, forward}
 use Rattle.topo_core.specs.Systems.{darts_in, has_dart}
-use Rattle.topo_core.proofs.Counting.{counted_any, eqb_less, eqb_symm, in_first, is_or_not, le_of_test, lt_of_test, lt_test, once_in_range, one, place_past, place_test, sum_found, sum_if, sum_joined, sum_nothing, sum_of_map, sum_same, weigh_no, weigh_yes}
-use Rattle.topo_core.proofs.Members.{eq_true, left_true, right_true, test_of_each}
+use Rattle.topo_core.proofs.Counting.{at_most_one, counted_any, eqb_less, eqb_symm, in_first, le_of_test, lt_of_test, lt_test, once_in_range, one, place_past, place_test, sum_found, sum_if, sum_joined, sum_nothing, sum_of_map, sum_same, weigh_no, weigh_yes}
+use Rattle.topo_core.proofs.Members.{left_true, right_true, test_of_each}
 use Rattle.topo_core.proofs.SystemDarts.{crossing_there, edge_at_row, eqb_self, get_there, in_at, path_facts, row_id, row_in, some_of}
 
 -- ---- The test of two darts by their parts
@@ -35,12 +35,15 @@ and_yes : (b : Bool) → (b && true) ≡ b
 and_yes true = refl
 and_yes false = refl
 
+-- two forward darts
 pub forward_forward : (e s a p : ℕ) → same_dart (forward e s) (forward a p) ≡ (e == a && s == p)
 forward_forward e s a p = and_yes (e == a && s == p)
 
+-- two back darts
 pub back_back : (e s a p : ℕ) → same_dart (back e s) (back a p) ≡ (e == a && s == p)
 back_back e s a p = and_yes (e == a && s == p)
 
+-- darts of different ways are different
 pub forward_back : (e s a p : ℕ) → same_dart (forward e s) (back a p) ≡ false
 forward_back e s a p = and_no (e == a && s == p)
 
@@ -51,16 +54,16 @@ back_forward e s a p = and_no (e == a && s == p)
 
 -- among darts of different edges, d can stand only as the dart of its own edge
 around_count : (h : ℕ → Dart) → ((e : ℕ) → (h e).edge ≡ e) → (d : Dart) (es : List ℕ) → count_by (same_dart d) (map h es) ≡ cond {A = ℕ} (same_dart d (h d.edge)) (occurrences d.edge es) 0
-around_count h edges d [] = elim (is_or_not (same_dart d (h d.edge))) [ inl e ↦ sym (weigh_yes _ 0 e) | inr e ↦ sym (weigh_no _ 0 e) ]
+around_count h edges d [] = elim (cases_Bool (same_dart d (h d.edge))) [ inl e ↦ sym (weigh_yes _ 0 e) | inr e ↦ sym (weigh_no _ 0 e) ]
 around_count h edges d (e ∷ es) =
     let step = sum_by-cons (λ c. one (same_dart d c)) (h e) (map h es) in
     let more = sum_by-cons (λ y. one (y == d.edge)) e es in
     let rest = around_count h edges d es in
-    elim (is_or_not (e == d.edge)) [
+    elim (cases_Bool (e == d.edge)) [
       | inl same ↦
           let new : one (e == d.edge) ≡ 1 = ap one same in
-          let here : one (same_dart d (h e)) ≡ one (same_dart d (h d.edge)) = ap (λ v. one (same_dart d (h v))) (eq_true e d.edge same) in
-          elim (is_or_not (same_dart d (h d.edge))) [
+          let here : one (same_dart d (h e)) ≡ one (same_dart d (h d.edge)) = ap (λ v. one (same_dart d (h v))) (eqb-true e d.edge same) in
+          elim (cases_Bool (same_dart d (h d.edge))) [
             | inl t ↦
                 let is_one : one (same_dart d (h d.edge)) ≡ 1 = ap one t in
                 let now = weigh_yes _ (occurrences d.edge (e ∷ es)) t in
@@ -81,12 +84,12 @@ around_count h edges d (e ∷ es) =
 -- the forward dart of segment s stands where its edge begins, if s is the first
 forward_at : (e s l : ℕ) (t u : Bool) → cond {A = ℕ} (same_dart (forward e s) (cond {A = Dart} t (forward e 0) (back e l))) (one (t || u)) 0 ≡ cond {A = ℕ} (s == 0) (one t) 0
 forward_at e s l true u = ap one (forward_forward e s e 0 ∙ ap (λ b. b && s == 0) (eqb_self e))
-forward_at e s l false u = weigh_no _ (one u) (forward_back e s e l) ∙ elim (is_or_not (s == 0)) [ inl e ↦ sym (weigh_yes _ 0 e) | inr e ↦ sym (weigh_no _ 0 e) ]
+forward_at e s l false u = weigh_no _ (one u) (forward_back e s e l) ∙ elim (cases_Bool (s == 0)) [ inl e ↦ sym (weigh_yes _ 0 e) | inr e ↦ sym (weigh_no _ 0 e) ]
 
 -- the back dart of segment s stands where its edge ends, if s is the last
 back_at : (e s l : ℕ) (t u : Bool) → (t && u) ≡ false → cond {A = ℕ} (same_dart (back e s) (cond {A = Dart} t (forward e 0) (back e l))) (one (t || u)) 0 ≡ cond {A = ℕ} (s == l) (one u) 0
 back_at e s l true true h = absurd (let k : true ≡ false = h in cc)
-back_at e s l true false h = weigh_no _ 1 (back_forward e s e 0) ∙ elim (is_or_not (s == l)) [ inl e ↦ sym (weigh_yes _ 0 e) | inr e ↦ sym (weigh_no _ 0 e) ]
+back_at e s l true false h = weigh_no _ 1 (back_forward e s e 0) ∙ elim (cases_Bool (s == l)) [ inl e ↦ sym (weigh_yes _ 0 e) | inr e ↦ sym (weigh_no _ 0 e) ]
 back_at e s l false u h = ap (λ (b : Bool). cond {A = ℕ} b (one u) 0) (back_back e s e l ∙ ap (λ b. b && s == l) (eqb_self e))
 
 end_dart_edge : (rows : Rows) (v e : ℕ) → (end_dart rows v e).edge ≡ e
@@ -118,8 +121,8 @@ four_back sign e s a b p q =
 
 -- one of two edges: what is asked of it is asked of e
 asked_of : (test : ℕ → Bool) (e a : ℕ) → one (e == a && test a) ≡ one (e == a && test e)
-asked_of test e a = elim (is_or_not (e == a)) [
-  | inl same ↦ ap (λ v. one (e == a && test v)) (sym (eq_true e a same))
+asked_of test e a = elim (cases_Bool (e == a)) [
+  | inl same ↦ ap (λ v. one (e == a && test v)) (sym (eqb-true e a same))
   | inr apart ↦ ap (λ b. one (b && test a)) apart ∙ sym (ap (λ b. one (b && test e)) apart)
 ]
 
@@ -143,10 +146,6 @@ count_of_points d before after =
     ∙ sum_by-append (λ around. count_by (same_dart d) around) before after
 
 -- ---- Tests and sums of them
-
-one_at_most : (t : Bool) → one t ≤ 1
-one_at_most true = omega arith
-one_at_most false = omega arith
 
 weigh_zero : (t : Bool) → cond {A = ℕ} t 0 0 ≡ 0
 weigh_zero true = refl
@@ -173,18 +172,15 @@ pub record GoodCrossing (rows : Rows) (x : CrossRow) : Type 0 where
   pub newcomer : is_some (edge_row rows x.newcomer) ≡ true
   pub counted : (row : EdgeRow) → IsIn row rows.edges → occurrences x.id row.crossings ≡ one (row.id == x.crossed || row.id == x.newcomer)
 
-not_false : (b : Bool) → not b ≡ true → b ≡ false
-not_false true h = cc
-not_false false h = refl
-
+-- from the tests of the rows
 pub good_crossing : (rows : Rows) → has_good_crossings rows ≡ true → (x : CrossRow) → IsIn x rows.crossings → GoodCrossing rows x
 good_crossing rows good x h =
     let tests = test_of_each (is_good_crossing rows) x rows.crossings (right_true (rises_below rows.next_crossing (map (λ x. x.id) rows.crossings)) (list_all (is_good_crossing rows) rows.crossings) good) h in
     record {
-      apart = not_false _ (left_true _ _ (left_true _ _ (left_true _ _ tests)));
+      apart = not-true _ (left_true _ _ (left_true _ _ (left_true _ _ tests)));
       crossed = right_true _ _ (left_true _ _ (left_true _ _ tests));
       newcomer = right_true _ _ (left_true _ _ tests);
-      counted = λ row k. eq_true _ _ (test_of_each (λ row. occurrences x.id row.crossings == (if row.id == x.crossed || row.id == x.newcomer then 1 else 0)) row rows.edges (right_true _ _ tests) k);
+      counted = λ row k. eqb-true _ _ (test_of_each (λ row. occurrences x.id row.crossings == (if row.id == x.crossed || row.id == x.newcomer then 1 else 0)) row rows.edges (right_true _ _ tests) k);
     }
 
 -- what the tests say of the list of a vertex
@@ -192,16 +188,12 @@ pub record GoodRotation (rows : Rows) (v : ℕ) : Type 0 where
   pub counted : (row : EdgeRow) → IsIn row rows.edges → occurrences row.id (rotation rows v) ≡ one (row.a == v || row.b == v)
   pub known : (e : ℕ) → IsIn e (rotation rows v) → is_some (edge_row rows e) ≡ true
 
-in_vertices : (v a n : ℕ) → IsIn v (range_with_len a n) → v < a + n
-in_vertices v a zero h = absurd h
-in_vertices v a (suc n) (inl e) = omega arith
-in_vertices v a (suc n) (inr h) = let k = in_vertices v (a + 1) n h in omega arith
-
+-- from the tests of the rows
 pub good_rotation : (rows : Rows) → has_good_rotations rows ≡ true → (v : ℕ) → IsIn v (vertices rows) → GoodRotation rows v
 good_rotation rows good v h =
     let tests = test_of_each (has_good_rotation rows) v (vertices rows) good h in
     record {
-      counted = λ row k. eq_true _ _ (test_of_each (λ row. occurrences row.id (rotation rows v) == (if row.a == v || row.b == v then 1 else 0)) row rows.edges (left_true _ _ (left_true _ _ tests)) k);
+      counted = λ row k. eqb-true _ _ (test_of_each (λ row. occurrences row.id (rotation rows v) == (if row.a == v || row.b == v then 1 else 0)) row rows.edges (left_true _ _ (left_true _ _ tests)) k);
       known = λ e k. test_of_each (λ e. is_some (edge_row rows e)) e (rotation rows v) (right_true _ _ (left_true _ _ tests)) k;
     }
 
@@ -284,11 +276,11 @@ module _ (rows : Rows) (paths : has_good_paths rows ≡ true) (crossings : has_g
 
   -- each crossing stands at most once on the path
   at_most_once : (x : CrossRow) → IsIn x rows.crossings → occurrences x.id row.crossings ≤ 1
-  at_most_once x h = let counted = counted_at_crossing x h in let k = one_at_most (e == x.crossed || e == x.newcomer) in omega arith
+  at_most_once x h = at_most_one (e == x.crossed || e == x.newcomer) (occurrences x.id row.crossings) (sym (counted_at_crossing x h))
 
   -- the crossings whose place is s: one, where the path has a place s
   at_place : (s : ℕ) → sum_by (λ x. cond {A = ℕ} (s == place x.id) (occurrences x.id row.crossings) 0) rows.crossings ≡ one (nat_lt s (length row.crossings))
-  at_place s = elim (is_or_not (nat_lt s (length row.crossings))) [
+  at_place s = elim (cases_Bool (nat_lt s (length row.crossings))) [
     | inl inside ↦
         let at = get_there row.crossings s (lt_of_test s (length row.crossings) inside) in
         let named = some_of (cross_row rows at.0) (crossing_there rows paths row row_there at.0 (in_at at.0 row.crossings s at.1)) in
@@ -322,8 +314,8 @@ module _ (rows : Rows) (paths : has_good_paths rows ≡ true) (crossings : has_g
 -- the edge that is not there has no darts
 module _ (rows : Rows) (crossings : has_good_crossings rows ≡ true) (rotations : has_good_rotations rows ≡ true) (d : Dart) (missing : edge_row rows d.edge ≡ None) where
   apart_from : (e : ℕ) → is_some (edge_row rows e) ≡ true → eqb e d.edge ≡ false
-  apart_from e known = elim (is_or_not (e == d.edge)) [
-    | inl same ↦ absurd (false≢true (sym (ap is_some missing) ∙ ap (λ n. is_some (edge_row rows n)) (sym (eq_true e d.edge same)) ∙ known))
+  apart_from e known = elim (cases_Bool (e == d.edge)) [
+    | inl same ↦ absurd (false≢true (sym (ap is_some missing) ∙ ap (λ n. is_some (edge_row rows n)) (sym (eqb-true e d.edge same)) ∙ known))
     | inr apart ↦ apart
   ]
 
@@ -421,6 +413,7 @@ listed_once rows paths d =
 pub is_dart_of_rows : (rows : Rows) (d : Dart) → IsDart rows d → is_of_rows rows d ≡ true
 is_dart_of_rows rows d (row, there, inside) = of_row rows d row there ∙ lt_test d.seg (segment_count row) inside
 
+-- and only they do
 pub of_rows_is_dart : (rows : Rows) (d : Dart) → is_of_rows rows d ≡ true → IsDart rows d
 of_rows_is_dart rows d passes = elim (some_or_none (edge_row rows d.edge)) [
   | inl (row, there) ↦ (row, there, lt_of_test d.seg (segment_count row) (sym (of_row rows d row there) ∙ passes))

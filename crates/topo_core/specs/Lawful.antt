@@ -38,11 +38,15 @@ has_good_rotations rows = list_all (has_good_rotation rows) (vertices rows)
 abbrev pub HasGenusZero : Rows → Type 0
 HasGenusZero rows = length rows.rotations + length rows.crossings + face_count rows ≡ sum_by segment_count rows.edges + 2
 
--- rows that are a connected embedding, on a surface of any genus
-pub record IsEmbedding (rows : Rows) : Type 0 where
+-- rows that are an embedding, of any genus and any number of parts
+pub record IsWellFormed (rows : Rows) : Type 0 where
   pub paths : has_good_paths rows ≡ true
   pub crossings : has_good_crossings rows ≡ true
   pub rotations : has_good_rotations rows ≡ true
+
+-- rows that are a connected embedding, of any genus
+pub record IsEmbedding (rows : Rows) : Type 0 where
+  pub well_formed : IsWellFormed rows
   pub connected : Connected (system rows)
 
 -- a connected embedding of genus zero

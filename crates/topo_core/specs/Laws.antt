@@ -2,13 +2,14 @@
 use Rattle.std.specs.Prelude.{◌≡◌, ◌<◌, ◌↔◌, ◌%◌, ◌==◌, ℕ, true, false, cond, length, count_by, slice_get, slice_index, Some}
 use Rattle.std.specs.List.{list_any}
 use Rattle.topo_core.specs.declared.darts.Dart.{Dart}
+use Rattle.topo_core.specs.declared.darts.Way.TheVariants.{Forward}
 use Rattle.topo_core.specs.declared.rows.Rows.{Rows}
-use Rattle.topo_core.specs.Cycles.{IsPermutationList, SameCycle, map_of}
+use Rattle.topo_core.specs.Cycles.{IsPermutation, IsPermutationList, SameCycle, map_of}
 use Rattle.topo_core.specs.Rotations.{twin, face_next, IsConnected}
 use Rattle.topo_core.specs.Darts.{same_dart, dart_twin}
 use Rattle.topo_core.specs.Systems.{darts_in, has_dart, turn, Connected, SameFace}
-use Rattle.topo_core.specs.Picture.{IsDart, darts, rotation, system, index_of, turn_images}
-use Rattle.topo_core.specs.Lawful.{IsEmbedding, has_good_paths, has_good_crossings, has_good_rotations}
+use Rattle.topo_core.specs.Picture.{IsDart, darts, rotation, system, index_of, turn_images, face_count}
+use Rattle.topo_core.specs.Lawful.{IsEmbedding, HasGenusZero, IsWellFormed}
 use Rattle.topo_core.specs.Changes.{grown}
 
 -- ---- Embeddings
@@ -17,11 +18,13 @@ use Rattle.topo_core.specs.Changes.{grown}
 abbrev pub GrowthKeepsEmbedding : Type 0
 GrowthKeepsEmbedding = (rows : Rows) → IsEmbedding rows → (u p kind : ℕ) → u < length rows.rotations → p < length (rotation rows u) → kind < 64 → IsEmbedding (grown rows u p kind)
 
--- rows whose paths, crossings and rotations are good: an embedding that need not be connected
-pub record IsWellFormed (rows : Rows) : Type 0 where
-  pub paths : has_good_paths rows ≡ true
-  pub crossings : has_good_crossings rows ≡ true
-  pub rotations : has_good_rotations rows ≡ true
+-- a growth makes no face and takes none away
+abbrev pub GrowthKeepsFaces : Type 0
+GrowthKeepsFaces = (rows : Rows) → IsWellFormed rows → (u p kind : ℕ) → u < length rows.rotations → p < length (rotation rows u) → kind < 64 → face_count (grown rows u p kind) ≡ face_count rows
+
+-- so it keeps genus zero
+abbrev pub GrowthKeepsGenus : Type 0
+GrowthKeepsGenus = (rows : Rows) → IsWellFormed rows → HasGenusZero rows → (u p kind : ℕ) → u < length rows.rotations → p < length (rotation rows u) → kind < 64 → HasGenusZero (grown rows u p kind)
 
 -- ---- Darts and turns
 
@@ -35,11 +38,13 @@ pub record StandsOnce (rows : Rows) (d : Dart) : Type 0 where
 abbrev pub DartsStandOnce : Type 0
 DartsStandOnce = (rows : Rows) → IsWellFormed rows → (d : Dart) → StandsOnce rows d
 
--- the turn leads from darts of the picture to darts of the picture, no two to the same, on darts as on their numbers
+-- the turn leads from darts of the picture to darts of the picture, no two to the same, on darts as on their numbers;
+-- and on these the face map is a permutation too
 pub record TurnPermutes (rows : Rows) : Type 0 where
   pub within : (d : Dart) → has_dart (darts rows) d ≡ true → has_dart (darts rows) (turn (system rows) d) ≡ true
   pub apart : (c d : Dart) → has_dart (darts rows) c ≡ true → has_dart (darts rows) d ≡ true → turn (system rows) c ≡ turn (system rows) d → c ≡ d
   pub images : IsPermutationList (turn_images rows)
+  pub faces : IsPermutation (face_next (map_of (turn_images rows))) (length (turn_images rows))
 
 -- the turn of well-formed rows is a permutation of their darts
 abbrev pub TurnIsAPermutation : Type 0
@@ -47,7 +52,7 @@ TurnIsAPermutation = (rows : Rows) → IsWellFormed rows → TurnPermutes rows
 
 -- ---- Darts as numbers
 
--- numbers and darts name each other, the two darts of segment i are 2i and 2i + 1, and the images are the turn on numbers
+-- numbers and darts name each other, the forward dart of a segment is 2i and its twin 2i + 1, and the images are the turn on numbers
 pub record NumbersStandForDarts (rows : Rows) : Type 0 where
   pub as_many : length (turn_images rows) ≡ length (darts rows)
   pub even : length (turn_images rows) % 2 ≡ 0
@@ -56,6 +61,7 @@ pub record NumbersStandForDarts (rows : Rows) : Type 0 where
   pub number_of_dart : (i : ℕ) (d : Dart) → slice_get (darts rows) i ≡ Some d → index_of rows d ≡ i
   pub dart_of_its_number : (d : Dart) → has_dart (darts rows) d ≡ true → slice_get (darts rows) (index_of rows d) ≡ Some d
   pub twins : (d : Dart) → has_dart (darts rows) d ≡ true → (has_dart (darts rows) (dart_twin d) ≡ true) × (index_of rows (dart_twin d) ≡ twin (index_of rows d))
+  pub forward_even : (d : Dart) → has_dart (darts rows) d ≡ true → d.way ≡ Forward → index_of rows d % 2 ≡ 0
   pub turns : (d : Dart) → has_dart (darts rows) d ≡ true → slice_index (turn_images rows) (index_of rows d) ≡ index_of rows (turn (system rows) d)
 
 -- in well-formed rows the numbers stand for the darts

@@ -7,7 +7,7 @@ use Rattle.topo_core.specs.declared.routes.Route.{Route}
 use Rattle.topo_core.specs.Darts.{dart_twin, dart_cmp}
 use Rattle.topo_core.specs.Systems.{SameFace, has_dart}
 use Rattle.topo_core.specs.Picture.{darts, corner, system}
-use Rattle.topo_core.specs.Lawful.{IsEmbedding}
+use Rattle.topo_core.specs.Lawful.{IsWellFormed}
 use Rattle.topo_core.specs.Routes.{Pricing, KeepsPromise, Price, Costs, IsPricedRoute, IsFirst, IsCertificate}
 
 -- ---- Routes by heights
@@ -41,20 +41,24 @@ pub record IsFirstByHeights (price : Pricing) (rows : Rows) (u v : ℕ) (height 
 
 -- ---- The laws
 
+-- the corners of a vertex are named by darts of the picture
+abbrev pub CornersAreDarts : Type 0
+CornersAreDarts = (rows : Rows) → IsWellFormed rows → (v p : ℕ) (c : Dart) → corner rows v p ≡ Some c → has_dart (darts rows) c ≡ true
+
 -- no route costs less than the height of the corner where it starts
-abbrev pub CertificateBounds : Type 1
-CertificateBounds = (price : Pricing) (rows : Rows) (u v : ℕ) (height : Dart → ℕ) → IsEmbedding rows → IsCertificate price rows v height
+abbrev pub CertificateBounds : Pricing → Type 0
+CertificateBounds price = (rows : Rows) (u v : ℕ) (height : Dart → ℕ) → IsWellFormed rows → IsCertificate price rows v height
     → (r : Route) (n : ℕ) (c : Dart) → IsPricedRoute price rows u v r n → corner rows u r.start ≡ Some c → height c ≤ n
 
 -- under a certificate, a route that is first by its heights is the first of the least routes
-abbrev pub FirstByHeightsIsFirst : Type 1
-FirstByHeightsIsFirst = (price : Pricing) (rows : Rows) (u v : ℕ) (height : Dart → ℕ) → KeepsPromise price → IsEmbedding rows → IsCertificate price rows v height
+abbrev pub FirstByHeightsIsFirst : Pricing → Type 0
+FirstByHeightsIsFirst price = (rows : Rows) (u v : ℕ) (height : Dart → ℕ) → KeepsPromise price → IsWellFormed rows → IsCertificate price rows v height
     → (r : Route) (n : ℕ) → IsFirstByHeights price rows u v height r n → IsFirst price rows u v r n
 
 -- prices are at least 1, so a walk costs at least the number of darts that it crosses
-abbrev pub CostsAtLeastLength : Type 1
-CostsAtLeastLength = (price : Pricing) (rows : Rows) → KeepsPromise price → (ds : List Dart) (n : ℕ) → Costs price rows ds n → length ds ≤ n
+abbrev pub CostsAtLeastLength : Pricing → Type 0
+CostsAtLeastLength price = (rows : Rows) → KeepsPromise price → (ds : List Dart) (n : ℕ) → Costs price rows ds n → length ds ≤ n
 
 -- an edge has at most one price, so a walk has at most one cost
-abbrev pub HasOneCost : Type 1
-HasOneCost = (price : Pricing) (rows : Rows) → KeepsPromise price → (ds : List Dart) (m n : ℕ) → Costs price rows ds m → Costs price rows ds n → m ≡ n
+abbrev pub HasOneCost : Pricing → Type 0
+HasOneCost price = (rows : Rows) → KeepsPromise price → (ds : List Dart) (m n : ℕ) → Costs price rows ds m → Costs price rows ds n → m ≡ n

@@ -1,10 +1,20 @@
 //! Laws of the definitions. The functions do nothing: their contracts are the laws.
 
-ghost use Rattle.topo_core.specs.Laws.{DartsAreNumbered, DartsStandOnce, GrowthKeepsEmbedding, NumbersKeepConnection, NumbersKeepFaces, TurnIsAPermutation};
+ghost use Rattle.topo_core.specs.Laws.{DartsAreNumbered, DartsStandOnce, GrowthKeepsEmbedding, GrowthKeepsFaces, GrowthKeepsGenus, NumbersKeepConnection, NumbersKeepFaces, TurnIsAPermutation};
 
 /// A growth in a corner of a vertex makes a connected embedding of a connected embedding.
 pub fn growth_keeps_embedding()
     ensures { GrowthKeepsEmbedding }
+{}
+
+/// A growth keeps the number of faces.
+pub fn growth_keeps_faces()
+    ensures { GrowthKeepsFaces }
+{}
+
+/// A growth keeps genus zero: it makes one vertex and one segment, and no face.
+pub fn growth_keeps_genus()
+    ensures { GrowthKeepsGenus }
 {}
 
 /// Round the points of well-formed rows stands each dart of their edges once, and nothing else.
@@ -12,7 +22,7 @@ pub fn darts_stand_once()
     ensures { DartsStandOnce }
 {}
 
-/// The turn of well-formed rows is a permutation of their darts.
+/// The turn of well-formed rows is a permutation of their darts, and so is the step along a face.
 pub fn turn_is_a_permutation()
     ensures { TurnIsAPermutation }
 {}

@@ -15,5 +15,9 @@ pub mod ids;
 pub mod laws;
 pub mod limits;
 pub mod listed;
+pub mod prices;
+pub mod route_laws;
 pub mod routes;
 pub mod rows;
+#[cfg(test)]
+mod tests;

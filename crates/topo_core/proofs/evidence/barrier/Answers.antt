@@ -18,11 +18,11 @@ whole_before (suc j) below = absurd (omega arith)
 
 pub returns : goal.returns
 returns c = record {
-  lawful = record { lawful = record { embedding = record { paths = refl; crossings = refl; rotations = refl; connected = connected_by_tests (system barrier) 10 refl refl }; genus_zero = refl }; vertex_count = refl; crossing_count = refl; edge_count = refl; total_segments = refl; total_faces = refl };
+  lawful = record { lawful = record { embedding = record { well_formed = record { paths = refl; crossings = refl; rotations = refl }; connected = connected_by_tests (system barrier) 10 refl refl }; genus_zero = refl }; vertex_count = refl; crossing_count = refl; edge_count = refl; total_segments = refl; total_faces = refl };
   faces = refl;
   first = first_by_tests barrier 4 5 past past_passes refl;
   passed = refl;
-  passed_lawful = record { lawful = record { embedding = record { paths = refl; crossings = refl; rotations = refl; connected = connected_by_tests (system passed_barrier) 12 refl refl }; genus_zero = refl }; vertex_count = refl; crossing_count = refl; edge_count = refl; total_segments = refl; total_faces = refl };
+  passed_lawful = record { lawful = record { embedding = record { well_formed = record { paths = refl; crossings = refl; rotations = refl }; connected = connected_by_tests (system passed_barrier) 12 refl refl }; genus_zero = refl }; vertex_count = refl; crossing_count = refl; edge_count = refl; total_segments = refl; total_faces = refl };
   deleted = refl;
   may_be_deleted = no_cut_by_tests passed_barrier 6 refl (connected_by_tests (system (without passed_barrier 6)) 10 refl refl);
   cut = cut_by_tests barrier 3 1 (lit≤ tt) refl refl refl refl whole_before;

@@ -18,7 +18,7 @@ of_ties_passes = record { starts = refl; ends = refl; closed = refl; twins = ref
 
 pub returns : goal.returns
 returns c = record {
-  lawful = record { lawful = record { embedding = record { paths = refl; crossings = refl; rotations = refl; connected = connected_by_tests (system bipyramid) 8 refl refl }; genus_zero = refl }; vertex_count = refl; crossing_count = refl; edge_count = refl; total_segments = refl; total_faces = refl };
+  lawful = record { lawful = record { embedding = record { well_formed = record { paths = refl; crossings = refl; rotations = refl }; connected = connected_by_tests (system bipyramid) 8 refl refl }; genus_zero = refl }; vertex_count = refl; crossing_count = refl; edge_count = refl; total_segments = refl; total_faces = refl };
   faces = refl;
   corners_at_3 = refl;
   corners_at_4 = refl;

@@ -14,9 +14,9 @@ across_passes = record { starts = refl; ends = refl; closed = refl; twins = refl
 pub returns : goal.returns
 returns c = record {
   built = refl;
-  lawful = record { lawful = record { embedding = record { paths = refl; crossings = refl; rotations = refl; connected = connected_by_tests (system hexagon) 8 refl refl }; genus_zero = refl }; vertex_count = refl; crossing_count = refl; edge_count = refl; total_segments = refl; total_faces = refl };
+  lawful = record { lawful = record { embedding = record { well_formed = record { paths = refl; crossings = refl; rotations = refl }; connected = connected_by_tests (system hexagon) 8 refl refl }; genus_zero = refl }; vertex_count = refl; crossing_count = refl; edge_count = refl; total_segments = refl; total_faces = refl };
   faces = refl;
   first = first_by_tests hexagon 2 5 across across_passes refl;
   crossed = refl;
-  crossed_lawful = record { lawful = record { embedding = record { paths = refl; crossings = refl; rotations = refl; connected = connected_by_tests (system crossed_hexagon) 10 refl refl }; genus_zero = refl }; vertex_count = refl; crossing_count = refl; edge_count = refl; total_segments = refl; total_faces = refl };
+  crossed_lawful = record { lawful = record { embedding = record { well_formed = record { paths = refl; crossings = refl; rotations = refl }; connected = connected_by_tests (system crossed_hexagon) 10 refl refl }; genus_zero = refl }; vertex_count = refl; crossing_count = refl; edge_count = refl; total_segments = refl; total_faces = refl };
 }

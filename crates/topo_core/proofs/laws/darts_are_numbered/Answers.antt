@@ -1,5 +1,5 @@
 use Rattle.topo_core.specs.Picture.{darts}
-use Rattle.topo_core.proofs.Numbering.{even_images, get_index, image_of, images_length, index_of_get, index_twin, place_less, twin_in}
+use Rattle.topo_core.proofs.Numbering.{even_images, get_index, image_of, images_length, index_forward, index_of_get, index_twin, place_less, twin_in}
 use Rattle.topo_core.proofs.SystemDarts.{get_there}
 use Rattle.topo_core.proofs.laws.darts_are_numbered.Goals as goal
 
@@ -12,5 +12,6 @@ returns c rows good = record {
   number_of_dart = index_of_get rows good.paths;
   dart_of_its_number = get_index rows good.paths;
   twins = λ d h. (twin_in rows d h, index_twin rows d h);
+  forward_even = index_forward rows;
   turns = image_of rows good.paths;
 }

@@ -1,4 +1,5 @@
 use Rattle.topo_core.proofs.Numbering.{turn_permutes, turn_stays, turns_apart}
+use Rattle.topo_core.proofs.Renumbering.{face_permutes}
 use Rattle.topo_core.proofs.laws.turn_is_a_permutation.Goals as goal
 
 pub returns : goal.returns
@@ -6,4 +7,5 @@ returns c rows good = record {
   within = turn_stays rows good.paths good.crossings good.rotations;
   apart = turns_apart rows good.paths good.crossings good.rotations;
   images = turn_permutes rows good.paths good.crossings good.rotations;
+  faces = face_permutes rows good.paths good.crossings good.rotations;
 }

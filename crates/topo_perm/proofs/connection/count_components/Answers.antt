@@ -1,0 +1,31 @@
+use Rattle.std.proofs.Common.{length, arith}
+use Rattle.topo_core.specs.Cycles.{map_of}
+use Rattle.topo_perm.proofs.Counting.{counted_none, counted_closed, counted_new, counted_old, counted_most, counted_all}
+use Rattle.topo_perm.proofs.connection.count_components.Goals as goal
+use Rattle.topo_perm.proofs.connection.count_components.Goals.{then-not-seen-start, else-not-seen-start}
+
+pub loop-start-init : goal.loop-start-init
+loop-start-init c = counted_none (map_of c.args.images.now) (length c.args.images.now) c.args.seen.now c.requires.permutation c.requires.even c.requires.none_seen
+
+pub overflow_add-count : goal.overflow_add-count
+overflow_add-count c = omega (arith, counted_most (map_of c.args.images.now) (length c.args.images.now) _ _ _ _ c.loop-start.invariant)
+
+pub reach-found-requires-clause-closed : goal.reach-found-requires-clause-closed
+reach-found-requires-clause-closed c =
+    counted_closed (map_of c.args.images.now) (length c.args.images.now) _ _ _ _ c.requires.permutation c.requires.even (omega arith) c.loop-start.invariant
+
+pub loop-start-preserved : goal.loop-start-preserved
+loop-start-preserved c =
+    let f = map_of c.args.images.now in
+    let n = length c.args.images.now in
+    elim c.if-not-seen-start.branch [
+      | then-not-seen-start w ↦
+          rw (w.seen-is, w.found-is, w.count-is)
+          (counted_new f n _ _ _ _ _ _ c.loop-start.invariant c.loop-start-test.true w.if-not-seen-start.true w.reach-found.ensures.counted w.reach-found.ensures.reached)
+      | else-not-seen-start w ↦
+          rw (w.seen-is, w.found-is, w.count-is)
+          (counted_old f n _ _ _ _ c.requires.permutation c.requires.even c.loop-start.invariant c.loop-start-test.true w.if-not-seen-start.false)
+    ]
+
+pub returns : goal.returns
+returns c = counted_all (map_of c.args.images.now) (length c.args.images.now) _ _ _ _ c.loop-start.invariant (omega arith)

@@ -1,0 +1,5 @@
+use Rattle.topo_perm.proofs.FacesKept.{unchord_keeps_faces}
+use Rattle.topo_perm.proofs.laws.faces.unchord.Goals as goal
+
+pub returns : goal.returns
+returns c = unchord_keeps_faces

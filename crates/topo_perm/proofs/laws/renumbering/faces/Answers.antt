@@ -1,0 +1,5 @@
+use Rattle.topo_perm.proofs.Renumbered.{renumbered_faces}
+use Rattle.topo_perm.proofs.laws.renumbering.faces.Goals as goal
+
+pub returns : goal.returns
+returns c = renumbered_faces
