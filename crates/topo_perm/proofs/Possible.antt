@@ -1,10 +1,8 @@
 -- Each edit can be made where its conditions hold: a turn after it.
-use Rattle.std.proofs.Common.{◌≡◌, ◌≢◌, ℕ, ◌%◌, ◌<◌, inl, inr, refl, sym, ◌∙◌, ap, subst, arith}
-use Rattle.std.proofs.lemmas.Bool.{cases_eq}
-use Rattle.topo_core.specs.Cycles.{IsPermutation, SameCycle, after}
+use Rattle.std.proofs.Common.{◌≡◌, ◌≢◌, ℕ, ◌<◌, refl, sym, ◌∙◌, ap, subst}
+use Rattle.topo_core.specs.Cycles.{IsPermutation}
 use Rattle.topo_core.specs.Rotations.{twin, face_next}
-use Rattle.topo_core.specs.Edits.{IsIsolated, IsBefore}
-use Rattle.topo_perm.specs.Edits.{IsApart, IsAllowedHang, IsAllowedChord, IsPutBefore, IsSmoothing, Leads, HangIsPossible, ChordIsPossible, UnchordIsPossible, SplitIsPossible, SmoothIsPossible}
+use Rattle.topo_perm.specs.Edits.{IsPutBefore, IsSmoothing, HangIsPossible, ChordIsPossible, UnchordIsPossible, SplitIsPossible, SmoothIsPossible}
 use Rattle.topo_perm.proofs.Orbits.{after-within}
 use Rattle.topo_perm.proofs.Walks.{twin-within, face_next-permutation}
 use Rattle.topo_perm.proofs.Faces.{twin-twin, twin-apart, twin-other}
