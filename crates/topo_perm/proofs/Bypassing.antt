@@ -4,7 +4,7 @@ use Rattle.std.proofs.lemmas.Bool.{cases_eq, cond-true, cond-false, eq-eqb, ne_e
 use Rattle.topo_core.specs.Cycles.{IsPermutation, SameCycle, IsBypass, count_below}
 use Rattle.topo_core.specs.Rotations.{twin, face_next, partly, Joined}
 use Rattle.topo_perm.specs.Cuts.{all_but, JoinedWithout, IsSegmentOf, TwoFacesJoined, TwoFacesKeep, OneFaceParts, TakenOutJoined, TakenOutKeeps, TakenOutParts}
-use Rattle.topo_perm.proofs.Orbits.{SameCycle-sym}
+use Rattle.topo_core.proofs.Orbits.{SameCycle-sym}
 use Rattle.topo_perm.proofs.Walks.{Joined-refl, Joined-trans, Joined-turned, Joined-crossed, Joined-SameCycle, kept_joined, twin-within, twin-cases, face_next-permutation}
 use Rattle.topo_perm.proofs.Cuts.{IsWithout, two_faces_joined, one_face_cuts, around, Joined-sym, partly-within}
 use Rattle.topo_perm.proofs.Faces.{twin-twin, twin-apart, twin-other}

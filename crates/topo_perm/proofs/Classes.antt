@@ -3,7 +3,7 @@ use Rattle.std.proofs.Common.{◌≡◌, ◌≢◌, ℕ, zero, suc, ◌+◌, ◌
 use Rattle.std.proofs.lemmas.Bool.{cases_Bool, cases_eq, cases_order, not_from_true, not_from_false, both_ways}
 use Rattle.topo_core.specs.Cycles.{some_below, count_below, is_first, class_count}
 pub use Rattle.topo_perm.specs.Renumbering.{IsEquivalence}
-use Rattle.topo_perm.proofs.Orbits.{search_below, some_below-true, some_below-false}
+use Rattle.topo_core.proofs.Orbits.{search_below, some_below-true, some_below-false}
 
 pub count_below-same : (p q : ℕ → Bool) (n : ℕ) → ((a : ℕ) → a < n → p a ≡ q a) → count_below p n ≡ count_below q n
 count_below-same p q zero h = refl

@@ -5,7 +5,7 @@ use Rattle.std.proofs.lemmas.Bool.{cases_Bool, cases_eq, cases_lt, eqb-true, eq-
 use Rattle.topo_core.specs.Cycles.{IsPermutation, after, SameCycle, is_met, class_count, count_below, cycle_count}
 use Rattle.topo_core.specs.Rotations.{twin, partly, face_by, Move, along, Joined, IsClassCount}
 use Rattle.topo_core.specs.Rotations.Move.{Turn, Cross}
-use Rattle.topo_perm.proofs.Orbits.{SameCycle-sym, is_met-SameCycle, SameCycle-is_met}
+use Rattle.topo_core.proofs.Orbits.{SameCycle-sym, is_met-SameCycle, SameCycle-is_met}
 use Rattle.topo_perm.proofs.Classes.{class_count-same, count_below-same, count_below-more}
 use Rattle.topo_perm.proofs.Points.{IsExchangeBelow, cycle_count-same, IsPermutation-same, exchanged-permutation, exchanged_splits, exchanged_joins, exchanged_apart, leader, leader-first, leaders_same, IsFirstOf, firsts_same}
 use Rattle.topo_perm.proofs.Labels.{same_label, IsRelabel, relabel-keeps, relabel-meets, relabel-from, relabel-apart, relabel-same}

@@ -5,7 +5,7 @@ use Rattle.topo_core.specs.Cycles.{IsPermutation, SameCycle}
 use Rattle.topo_core.specs.Rotations.{twin, face_next}
 use Rattle.topo_core.specs.Edits.{IsBefore, IsIsolated}
 use Rattle.topo_perm.specs.Edits.{IsPutBefore, IsApart, IsAllowedHang, IsAllowedChord, IsAllowedUnchord, IsAllowedSplit, IsAllowedSmooth, PutBeforeIsPermutation, PutBeforeIsBefore, BypassIsPermutation, BypassSplits, BypassStays, SplitIsPermutation, SmoothingIsPermutation, SmoothingIsSmooth, HangPoints, HangFaces, ChordPoints, ChordFaces, UnchordPoints, UnchordFaces, SplitPoints, SplitFaces, SmoothPoints, SmoothFaces}
-use Rattle.topo_perm.proofs.Orbits.{SameCycle-sym, SameCycle-trans}
+use Rattle.topo_core.proofs.Orbits.{SameCycle-sym, SameCycle-trans}
 use Rattle.topo_perm.proofs.Points.{IsExchangeBelow, HasBefore, before_of, exchanged-permutation, bypass_splits, cycle_count-same}
 use Rattle.topo_perm.proofs.Walks.{twin-within, face_next-permutation}
 use Rattle.topo_perm.proofs.Faces.{Hung, Chord, twin-twin, twin-apart, twin-other, insert_points, hang_faces, chord_points, chord_faces, unchord_faces, isolated_face}

@@ -1,4 +1,3 @@
-pub mod Orbits
 pub mod Classes
 pub mod Exchange
 pub mod Lists

@@ -2,7 +2,7 @@
 use Rattle.std.proofs.Common.{◌≡◌, ◌≢◌, ℕ, zero, suc, ◌+◌, ◌-◌, ◌<◌, ◌≤◌, ◌==◌, Bool, true, false, cond, ◌&&◌, ◌⊎◌, not, inl, inr, refl, sym, ◌∙◌, ap, arith, ltb}
 use Rattle.std.proofs.lemmas.Bool.{cases_Bool, cases_eq, cases_lt, cond-true, cond-false, lt-ltb, le-ltb, both_ways, eq-eqb, ne_eqb, and_from, and_left, and_right, not_from_true, not_from_false}
 use Rattle.topo_core.specs.Cycles.{IsPermutation, IsBypass, after, SameCycle, is_met, is_first, count_below, class_count, cycle_count}
-use Rattle.topo_perm.proofs.Orbits.{after-within, period, search_below, FirstAt}
+use Rattle.topo_core.proofs.Orbits.{after-within, period, search_below, FirstAt}
 use Rattle.topo_perm.proofs.Classes.{some_below-same, class_count-same, count_below-more, IsEquivalence, first-before, is_first-from}
 use Rattle.topo_perm.proofs.Exchange.{IsExchange, exchange_splits, exchange_joins, exchange_parts, kept, spread, Together, IsExchange-permutation}
 

@@ -3,7 +3,7 @@ use Rattle.std.proofs.Common.{◌≡◌, ◌≢◌, ℕ, ◌<◌, refl, sym, ◌
 use Rattle.topo_core.specs.Cycles.{IsPermutation}
 use Rattle.topo_core.specs.Rotations.{twin, face_next}
 use Rattle.topo_perm.specs.Edits.{IsPutBefore, IsSmoothing, HangIsPossible, ChordIsPossible, UnchordIsPossible, SplitIsPossible, SmoothIsPossible}
-use Rattle.topo_perm.proofs.Orbits.{after-within}
+use Rattle.topo_core.proofs.Orbits.{after-within}
 use Rattle.topo_perm.proofs.Walks.{twin-within, face_next-permutation}
 use Rattle.topo_perm.proofs.Faces.{twin-twin, twin-apart, twin-other}
 use Rattle.topo_perm.proofs.Splitting.{without, without-self, without-onward, without-elsewhere, without-bypass, bypassed-permutation}

@@ -6,7 +6,7 @@ use Rattle.topo_core.specs.Rotations.{twin, Joined, Move, along}
 use Rattle.topo_core.specs.Rotations.Move.{Turn, Cross}
 use Rattle.topo_perm.specs.Renumbering.{IsRenumbering, IsCarried, RenumberedClasses, RenumberedSameCycle, RenumberedCycles, RenumberedWhole, RenumberedFaces, RenumberedJoined, RenumberedConnected}
 use Rattle.topo_perm.proofs.Live.{live_class_count-carries}
-use Rattle.topo_perm.proofs.Orbits.{after-within, SameCycle-sym, SameCycle-is_met, is_met-SameCycle}
+use Rattle.topo_core.proofs.Orbits.{after-within, SameCycle-sym, SameCycle-is_met, is_met-SameCycle}
 use Rattle.topo_perm.proofs.Exchange.{is_met-equivalence}
 use Rattle.topo_perm.proofs.Walks.{twin-within, face_next-permutation}
 

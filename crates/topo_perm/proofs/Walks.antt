@@ -4,7 +4,7 @@ use Rattle.std.proofs.lemmas.Bool.{cases_Bool, eqb-true, eqb-false, both_ways, c
 use Rattle.topo_core.specs.Cycles.{IsPermutation, IsPermutationList, cycles_of, map_of, after, SameCycle, cycle_count}
 use Rattle.topo_core.specs.Rotations.{twin, face_next, faces_of, Move, moved, along, Joined, IsClassCount}
 use Rattle.topo_core.specs.Rotations.Move.{Turn, Cross}
-use Rattle.topo_perm.proofs.Orbits.{after-within}
+use Rattle.topo_core.proofs.Orbits.{after-within}
 use Rattle.topo_perm.proofs.Classes.{class_count-same}
 use Rattle.topo_perm.proofs.Points.{cycle_count-same}
 
