@@ -1,19 +1,10 @@
 -- A permutation whose cycle takes in two numbers more has as many cycles.
-use Rattle.std.proofs.Common.{◌≡◌, ◌||◌, ◌+◌, ◌<◌, ◌⊎◌, ap, ap₂, arith, Bool, cond, false, inl, inr, not, refl, subst, suc, sym, true, zero, ℕ, ◌==◌, ◌∙◌}
+use Rattle.std.proofs.Common.{◌≡◌, ◌+◌, ◌<◌, ◌⊎◌, ap, arith, Bool, cond, false, inl, inr, not, refl, subst, suc, sym, true, zero, ℕ, ◌==◌, ◌∙◌}
 use Rattle.std.proofs.lemmas.Bool.{eq-eqb}
-use Rattle.topo_core.specs.Cycles.{after, count_below, cycle_count, is_first, is_met, IsPermutation, SameCycle, some_below}
-use Rattle.topo_core.proofs.Orbits.{SameCycle-is_met, SameCycle-refl, SameCycle-step, SameCycle-trans, is_met-SameCycle, some_below-true}
+use Rattle.topo_core.specs.Cycles.{after, count_below, cycle_count, is_first, is_met, IsPermutation, SameCycle}
+use Rattle.topo_core.proofs.Orbits.{SameCycle-is_met, SameCycle-refl, SameCycle-step, SameCycle-trans, count_below-same, is_met-SameCycle, some_below-same, some_below-true}
 
 -- ---- Counts
-
--- equal tests count as many
-count_below-same : (p q : ℕ → Bool) (n : ℕ) → ((a : ℕ) → a < n → p a ≡ q a) → count_below p n ≡ count_below q n
-count_below-same p q zero h = refl
-count_below-same p q (suc n) h = ap₂ (λ m b. m + cond b 1 0) (count_below-same p q n (λ a l. h a (omega arith))) (h n (omega arith))
-
-some_below-same : (p q : ℕ → Bool) (n : ℕ) → ((a : ℕ) → a < n → p a ≡ q a) → some_below p n ≡ some_below q n
-some_below-same p q zero h = refl
-some_below-same p q (suc n) h = ap₂ (λ a b. a || b) (h n (omega arith)) (some_below-same p q n (λ a l. h a (omega arith)))
 
 -- tests that follow from each other are equal
 same_tests : (a b : Bool) → (a ≡ true → b ≡ true) → (b ≡ true → a ≡ true) → a ≡ b

@@ -1,7 +1,7 @@
 -- Walks along a permutation: they return, they go both ways, and what an exchange of two images does to them.
-use Rattle.std.proofs.Common.{◌≡◌, ◌≢◌, ℕ, zero, suc, ◌+◌, ◌-◌, ◌<◌, ◌≤◌, ◌==◌, Bool, true, false, cond, ◌⊎◌, inl, inr, refl, sym, ◌∙◌, ap, arith, below_none, ltb}
+use Rattle.std.proofs.Common.{◌≡◌, ◌≢◌, ℕ, zero, suc, ◌+◌, ◌-◌, ◌<◌, ◌≤◌, ◌==◌, Bool, true, false, cond, ◌||◌, ◌⊎◌, inl, inr, refl, sym, ◌∙◌, ap, ap₂, arith, below_none, ltb}
 use Rattle.std.proofs.lemmas.Bool.{cases_Bool, cases_eq, or_left, or_right, or_cases, or_from, eqb-true, eqb-false, eq-eqb, ltb-true, ltb-false}
-use Rattle.topo_core.specs.Cycles.{IsPermutation, after, SameCycle, some_below, is_met}
+use Rattle.topo_core.specs.Cycles.{IsPermutation, after, count_below, SameCycle, some_below, is_met}
 
 -- the first number that passes
 pub record FirstAt (p : ℕ → Bool) (k : ℕ) : Type 0 where
@@ -43,6 +43,16 @@ from_some_below p (suc n) e =
       | inl here ↦ (n, omega arith, here)
       | inr there ↦ let (k, l, pass) = from_some_below p n there in (k, omega arith, pass)
     ]
+
+-- equal tests count as many
+pub count_below-same : (p q : ℕ → Bool) (n : ℕ) → ((a : ℕ) → a < n → p a ≡ q a) → count_below p n ≡ count_below q n
+count_below-same p q zero h = refl
+count_below-same p q (suc n) h = ap₂ (λ m b. m + cond b 1 0) (count_below-same p q n (λ a l. h a (omega arith))) (h n (omega arith))
+
+-- equal tests find alike
+pub some_below-same : (p q : ℕ → Bool) (n : ℕ) → ((a : ℕ) → a < n → p a ≡ q a) → some_below p n ≡ some_below q n
+some_below-same p q zero h = refl
+some_below-same p q (suc n) h = ap₂ (λ a b. a || b) (h n (omega arith)) (some_below-same p q n (λ a l. h a (omega arith)))
 
 -- steps after steps
 pub after-add : (f : ℕ → ℕ) (k m a : ℕ) → after f (k + m) a ≡ after f k (after f m a)

@@ -1,14 +1,10 @@
 -- Counts of classes: equal relations have as many, and joining two classes takes one away.
-use Rattle.std.proofs.Common.{◌≡◌, ◌≢◌, ℕ, zero, suc, ◌+◌, ◌<◌, ◌≤◌, Bool, true, false, cond, ◌||◌, ◌⊎◌, not, inl, inr, refl, sym, ◌∙◌, ap, ap₂, arith}
+use Rattle.std.proofs.Common.{◌≡◌, ◌≢◌, ℕ, zero, suc, ◌+◌, ◌<◌, ◌≤◌, Bool, true, false, ◌⊎◌, not, inl, inr, sym, ◌∙◌, ap, arith}
 use Rattle.std.proofs.lemmas.Bool.{cases_Bool, cases_eq, cases_order, not_from_true, not_from_false, both_ways}
-use Rattle.topo_core.specs.Cycles.{some_below, count_below, is_first, class_count}
+use Rattle.topo_core.specs.Cycles.{count_below, is_first, class_count}
 pub use Rattle.topo_perm.specs.Renumbering.{IsEquivalence}
+pub use Rattle.topo_core.proofs.Orbits.{count_below-same, some_below-same}
 use Rattle.topo_core.proofs.Orbits.{search_below, some_below-true, some_below-false}
-
-pub count_below-same : (p q : ℕ → Bool) (n : ℕ) → ((a : ℕ) → a < n → p a ≡ q a) → count_below p n ≡ count_below q n
-count_below-same p q zero h = refl
-count_below-same p q (suc n) h =
-    ap₂ (λ m b. m + cond b 1 0) (count_below-same p q n (λ a l. h a (omega arith))) (h n (omega arith))
 
 -- two tests that differ at one number
 pub count_below-more : (p q : ℕ → Bool) (n m : ℕ) → m < n → p m ≡ true → q m ≡ false → ((a : ℕ) → a < n → a ≢ m → p a ≡ q a) → count_below p n ≡ count_below q n + 1
@@ -25,11 +21,6 @@ count_below-more p q (suc n) m l pm qm h =
           let same : p n ≡ q n = h n (omega arith) (λ e. ne (sym e)) in
           rw same (omega (arith, low))
     ]
-
-pub some_below-same : (p q : ℕ → Bool) (n : ℕ) → ((a : ℕ) → a < n → p a ≡ q a) → some_below p n ≡ some_below q n
-some_below-same p q zero h = refl
-some_below-same p q (suc n) h =
-    ap₂ (λ b c. b || c) (h n (omega arith)) (some_below-same p q n (λ a l. h a (omega arith)))
 
 pub class_count-same : (r s : ℕ → ℕ → Bool) (n : ℕ) → ((a b : ℕ) → a < n → b < n → r a b ≡ s a b) → class_count r n ≡ class_count s n
 class_count-same r s n h =
