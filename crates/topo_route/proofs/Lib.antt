@@ -1,0 +1,4 @@
+pub mod Numbers
+pub mod Orbits
+pub mod Order
+pub mod Prices

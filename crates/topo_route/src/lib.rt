@@ -8,4 +8,5 @@
 #![tactic(auto)]
 
 pub mod dual;
+mod faces;
 pub mod plan;
