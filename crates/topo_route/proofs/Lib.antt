@@ -2,3 +2,4 @@ pub mod Numbers
 pub mod Orbits
 pub mod Order
 pub mod Prices
+pub mod Tests

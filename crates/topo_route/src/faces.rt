@@ -44,6 +44,7 @@ pub(crate) fn price_at<D: Dual, F: Asks>(dual: &D, tariff: &Tariff<F>, dart: u32
     requires { dart < length (darts (D.shows dual.now)) }
     ensures price { IsPriceAt (prices_of (F.answers tariff.now)) (D.shows dual.now) dart result }
     ensures in_range { IfSome result (λ p. (1 ≤ p) × (p ≤ 1000)) }
+    ensures promise { KeepsPromise (prices_of (F.answers tariff.now)) }
 {
     let facts = dual.facts(dart);
     tariff.price(&facts)

@@ -9,4 +9,5 @@
 
 pub mod dual;
 mod faces;
+mod heights;
 pub mod plan;
