@@ -1,7 +1,7 @@
 -- The tests of heights, on numbers and on darts.
 use Rattle.std.proofs.Common.{◌≡◌, ◌≢◌, ℕ, zero, suc, ◌+◌, ◌<◌, ◌≤◌, Bool, true, false, List, [], ◌∷◌, length, Some, None, inl, inr, refl, sym, ap, subst, ◌∙◌, arith}
-use Rattle.std.specs.Prelude.{◌⊎◌, map, slice_get, slice_index}
-use Rattle.std.proofs.lemmas.Bool.{cases_eq, cases_lt}
+use Rattle.std.specs.Prelude.{◌⊎◌, IsTrue, map, slice_get, slice_index}
+use Rattle.std.proofs.lemmas.Bool.{cases_eq, cases_lt, false≢true}
 use Rattle.std.proofs.lemmas.List.{length-map}
 use Rattle.topo_core.specs.declared.darts.Dart.{Dart}
 use Rattle.topo_core.specs.declared.rows.Rows.{Rows}
@@ -108,11 +108,49 @@ module _ (rows : Rows) (heights : List ℕ) (price : Pricing) where
 
 -- ---- The least height of a corner
 
+-- what is known of the corners before a position, and whether one of them has the height
+pub record LeastBefore (rows : Rows) (u : ℕ) (heights : List ℕ) (cost : ℕ) (found : Bool) (i : ℕ) : Type 0 where
+  pub least : (p : ℕ) (c : Dart) → p < i → corner rows u p ≡ Some c → cost ≤ height_in rows heights c
+  pub there : found ≡ true → (p : ℕ) × (c : Dart) × (corner rows u p ≡ Some c) × (height_in rows heights c ≡ cost)
+  pub not_there : found ≡ false → (p : ℕ) (c : Dart) → p < i → corner rows u p ≡ Some c → height_in rows heights c ≢ cost
+
 module _ (rows : Rows) (u : ℕ) (heights : List ℕ) (cost : ℕ) where
-  pub least_true : ((p : ℕ) (c : Dart) → corner rows u p ≡ Some c → cost ≤ height_in rows heights c)
+  abbrev AtLeast : ℕ → Dart → Type 0
+  AtLeast p c = cost ≤ height_in rows heights c
+
+  abbrev Differs : ℕ → Dart → Type 0
+  Differs p c = height_in rows heights c ≢ cost
+
+  pub least_found : (found : Bool) (i : ℕ) (d : Dart) → corner rows u i ≡ Some d → height_in rows heights d ≡ cost → LeastBefore rows u heights cost found i → LeastBefore rows u heights cost true (i + 1)
+  least_found found i d here same before = record {
+    least = before_some rows u AtLeast i d here (omega arith) before.least;
+    there = λ e. (i, d, here, same);
+    not_there = λ e. absurd (false≢true (sym e));
+  }
+
+  pub least_kept : (found : Bool) (i : ℕ) (d : Dart) → corner rows u i ≡ Some d → cost ≤ height_in rows heights d → height_in rows heights d ≢ cost → LeastBefore rows u heights cost found i
+      → LeastBefore rows u heights cost found (i + 1)
+  least_kept found i d here low differs before = record {
+    least = before_some rows u AtLeast i d here low before.least;
+    there = before.there;
+    not_there = λ e. before_some rows u Differs i d here differs (before.not_there e);
+  }
+
+  pub least_past : (found : Bool) (i : ℕ) → corner rows u i ≡ None → LeastBefore rows u heights cost found i → LeastBefore rows u heights cost found (i + 1)
+  least_past found i none before = record {
+    least = before_past rows u AtLeast i none before.least;
+    there = before.there;
+    not_there = λ e. before_past rows u Differs i none (before.not_there e);
+  }
+
+  least_true : ((p : ℕ) (c : Dart) → corner rows u p ≡ Some c → cost ≤ height_in rows heights c)
       → ((p : ℕ) × (c : Dart) × (corner rows u p ≡ Some c) × (height_in rows heights c ≡ cost)) → IsLeastHeight rows u heights cost
   least_true low (p, c, at, same) = record { position = p; from = c; there = at; is_height = same; least = low }
 
-  pub least_false : (found : Bool) → IsLeastHeight rows u heights cost → (found ≡ false → (p : ℕ) (c : Dart) → corner rows u p ≡ Some c → height_in rows heights c ≢ cost) → found ≡ true
-  least_false true is none = refl
-  least_false false is none = absurd (none refl is.position is.from is.there is.is_height)
+  pub least_whole : (found : Bool) (i : ℕ) → i ≡ length (rotation rows u) → LeastBefore rows u heights cost found i
+      → (IsTrue found → IsLeastHeight rows u heights cost) × (IsLeastHeight rows u heights cost → IsTrue found)
+  least_whole true i whole before = ((λ w. least_true (before_all rows u AtLeast i whole before.least) (before.there refl)), (λ is. refl))
+  least_whole false i whole before = (
+    (λ w. absurd (false≢true w)),
+    (λ is. absurd (before_all rows u Differs i whole (before.not_there refl) is.position is.from is.there is.is_height)),
+  )

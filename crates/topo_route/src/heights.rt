@@ -68,7 +68,9 @@ pub(crate) fn is_least_height<D: Dual>(dual: &D, u: u32, heights: &[u64], price:
             if height < price {
                 return false;
             }
-            found = found || height == price;
+            if height == price {
+                found = true;
+            }
         }
     }
     found

@@ -1,12 +1,5 @@
-use Rattle.std.proofs.Common.{◌≡◌, ◌≢◌, ◌<◌, ◌≤◌, ℕ, Some, true, false}
-use Rattle.topo_core.specs.declared.darts.Dart.{Dart}
-use Rattle.topo_core.specs.Picture.{corner}
-use Rattle.topo_route.specs.Plans.{height_in}
+use Rattle.topo_route.proofs.Tests.{LeastBefore}
 use Rattle.topo_route.proofs.heights.is_least_height.Given as goal
 
 abbrev pub invariant-loop-position : goal.invariant-loop-position
-invariant-loop-position g l = record {
-  least : (p : ℕ) (c : Dart) → p < l.position → corner (g.D.Dual.shows l.dual) l.u p ≡ Some c → l.price ≤ height_in (g.D.Dual.shows l.dual) l.heights c;
-  there : l.found ≡ true → (p : ℕ) × (c : Dart) × (corner (g.D.Dual.shows l.dual) l.u p ≡ Some c) × (height_in (g.D.Dual.shows l.dual) l.heights c ≡ l.price);
-  not_there : l.found ≡ false → (p : ℕ) (c : Dart) → p < l.position → corner (g.D.Dual.shows l.dual) l.u p ≡ Some c → height_in (g.D.Dual.shows l.dual) l.heights c ≢ l.price;
-}
+invariant-loop-position g l = LeastBefore (g.D.Dual.shows l.dual) l.u l.heights l.price l.found l.position
