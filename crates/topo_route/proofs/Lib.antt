@@ -3,3 +3,4 @@ pub mod Orbits
 pub mod Order
 pub mod Prices
 pub mod Tests
+pub mod Walking

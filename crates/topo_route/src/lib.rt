@@ -11,3 +11,4 @@ pub mod dual;
 mod faces;
 mod heights;
 pub mod plan;
+mod walks;
