@@ -4,3 +4,4 @@ pub mod Order
 pub mod Prices
 pub mod Tests
 pub mod Walking
+pub mod Verdicts

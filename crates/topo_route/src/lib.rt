@@ -7,6 +7,7 @@
 //! first: its Ok means that the route is the first of the least, whoever made the plan.
 #![tactic(auto)]
 
+pub mod check;
 pub mod dual;
 mod faces;
 mod heights;
