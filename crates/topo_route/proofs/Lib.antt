@@ -5,3 +5,5 @@ pub mod Prices
 pub mod Tests
 pub mod Walking
 pub mod Verdicts
+pub mod Settled
+pub mod Buckets

@@ -12,4 +12,5 @@ pub mod dual;
 mod faces;
 mod heights;
 pub mod plan;
+mod waiting;
 mod walks;
