@@ -7,3 +7,4 @@ pub mod Walking
 pub mod Verdicts
 pub mod Settled
 pub mod Buckets
+pub mod Reaching

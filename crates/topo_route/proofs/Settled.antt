@@ -15,7 +15,7 @@ use Rattle.topo_core.specs.Routes.{Pricing, Reaches, unreached}
 use Rattle.topo_route.specs.Numbers.{dart_of, next_of}
 use Rattle.topo_route.specs.Settling.{AreCosts, IsCrossed, IsSettled, Spreads, effort, is_waiting, reached}
 
-abbrev counts : ℕ → ℕ
+abbrev pub counts : ℕ → ℕ
 counts h = cond {A = ℕ} (h == unreached) 0 1
 
 counts_reached : (h : ℕ) → h ≢ unreached → counts h ≡ 1
@@ -104,21 +104,21 @@ module _ (price : Pricing) (rows : Rows) (v : ℕ) (heights : List ℕ) (costs :
   pub lowered_stays : (k : ℕ) → slice_index heights k ≢ unreached → slice_index (set heights t x) k ≢ unreached
   lowered_stays k was now = let less = lowered_less heights t x inside k (omega arith) in let cap = costs.capped k in was (omega arith)
 
-  pub lowered_settled : (prices : List (Option ℕ)) (k : ℕ) → k ≢ t → IsSettled rows prices heights k → IsSettled rows prices (set heights t x) k
-  lowered_settled prices k ne (face, crossed) =
+  pub lowered_settled : (k : ℕ) → k ≢ t → IsSettled price rows heights k → IsSettled price rows (set heights t x) k
+  lowered_settled k ne (face, crossed) =
       let same = lowered_other heights t x inside k ne in (
         (let less = lowered_less heights t x inside (next_of rows k) (omega arith) in omega arith),
         (λ p e. let bound = crossed p e in let less = lowered_less heights t x inside (twin k) (omega arith) in omega arith),
       )
 
   -- t is lowered and waits
-  pub lowered_waits : (prices : List (Option ℕ)) (waiting after : List ℕ) (in_hand : ℕ) → Spreads price rows v prices heights waiting in_hand
-      → ((k : ℕ) → is_waiting after k ≡ (t == k || is_waiting waiting k)) → Spreads price rows v prices (set heights t x) after in_hand
-  lowered_waits prices waiting after in_hand spreads added = record {
+  pub lowered_waits : (waiting after : List ℕ) (in_hand : ℕ) → Spreads price rows v heights waiting in_hand
+      → ((k : ℕ) → is_waiting after k ≡ (t == k || is_waiting waiting k)) → Spreads price rows v (set heights t x) after in_hand
+  lowered_waits waiting after in_hand spreads added = record {
     costs = lowered_costs;
     others = λ k l ne idle.
         let both = either_false (t == k) (is_waiting waiting k) (sym (added k) ∙ idle) in
-        lowered_settled prices k (λ e. false≢true (sym both.0 ∙ eq-eqb t k (sym e))) (spreads.others k l ne both.1);
+        lowered_settled k (λ e. false≢true (sym both.0 ∙ eq-eqb t k (sym e))) (spreads.others k l ne both.1);
     reached_waits = λ k waits. elim (either_true (t == k) (is_waiting waiting k) (sym (added k) ∙ waits)) [
       | inl here ↦
           let is : t ≡ k = eqb-true t k here in (
@@ -130,11 +130,11 @@ module _ (price : Pricing) (rows : Rows) (v : ℕ) (heights : List ℕ) (costs :
   }
 
 -- t is the next along the face of the dart in hand, and is lowered to its height: now it is in hand
-pub passed_on : (price : Pricing) (rows : Rows) (v : ℕ) (prices : List (Option ℕ)) (heights waiting : List ℕ) (d t : ℕ) → Spreads price rows v prices heights waiting d
-    → t ≡ next_of rows d → t < length (darts rows) → slice_index heights d < slice_index heights t → IsCrossed prices heights d
+pub passed_on : (price : Pricing) (rows : Rows) (v : ℕ) (heights waiting : List ℕ) (d t : ℕ) → Spreads price rows v heights waiting d
+    → t ≡ next_of rows d → t < length (darts rows) → slice_index heights d < slice_index heights t → IsCrossed price rows heights d
     → Reaches price rows v (dart_of rows t) (slice_index heights d) → slice_index heights d ≤ 1000 * reached heights
-    → Spreads price rows v prices (set heights t (slice_index heights d)) waiting t
-passed_on price rows v prices heights waiting d t spreads is there low crossed walk near =
+    → Spreads price rows v (set heights t (slice_index heights d)) waiting t
+passed_on price rows v heights waiting d t spreads is there low crossed walk near =
     let x = slice_index heights d in
     let costs = spreads.costs in
     let within : t < length heights = let e = costs.one_each in omega arith in
@@ -147,31 +147,31 @@ passed_on price rows v prices heights waiting d t spreads is there low crossed w
             let now : slice_index (set heights t x) (next_of rows k) ≡ x = ap (λ j. slice_index (set heights t x) (next_of rows j)) e ∙ ap (slice_index (set heights t x)) (sym is) ∙ lowered_there heights t x within in (
               (omega arith),
               (λ p priced.
-                  let bound = subst (IsCrossed prices heights) (sym e) crossed p priced in
+                  let bound = subst (IsCrossed price rows heights) (sym e) crossed p priced in
                   let was : slice_index heights k ≡ x = ap (slice_index heights) e in
                   let less = lowered_less heights t x within (twin k) (omega arith) in omega arith),
             )
-        | inr other ↦ lowered_settled price rows v heights costs t x there low walk near' prices k ne (spreads.others k l other idle)
+        | inr other ↦ lowered_settled price rows v heights costs t x there low walk near' k ne (spreads.others k l other idle)
       ];
       reached_waits = λ k waits. let was = spreads.reached_waits k waits in (was.0, lowered_stays price rows v heights costs t x there low walk near' k was.1);
     }
 
 -- the dart in hand is settled
-pub put_down : (price : Pricing) (rows : Rows) (v : ℕ) (prices : List (Option ℕ)) (heights waiting : List ℕ) (d : ℕ) → Spreads price rows v prices heights waiting d
-    → IsSettled rows prices heights d → Spreads price rows v prices heights waiting (length (darts rows))
-put_down price rows v prices heights waiting d spreads settled = record {
+pub put_down : (price : Pricing) (rows : Rows) (v : ℕ) (heights waiting : List ℕ) (d : ℕ) → Spreads price rows v heights waiting d
+    → IsSettled price rows heights d → Spreads price rows v heights waiting (length (darts rows))
+put_down price rows v heights waiting d spreads settled = record {
   costs = spreads.costs;
   others = λ k l ne idle. elim (cases_eq k d) [
-    | inl e ↦ subst (IsSettled rows prices heights) (sym e) settled
+    | inl e ↦ subst (IsSettled price rows heights) (sym e) settled
     | inr other ↦ spreads.others k l other idle
   ];
   reached_waits = spreads.reached_waits;
 }
 
 -- a dart is taken from those that wait
-pub taken_up : (price : Pricing) (rows : Rows) (v : ℕ) (prices : List (Option ℕ)) (heights waiting after : List ℕ) (d : ℕ) → Spreads price rows v prices heights waiting (length (darts rows))
-    → ((k : ℕ) → is_waiting waiting k ≡ (d == k || is_waiting after k)) → Spreads price rows v prices heights after d
-taken_up price rows v prices heights waiting after d spreads taken = record {
+pub taken_up : (price : Pricing) (rows : Rows) (v : ℕ) (heights waiting after : List ℕ) (d : ℕ) → Spreads price rows v heights waiting (length (darts rows))
+    → ((k : ℕ) → is_waiting waiting k ≡ (d == k || is_waiting after k)) → Spreads price rows v heights after d
+taken_up price rows v heights waiting after d spreads taken = record {
   costs = spreads.costs;
   others = λ k l ne idle. spreads.others k l (omega arith) (taken k ∙ ap (λ (b : Bool). b || is_waiting after k) (ne_eqb d k (λ e. ne (sym e))) ∙ idle);
   reached_waits = λ k waits. spreads.reached_waits k (taken k ∙ ap (λ (b : Bool). d == k || b) waits ∙ or-true (d == k));

@@ -4,7 +4,7 @@ use Rattle.std.specs.List.{list_any}
 use Rattle.topo_core.specs.declared.rows.Rows.{Rows}
 use Rattle.topo_core.specs.Picture.{darts}
 use Rattle.topo_core.specs.Rotations.{twin}
-use Rattle.topo_core.specs.Routes.{KeepsPromise, Pricing, Reaches, unreached}
+use Rattle.topo_core.specs.Routes.{KeepsPromise, Price, Pricing, Reaches, unreached}
 use Rattle.topo_route.specs.Numbers.{IsPriceAt, dart_of, next_of}
 use Rattle.topo_route.specs.Plans.{HasOneEach, MeetsTarget}
 
@@ -50,18 +50,18 @@ pub record AreCosts (price : Pricing) (rows : Rows) (v : ℕ) (heights : List �
   pub costs : (k : ℕ) → k < length (darts rows) → slice_index heights k ≢ unreached → Reaches price rows v (dart_of rows k) (slice_index heights k)
   pub bounded : (k : ℕ) → k < length (darts rows) → slice_index heights k ≢ unreached → slice_index heights k ≤ 1000 * reached heights
 
--- the twin stands no higher above the dart than the price
-abbrev pub IsCrossed : List (Option ℕ) → List ℕ → ℕ → Type 0
-IsCrossed prices heights k = (p : ℕ) → slice_index_or prices (k / 2) None ≡ Some p → slice_index heights (twin k) ≤ p + slice_index heights k
+-- where the dart has a price, its twin stands no higher above it than that
+abbrev pub IsCrossed : Pricing → Rows → List ℕ → ℕ → Type 0
+IsCrossed price rows heights k = (p : ℕ) → Price price rows (dart_of rows k) p → slice_index heights (twin k) ≤ p + slice_index heights k
 
 -- and the next along the face no higher than the dart
-abbrev pub IsSettled : Rows → List (Option ℕ) → List ℕ → ℕ → Type 0
-IsSettled rows prices heights k = (slice_index heights (next_of rows k) ≤ slice_index heights k) × IsCrossed prices heights k
+abbrev pub IsSettled : Pricing → Rows → List ℕ → ℕ → Type 0
+IsSettled price rows heights k = (slice_index heights (next_of rows k) ≤ slice_index heights k) × IsCrossed price rows heights k
 
 -- Heights are costs, and each dart but the one in hand is settled or waits.
-pub record Spreads (price : Pricing) (rows : Rows) (v : ℕ) (prices : List (Option ℕ)) (heights waiting : List ℕ) (in_hand : ℕ) : Type 0 where
+pub record Spreads (price : Pricing) (rows : Rows) (v : ℕ) (heights waiting : List ℕ) (in_hand : ℕ) : Type 0 where
   pub costs : AreCosts price rows v heights
-  pub others : (k : ℕ) → k < length (darts rows) → k ≢ in_hand → is_waiting waiting k ≡ false → IsSettled rows prices heights k
+  pub others : (k : ℕ) → k < length (darts rows) → k ≢ in_hand → is_waiting waiting k ≡ false → IsSettled price rows heights k
   pub reached_waits : (k : ℕ) → is_waiting waiting k ≡ true → (k < length (darts rows)) × (slice_index heights k ≢ unreached)
 
 -- a dart of the picture that has been reached

@@ -10,7 +10,9 @@
 pub mod check;
 pub mod dual;
 mod faces;
+mod graph;
 mod heights;
 pub mod plan;
+mod spread;
 mod waiting;
 mod walks;
