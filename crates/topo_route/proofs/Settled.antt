@@ -9,10 +9,12 @@ use Rattle.std.proofs.lemmas.List.Sums.{sum_by-set}
 use Rattle.topo_core.specs.declared.darts.Dart.{Dart}
 use Rattle.topo_core.specs.declared.rows.Rows.{Rows}
 use Rattle.topo_core.specs.Lawful.{Lawful}
-use Rattle.topo_core.specs.Picture.{darts}
+use Rattle.topo_core.specs.Picture.{corner, darts, index_of}
 use Rattle.topo_core.specs.Rotations.{twin}
 use Rattle.topo_core.specs.Routes.{Pricing, Reaches, unreached}
 use Rattle.topo_route.specs.Numbers.{dart_of, next_of}
+use Rattle.topo_route.specs.Plans.{height_in}
+use Rattle.topo_route.proofs.Tests.{before_some, height_at}
 use Rattle.topo_route.specs.Settling.{AreCosts, IsCrossed, IsSettled, Spreads, effort, is_waiting, reached}
 
 abbrev pub counts : ℕ → ℕ
@@ -176,3 +178,29 @@ taken_up price rows v heights waiting after d spreads taken = record {
   others = λ k l ne idle. spreads.others k l (omega arith) (taken k ∙ ap (λ (b : Bool). b || is_waiting after k) (ne_eqb d k (λ e. ne (sym e))) ∙ idle);
   reached_waits = λ k waits. spreads.reached_waits k (taken k ∙ ap (λ (b : Bool). d == k || b) waits ∙ or-true (d == k));
 }
+
+-- a corner of the target gets height 0 and waits
+module _ (price : Pricing) (rows : Rows) (lawful : Lawful rows) (v : ℕ) (heights waiting after : List ℕ) (in_hand i c : ℕ) (spreads : Spreads price rows v heights waiting in_hand)
+    (there : c < length (darts rows)) (at : corner rows v i ≡ Some (dart_of rows c)) (high : 0 < slice_index heights c)
+    (added : (k : ℕ) → is_waiting after k ≡ (c == k || is_waiting waiting k)) where
+  pub started : Spreads price rows v (set heights c 0) after in_hand
+  started =
+      let walk : Reaches price rows v (dart_of rows c) 0 = record { crossed = []; position = i; to = dart_of rows c; ends = at; walk = record { steps = 0; leads = refl }; cost = refl } in
+      lowered_waits price rows v heights spreads.costs c 0 there high walk (omega arith) waiting after in_hand spreads added
+
+  pub started_zero : ((p : ℕ) (d : Dart) → p < i → corner rows v p ≡ Some d → height_in rows heights d ≡ 0)
+      → (p : ℕ) (d : Dart) → p < i + 1 → corner rows v p ≡ Some d → height_in rows (set heights c 0) d ≡ 0
+  started_zero before =
+      let within : c < length heights = omega (arith, spreads.costs.one_each) in
+      before_some rows v (λ p d. height_in rows (set heights c 0) d ≡ 0) i (dart_of rows c) at
+      (height_at rows lawful (set heights c 0) c there ∙ lowered_there heights c 0 within)
+      (λ p d l here. let was = before p d l here in let less = lowered_less heights c 0 within (index_of rows d) (omega arith) in omega arith)
+
+-- nothing waits, so all are settled
+pub all_settled : (price : Pricing) (rows : Rows) (v : ℕ) (heights waiting : List ℕ) → Spreads price rows v heights waiting (length (darts rows)) → waiting ≡ []
+    → (k : ℕ) → k < length (darts rows) → IsSettled price rows heights k
+all_settled price rows v heights waiting spreads none k l = spreads.others k l (omega arith) (ap (λ w. is_waiting w k) none)
+
+-- a step falls
+pub passed_effort : (heights waiting : List ℕ) (t x : ℕ) → t < length heights → x < slice_index heights t → effort (set heights t x) waiting < effort heights waiting
+passed_effort heights waiting t x within low = let e = lowered_sum heights t x within in omega arith

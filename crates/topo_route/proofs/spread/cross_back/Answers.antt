@@ -1,5 +1,6 @@
-use Rattle.std.proofs.Common.{◌≡◌, ◌≤◌, ◌<◌, ◌+◌, ◌∙◌, ℕ, arith, ap, sym, subst, get_or, get_or-set_other, length}
+use Rattle.std.proofs.Common.{◌≡◌, ◌≤◌, ◌<◌, ◌+◌, ◌∙◌, ℕ, arith, ap, sym, subst, get_or, length}
 use Rattle.std.specs.Prelude.{slice_index}
+use Rattle.std.proofs.Math.ListN.{set}
 use Rattle.topo_core.specs.Picture.{darts}
 use Rattle.topo_core.specs.Rotations.{twin}
 use Rattle.topo_core.specs.Routes.{Reaches}
@@ -32,7 +33,15 @@ pub returns-in_ok-push-in-Some-clause-crossed : goal.returns-in_ok-push-in-Some-
 returns-in_ok-push-in-Some-clause-crossed g c p asked =
     let rows = g.D.Dual.shows c.args.graph.now.dual.now in
     let price = prices_of (g.F.Asks.answers c.args.graph.now.tariff.now) in
-    let same = single_price price rows c.in-Some.ensures.promise (dart_of rows c.args.dart) p c.in-Some.price asked c.in-Some.ensures.price in ?
+    let same = single_price price rows c.in-Some.ensures.promise (dart_of rows c.args.dart) p c.in-Some.price asked c.in-Some.ensures.price in
+    let heights = c.args.heights.now in
+    let x = get_or heights c.args.dart 0 + c.in-Some.price in
+    let is = c.across-other.ensures.twin in
+    let within : c.across-other.result < length heights = omega (arith, c.across-other.ensures.within, c.requires.spreads.costs.one_each) in
+    let there : slice_index (set heights c.across-other.result x) (twin c.args.dart) ≡ x =
+    ap (slice_index (set heights c.across-other.result x)) (sym is) ∙ lowered_there heights c.across-other.result x within in
+    let kept = lowered_other heights c.across-other.result x within c.args.dart (λ e. twin_other c.args.dart (sym (e ∙ is))) in
+    omega arith
 
 pub returns-else-height-saturating_sub-clause-crossed : goal.returns-else-height-saturating_sub-clause-crossed
 returns-else-height-saturating_sub-clause-crossed g c p asked =
