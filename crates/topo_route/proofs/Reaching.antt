@@ -146,4 +146,9 @@ module _ (price : Pricing) (rows : Rows) (lawful : Lawful rows) (v : ℕ) (heigh
   ]
 
   pub are_heights : AreHeights price rows v heights
-  are_heights = record { one_each = costs.one_each; exact = exact; certificate = certificate }
+  are_heights = record {
+    one_each = costs.one_each;
+    exact = exact;
+    certificate = certificate;
+    unreached_none = λ d h e m walk. is_reached walk.crossed d walk.to m h walk.walk walk.cost (meets walk.position walk.to walk.ends) e;
+  }

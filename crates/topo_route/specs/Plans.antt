@@ -5,7 +5,7 @@ use Rattle.topo_core.specs.declared.rows.Rows.{Rows}
 use Rattle.topo_core.specs.Darts.{dart_twin}
 use Rattle.topo_core.specs.Systems.{SameFace, face_step, has_dart}
 use Rattle.topo_core.specs.Picture.{corner, darts, index_of, system}
-use Rattle.topo_core.specs.Routes.{Pricing, Price, IsPricedRoute, IsFirst, IsHeight, IsCertificate}
+use Rattle.topo_core.specs.Routes.{Pricing, Price, IsPricedRoute, IsFirst, IsHeight, IsCertificate, Reaches, unreached}
 use Rattle.topo_core.specs.RouteLaws.{TakesFirstDarts, arrival, IsFirstByHeights}
 use Rattle.topo_route.specs.declared.plan.Plan.{Plan}
 use Rattle.topo_route.specs.declared.plan.PlanFault.{PlanFault}
@@ -20,6 +20,7 @@ pub record AreHeights (price : Pricing) (rows : Rows) (v : ℕ) (heights : List 
   pub one_each : length heights ≡ length (darts rows)
   pub exact : (d : Dart) → has_dart (darts rows) d ≡ true → IsHeight price rows v d (height_in rows heights d)
   pub certificate : IsCertificate price rows v (height_in rows heights)
+  pub unreached_none : (d : Dart) → has_dart (darts rows) d ≡ true → height_in rows heights d ≡ unreached → (n : ℕ) → Reaches price rows v d n → ⊥
 
 -- a plan as a search makes it
 pub record IsPlan (price : Pricing) (rows : Rows) (u v : ℕ) (plan : Plan) : Type 0 where

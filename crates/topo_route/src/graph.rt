@@ -1,14 +1,15 @@
 //! A picture with the prices of its segments.
 
-ghost use Rattle.std.specs.Prelude.{◌≡◌, ◌<◌, ◌≤◌, length, IfSome};
+ghost use Rattle.std.specs.Prelude.{◌≡◌, ◌*◌, ◌<◌, length, IfOk};
 ghost use Rattle.topo_core.specs.Picture.{darts};
-ghost use Rattle.topo_core.specs.Rotations.{twin};
 ghost use Rattle.topo_core.specs.Routes.{KeepsPromise};
 ghost use Rattle.topo_price.specs.Prices.{prices_of};
-ghost use Rattle.topo_route.specs.Numbers.{IsPriceAt, next_of};
-ghost use Rattle.topo_route.specs.Settling.{ArePrices};
+ghost use Rattle.topo_route.specs.Numbers.{IsPriceAt};
+ghost use Rattle.topo_route.specs.Settling.{ArePrices, ArePricesOf};
 
 use crate::dual::Dual;
+use crate::faces::price_at;
+use std::alloc::{AllocError, Global};
 use topo_price::tariff::{Asks, Tariff};
 
 /// A picture with the price of each segment, asked for once.
@@ -28,4 +29,34 @@ impl<D: Dual, F: Asks> Graph<'_, D, F> {
     {
         self.prices[(dart / 2) as usize]
     }
+}
+
+/// The price of a segment: that of the segment before it, where both lie on one edge.
+fn segment_price<D: Dual, F: Asks>(dual: &D, tariff: &Tariff<F>, prices: &[Option<u32>], segment: u32) -> Option<u32>
+    requires within { 2 * segment < length (darts (D.shows dual.now)) }
+    requires right { ArePricesOf (prices_of (F.answers tariff.now)) (D.shows dual.now) prices.now segment }
+    ensures price { IsPriceAt (prices_of (F.answers tariff.now)) (D.shows dual.now) (2 * segment) result }
+    ensures promise { KeepsPromise (prices_of (F.answers tariff.now)) }
+{
+    let edge = dual.dart(2 * segment).edge.number();
+    if segment > 0 {
+        let before = dual.dart(2 * (segment - 1)).edge.number();
+        if before == edge {
+            return prices[(segment - 1) as usize];
+        }
+    }
+    price_at(dual, tariff, 2 * segment)
+}
+
+/// The prices of all segments. Each edge is asked for once.
+pub(crate) fn segment_prices<D: Dual, F: Asks>(alloc: Global, dual: &D, tariff: &Tariff<F>) -> Result<Vec<Option<u32>>, AllocError>
+    ensures { IfOk result (λ prices. ArePrices (prices_of (F.answers tariff.now)) (D.shows dual.now) prices.items) }
+{
+    let segments = dual.len() / 2;
+    let mut prices = Vec::with_capacity(alloc, segments as usize)?;
+    for segment in 0..segments {
+        let price = segment_price(dual, tariff, prices.as_slice(), segment);
+        prices.push(price)?;
+    }
+    Ok(prices)
 }

@@ -8,6 +8,7 @@
 #![tactic(auto)]
 
 pub mod check;
+mod descent;
 pub mod dual;
 mod faces;
 mod graph;

@@ -93,3 +93,16 @@ fn start_at<D: Dual, F: Asks>(graph: &Graph<D, F>, heights: &mut [u64], waiting:
     }
     Ok(())
 }
+
+/// For each dart the least price from its face to a face at the target.
+pub(crate) fn least_heights<D: Dual, F: Asks>(alloc: Global, graph: &Graph<D, F>, v: u32) -> Result<Vec<u64>, AllocError>
+    requires right { ArePrices (prices_of (F.answers graph.now.tariff.now)) (D.shows graph.now.dual.now) graph.now.prices.items }
+    requires some { 0 < length (darts (D.shows graph.now.dual.now)) }
+    ensures { IfOk result (λ heights. AreHeights (prices_of (F.answers graph.now.tariff.now)) (D.shows graph.now.dual.now) v heights.items) }
+{
+    let mut heights = vec![in alloc; u64::MAX; graph.dual.len() as usize]?;
+    let mut waiting = Waiting::new(alloc)?;
+    start_at(graph, heights.as_mut_slice(), &mut waiting, v)?;
+    spread_all(graph, heights.as_mut_slice(), &mut waiting, v)?;
+    Ok(heights)
+}
