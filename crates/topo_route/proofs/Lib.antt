@@ -8,3 +8,5 @@ pub mod Verdicts
 pub mod Settled
 pub mod Buckets
 pub mod Reaching
+pub mod Segments
+pub mod Descending

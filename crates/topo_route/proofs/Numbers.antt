@@ -16,7 +16,7 @@ use Rattle.topo_core.proofs.RouteDarts.{corner_in}
 use Rattle.topo_route.specs.Numbers.{dart_of, next_of, no_dart}
 use Rattle.topo_route.proofs.Orbits.{SameCycle-sym}
 
-in_list : {X : Type 0} (xs : List X) (i : ℕ) (x d : X) → slice_get xs i ≡ Some x → slice_index_or xs i d ≡ x
+pub in_list : {X : Type 0} (xs : List X) (i : ℕ) (x d : X) → slice_get xs i ≡ Some x → slice_index_or xs i d ≡ x
 in_list [] i x d e = cc
 in_list (y ∷ xs) zero x d e = let same : y ≡ x = cc in same
 in_list (y ∷ xs) (suc i) x d e = in_list xs i x d e

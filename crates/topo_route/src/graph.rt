@@ -1,6 +1,6 @@
 //! A picture with the prices of its segments.
 
-ghost use Rattle.std.specs.Prelude.{◌≡◌, ◌*◌, ◌<◌, length, IfOk};
+ghost use Rattle.std.specs.Prelude.{◌≡◌, ◌/◌, ◌%◌, ◌<◌, length, IfOk};
 ghost use Rattle.topo_core.specs.Picture.{darts};
 ghost use Rattle.topo_core.specs.Routes.{KeepsPromise};
 ghost use Rattle.topo_price.specs.Prices.{prices_of};
@@ -31,21 +31,23 @@ impl<D: Dual, F: Asks> Graph<'_, D, F> {
     }
 }
 
-/// The price of a segment: that of the segment before it, where both lie on one edge.
-fn segment_price<D: Dual, F: Asks>(dual: &D, tariff: &Tariff<F>, prices: &[Option<u32>], segment: u32) -> Option<u32>
-    requires within { 2 * segment < length (darts (D.shows dual.now)) }
-    requires right { ArePricesOf (prices_of (F.answers tariff.now)) (D.shows dual.now) prices.now segment }
-    ensures price { IsPriceAt (prices_of (F.answers tariff.now)) (D.shows dual.now) (2 * segment) result }
+/// The price of the dart of a segment that has the smaller number: that of the segment before it,
+/// where both lie on one edge.
+fn segment_price<D: Dual, F: Asks>(dual: &D, tariff: &Tariff<F>, prices: &[Option<u32>], dart: u32) -> Option<u32>
+    requires within { dart < length (darts (D.shows dual.now)) }
+    requires even { dart % 2 ≡ 0 }
+    requires right { ArePricesOf (prices_of (F.answers tariff.now)) (D.shows dual.now) prices.now (dart / 2) }
+    ensures price { IsPriceAt (prices_of (F.answers tariff.now)) (D.shows dual.now) dart result }
     ensures promise { KeepsPromise (prices_of (F.answers tariff.now)) }
 {
-    let edge = dual.dart(2 * segment).edge.number();
-    if segment > 0 {
-        let before = dual.dart(2 * (segment - 1)).edge.number();
+    if dart > 0 {
+        let edge = dual.dart(dart).edge.number();
+        let before = dual.dart(dart - 2).edge.number();
         if before == edge {
-            return prices[(segment - 1) as usize];
+            return prices[(dart / 2 - 1) as usize];
         }
     }
-    price_at(dual, tariff, 2 * segment)
+    price_at(dual, tariff, dart)
 }
 
 /// The prices of all segments. Each edge is asked for once.
@@ -55,7 +57,7 @@ pub(crate) fn segment_prices<D: Dual, F: Asks>(alloc: Global, dual: &D, tariff: 
     let segments = dual.len() / 2;
     let mut prices = Vec::with_capacity(alloc, segments as usize)?;
     for segment in 0..segments {
-        let price = segment_price(dual, tariff, prices.as_slice(), segment);
+        let price = segment_price(dual, tariff, prices.as_slice(), 2 * segment);
         prices.push(price)?;
     }
     Ok(prices)
