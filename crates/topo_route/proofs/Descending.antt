@@ -6,7 +6,7 @@ use Rattle.std.proofs.lemmas.List.{append-nil}
 use Rattle.topo_core.specs.declared.darts.Dart.{Dart}
 use Rattle.topo_core.specs.declared.rows.Rows.{Rows}
 use Rattle.topo_core.specs.declared.routes.Route.{Route}
-use Rattle.topo_core.specs.Cycles.{SameCycle}
+use Rattle.topo_core.specs.Cycles.{SameCycle, after}
 use Rattle.topo_core.specs.Darts.{dart_twin}
 use Rattle.topo_core.specs.Lawful.{Lawful}
 use Rattle.topo_core.specs.Picture.{corner, darts, index_of, system}
@@ -18,12 +18,13 @@ use Rattle.topo_core.proofs.Certificates.{face_height, face_in, first_by_heights
 use Rattle.topo_core.proofs.Numbering.{twin_in}
 use Rattle.topo_core.proofs.RouteDarts.{certified}
 use Rattle.topo_route.specs.declared.plan.Plan.{Plan}
-use Rattle.topo_route.specs.Descents.{Descends, HasNoStart, IsDescent, IsEnd, IsFirstTight, IsStart}
+use Rattle.topo_route.specs.Descents.{Descends, HasNoStart, IsDescent, IsEnd, IsFirstOf, IsFirstTight, IsStart}
 use Rattle.topo_route.specs.Numbers.{HasTightBefore, dart_of, next_of}
 use Rattle.topo_route.specs.Plans.{AreHeights, IsPlan, height_in}
-use Rattle.topo_route.proofs.Numbers.{corner_below, dart_in, dart_of_number, face_of_numbers, face_stays, number_below, number_of, numbers_of_face, twin_below, twin_dart}
+use Rattle.topo_route.proofs.Numbers.{corner_below, dart_in, dart_of_number, face_of_numbers, face_stays, next_permutes, number_below, number_of, numbers_of_face, twin_below, twin_dart}
 use Rattle.topo_route.proofs.Tests.{height_at}
-use Rattle.topo_route.proofs.Walking.{first_holds}
+use Rattle.topo_route.proofs.Walking.{first_holds, none_before}
+use Rattle.topo_route.proofs.Orbits.{round_all}
 
 module _ (price : Pricing) (rows : Rows) (lawful : Lawful rows) (v : ℕ) (heights : List ℕ) (are : AreHeights price rows v heights) where
   abbrev height : Dart → ℕ
@@ -123,14 +124,18 @@ module _ (price : Pricing) (rows : Rows) (lawful : Lawful rows) (v : ℕ) (heigh
     arrives = ap (arrival (dart_of rows from)) (sym (append-nil crossed)) ∙ far.arrives [];
   }
 
+  -- a walk that costs nothing crosses nothing
+  no_end : KeepsPromise price → (c : Dart) (xs : List Dart) (to : Dart) (n p : ℕ) → Crosses (system rows) c xs to → Costs price rows xs n → n ≡ 0 → corner rows v p ≡ Some to
+      → ((p : ℕ) (d : Dart) → corner rows v p ≡ Some d → SameFace (system rows) c d → ⊥) → ⊥
+  no_end promise c [] to n p walk cost nothing at none = none p to at walk
+  no_end promise c (x ∷ xs) to n p walk cost nothing at none = let one = promise.positive cost.2.facts cost.0 cost.2.asked in let total = cost.4 in omega arith
+
   -- a face of height 0 has a corner of the target
   pub has_end : (promise : KeepsPromise price) (last : ℕ) → last < length (darts rows) → height (dart_of rows last) ≡ 0
       → ((p : ℕ) (c : Dart) → corner rows v p ≡ Some c → SameFace (system rows) (dart_of rows last) c → ⊥) → ⊥
   has_end promise last l down none =
       let walk = walk_of (dart_of rows last) (dart_in rows lawful last l) (λ e. omega arith) in
-      by_walk walk.crossed walk.walk walk.cost walk.position walk.to walk.ends where
-        by_walk : (xs : List Dart) {to : Dart} → Crosses (system rows) (dart_of rows last) xs to → Costs price rows xs (height (dart_of rows last)) → (p : ℕ) (to' : Dart) → corner rows v p ≡ Some to' → ⊥
-        by_walk xs walk cost p to' at = ?
+      no_end promise (dart_of rows last) walk.crossed walk.to (height (dart_of rows last)) walk.position walk.walk walk.cost down walk.ends none
 
   -- no corner of u is reached, so there is no route
   pub no_route : (u : ℕ) → HasNoStart rows u heights → HasNoRoute price rows u v
@@ -160,4 +165,73 @@ module _ (price : Pricing) (rows : Rows) (lawful : Lawful rows) (v : ℕ) (heigh
         heights = subst (AreHeights price rows v) (sym same) are;
         first = subst (IsFirst price rows u v plan.route) (sym cost) first;
         by_heights = subst (λ hs. IsFirstByHeights price rows u v (height_in rows hs) plan.route plan.price) (sym same) (subst (IsFirstByHeights price rows u v height plan.route) (sym cost) by_heights);
+      }
+
+-- ---- The first tight dart of a face
+
+-- what a walk round a face has met in its first steps
+pub record FirstSoFar (price : Pricing) (rows : Rows) (heights : List ℕ) (at i first : ℕ) : Type 0 where
+  pub bound : first ≤ length (darts rows)
+  pub there : first < length (darts rows) → SameCycle (next_of rows) at first × IsTight price rows (height_in rows heights) (dart_of rows first)
+  pub none : (j : ℕ) → j < i → after (next_of rows) j at < first → IsTight price rows (height_in rows heights) (dart_of rows (after (next_of rows) j at)) → ⊥
+
+module _ (price : Pricing) (rows : Rows) (lawful : Lawful rows) (heights : List ℕ) (at : ℕ) where
+  abbrev Tight : ℕ → Type 0
+  Tight k = IsTight price rows (height_in rows heights) (dart_of rows k)
+
+  pub none_so_far : FirstSoFar price rows heights at 0 (length (darts rows))
+  none_so_far = record { bound = omega arith; there = λ l. absurd (omega arith); none = λ j l. absurd (omega arith) }
+
+  pub first_step : (i first dart result : ℕ) → dart ≡ after (next_of rows) i at → dart < length (darts rows) → FirstSoFar price rows heights at i first → IsFirstOf price rows heights first dart result
+      → FirstSoFar price rows heights at (i + 1) result
+  first_step i first dart result place within so_far (inl (is, less, tight)) = record {
+    bound = omega arith;
+    there = λ l. subst (λ k. SameCycle (next_of rows) at k × Tight k) (sym is) (record { steps = i; leads = sym place }, tight);
+    none = λ j l low is_tight. elim (cases_eq j i) [
+      | inl e ↦ let same : after (next_of rows) j at ≡ dart = ap (λ k. after (next_of rows) k at) e ∙ sym place in omega arith
+      | inr ne ↦ so_far.none j (omega arith) (omega arith) is_tight
+    ];
+  }
+  first_step i first dart result place within so_far (inr (is, none)) = record {
+    bound = omega (arith, so_far.bound);
+    there = λ l. subst (λ k. SameCycle (next_of rows) at k × Tight k) (sym is) (so_far.there (omega arith));
+    none = λ j l low is_tight. elim (cases_eq j i) [
+      | inl e ↦
+          let same : after (next_of rows) j at ≡ dart = ap (λ k. after (next_of rows) k at) e ∙ sym place in
+          none (omega arith) (subst Tight same is_tight)
+      | inr ne ↦ so_far.none j (omega arith) (omega arith) is_tight
+    ];
+  }
+
+  -- the walk is home, or has met all
+  pub first_home : (i first : ℕ) → FirstSoFar price rows heights at (i + 1) first → next_of rows (after (next_of rows) i at) ≡ at → HasTightBefore price rows heights at (length (darts rows))
+      → IsFirstTight price rows heights at first
+  first_home i first so_far home some =
+      let within = some_below (λ e. none_before price rows heights at (length (darts rows)) i home
+          (λ j l. subst (λ k. after (next_of rows) j at < k → Tight (after (next_of rows) j at) → ⊥) e (so_far.none j (omega arith)))
+          (subst (λ k. after (next_of rows) i at < k → Tight (after (next_of rows) i at) → ⊥) e (so_far.none i (omega arith))) some) in
+      record {
+        within = within;
+        face = (so_far.there within).0;
+        tight = (so_far.there within).1;
+        first = none_before price rows heights at first i home (λ j l. so_far.none j (omega arith)) (so_far.none i (omega arith));
+      } where
+        some_below : (first ≡ length (darts rows) → ⊥) → first < length (darts rows)
+        some_below ne = let bound = so_far.bound in elim (cases_eq first (length (darts rows))) [ inl e ↦ absurd (ne e) | inr other ↦ omega arith ]
+
+  pub first_all : (i first : ℕ) → length (darts rows) ≤ i → FirstSoFar price rows heights at i first → at < length (darts rows) → HasTightBefore price rows heights at (length (darts rows))
+      → IsFirstTight price rows heights at first
+  first_all i first enough so_far at_in some =
+      let Free = λ (k : ℕ) (x : ℕ). x < k → Tight x → ⊥ in
+      let all : (x : ℕ) → SameCycle (next_of rows) at x → Free first x =
+      round_all (next_of rows) (Free first) at (length (darts rows)) (next_permutes rows lawful) at_in (λ j l. so_far.none j (omega arith)) in
+      let within : first < length (darts rows) = elim (cases_eq first (length (darts rows))) [
+        | inl e ↦ absurd (all some.dart some.face (subst (λ k. some.dart < k) (sym e) some.before) some.tight)
+        | inr other ↦ let bound = so_far.bound in omega arith
+      ] in
+      record {
+        within = within;
+        face = (so_far.there within).0;
+        tight = (so_far.there within).1;
+        first = λ before. all before.dart before.face before.before before.tight;
       }

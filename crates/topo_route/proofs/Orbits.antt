@@ -153,3 +153,7 @@ unmet_home f a b k home unmet same = round_home f (λ x. x ≢ b) a (suc k) (ome
 
 pub unmet_all : (f : ℕ → ℕ) (a b n : ℕ) → IsPermutation f n → a < n → ((j : ℕ) → j < n → after f j a ≢ b) → SameCycle f a b → ⊥
 unmet_all f a b n h l unmet same = round_all f (λ x. x ≢ b) a n h l unmet b same refl
+
+-- one step more
+pub after-one : (f : ℕ → ℕ) (k a : ℕ) → after f (k + 1) a ≡ f (after f k a)
+after-one f k a = let e : k + 1 ≡ suc k = omega arith in ap (λ n. after f n a) e

@@ -1,5 +1,5 @@
 -- The parts of a search's route.
-use Rattle.std.specs.Prelude.{◌≡◌, ◌≢◌, ℕ, ◌+◌, ◌<◌, ◌≤◌, List, length, Some, ◌++◌}
+use Rattle.std.specs.Prelude.{◌≡◌, ◌≢◌, ℕ, ◌+◌, ◌<◌, ◌≤◌, List, length, Some, ◌++◌, ◌⊎◌}
 use Rattle.topo_core.specs.declared.darts.Dart.{Dart}
 use Rattle.topo_core.specs.declared.rows.Rows.{Rows}
 use Rattle.topo_core.specs.Cycles.{SameCycle}
@@ -53,3 +53,9 @@ pub record IsEnd (rows : Rows) (v last position : ℕ) : Type 0 where
   pub there : corner rows v position ≡ Some to
   pub face : SameFace (system rows) (dart_of rows last) to
   pub first : HasFirstEnd rows v position (dart_of rows last)
+
+-- the dart where it comes before the first so far and is tight, and else the first so far
+abbrev pub IsFirstOf : Pricing → Rows → List ℕ → ℕ → ℕ → ℕ → Type 0
+IsFirstOf price rows heights first dart result =
+    ((result ≡ dart) × (dart < first) × IsTight price rows (height_in rows heights) (dart_of rows dart))
+    ⊎ ((result ≡ first) × (dart < first → IsTight price rows (height_in rows heights) (dart_of rows dart) → ⊥))

@@ -7,7 +7,7 @@ ghost use Rattle.topo_core.specs.RouteLaws.{IsTight};
 ghost use Rattle.topo_core.specs.Routes.{unreached};
 ghost use Rattle.topo_core.specs.Systems.{SameFace};
 ghost use Rattle.topo_price.specs.Prices.{prices_of};
-ghost use Rattle.topo_route.specs.Descents.{HasNoStart, IsDescent, IsEnd, IsFirstTight, IsStart};
+ghost use Rattle.topo_route.specs.Descents.{HasNoStart, IsDescent, IsEnd, IsFirstOf, IsFirstTight, IsStart};
 ghost use Rattle.topo_route.specs.Numbers.{dart_of};
 ghost use Rattle.topo_route.specs.Plans.{AreHeights, HasFirstStart, HasOneEach, IsLeastHeight, height_in};
 ghost use Rattle.topo_route.specs.Settling.{ArePrices};
@@ -103,6 +103,21 @@ fn is_tight<D: Dual, F: Asks>(graph: &Graph<D, F>, heights: &[u64], dart: u32) -
     }
 }
 
+/// The smaller of two numbers, if it is that of a tight dart.
+fn first_of<D: Dual, F: Asks>(graph: &Graph<D, F>, heights: &[u64], first: u32, dart: u32) -> u32
+    requires right { ArePrices (prices_of (F.answers graph.now.tariff.now)) (D.shows graph.now.dual.now) graph.now.prices.items }
+    requires one_each { HasOneEach (D.shows graph.now.dual.now) heights.now }
+    requires within { dart < length (darts (D.shows graph.now.dual.now)) }
+    ensures { IsFirstOf (prices_of (F.answers graph.now.tariff.now)) (D.shows graph.now.dual.now) heights.now first dart result }
+{
+    if dart < first {
+        if is_tight(graph, heights, dart) {
+            return dart;
+        }
+    }
+    first
+}
+
 /// The first tight dart of the face of `at`, which is reached and above the target.
 fn first_tight<D: Dual, F: Asks>(graph: &Graph<D, F>, heights: &[u64], v: u32, at: u32) -> u32
     requires right { ArePrices (prices_of (F.answers graph.now.tariff.now)) (D.shows graph.now.dual.now) graph.now.prices.items }
@@ -115,9 +130,7 @@ fn first_tight<D: Dual, F: Asks>(graph: &Graph<D, F>, heights: &[u64], v: u32, a
     let mut dart = at;
     let mut first = graph.dual.len();
     for _steps in 0..graph.dual.len() {
-        if dart < first && is_tight(graph, heights, dart) {
-            first = dart;
-        }
+        first = first_of(graph, heights, first, dart);
         dart = next_along(graph.dual, dart);
         if dart == at {
             return first;
