@@ -13,6 +13,7 @@ use std::alloc::{AllocError, Global};
 use topo_price::tariff::{Asks, Tariff};
 
 /// A picture with the price of each segment, asked for once.
+#[derive(Drop)]
 pub(crate) struct Graph<'a, D: Dual, F: Asks> {
     pub dual: &'a D,
     pub tariff: &'a Tariff<F>,

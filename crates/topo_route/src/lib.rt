@@ -14,6 +14,7 @@ mod faces;
 mod graph;
 mod heights;
 pub mod plan;
+pub mod search;
 mod spread;
 mod waiting;
 mod walks;

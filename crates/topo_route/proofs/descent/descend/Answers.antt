@@ -46,7 +46,7 @@ loop-at-preserved g c =
     let promise = c.requires.right.promise (omega (arith, c.requires.within)) in
     let is = in_list (darts rows) c.first_tight-dart.result c.dart.result no_dart c.dart.ensures in
     let here = height_at rows lawful heights c.loop-at.at c.loop-at.invariant.within in
-    let capped : height_in rows heights (dart_of rows c.loop-at.at) ≤ unreached = ? in
+    let capped : height_in rows heights (dart_of rows c.loop-at.at) ≤ unreached = omega (arith, c.type_inv.heights c.loop-at.at) in
     subst (λ xs. Descends price rows heights c.args.from xs c.across-at.result) (sym c.in_ok-push.ensures.items)
     (descends_on price rows lawful c.args.v heights c.requires.are_heights promise c.args.from c.loop-at.at c.first_tight-dart.result c.across-at.result c.loop-at.crossed.items c.dart.result
         c.loop-at.invariant c.first_tight-dart.ensures is c.across-at.ensures.twin capped)
