@@ -1,6 +1,8 @@
 -- Down the heights across the first tight darts.
-use Rattle.std.proofs.Common.{◌≡◌, ◌≢◌, ℕ, zero, suc, ◌+◌, ◌<◌, ◌≤◌, true, List, [], ◌∷◌, ◌++◌, length, Some, inl, inr, refl, sym, ap, subst, ◌∙◌, arith, append_assoc}
-use Rattle.std.specs.Prelude.{◌⊎◌, slice_index}
+use Rattle.std.proofs.Common.{◌≡◌, ◌≢◌, ℕ, zero, suc, ◌+◌, ◌<◌, ◌≤◌, ◌||◌, ◌==◌, Bool, true, false, List, [], ◌∷◌, ◌++◌, length, Some, inl, inr, refl, sym, ap, subst, ◌∙◌, arith, append_assoc}
+use Rattle.std.specs.Prelude.{◌⊎◌, map, slice_get, slice_index}
+use Rattle.std.specs.List.{list_any, range_with_len}
+use Rattle.std.proofs.lemmas.List.Folds.{list_any-append}
 use Rattle.std.proofs.lemmas.Bool.{cases_eq}
 use Rattle.std.proofs.lemmas.List.{append-nil}
 use Rattle.topo_core.specs.declared.darts.Dart.{Dart}
@@ -9,7 +11,7 @@ use Rattle.topo_core.specs.declared.routes.Route.{Route}
 use Rattle.topo_core.specs.Cycles.{SameCycle, after}
 use Rattle.topo_core.specs.Darts.{dart_twin}
 use Rattle.topo_core.specs.Lawful.{Lawful}
-use Rattle.topo_core.specs.Picture.{corner, darts, index_of, system}
+use Rattle.topo_core.specs.Picture.{around_crossing, around_vertex, corner, darts, index_of, system, vertices}
 use Rattle.topo_core.specs.Rotations.{twin}
 use Rattle.topo_core.specs.RouteLaws.{IsFirstByHeights, IsTight, TakesFirstDarts, arrival}
 use Rattle.topo_core.specs.Routes.{Costs, Crosses, HasNoRoute, IsFirst, IsHeight, IsPricedRoute, KeepsPromise, Price, Pricing, Reaches, unreached}
@@ -235,3 +237,32 @@ module _ (price : Pricing) (rows : Rows) (lawful : Lawful rows) (heights : List 
         tight = (so_far.there within).1;
         first = λ before. all before.dart before.face before.before before.tight;
       }
+
+-- ---- A lawful picture with a vertex has darts
+
+or_false : (a b : Bool) → (a || b) ≡ false → (a ≡ false) × (b ≡ false)
+or_false true b e = cc
+or_false false b e = (refl, e)
+
+none_bare : (f : ℕ → List Dart) (a m k : ℕ) → a ≤ k → k < a + m → list_any (λ around. length around == 0) (map f (range_with_len a m)) ≡ false → (length (f k) == 0) ≡ false
+none_bare f a zero k low high none = absurd (omega arith)
+none_bare f a (suc m) k low high none =
+    let both = or_false (length (f a) == 0) (list_any (λ around. length around == 0) (map f (range_with_len (a + 1) m))) none in
+    elim (cases_eq k a) [
+      | inl e ↦ ap (λ j. length (f j) == 0) e ∙ both.0
+      | inr ne ↦ none_bare f (a + 1) m k (omega arith) (omega arith) both.1
+    ]
+
+first_item : {X : Type 0} (xs : List X) → (length xs == 0) ≡ false → (x : X) × (slice_get xs 0 ≡ Some x)
+first_item [] e = cc
+first_item (x ∷ xs) e = (x, refl)
+
+pub has_darts : (rows : Rows) → Lawful rows → (u : ℕ) → u < length rows.rotations → 0 < length (darts rows)
+has_darts rows lawful u there =
+    let points = map (around_vertex rows) (vertices rows) in
+    let crossings = map (around_crossing rows) rows.crossings in
+    let bare : List Dart → Bool = λ around. length around == 0 in
+    let both = or_false (list_any bare points) (list_any bare crossings) (sym (list_any-append bare points crossings) ∙ lawful.embedding.connected.no_bare_point) in
+    let some = none_bare (around_vertex rows) 0 (length rows.rotations) u (omega arith) (omega arith) both.0 in
+    let (c, at) = first_item (around_vertex rows u) some in
+    let below = number_below rows lawful c (corner_below rows lawful u 0 c at) in omega arith
