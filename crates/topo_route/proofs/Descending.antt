@@ -1,21 +1,20 @@
 -- Down the heights across the first tight darts.
 use Rattle.std.proofs.Common.{◌≡◌, ◌≢◌, ℕ, zero, suc, ◌+◌, ◌<◌, ◌≤◌, ◌||◌, ◌==◌, Bool, true, false, List, [], ◌∷◌, ◌++◌, length, Some, inl, inr, refl, sym, ap, subst, ◌∙◌, arith, append_assoc}
-use Rattle.std.specs.Prelude.{◌⊎◌, map, slice_get, slice_index}
+use Rattle.std.specs.Prelude.{map, slice_get}
 use Rattle.std.specs.List.{list_any, range_with_len}
 use Rattle.std.proofs.lemmas.List.Folds.{list_any-append}
 use Rattle.std.proofs.lemmas.Bool.{cases_eq}
 use Rattle.std.proofs.lemmas.List.{append-nil}
 use Rattle.topo_core.specs.declared.darts.Dart.{Dart}
 use Rattle.topo_core.specs.declared.rows.Rows.{Rows}
-use Rattle.topo_core.specs.declared.routes.Route.{Route}
 use Rattle.topo_core.specs.Cycles.{SameCycle, after}
 use Rattle.topo_core.specs.Darts.{dart_twin}
 use Rattle.topo_core.specs.Lawful.{Lawful}
 use Rattle.topo_core.specs.Picture.{around_crossing, around_vertex, corner, darts, index_of, system, vertices}
 use Rattle.topo_core.specs.Rotations.{twin}
 use Rattle.topo_core.specs.RouteLaws.{IsFirstByHeights, IsTight, TakesFirstDarts, arrival}
-use Rattle.topo_core.specs.Routes.{Costs, Crosses, HasNoRoute, IsFirst, IsHeight, IsPricedRoute, KeepsPromise, Price, Pricing, Reaches, unreached}
-use Rattle.topo_core.specs.Systems.{SameFace, face_step, has_dart}
+use Rattle.topo_core.specs.Routes.{Costs, Crosses, HasNoRoute, IsFirst, IsHeight, IsPricedRoute, KeepsPromise, Pricing, Reaches, unreached}
+use Rattle.topo_core.specs.Systems.{SameFace, has_dart}
 use Rattle.topo_core.proofs.Certificates.{face_height, face_in, first_by_heights, height_bounds}
 use Rattle.topo_core.proofs.Numbering.{twin_in}
 use Rattle.topo_core.proofs.RouteDarts.{certified}
@@ -24,7 +23,6 @@ use Rattle.topo_route.specs.Descents.{Descends, HasNoStart, IsDescent, IsEnd, Is
 use Rattle.topo_route.specs.Numbers.{HasTightBefore, dart_of, next_of}
 use Rattle.topo_route.specs.Plans.{AreHeights, IsPlan, height_in}
 use Rattle.topo_route.proofs.Numbers.{corner_below, dart_in, dart_of_number, face_of_numbers, face_stays, next_permutes, number_below, number_of, numbers_of_face, twin_below, twin_dart}
-use Rattle.topo_route.proofs.Tests.{height_at}
 use Rattle.topo_route.proofs.Walking.{first_holds, none_before}
 use Rattle.topo_route.proofs.Orbits.{round_all}
 
@@ -52,7 +50,7 @@ module _ (price : Pricing) (rows : Rows) (lawful : Lawful rows) (v : ℕ) (heigh
       let one = one_height (dart_of rows at) x here walk.0 in
       let climb = are.certificate.gentle x cost.0 there cost.2 in
       let rest = height_bounds price rows (system rows) (darts rows) height (face_stays rows lawful) (twin_in rows) are.certificate.even are.certificate.gentle
-          xs (dart_twin x) to cost.1 (twin_in rows x there) walk.1 cost.3 down in
+      xs (dart_twin x) to cost.1 (twin_in rows x there) walk.1 cost.3 down in
       let total = cost.4 in
       let tight : IsTight price rows height x = record { cost = cost.0; asked = cost.2; drop = omega arith } in
       record {
@@ -162,7 +160,7 @@ module _ (price : Pricing) (rows : Rows) (lawful : Lawful rows) (v : ℕ) (heigh
         first_end = subst (λ c. (p : ℕ) (d : Dart) → p < plan.route.end → corner rows v p ≡ Some d → SameFace (system rows) c d → ⊥) (sym descent.arrives) end.first;
       } in
       let first = first_by_heights price rows u v height (certified price rows u v height lawful.embedding.well_formed are.certificate)
-          (λ d p asked. promise.positive asked.facts p asked.asked) plan.route n by_heights in
+      (λ d p asked. promise.positive asked.facts p asked.asked) plan.route n by_heights in
       record {
         heights = subst (AreHeights price rows v) (sym same) are;
         first = subst (IsFirst price rows u v plan.route) (sym cost) first;
@@ -210,8 +208,8 @@ module _ (price : Pricing) (rows : Rows) (lawful : Lawful rows) (heights : List 
       → IsFirstTight price rows heights at first
   first_home i first so_far home some =
       let within = some_below (λ e. none_before price rows heights at (length (darts rows)) i home
-          (λ j l. subst (λ k. after (next_of rows) j at < k → Tight (after (next_of rows) j at) → ⊥) e (so_far.none j (omega arith)))
-          (subst (λ k. after (next_of rows) i at < k → Tight (after (next_of rows) i at) → ⊥) e (so_far.none i (omega arith))) some) in
+      (λ j l. subst (λ k. after (next_of rows) j at < k → Tight (after (next_of rows) j at) → ⊥) e (so_far.none j (omega arith)))
+      (subst (λ k. after (next_of rows) i at < k → Tight (after (next_of rows) i at) → ⊥) e (so_far.none i (omega arith))) some) in
       record {
         within = within;
         face = (so_far.there within).0;

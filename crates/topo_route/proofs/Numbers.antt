@@ -1,20 +1,19 @@
 -- Darts and their numbers, in one place: what the laws of topo_core say, over a total map from numbers to darts.
-use Rattle.std.proofs.Common.{◌≡◌, ◌≢◌, ℕ, zero, suc, ◌<◌, ◌≤◌, ◌+◌, ◌-◌, ◌%◌, ◌/◌, ◌==◌, true, List, [], ◌∷◌, length, Some, inl, inr, refl, sym, ap, subst, ◌∙◌, arith}
+use Rattle.std.proofs.Common.{◌≡◌, ◌≢◌, ℕ, zero, suc, ◌<◌, ◌+◌, ◌-◌, ◌%◌, ◌/◌, ◌==◌, true, List, [], ◌∷◌, length, Some, inl, inr, refl, sym, ap, subst, ◌∙◌, arith}
 use Rattle.std.specs.Prelude.{slice_get, slice_index_or, ◌⊎◌, Option, None, MatchOption, option_map}
 use Rattle.std.proofs.lemmas.Bool.{cases_Bool, cond-true, cond-false, eqb-true, eqb-false}
 use Rattle.topo_core.specs.declared.darts.Dart.{Dart}
 use Rattle.topo_core.specs.declared.rows.Rows.{Rows}
-use Rattle.topo_core.specs.Cycles.{IsPermutation, SameCycle, map_of}
+use Rattle.topo_core.specs.Cycles.{IsPermutation, SameCycle}
 use Rattle.topo_core.specs.Darts.{dart_twin}
-use Rattle.topo_core.specs.Rotations.{twin, face_next}
+use Rattle.topo_core.specs.Rotations.{twin}
 use Rattle.topo_core.specs.Systems.{SameFace, face_step, has_dart}
-use Rattle.topo_core.specs.Picture.{corner, darts, index_of, system, turn_images}
+use Rattle.topo_core.specs.Picture.{corner, darts, index_of, system}
 use Rattle.topo_core.specs.Lawful.{IsWellFormed, Lawful}
-use Rattle.topo_core.proofs.Numbering.{index_of_get, get_index, index_apart, has_at, twin_in, index_twin, images_length, even_images, turn_permutes, index_less, turn_stays, dart_at}
+use Rattle.topo_core.proofs.Numbering.{index_of_get, get_index, has_at, twin_in, index_twin, images_length, turn_permutes, index_less, turn_stays, dart_at}
 use Rattle.topo_core.proofs.Renumbering.{face_carried, face_numbers, face_darts}
 use Rattle.topo_core.proofs.RouteDarts.{corner_in}
 use Rattle.topo_route.specs.Numbers.{dart_of, next_of, no_dart}
-use Rattle.topo_route.proofs.Orbits.{SameCycle-sym}
 
 pub in_list : {X : Type 0} (xs : List X) (i : ℕ) (x d : X) → slice_get xs i ≡ Some x → slice_index_or xs i d ≡ x
 in_list [] i x d e = cc

@@ -1,9 +1,8 @@
 -- The numbers of darts follow the canonical order.
-use Rattle.std.proofs.Common.{◌≡◌, ◌≢◌, ℕ, zero, suc, ◌+◌, ◌<◌, ◌≤◌, ◌&&◌, ◌||◌, not, Bool, true, false, cond, List, [], ◌∷◌, ◌++◌, length, refl, sym, ap, subst, ◌∙◌, arith, inl, inr}
+use Rattle.std.proofs.Common.{◌≡◌, ℕ, zero, suc, ◌+◌, ◌<◌, ◌≤◌, ◌||◌, not, Bool, true, false, cond, List, [], ◌∷◌, ◌++◌, refl, sym, ap, subst, ◌∙◌, arith, inl, inr}
 use Rattle.std.specs.Prelude.{◌⊎◌, flat_map, map, nat_lt, slice_index_or}
 use Rattle.std.specs.List.{list_all, position_or_len, range_with_len}
 use Rattle.std.specs.Ordering.{nat_cmp, ordering_then}
-use Rattle.std.specs.declared.cmp.Ordering.{Ordering}
 use Rattle.std.specs.declared.cmp.Ordering.TheVariants.{Less, Equal, Greater}
 use Rattle.std.proofs.lemmas.Bool.{false≢true, cases_Bool}
 use Rattle.std.proofs.lemmas.Bool.Decides.{nat_tests}
@@ -78,9 +77,9 @@ in_either (x ∷ xs) ys d h = elim (either (same_dart d x) (has_dart (xs ++ ys) 
 rises_joined : (xs ys : List Dart) → Rises xs → Rises ys → ((c : Dart) → has_dart xs c ≡ true → Leads c ys) → Rises (xs ++ ys)
 rises_joined [] ys h k before = k
 rises_joined (x ∷ xs) ys h k before = (
-    (λ d there. elim (in_either xs ys d there) [ inl left ↦ h.0 d left | inr right ↦ before x (left_holds (same_dart x x) (has_dart xs x) (same_dart_self x)) d right ]),
-    rises_joined xs ys h.1 k (λ c here. before c (right_holds (same_dart c x) (has_dart xs c) here)),
-  )
+  (λ d there. elim (in_either xs ys d there) [ inl left ↦ h.0 d left | inr right ↦ before x (left_holds (same_dart x x) (has_dart xs x) (same_dart_self x)) d right ]),
+  rises_joined xs ys h.1 k (λ c here. before c (right_holds (same_dart c x) (has_dart xs c) here)),
+)
 
 -- ---- The darts of one edge
 
@@ -111,8 +110,10 @@ edge_rises e a (suc n) =
             subst (Precedes forth) is (two_ways e a)
         | inr later ↦ after_all forth refl refl d later
       ]),
-      ((λ d there. after_all back refl refl d there),
-      edge_rises e (a + 1) n),
+      (
+        (λ d there. after_all back refl refl d there),
+        edge_rises e (a + 1) n,
+      ),
     ) where
       two_ways : (e a : ℕ) → Precedes (record { edge = e; seg = a; way = Forward }) (record { edge = e; seg = a; way = Back })
       two_ways e a = (
@@ -135,9 +136,9 @@ all_rise limit (row ∷ rows) h =
     rises_joined (darts_of row) (flat_map darts_of rows) (edge_rises row.id 0 (segment_count row))
     (all_rise limit rows (right_true (nat_lt row.id (slice_index_or (map (λ row. row.id) rows) 0 limit)) (rises_below limit (map (λ row. row.id) rows)) h))
     (λ c here d there.
-        let mine = (segments row.id 0 (segment_count row) c here).0 in
-        let above = ids_above limit row.id (map (λ row. row.id) rows) h d.edge (edge_listed rows d there) in
-        by_edge c d (omega arith))
+    let mine = (segments row.id 0 (segment_count row) c here).0 in
+    let above = ids_above limit row.id (map (λ row. row.id) rows) h d.edge (edge_listed rows d there) in
+    by_edge c d (omega arith))
 
 -- ---- Places
 

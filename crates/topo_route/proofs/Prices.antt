@@ -1,5 +1,5 @@
 -- The price of a dart is that of the facts of its edge.
-use Rattle.std.proofs.Common.{◌≡◌, ℕ, ◌<◌, Some, None, length, sym, subst, ◌∙◌}
+use Rattle.std.proofs.Common.{◌≡◌, ℕ, ◌<◌, Some, None, length, subst}
 use Rattle.std.specs.Prelude.{Option, IsSomeAnd, MatchOption, slice_get}
 use Rattle.topo_core.specs.declared.darts.Dart.{Dart}
 use Rattle.topo_core.specs.declared.rows.Rows.{Rows}

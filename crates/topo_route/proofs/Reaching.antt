@@ -1,6 +1,6 @@
 -- Walks to the target, step by step, and what heights are once nothing waits.
-use Rattle.std.proofs.Common.{◌≡◌, ◌≢◌, ℕ, zero, suc, ◌+◌, ◌*◌, ◌^◌, ◌<◌, ◌≤◌, ◌==◌, Bool, true, false, cond, List, [], ◌∷◌, length, Some, inl, inr, refl, sym, ap, subst, ◌∙◌, arith}
-use Rattle.std.specs.Prelude.{◌⊎◌, slice_index, sum_by}
+use Rattle.std.proofs.Common.{◌≡◌, ◌≢◌, ℕ, zero, suc, ◌+◌, ◌*◌, ◌^◌, ◌<◌, ◌≤◌, ◌==◌, Bool, true, cond, List, [], ◌∷◌, length, Some, inl, inr, refl, sym, ap, subst, ◌∙◌, arith}
+use Rattle.std.specs.Prelude.{slice_index}
 use Rattle.std.proofs.lemmas.Bool.{cases_Bool, cases_eq}
 use Rattle.std.proofs.lemmas.List.Sums.{sum_by-cons}
 use Rattle.topo_core.specs.declared.darts.Dart.{Dart}
@@ -17,11 +17,11 @@ use Rattle.topo_core.proofs.DartLaws.{twin-twin}
 use Rattle.topo_core.proofs.Numbering.{twin_in}
 use Rattle.topo_route.specs.Numbers.{dart_of, next_of}
 use Rattle.topo_route.specs.Plans.{AreHeights, MeetsTarget, height_in}
-use Rattle.topo_route.specs.Settling.{AreCosts, IsSettled, Spreads, is_waiting, reached}
-use Rattle.topo_route.proofs.Numbers.{corner_below, dart_in, dart_of_number, face_of_numbers, face_stays, next_below, next_dart, next_permutes, number_below, twin_below, twin_dart, twin_twin}
+use Rattle.topo_route.specs.Settling.{AreCosts, IsSettled, reached}
+use Rattle.topo_route.proofs.Numbers.{dart_of_number, face_of_numbers, face_stays, next_below, next_permutes, number_below, twin_below, twin_dart, twin_twin}
 use Rattle.topo_route.proofs.Orbits.{SameCycle-sym, after-within}
 use Rattle.topo_route.proofs.Settled.{counts}
-use Rattle.topo_route.proofs.Tests.{even_darts, gentle_darts, height_at}
+use Rattle.topo_route.proofs.Tests.{even_darts, gentle_darts}
 
 -- ---- Faces
 

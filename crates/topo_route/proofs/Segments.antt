@@ -1,11 +1,9 @@
 -- One price for each segment.
-use Rattle.std.proofs.Common.{◌≡◌, ◌≢◌, ℕ, zero, suc, ◌+◌, ◌*◌, ◌-◌, ◌/◌, ◌%◌, ◌<◌, ◌≤◌, List, [], ◌∷◌, ◌++◌, length, Some, None, inl, inr, refl, sym, ap, subst, ◌∙◌, arith, length-append}
-use Rattle.std.specs.Prelude.{◌⊎◌, Option, MatchOption, slice_get, slice_index_or}
+use Rattle.std.proofs.Common.{◌≡◌, ℕ, zero, suc, ◌+◌, ◌*◌, ◌/◌, ◌%◌, ◌<◌, List, [], ◌∷◌, ◌++◌, length, Some, None, inl, inr, refl, sym, ap, subst, ◌∙◌, arith, length-append}
+use Rattle.std.specs.Prelude.{Option, MatchOption, slice_get, slice_index_or}
 use Rattle.std.proofs.lemmas.Bool.{cases_eq}
 use Rattle.topo_core.specs.declared.darts.Dart.{Dart}
 use Rattle.topo_core.specs.declared.rows.Rows.{Rows}
-use Rattle.topo_core.specs.declared.rows.Facts.{Facts}
-use Rattle.topo_core.specs.Darts.{dart_twin}
 use Rattle.topo_core.specs.Lawful.{Lawful}
 use Rattle.topo_core.specs.Picture.{darts, edge_at}
 use Rattle.topo_core.specs.Rotations.{twin}
@@ -13,7 +11,7 @@ use Rattle.topo_core.specs.Routes.{AreFactsOf, KeepsPromise, Price, Pricing}
 use Rattle.topo_core.proofs.Numbering.{even_images, images_length}
 use Rattle.topo_route.specs.Numbers.{IsPriceAt, dart_of, no_dart}
 use Rattle.topo_route.specs.Settling.{ArePrices, ArePricesOf}
-use Rattle.topo_route.proofs.Numbers.{in_list, twin_cases, twin_dart, twin_below}
+use Rattle.topo_route.proofs.Numbers.{in_list, twin_cases, twin_dart}
 
 -- the prices of an edge are those of its darts
 price_along : (price : Pricing) (rows : Rows) (d e : Dart) (p : ℕ) → d.edge ≡ e.edge → Price price rows d p → Price price rows e p

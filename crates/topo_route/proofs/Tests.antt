@@ -1,6 +1,6 @@
 -- The tests of heights, on numbers and on darts.
 use Rattle.std.proofs.Common.{◌≡◌, ◌≢◌, ℕ, zero, suc, ◌+◌, ◌<◌, ◌≤◌, Bool, true, false, List, [], ◌∷◌, length, Some, None, inl, inr, refl, sym, ap, subst, ◌∙◌, arith}
-use Rattle.std.specs.Prelude.{◌⊎◌, IsTrue, map, slice_get, slice_index}
+use Rattle.std.specs.Prelude.{IsTrue, slice_get, slice_index}
 use Rattle.std.proofs.lemmas.Bool.{cases_eq, cases_lt, false≢true}
 use Rattle.std.proofs.lemmas.List.{length-map}
 use Rattle.topo_core.specs.declared.darts.Dart.{Dart}
@@ -10,11 +10,11 @@ use Rattle.topo_core.specs.Lawful.{Lawful}
 use Rattle.topo_core.specs.Picture.{around_vertex, corner, darts, end_dart, index_of, rotation, system}
 use Rattle.topo_core.specs.Rotations.{twin}
 use Rattle.topo_core.specs.Routes.{Price, Pricing, unreached}
-use Rattle.topo_core.specs.Systems.{face_step, has_dart}
-use Rattle.topo_core.proofs.Numbering.{index_twin, twin_in}
+use Rattle.topo_core.specs.Systems.{face_step}
+use Rattle.topo_core.proofs.Numbering.{index_twin}
 use Rattle.topo_route.specs.Numbers.{dart_of, next_of}
 use Rattle.topo_route.specs.Plans.{IsEven, IsGentle, IsLeastHeight, height_in}
-use Rattle.topo_route.proofs.Numbers.{corner_below, dart_in, dart_of_number, next_number, number_below, number_of}
+use Rattle.topo_route.proofs.Numbers.{dart_in, dart_of_number, next_number, number_below, number_of}
 
 get_past : {X : Type 0} (xs : List X) (i : ℕ) → length xs ≤ i → slice_get xs i ≡ None
 get_past [] i h = refl

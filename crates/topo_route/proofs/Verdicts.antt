@@ -1,19 +1,17 @@
 -- From the tests to the verdict on a plan.
-use Rattle.std.proofs.Common.{◌≡◌, ◌≢◌, ℕ, ◌+◌, ◌<◌, ◌≤◌, Bool, true, List, length, Some, refl, sym, ap, subst, ◌∙◌, arith}
+use Rattle.std.proofs.Common.{◌≡◌, ℕ, Bool, List, Some, refl, sym, ap, subst, ◌∙◌, arith}
 use Rattle.std.specs.Prelude.{IsTrue, Result, Ok, Err, MatchResult, OnOk}
 use Rattle.topo_core.specs.declared.darts.Dart.{Dart}
 use Rattle.topo_core.specs.declared.rows.Rows.{Rows}
 use Rattle.topo_core.specs.Lawful.{Lawful}
-use Rattle.topo_core.specs.Picture.{corner, darts, system}
 use Rattle.topo_core.specs.RouteLaws.{IsFirstByHeights, TakesFirstDarts, arrival}
-use Rattle.topo_core.specs.Routes.{IsCertificate, IsFirst, IsPricedRoute, KeepsPromise, Price, Pricing}
-use Rattle.topo_core.specs.Systems.{SameFace}
+use Rattle.topo_core.specs.Routes.{IsFirst, IsPricedRoute, KeepsPromise, Pricing}
 use Rattle.topo_core.proofs.Certificates.{first_by_heights, route_bound}
 use Rattle.topo_core.proofs.RouteDarts.{certified}
 use Rattle.topo_route.specs.declared.plan.Plan.{Plan}
 use Rattle.topo_route.specs.declared.plan.PlanFault.{PlanFault}
 use Rattle.topo_route.specs.declared.plan.PlanFault.TheVariants.{WrongLength, UnevenFace, TooSteep, TargetNotZero, NotARoute, NotLeast, NotFirst}
-use Rattle.topo_route.specs.Plans.{ComesFirst, FailsFirst, HasFirstEnd, HasFirstStart, HasOneEach, IsEven, IsGentle, IsLeastHeight, IsPlan, MeetsTarget, PassesAll, height_in}
+use Rattle.topo_route.specs.Plans.{ComesFirst, FailsFirst, HasFirstEnd, HasFirstStart, IsPlan, PassesAll, height_in}
 
 module _ (price : Pricing) (rows : Rows) (u v : ℕ) (plan : Plan) where
   pub comes_first_by : (from last : Dart) (heights : List ℕ) (crossed : List Dart) (ends : Bool) → heights ≡ plan.heights → crossed ≡ plan.route.crossed → last ≡ arrival from crossed

@@ -1,8 +1,8 @@
 -- Steps of a walk through the faces, and first tight darts.
 use Rattle.std.proofs.Math.Seq.{drop-cons}
-use Rattle.std.proofs.Common.{add-one, drop, get_or, ◌≡◌, ◌≢◌, ℕ, zero, suc, ◌+◌, ◌-◌, ◌<◌, ◌≤◌, Bool, true, false, List, [], ◌∷◌, length, Some, None, inl, inr, refl, sym, ap, subst, ◌∙◌, arith}
+use Rattle.std.proofs.Common.{add-one, drop, get_or, ◌≡◌, ◌≢◌, ℕ, zero, suc, ◌+◌, ◌<◌, Bool, true, false, List, [], ◌∷◌, length, Some, None, inl, inr, refl, sym, ap, subst, ◌∙◌, arith}
 use Rattle.std.specs.Prelude.{◌⊎◌, IsTrue, if◌then◌else◌, MatchOption, Option, slice_index}
-use Rattle.std.proofs.lemmas.Bool.{cases_Bool, cases_eq, cases_lt, false≢true}
+use Rattle.std.proofs.lemmas.Bool.{cases_eq, cases_lt, false≢true}
 use Rattle.topo_core.specs.declared.darts.Dart.{Dart}
 use Rattle.topo_core.specs.declared.rows.Rows.{Rows}
 use Rattle.std.specs.declared.cmp.Ordering.TheVariants.{Less, Equal, Greater}
@@ -16,7 +16,7 @@ use Rattle.topo_core.specs.Routes.{Costs, Crosses, IsPricedRoute, Price, Pricing
 use Rattle.topo_core.specs.Systems.{SameFace, face_step, has_dart}
 use Rattle.topo_core.specs.declared.routes.Route.{Route}
 use Rattle.topo_core.proofs.DartOrder.{dart_cmp_self}
-use Rattle.topo_route.specs.Numbers.{CannotCross, CannotPay, Crossing, HasTightBefore, Payment, Walks, dart_of, next_of}
+use Rattle.topo_route.specs.Numbers.{CannotCross, Crossing, HasTightBefore, Payment, Walks, dart_of, next_of}
 use Rattle.topo_route.specs.Plans.{height_in}
 use Rattle.topo_route.proofs.Numbers.{dart_in, dart_of_number, face_of_numbers, face_stays, number_below, number_of, numbers_of_face, twin_dart}
 use Rattle.topo_route.proofs.Orbits.{round_home}
@@ -215,6 +215,6 @@ module _ (price : Pricing) (rows : Rows) (lawful : Lawful rows) (heights : List 
       → TakesFirstDarts price rows (height_in rows heights) (dart_of rows at) (x ∷ xs)
   takes_back none takes = (
     first_holds price rows lawful heights at x within (subst (λ d. has_dart (darts rows) d ≡ true) is (dart_in rows lawful number there))
-      (subst (λ k. HasTightBefore price rows heights at k → ⊥) (sym of) none),
+        (subst (λ k. HasTightBefore price rows heights at k → ⊥) (sym of) none),
     subst (λ c. TakesFirstDarts price rows (height_in rows heights) c xs) lands_on takes,
   )

@@ -1,12 +1,12 @@
 -- Heights while a search spreads them.
-use Rattle.std.specs.Prelude.{◌≡◌, ◌≢◌, ℕ, ◌+◌, ◌*◌, ◌/◌, ◌<◌, ◌≤◌, ◌==◌, Bool, true, false, cond, List, [], length, Option, Some, None, slice_index, slice_index_or, sum_by}
+use Rattle.std.specs.Prelude.{◌≡◌, ◌≢◌, ℕ, ◌+◌, ◌*◌, ◌/◌, ◌<◌, ◌≤◌, ◌==◌, Bool, true, false, cond, List, [], length, Option, None, slice_index, slice_index_or, sum_by}
 use Rattle.std.specs.List.{list_any}
 use Rattle.topo_core.specs.declared.rows.Rows.{Rows}
 use Rattle.topo_core.specs.Picture.{darts}
 use Rattle.topo_core.specs.Rotations.{twin}
 use Rattle.topo_core.specs.Routes.{KeepsPromise, Price, Pricing, Reaches, unreached}
 use Rattle.topo_route.specs.Numbers.{IsPriceAt, dart_of, next_of}
-use Rattle.topo_route.specs.Plans.{HasOneEach, MeetsTarget}
+use Rattle.topo_route.specs.Plans.{HasOneEach}
 
 -- ---- Prices
 

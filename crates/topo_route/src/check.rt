@@ -12,9 +12,14 @@ use crate::walks::{comes_first, start_of_route};
 use topo_price::tariff::{Asks, Tariff};
 
 /// The tests, in their order.
-fn verdict<D: Dual, F: Asks>(dual: &D, tariff: &Tariff<F>, u: u32, v: u32, plan: &Plan) -> Result<(), PlanFault>
-    ensures verdict {
-        MatchResult result (λ _. PassesAll (prices_of (F.answers tariff.now)) (D.shows dual.now) u v plan.now)
+fn verdict<D: Dual, F: Asks>(
+    dual: &D,
+    tariff: &Tariff<F>,
+    u: u32,
+    v: u32,
+    plan: &Plan,
+) -> Result<(), PlanFault>
+    ensures verdict { MatchResult result (λ _. PassesAll (prices_of (F.answers tariff.now)) (D.shows dual.now) u v plan.now)
         (FailsFirst (prices_of (F.answers tariff.now)) (D.shows dual.now) u v plan.now) }
     ensures promise { OnOk result (KeepsPromise (prices_of (F.answers tariff.now))) }
 {
@@ -48,12 +53,17 @@ fn verdict<D: Dual, F: Asks>(dual: &D, tariff: &Tariff<F>, u: u32, v: u32, plan:
 /// Says of a plan from `u` to `v`, two different vertices, whether its route is the first of the
 /// least ones and its heights prove it; else the first test that it fails. A plan that `search`
 /// makes on the same picture and tariff passes.
-pub fn check<D: Dual, F: Asks>(dual: &D, tariff: &Tariff<F>, u: u32, v: u32, plan: &Plan) -> Result<(), PlanFault>
+pub fn check<D: Dual, F: Asks>(
+    dual: &D,
+    tariff: &Tariff<F>,
+    u: u32,
+    v: u32,
+    plan: &Plan,
+) -> Result<(), PlanFault>
     requires u_there { u < length (D.shows dual.now).rotations }
     requires v_there { v < length (D.shows dual.now).rotations }
     requires apart { u ≢ v }
-    ensures verdict {
-        MatchResult result (λ _. PassesAll (prices_of (F.answers tariff.now)) (D.shows dual.now) u v plan.now)
+    ensures verdict { MatchResult result (λ _. PassesAll (prices_of (F.answers tariff.now)) (D.shows dual.now) u v plan.now)
         (FailsFirst (prices_of (F.answers tariff.now)) (D.shows dual.now) u v plan.now) }
     ensures first { OnOk result (IsFirst (prices_of (F.answers tariff.now)) (D.shows dual.now) u v plan.now.route plan.now.price) }
     ensures own { IsPlan (prices_of (F.answers tariff.now)) (D.shows dual.now) u v plan.now → result ≡ Ok tt }

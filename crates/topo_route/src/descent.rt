@@ -39,8 +39,7 @@ fn least_corner<D: Dual>(dual: &D, u: u32, heights: &[u64]) -> u64
 /// The first corner of this height: its position and its dart.
 fn corner_of_height<D: Dual>(dual: &D, u: u32, heights: &[u64], height: u64) -> Option<(u32, u32)>
     requires { HasOneEach (D.shows dual.now) heights.now }
-    ensures {
-        MatchOption result ((p : ℕ) → (c : Dart) → corner (D.shows dual.now) u p ≡ Some c → height_in (D.shows dual.now) heights.now c ≢ height)
+    ensures { MatchOption result ((p : ℕ) → (c : Dart) → corner (D.shows dual.now) u p ≡ Some c → height_in (D.shows dual.now) heights.now c ≢ height)
         (λ r. (r.1 < length (darts (D.shows dual.now))) × (corner (D.shows dual.now) u r.0 ≡ Some (dart_of (D.shows dual.now) r.1))
         × (height_in (D.shows dual.now) heights.now (dart_of (D.shows dual.now) r.1) ≡ height) × HasFirstStart (D.shows dual.now) u heights.now r.0 height) }
 {
@@ -69,8 +68,7 @@ pub(crate) fn start_corner<D: Dual>(dual: &D, u: u32, heights: &[u64]) -> Option
 /// The first corner in the face of `last`.
 pub(crate) fn end_corner<D: Dual>(dual: &D, v: u32, last: u32) -> Option<u32>
     requires { last < length (darts (D.shows dual.now)) }
-    ensures {
-        MatchOption result ((p : ℕ) → (c : Dart) → corner (D.shows dual.now) v p ≡ Some c → SameFace (system (D.shows dual.now)) (dart_of (D.shows dual.now) last) c → ⊥)
+    ensures { MatchOption result ((p : ℕ) → (c : Dart) → corner (D.shows dual.now) v p ≡ Some c → SameFace (system (D.shows dual.now)) (dart_of (D.shows dual.now) last) c → ⊥)
         (IsEnd (D.shows dual.now) v last) }
 {
     for position in 0..dual.degree(v) {
@@ -141,7 +139,13 @@ fn first_tight<D: Dual, F: Asks>(graph: &Graph<D, F>, heights: &[u64], v: u32, a
 
 /// Walks down from a dart to the target across the first tight dart of each face: the darts that it
 /// crosses, and one of its last face.
-pub(crate) fn descend<D: Dual, F: Asks>(alloc: Global, graph: &Graph<D, F>, heights: &[u64], v: u32, from: u32) -> Result<(Vec<Dart>, u32), AllocError>
+pub(crate) fn descend<D: Dual, F: Asks>(
+    alloc: Global,
+    graph: &Graph<D, F>,
+    heights: &[u64],
+    v: u32,
+    from: u32,
+) -> Result<(Vec<Dart>, u32), AllocError>
     requires right { ArePrices (prices_of (F.answers graph.now.tariff.now)) (D.shows graph.now.dual.now) graph.now.prices.items }
     requires are_heights { AreHeights (prices_of (F.answers graph.now.tariff.now)) (D.shows graph.now.dual.now) v heights.now }
     requires within { from < length (darts (D.shows graph.now.dual.now)) }

@@ -32,8 +32,7 @@ pub(crate) fn across<D: Dual>(dual: &D, dart: u32) -> u32
 
 /// The dart that names a corner.
 pub(crate) fn corner_at<D: Dual>(dual: &D, v: u32, position: u32) -> Option<u32>
-    ensures {
-        MatchOption result (corner (D.shows dual.now) v position ≡ None)
+    ensures { MatchOption result (corner (D.shows dual.now) v position ≡ None)
         (λ c. (c < length (darts (D.shows dual.now))) × (corner (D.shows dual.now) v position ≡ Some (dart_of (D.shows dual.now) c))) }
 {
     dual.corner(v, position)

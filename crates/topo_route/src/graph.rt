@@ -34,7 +34,12 @@ impl<D: Dual, F: Asks> Graph<'_, D, F> {
 
 /// The price of the dart of a segment that has the smaller number: that of the segment before it,
 /// where both lie on one edge.
-fn segment_price<D: Dual, F: Asks>(dual: &D, tariff: &Tariff<F>, prices: &[Option<u32>], dart: u32) -> Option<u32>
+fn segment_price<D: Dual, F: Asks>(
+    dual: &D,
+    tariff: &Tariff<F>,
+    prices: &[Option<u32>],
+    dart: u32,
+) -> Option<u32>
     requires within { dart < length (darts (D.shows dual.now)) }
     requires even { dart % 2 ≡ 0 }
     requires right { ArePricesOf (prices_of (F.answers tariff.now)) (D.shows dual.now) prices.now (dart / 2) }
@@ -52,7 +57,11 @@ fn segment_price<D: Dual, F: Asks>(dual: &D, tariff: &Tariff<F>, prices: &[Optio
 }
 
 /// The prices of all segments. Each edge is asked for once.
-pub(crate) fn segment_prices<D: Dual, F: Asks>(alloc: Global, dual: &D, tariff: &Tariff<F>) -> Result<Vec<Option<u32>>, AllocError>
+pub(crate) fn segment_prices<D: Dual, F: Asks>(
+    alloc: Global,
+    dual: &D,
+    tariff: &Tariff<F>,
+) -> Result<Vec<Option<u32>>, AllocError>
     ensures { IfOk result (λ prices. ArePrices (prices_of (F.answers tariff.now)) (D.shows dual.now) prices.items) }
 {
     let segments = dual.len() / 2;

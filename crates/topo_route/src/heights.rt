@@ -77,7 +77,13 @@ pub(crate) fn is_least_height<D: Dual>(dual: &D, u: u32, heights: &[u64], price:
 }
 
 /// Whether no corner at the start before this position has the height.
-pub(crate) fn has_first_start<D: Dual>(dual: &D, u: u32, heights: &[u64], start: u32, price: u64) -> bool
+pub(crate) fn has_first_start<D: Dual>(
+    dual: &D,
+    u: u32,
+    heights: &[u64],
+    start: u32,
+    price: u64,
+) -> bool
     requires { HasOneEach (D.shows dual.now) heights.now }
     ensures { IsTrue result ↔ HasFirstStart (D.shows dual.now) u heights.now start price }
 {

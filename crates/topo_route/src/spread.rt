@@ -14,7 +14,13 @@ use std::alloc::{AllocError, Global};
 use topo_price::tariff::Asks;
 
 /// Crosses a dart backwards: its twin reaches the target over it. A lower height waits.
-fn cross_back<D: Dual, F: Asks>(graph: &Graph<D, F>, heights: &mut [u64], waiting: &mut Waiting, v: u32, dart: u32) -> Result<(), AllocError>
+fn cross_back<D: Dual, F: Asks>(
+    graph: &Graph<D, F>,
+    heights: &mut [u64],
+    waiting: &mut Waiting,
+    v: u32,
+    dart: u32,
+) -> Result<(), AllocError>
     requires right { ArePrices (prices_of (F.answers graph.now.tariff.now)) (D.shows graph.now.dual.now) graph.now.prices.items }
     requires spreads { Spreads (prices_of (F.answers graph.now.tariff.now)) (D.shows graph.now.dual.now) v heights.old waiting.old dart }
     requires in_hand { IsReached (D.shows graph.now.dual.now) heights.old dart }
@@ -41,7 +47,13 @@ fn cross_back<D: Dual, F: Asks>(graph: &Graph<D, F>, heights: &mut [u64], waitin
 
 /// Spreads the height of one dart round its face and over the segments along it, as far as it lowers
 /// what is there.
-fn spread_one<D: Dual, F: Asks>(graph: &Graph<D, F>, heights: &mut [u64], waiting: &mut Waiting, v: u32, dart: u32) -> Result<(), AllocError>
+fn spread_one<D: Dual, F: Asks>(
+    graph: &Graph<D, F>,
+    heights: &mut [u64],
+    waiting: &mut Waiting,
+    v: u32,
+    dart: u32,
+) -> Result<(), AllocError>
     requires right { ArePrices (prices_of (F.answers graph.now.tariff.now)) (D.shows graph.now.dual.now) graph.now.prices.items }
     requires spreads { Spreads (prices_of (F.answers graph.now.tariff.now)) (D.shows graph.now.dual.now) v heights.old waiting.old dart }
     requires in_hand { IsReached (D.shows graph.now.dual.now) heights.old dart }
@@ -63,7 +75,12 @@ fn spread_one<D: Dual, F: Asks>(graph: &Graph<D, F>, heights: &mut [u64], waitin
 }
 
 /// Spreads the heights of all that wait.
-fn spread_all<D: Dual, F: Asks>(graph: &Graph<D, F>, heights: &mut [u64], waiting: &mut Waiting, v: u32) -> Result<(), AllocError>
+fn spread_all<D: Dual, F: Asks>(
+    graph: &Graph<D, F>,
+    heights: &mut [u64],
+    waiting: &mut Waiting,
+    v: u32,
+) -> Result<(), AllocError>
     requires right { ArePrices (prices_of (F.answers graph.now.tariff.now)) (D.shows graph.now.dual.now) graph.now.prices.items }
     requires spreads { Spreads (prices_of (F.answers graph.now.tariff.now)) (D.shows graph.now.dual.now) v heights.old waiting.old (length (darts (D.shows graph.now.dual.now))) }
     requires target { MeetsTarget (D.shows graph.now.dual.now) v heights.old }
@@ -78,7 +95,12 @@ fn spread_all<D: Dual, F: Asks>(graph: &Graph<D, F>, heights: &mut [u64], waitin
 }
 
 /// Gives the corners of the target height 0, and lets them wait.
-fn start_at<D: Dual, F: Asks>(graph: &Graph<D, F>, heights: &mut [u64], waiting: &mut Waiting, v: u32) -> Result<(), AllocError>
+fn start_at<D: Dual, F: Asks>(
+    graph: &Graph<D, F>,
+    heights: &mut [u64],
+    waiting: &mut Waiting,
+    v: u32,
+) -> Result<(), AllocError>
     requires spreads { Spreads (prices_of (F.answers graph.now.tariff.now)) (D.shows graph.now.dual.now) v heights.old waiting.old (length (darts (D.shows graph.now.dual.now))) }
     ensures spreads { IfOk result (λ _. Spreads (prices_of (F.answers graph.now.tariff.now)) (D.shows graph.now.dual.now) v heights.new waiting.new (length (darts (D.shows graph.now.dual.now)))) }
     ensures target { IfOk result (λ _. MeetsTarget (D.shows graph.now.dual.now) v heights.new) }
@@ -95,7 +117,11 @@ fn start_at<D: Dual, F: Asks>(graph: &Graph<D, F>, heights: &mut [u64], waiting:
 }
 
 /// For each dart the least price from its face to a face at the target.
-pub(crate) fn least_heights<D: Dual, F: Asks>(alloc: Global, graph: &Graph<D, F>, v: u32) -> Result<Vec<u64>, AllocError>
+pub(crate) fn least_heights<D: Dual, F: Asks>(
+    alloc: Global,
+    graph: &Graph<D, F>,
+    v: u32,
+) -> Result<Vec<u64>, AllocError>
     requires right { ArePrices (prices_of (F.answers graph.now.tariff.now)) (D.shows graph.now.dual.now) graph.now.prices.items }
     requires some { 0 < length (darts (D.shows graph.now.dual.now)) }
     ensures { IfOk result (λ heights. AreHeights (prices_of (F.answers graph.now.tariff.now)) (D.shows graph.now.dual.now) v heights.items) }

@@ -66,8 +66,7 @@ impl Waiting {
 /// A bucket that is not empty, from this one on.
 fn full_bucket(buckets: &[Vec<u32>], first: usize) -> Option<usize>
     requires { first ≤ length buckets.now }
-    ensures {
-        MatchOption result (AreEmpty 0 (length buckets.now) (map (λ bucket. bucket.items) buckets.now))
+    ensures { MatchOption result (AreEmpty 0 (length buckets.now) (map (λ bucket. bucket.items) buckets.now))
         (IsFull (map (λ bucket. bucket.items) buckets.now)) }
 {
     match full_between(buckets, first, buckets.len()) {
@@ -79,8 +78,7 @@ fn full_bucket(buckets: &[Vec<u32>], first: usize) -> Option<usize>
 /// The first bucket of a range that is not empty.
 fn full_between(buckets: &[Vec<u32>], from: usize, to: usize) -> Option<usize>
     requires { to ≤ length buckets.now }
-    ensures {
-        MatchOption result (AreEmpty from to (map (λ bucket. bucket.items) buckets.now))
+    ensures { MatchOption result (AreEmpty from to (map (λ bucket. bucket.items) buckets.now))
         (IsFull (map (λ bucket. bucket.items) buckets.now)) }
 {
     for bucket in from..to {

@@ -20,8 +20,7 @@ use topo_price::tariff::{Asks, Tariff};
 
 /// The number of a dart of the picture.
 fn number_of<D: Dual>(dual: &D, dart: Dart) -> Option<u32>
-    ensures {
-        MatchOption result (has_dart (darts (D.shows dual.now)) dart ≡ false)
+    ensures { MatchOption result (has_dart (darts (D.shows dual.now)) dart ≡ false)
         (λ number. (number < length (darts (D.shows dual.now))) × (dart_of (D.shows dual.now) number ≡ dart) × (index_of (D.shows dual.now) dart ≡ number)) }
 {
     dual.index(dart)
@@ -30,24 +29,32 @@ fn number_of<D: Dual>(dual: &D, dart: Dart) -> Option<u32>
 /// What is left of an amount when the price of a dart is taken from it.
 fn pay<D: Dual, F: Asks>(dual: &D, tariff: &Tariff<F>, number: u32, left: u64) -> Option<u64>
     requires { number < length (darts (D.shows dual.now)) }
-    ensures {
-        MatchOption result (CannotPay (prices_of (F.answers tariff.now)) (D.shows dual.now) (dart_of (D.shows dual.now) number) left)
+    ensures { MatchOption result (CannotPay (prices_of (F.answers tariff.now)) (D.shows dual.now) (dart_of (D.shows dual.now) number) left)
         (Payment (prices_of (F.answers tariff.now)) (D.shows dual.now) (dart_of (D.shows dual.now) number) left) }
 {
     match price_at(dual, tariff, number) {
         Some(price) => {
             let price = price as u64;
-            if price <= left { Some(left - price) } else { None }
+            if price <= left {
+                Some(left - price)
+            } else {
+                None
+            }
         }
         None => None,
     }
 }
 
 /// Crosses a dart from the face of `at`: where that leads, and what is left of an amount.
-fn cross<D: Dual, F: Asks>(dual: &D, tariff: &Tariff<F>, at: u32, dart: Dart, left: u64) -> Option<(u32, u64)>
+fn cross<D: Dual, F: Asks>(
+    dual: &D,
+    tariff: &Tariff<F>,
+    at: u32,
+    dart: Dart,
+    left: u64,
+) -> Option<(u32, u64)>
     requires { at < length (darts (D.shows dual.now)) }
-    ensures {
-        MatchOption result (CannotCross (prices_of (F.answers tariff.now)) (D.shows dual.now) at dart left)
+    ensures { MatchOption result (CannotCross (prices_of (F.answers tariff.now)) (D.shows dual.now) at dart left)
         (λ r. Crossing (prices_of (F.answers tariff.now)) (D.shows dual.now) at dart left r.0 r.1) }
 {
     match number_of(dual, dart) {
@@ -65,7 +72,14 @@ fn cross<D: Dual, F: Asks>(dual: &D, tariff: &Tariff<F>, at: u32, dart: Dart, le
 }
 
 /// Whether the darts lead from the face of `from` to that of `to` at this price.
-fn walks<D: Dual, F: Asks>(dual: &D, tariff: &Tariff<F>, from: u32, crossed: &[Dart], to: u32, price: u64) -> bool
+fn walks<D: Dual, F: Asks>(
+    dual: &D,
+    tariff: &Tariff<F>,
+    from: u32,
+    crossed: &[Dart],
+    to: u32,
+    price: u64,
+) -> bool
     requires from_within { from < length (darts (D.shows dual.now)) }
     requires to_within { to < length (darts (D.shows dual.now)) }
     ensures { IsTrue result ↔ Walks (prices_of (F.answers tariff.now)) (D.shows dual.now) (dart_of (D.shows dual.now) from) crossed.now (dart_of (D.shows dual.now) to) price }
@@ -85,13 +99,22 @@ fn walks<D: Dual, F: Asks>(dual: &D, tariff: &Tariff<F>, from: u32, crossed: &[D
 }
 
 /// The corner where a route starts, if it leads from `u` to `v` at this price.
-pub(crate) fn start_of_route<D: Dual, F: Asks>(dual: &D, tariff: &Tariff<F>, u: u32, v: u32, route: &Route, price: u64) -> Option<u32>
-    ensures {
-        MatchOption result (IsPricedRoute (prices_of (F.answers tariff.now)) (D.shows dual.now) u v route.now price → ⊥)
+pub(crate) fn start_of_route<D: Dual, F: Asks>(
+    dual: &D,
+    tariff: &Tariff<F>,
+    u: u32,
+    v: u32,
+    route: &Route,
+    price: u64,
+) -> Option<u32>
+    ensures { MatchOption result (IsPricedRoute (prices_of (F.answers tariff.now)) (D.shows dual.now) u v route.now price → ⊥)
         (λ from. (from < length (darts (D.shows dual.now)))
         × (priced : IsPricedRoute (prices_of (F.answers tariff.now)) (D.shows dual.now) u v route.now price) × (priced.route.from ≡ dart_of (D.shows dual.now) from)) }
 {
-    match (corner_at(dual, u, route.start), corner_at(dual, v, route.end)) {
+    match (
+        corner_at(dual, u, route.start),
+        corner_at(dual, v, route.end),
+    ) {
         (Some(from), Some(to)) => {
             if walks(dual, tariff, from, route.crossed.as_slice(), to, price) {
                 Some(from)
@@ -123,7 +146,13 @@ fn is_tight<D: Dual, F: Asks>(dual: &D, tariff: &Tariff<F>, heights: &[u64], dar
 }
 
 /// Whether a tight dart with a smaller number lies in the face of `at`.
-fn has_tight_before<D: Dual, F: Asks>(dual: &D, tariff: &Tariff<F>, heights: &[u64], at: u32, number: u32) -> bool
+fn has_tight_before<D: Dual, F: Asks>(
+    dual: &D,
+    tariff: &Tariff<F>,
+    heights: &[u64],
+    at: u32,
+    number: u32,
+) -> bool
     requires one_each { HasOneEach (D.shows dual.now) heights.now }
     requires within { at < length (darts (D.shows dual.now)) }
     ensures { IsTrue result ↔ HasTightBefore (prices_of (F.answers tariff.now)) (D.shows dual.now) heights.now at number }
@@ -142,12 +171,17 @@ fn has_tight_before<D: Dual, F: Asks>(dual: &D, tariff: &Tariff<F>, heights: &[u
 }
 
 /// Where the walk leads, if it crosses the first tight dart of its face each time.
-fn first_walk<D: Dual, F: Asks>(dual: &D, tariff: &Tariff<F>, heights: &[u64], from: u32, crossed: &[Dart]) -> Option<u32>
+fn first_walk<D: Dual, F: Asks>(
+    dual: &D,
+    tariff: &Tariff<F>,
+    heights: &[u64],
+    from: u32,
+    crossed: &[Dart],
+) -> Option<u32>
     requires one_each { HasOneEach (D.shows dual.now) heights.now }
     requires within { from < length (darts (D.shows dual.now)) }
     requires walk { (to : Dart) × Crosses (system (D.shows dual.now)) (dart_of (D.shows dual.now) from) crossed.now to }
-    ensures {
-        MatchOption result (TakesFirstDarts (prices_of (F.answers tariff.now)) (D.shows dual.now) (height_in (D.shows dual.now) heights.now) (dart_of (D.shows dual.now) from) crossed.now → ⊥)
+    ensures { MatchOption result (TakesFirstDarts (prices_of (F.answers tariff.now)) (D.shows dual.now) (height_in (D.shows dual.now) heights.now) (dart_of (D.shows dual.now) from) crossed.now → ⊥)
         (λ last. (last < length (darts (D.shows dual.now))) × (dart_of (D.shows dual.now) last ≡ arrival (dart_of (D.shows dual.now) from) crossed.now)
         × TakesFirstDarts (prices_of (F.answers tariff.now)) (D.shows dual.now) (height_in (D.shows dual.now) heights.now) (dart_of (D.shows dual.now) from) crossed.now) }
 {
@@ -182,7 +216,14 @@ pub(crate) fn has_first_end<D: Dual>(dual: &D, v: u32, end: u32, last: u32) -> b
 }
 
 /// Whether no start, crossed dart or end before those of the plan's route would do.
-pub(crate) fn comes_first<D: Dual, F: Asks>(dual: &D, tariff: &Tariff<F>, u: u32, v: u32, plan: &Plan, from: u32) -> bool
+pub(crate) fn comes_first<D: Dual, F: Asks>(
+    dual: &D,
+    tariff: &Tariff<F>,
+    u: u32,
+    v: u32,
+    plan: &Plan,
+    from: u32,
+) -> bool
     requires one_each { HasOneEach (D.shows dual.now) plan.now.heights }
     requires within { from < length (darts (D.shows dual.now)) }
     requires walk { (to : Dart) × Crosses (system (D.shows dual.now)) (dart_of (D.shows dual.now) from) plan.now.route.crossed to }

@@ -1,10 +1,7 @@
-use Rattle.std.proofs.Common.{◌≡◌, ◌∙◌, List, ℕ, length, sym, subst, arith}
+use Rattle.std.proofs.Common.{◌∙◌, List, ℕ, sym, subst, arith}
 use Rattle.std.proofs.lemmas.Bool.{false≢true}
-use Rattle.topo_core.specs.Picture.{darts}
-use Rattle.topo_core.specs.Routes.{IsCertificate}
 use Rattle.topo_price.specs.Prices.{prices_of}
-use Rattle.topo_route.specs.Plans.{ComesFirst, HasOneEach, IsEven, IsGentle, IsLeastHeight, MeetsTarget, height_in}
-use Rattle.topo_route.proofs.Verdicts.{one_start}
+use Rattle.topo_route.specs.Plans.{ComesFirst, HasOneEach, IsEven, IsGentle, IsLeastHeight, MeetsTarget}
 use Rattle.topo_route.proofs.check.verdict.Goals as goal
 
 pub returns-then-not-is_gentle-clause-verdict : goal.returns-then-not-is_gentle-clause-verdict

@@ -1,4 +1,4 @@
-use Rattle.std.proofs.Common.{◌≡◌, ◌+◌, ◌<◌, ◌≤◌, ◌∙◌, ℕ, ap, arith, length, subst, sym}
+use Rattle.std.proofs.Common.{◌≤◌, arith, subst, sym}
 use Rattle.topo_core.specs.Picture.{darts}
 use Rattle.topo_core.specs.Routes.{unreached}
 use Rattle.topo_price.specs.Prices.{prices_of}
@@ -49,7 +49,7 @@ loop-at-preserved g c =
     let capped : height_in rows heights (dart_of rows c.loop-at.at) ≤ unreached = omega (arith, c.type_inv.heights c.loop-at.at) in
     subst (λ xs. Descends price rows heights c.args.from xs c.across-at.result) (sym c.in_ok-push.ensures.items)
     (descends_on price rows lawful c.args.v heights c.requires.are_heights promise c.args.from c.loop-at.at c.first_tight-dart.result c.across-at.result c.loop-at.crossed.items c.dart.result
-        c.loop-at.invariant c.first_tight-dart.ensures is c.across-at.ensures.twin capped)
+    c.loop-at.invariant c.first_tight-dart.ensures is c.across-at.ensures.twin capped)
 
 pub returns : goal.returns
 returns g c =

@@ -1,6 +1,5 @@
-use Rattle.std.proofs.Common.{◌≡◌, ◌+◌, ◌<◌, ◌∙◌, ap, arith, length, refl, subst, sym}
+use Rattle.std.proofs.Common.{◌≡◌, ◌∙◌, ap, arith, refl, subst, sym}
 use Rattle.topo_core.specs.Cycles.{after}
-use Rattle.topo_core.specs.Picture.{darts}
 use Rattle.topo_price.specs.Prices.{prices_of}
 use Rattle.topo_route.specs.Numbers.{next_of}
 use Rattle.topo_route.proofs.Descending.{FirstSoFar, first_all, first_home, first_step, has_tight, none_so_far}

@@ -1,4 +1,4 @@
-use Rattle.std.proofs.Common.{◌≡◌, ◌≤◌, ◌+◌, ◌∙◌, sym, ap, arith, refl, get_or}
+use Rattle.std.proofs.Common.{◌≡◌, ap, arith, get_or}
 use Rattle.std.proofs.lemmas.Bool.{false≢true, eqb-true, eq-eqb}
 use Rattle.topo_core.specs.Rotations.{twin}
 use Rattle.topo_core.proofs.Certificates.{single_price}
@@ -12,8 +12,7 @@ returns-else-height-other g c =
     let rows = g.D.Dual.shows c.args.graph.now.dual.now in
     let lawful = g.met.D.Dual.lawful c.args.graph.now.dual.now in
     let price = prices_of (g.F.Asks.answers c.args.graph.now.tariff.now) in
-    let other : get_or c.args.heights.now c.across.result 0 ≡ get_or c.args.heights.now (twin c.args.dart) 0 = ap (λ k. get_or c.args.heights.now k 0) c.across.ensures.twin in
-    (
+    let other : get_or c.args.heights.now c.across.result 0 ≡ get_or c.args.heights.now (twin c.args.dart) 0 = ap (λ k. get_or c.args.heights.now k 0) c.across.ensures.twin in (
       λ w. let same = eqb-true _ _ w in tight_is price rows lawful c.args.heights.now c.args.dart c.in-Some.price c.requires.within c.in-Some.ensures.price (omega arith),
       λ tight. eq-eqb _ _ (let drop = tight_drop price rows lawful c.args.heights.now c.args.dart c.in-Some.price c.requires.within
           (λ q asked. single_price price rows c.in-Some.ensures.promise (dart_of rows c.args.dart) q c.in-Some.price asked c.in-Some.ensures.price) tight in omega arith),
@@ -24,8 +23,7 @@ returns-then-height-other g c =
     let rows = g.D.Dual.shows c.args.graph.now.dual.now in
     let lawful = g.met.D.Dual.lawful c.args.graph.now.dual.now in
     let price = prices_of (g.F.Asks.answers c.args.graph.now.tariff.now) in
-    let other : get_or c.args.heights.now c.across.result 0 ≡ get_or c.args.heights.now (twin c.args.dart) 0 = ap (λ k. get_or c.args.heights.now k 0) c.across.ensures.twin in
-    (
+    let other : get_or c.args.heights.now c.across.result 0 ≡ get_or c.args.heights.now (twin c.args.dart) 0 = ap (λ k. get_or c.args.heights.now k 0) c.across.ensures.twin in (
       λ w. absurd (false≢true w),
       λ tight. let drop = tight_drop price rows lawful c.args.heights.now c.args.dart c.in-Some.price c.requires.within
           (λ q asked. single_price price rows c.in-Some.ensures.promise (dart_of rows c.args.dart) q c.in-Some.price asked c.in-Some.ensures.price) tight in absurd (omega arith),

@@ -1,6 +1,5 @@
-use Rattle.std.proofs.Common.{◌≡◌, ◌+◌, ◌≤◌, ◌∙◌, ℕ, arith, get_or, subst, sym}
+use Rattle.std.proofs.Common.{◌≡◌, ◌+◌, ◌∙◌, ℕ, arith, get_or, subst, sym}
 use Rattle.topo_route.specs.Numbers.{dart_of}
-use Rattle.topo_route.specs.Plans.{height_in}
 use Rattle.topo_route.proofs.Tests.{LowestBefore, height_at, lowest_all, lowest_found, lowest_kept, lowest_lower, lowest_none, lowest_past}
 use Rattle.topo_route.proofs.descent.least_corner.Goals as goal
 use Rattle.topo_route.proofs.descent.least_corner.Goals.{in-Some+then-heights-corner, in-Some+else-heights-corner, in_default}
@@ -18,7 +17,7 @@ loop-position-preserved g c =
     elim c.match-corner_at.branch [
       | in-Some+then-heights-corner w ↦
           subst Is (sym w.least-is) (lowest_lower rows c.args.u heights c.loop-position.least i (get_or heights w.in-Some.corner 0) (dart_of rows w.in-Some.corner) w.in-Some.ensures.1
-              (height_at rows lawful heights w.in-Some.corner w.in-Some.ensures.0) w.if-heights-corner.true c.loop-position.invariant)
+          (height_at rows lawful heights w.in-Some.corner w.in-Some.ensures.0) w.if-heights-corner.true c.loop-position.invariant)
       | in-Some+else-heights-corner w ↦
           let height = height_at rows lawful heights w.in-Some.corner w.in-Some.ensures.0 in
           subst Is (sym w.least-is) (lowest_kept rows c.args.u heights c.loop-position.least i (dart_of rows w.in-Some.corner) w.in-Some.ensures.1 (omega arith) c.loop-position.invariant)

@@ -1,4 +1,4 @@
-use Rattle.std.proofs.Common.{◌≡◌, ◌≢◌, ◌<◌, ℕ, suc, sym, ap, subst, ◌∙◌, arith, length, below_more, add-one}
+use Rattle.std.proofs.Common.{◌≡◌, sym, ap, ◌∙◌, arith, length, below_more}
 use Rattle.std.proofs.lemmas.Bool.{false≢true}
 use Rattle.topo_core.specs.Cycles.{after}
 use Rattle.topo_core.specs.Picture.{darts}
@@ -20,6 +20,8 @@ returns-then-at-a g c =
 -- as many steps as there are darts, and no b
 pub returns : goal.returns
 returns g c =
-    let rows = g.D.Dual.shows c.args.dual.now in
-    (λ w. absurd (false≢true w), λ s. absurd (unmet_all (next_of rows) c.args.a c.args.b (length (darts rows)) (next_permutes rows (g.met.D.Dual.lawful c.args.dual.now)) c.requires
-        (λ j l. c.loop-steps.invariant.unmet j (omega arith)) s))
+    let rows = g.D.Dual.shows c.args.dual.now in (
+      λ w. absurd (false≢true w),
+      λ s. absurd (unmet_all (next_of rows) c.args.a c.args.b (length (darts rows)) (next_permutes rows (g.met.D.Dual.lawful c.args.dual.now)) c.requires
+          (λ j l. c.loop-steps.invariant.unmet j (omega arith)) s),
+    )

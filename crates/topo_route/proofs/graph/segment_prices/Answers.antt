@@ -1,4 +1,4 @@
-use Rattle.std.proofs.Common.{◌≡◌, ◌/◌, ◌+◌, ◌∙◌, arith, length, subst, sym}
+use Rattle.std.proofs.Common.{◌≡◌, ◌/◌, ◌+◌, arith, length, subst, sym}
 use Rattle.topo_core.specs.Picture.{darts}
 use Rattle.topo_price.specs.Prices.{prices_of}
 use Rattle.topo_route.specs.Settling.{ArePricesOf}

@@ -1,4 +1,4 @@
-use Rattle.std.proofs.Common.{◌≡◌, ◌≤◌, ◌∙◌, arith, refl, sym}
+use Rattle.std.proofs.Common.{◌≡◌, ◌∙◌, arith, refl, sym}
 use Rattle.std.proofs.lemmas.Bool.{false≢true}
 use Rattle.topo_route.specs.Numbers.{dart_of}
 use Rattle.topo_route.specs.Plans.{height_in}

@@ -1,7 +1,6 @@
-use Rattle.std.proofs.Common.{◌≡◌, ◌≤◌, ◌<◌, ◌+◌, ◌∙◌, ℕ, arith, ap, sym, subst, get_or, length}
+use Rattle.std.proofs.Common.{◌≡◌, ◌<◌, ◌+◌, ◌∙◌, arith, ap, sym, subst, get_or, length}
 use Rattle.std.specs.Prelude.{slice_index}
 use Rattle.std.proofs.Math.ListN.{set}
-use Rattle.topo_core.specs.Picture.{darts}
 use Rattle.topo_core.specs.Rotations.{twin}
 use Rattle.topo_core.specs.Routes.{Reaches}
 use Rattle.topo_core.proofs.Certificates.{single_price}
@@ -21,7 +20,7 @@ returns-in_ok-push-in-Some-clause-spreads g c =
     let x = get_or heights d 0 + c.in-Some.price in
     let costs = c.requires.spreads.costs in
     let walk = reaches_twin price rows (g.met.D.Dual.lawful c.args.graph.now.dual.now) c.args.v d (get_or heights d 0) c.in-Some.price c.requires.in_hand.0 c.in-Some.ensures.price
-        (costs.costs d c.requires.in_hand.0 c.requires.in_hand.1) in
+    (costs.costs d c.requires.in_hand.0 c.requires.in_hand.1) in
     let most = c.in-Some.ensures.promise.at_most c.in-Some.ensures.price.facts c.in-Some.price c.in-Some.ensures.price.asked in
     let bound = costs.bounded d c.requires.in_hand.0 c.requires.in_hand.1 in
     let order : c.in-Some.price + get_or heights d 0 ≡ x = omega arith in

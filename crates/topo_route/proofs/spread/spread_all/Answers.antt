@@ -1,4 +1,4 @@
-use Rattle.std.proofs.Common.{◌≡◌, ◌<◌, ◌≤◌, ◌^◌, ◌∙◌, ◌||◌, ◌==◌, ℕ, Bool, true, arith, ap, sym, length, eq-eqb, refl}
+use Rattle.std.proofs.Common.{◌<◌, ◌^◌, ◌∙◌, ◌||◌, Bool, arith, ap, length, eq-eqb, refl}
 use Rattle.topo_core.specs.Picture.{darts}
 use Rattle.topo_price.specs.Prices.{prices_of}
 use Rattle.topo_route.specs.Settling.{is_waiting}

@@ -1,11 +1,9 @@
-use Rattle.std.proofs.Common.{◌≡◌, ◌≢◌, ◌<◌, ◌≤◌, ◌*◌, ◌∙◌, ℕ, List, arith, ap, sym, subst, length, get_or}
+use Rattle.std.proofs.Common.{◌≡◌, ◌≢◌, ◌<◌, ◌∙◌, arith, ap, sym, subst, length, get_or}
 use Rattle.std.specs.Prelude.{slice_index}
-use Rattle.std.proofs.Math.ListN.{set}
-use Rattle.topo_core.specs.Picture.{darts, index_of}
+use Rattle.topo_core.specs.Picture.{index_of}
 use Rattle.topo_core.specs.Routes.{Reaches, unreached}
 use Rattle.topo_price.specs.Prices.{prices_of}
 use Rattle.topo_route.specs.Numbers.{dart_of, next_of}
-use Rattle.topo_route.specs.Settling.{reached}
 use Rattle.topo_route.proofs.Reaching.{reaches_next}
 use Rattle.topo_route.proofs.Settled.{lowered_there, lowered_less, passed_effort, passed_on, put_down}
 use Rattle.topo_route.proofs.spread.spread_one.Goals as goal

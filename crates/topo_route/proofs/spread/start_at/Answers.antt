@@ -1,4 +1,4 @@
-use Rattle.std.proofs.Common.{◌≡◌, ◌<◌, ◌+◌, ◌∙◌, ℕ, List, arith, ap, sym, subst, length, Some}
+use Rattle.std.proofs.Common.{◌≡◌, ◌<◌, ◌+◌, ◌∙◌, ℕ, List, arith, sym, subst, length, Some}
 use Rattle.std.proofs.Math.ListN.{set}
 use Rattle.topo_core.specs.declared.darts.Dart.{Dart}
 use Rattle.topo_core.specs.Picture.{corner, darts}
@@ -24,9 +24,9 @@ loop-position-preserved g c =
       | in-Some+then-heights-corner-gt0+in_ok-push w ↦
           let k = w.in-Some.corner in
           let spreads = started price rows lawful v c.loop-position.heights c.loop-position.waiting w.push.new.self (length (darts rows)) i k c.loop-position.invariant.spreads w.in-Some.ensures.0 w.in-Some.ensures.1
-              w.if-heights-corner-gt0.true w.in_ok-push.ensures.waits in
+          w.if-heights-corner-gt0.true w.in_ok-push.ensures.waits in
           let zero = started_zero price rows lawful v c.loop-position.heights c.loop-position.waiting w.push.new.self (length (darts rows)) i k c.loop-position.invariant.spreads w.in-Some.ensures.0 w.in-Some.ensures.1
-              w.if-heights-corner-gt0.true w.in_ok-push.ensures.waits c.loop-position.invariant.target in
+          w.if-heights-corner-gt0.true w.in_ok-push.ensures.waits c.loop-position.invariant.target in
           record {
             spreads = subst (λ hs. With hs c.match-corner_at.waiting) (sym w.heights-is) (subst (With (set c.loop-position.heights k 0)) (sym w.waiting-is) spreads);
             target = subst Zero (sym w.heights-is) zero;

@@ -1,8 +1,8 @@
-use Rattle.std.proofs.Common.{◌∙◌, sym, ap, subst}
+use Rattle.std.proofs.Common.{◌∙◌, sym, subst}
 use Rattle.std.proofs.lemmas.Bool.{false≢true}
 use Rattle.topo_core.specs.declared.darts.Dart.{Dart}
 use Rattle.topo_price.specs.Prices.{prices_of}
-use Rattle.topo_route.specs.Numbers.{CannotPay, dart_of}
+use Rattle.topo_route.specs.Numbers.{CannotPay}
 use Rattle.topo_route.proofs.Numbers.{twin_dart}
 use Rattle.topo_route.proofs.Walking.{crossed_to, no_dart_there, other_face}
 use Rattle.topo_route.proofs.walks.cross.Goals as goal

@@ -1,4 +1,4 @@
-use Rattle.std.proofs.Common.{◌≡◌, ◌+◌, ◌<◌, ◌∷◌, ◌∙◌, ℕ, true, List, sym, ap, subst, drop, arith, length}
+use Rattle.std.proofs.Common.{◌≡◌, ◌+◌, ◌∷◌, ◌∙◌, ℕ, true, List, sym, ap, subst, drop}
 use Rattle.std.proofs.lemmas.Bool.{false≢true}
 use Rattle.topo_core.specs.declared.darts.Dart.{Dart}
 use Rattle.topo_core.specs.Picture.{darts, system}
@@ -6,9 +6,9 @@ use Rattle.topo_core.specs.RouteLaws.{TakesFirstDarts, arrival}
 use Rattle.topo_core.specs.Routes.{Crosses}
 use Rattle.topo_core.specs.Systems.{has_dart}
 use Rattle.topo_price.specs.Prices.{prices_of}
-use Rattle.topo_route.specs.Numbers.{HasTightBefore, dart_of, next_of}
+use Rattle.topo_route.specs.Numbers.{HasTightBefore, dart_of}
 use Rattle.topo_route.specs.Plans.{height_in}
-use Rattle.topo_route.proofs.Numbers.{dart_in, twin_dart}
+use Rattle.topo_route.proofs.Numbers.{dart_in}
 use Rattle.topo_route.proofs.Walking.{arrives_on, face_has, first_fails, from_item, takes_back, takes_on, walk_on}
 use Rattle.topo_route.proofs.walks.first_walk.Goals as goal
 

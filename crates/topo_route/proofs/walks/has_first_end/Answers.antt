@@ -1,7 +1,7 @@
-use Rattle.std.proofs.Common.{◌≡◌, ◌∙◌, sym, refl, subst, arith}
+use Rattle.std.proofs.Common.{◌∙◌, sym, refl, subst, arith}
 use Rattle.std.proofs.lemmas.Bool.{false≢true}
 use Rattle.topo_core.specs.Cycles.{SameCycle}
-use Rattle.topo_core.specs.Picture.{index_of, system}
+use Rattle.topo_core.specs.Picture.{system}
 use Rattle.topo_core.specs.Systems.{SameFace}
 use Rattle.topo_route.specs.Numbers.{dart_of, next_of}
 use Rattle.topo_route.proofs.Numbers.{face_of_numbers, number_of, numbers_of_face}
@@ -11,9 +11,11 @@ use Rattle.topo_route.proofs.walks.has_first_end.Goals.{in-Some+else-same_face, 
 
 pub returns-then-same_face : goal.returns-then-same_face
 returns-then-same_face g c =
-    let rows = g.D.Dual.shows c.args.dual.now in
-    (λ w. absurd (false≢true w), λ first. absurd (first c.loop-position.position (dart_of rows c.in-Some.corner) c.loop-position-test.true c.in-Some.ensures.1
-        (face_of_numbers rows (g.met.D.Dual.lawful c.args.dual.now) c.args.last c.in-Some.corner c.requires c.in-Some.ensures.0 (c.same_face.ensures.0 c.if-same_face.true))))
+    let rows = g.D.Dual.shows c.args.dual.now in (
+      λ w. absurd (false≢true w),
+      λ first. absurd (first c.loop-position.position (dart_of rows c.in-Some.corner) c.loop-position-test.true c.in-Some.ensures.1
+          (face_of_numbers rows (g.met.D.Dual.lawful c.args.dual.now) c.args.last c.in-Some.corner c.requires c.in-Some.ensures.0 (c.same_face.ensures.0 c.if-same_face.true))),
+    )
 
 pub loop-position-preserved : goal.loop-position-preserved
 loop-position-preserved g c =
@@ -23,7 +25,7 @@ loop-position-preserved g c =
       | in-Some+else-same_face w ↦
           before_some rows c.args.v (λ p d. SameFace (system rows) (dart_of rows c.args.last) d → ⊥) c.loop-position.position (dart_of rows w.in-Some.corner) w.in-Some.ensures.1
           (λ same. false≢true (sym w.if-same_face.false ∙ w.same_face.ensures.1
-              (subst (SameCycle (next_of rows) c.args.last) (number_of rows lawful w.in-Some.corner w.in-Some.ensures.0) (numbers_of_face rows lawful c.args.last (dart_of rows w.in-Some.corner) c.requires same))))
+          (subst (SameCycle (next_of rows) c.args.last) (number_of rows lawful w.in-Some.corner w.in-Some.ensures.0) (numbers_of_face rows lawful c.args.last (dart_of rows w.in-Some.corner) c.requires same))))
           c.loop-position.invariant
       | in_default w ↦ before_past rows c.args.v (λ p d. SameFace (system rows) (dart_of rows c.args.last) d → ⊥) c.loop-position.position w.in_default.ensures c.loop-position.invariant
     ]

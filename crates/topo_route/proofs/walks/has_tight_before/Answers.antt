@@ -1,10 +1,10 @@
-use Rattle.std.proofs.Common.{◌≡◌, ◌+◌, ◌<◌, ◌∙◌, ℕ, sym, ap, subst, arith, length}
+use Rattle.std.proofs.Common.{◌≡◌, ◌<◌, ◌∙◌, ℕ, sym, ap, subst, arith, length}
 use Rattle.std.proofs.lemmas.Bool.{false≢true}
 use Rattle.topo_core.specs.Cycles.{after}
 use Rattle.topo_core.specs.Picture.{darts}
 use Rattle.topo_core.specs.RouteLaws.{IsTight}
 use Rattle.topo_price.specs.Prices.{prices_of}
-use Rattle.topo_route.specs.Numbers.{HasTightBefore, dart_of, next_of}
+use Rattle.topo_route.specs.Numbers.{dart_of, next_of}
 use Rattle.topo_route.specs.Plans.{height_in}
 use Rattle.topo_route.proofs.Numbers.{next_permutes}
 use Rattle.topo_route.proofs.Orbits.{round_all}
@@ -30,7 +30,9 @@ pub returns : goal.returns
 returns g c =
     let rows = g.D.Dual.shows c.args.dual.now in
     let price = prices_of (g.F.Asks.answers c.args.tariff.now) in
-    let Free = λ (x : ℕ). x < c.args.number → IsTight price rows (height_in rows c.args.heights.now) (dart_of rows x) → ⊥ in
-    (λ w. absurd (false≢true w), λ before.
-        absurd (round_all (next_of rows) Free c.args.at (length (darts rows)) (next_permutes rows (g.met.D.Dual.lawful c.args.dual.now)) c.requires.within
-            (λ j l. c.loop-steps.invariant.none j (omega arith)) before.dart before.face before.before before.tight))
+    let Free = λ (x : ℕ). x < c.args.number → IsTight price rows (height_in rows c.args.heights.now) (dart_of rows x) → ⊥ in (
+      λ w. absurd (false≢true w),
+      λ before.
+          absurd (round_all (next_of rows) Free c.args.at (length (darts rows)) (next_permutes rows (g.met.D.Dual.lawful c.args.dual.now)) c.requires.within
+          (λ j l. c.loop-steps.invariant.none j (omega arith)) before.dart before.face before.before before.tight),
+    )

@@ -1,4 +1,4 @@
-use Rattle.std.proofs.Common.{◌≡◌, [], length}
+use Rattle.std.proofs.Common.{◌≡◌, []}
 use Rattle.std.specs.Prelude.{flat_map, vec_len}
 use Rattle.topo_route.proofs.waiting.Waiting.new.Given as goal
 

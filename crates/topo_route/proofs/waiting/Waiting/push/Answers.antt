@@ -1,5 +1,4 @@
-use Rattle.std.proofs.Common.{◌≡◌, ◌<◌, ◌+◌, ◌%◌, ◌∙◌, ◌||◌, ◌++◌, ◌∷◌, [], ◌==◌, Bool, arith, ap, sym, length}
-use Rattle.std.specs.Vec.{vec_len}
+use Rattle.std.proofs.Common.{◌<◌, ◌+◌, ◌%◌, ◌∙◌, ◌||◌, ◌++◌, ◌∷◌, [], ◌==◌, arith, ap, length}
 use Rattle.topo_route.specs.Settling.{is_waiting}
 use Rattle.topo_route.proofs.Buckets.{more_length, waiting_more}
 use Rattle.topo_route.proofs.waiting.Waiting.push.Goals as goal
