@@ -1,0 +1,12 @@
+pub mod Numbers
+pub mod Orbits
+pub mod Order
+pub mod Prices
+pub mod Tests
+pub mod Walking
+pub mod Verdicts
+pub mod Settled
+pub mod Buckets
+pub mod Reaching
+pub mod Segments
+pub mod Descending

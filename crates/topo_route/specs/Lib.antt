@@ -1,1 +1,4 @@
+pub mod Descents
+pub mod Numbers
 pub mod Plans
+pub mod Settling

@@ -1,11 +1,11 @@
 -- What a plan has to be, and what the check says of one.
-use Rattle.std.specs.Prelude.{◌≡◌, ◌≢◌, ℕ, ◌<◌, ◌≤◌, ◌+◌, true, List, length, Some, Result, Ok, Err, slice_index}
+use Rattle.std.specs.Prelude.{◌≡◌, ◌≢◌, ℕ, ◌<◌, ◌≤◌, ◌+◌, true, List, length, Some, slice_index}
 use Rattle.topo_core.specs.declared.darts.Dart.{Dart}
 use Rattle.topo_core.specs.declared.rows.Rows.{Rows}
 use Rattle.topo_core.specs.Darts.{dart_twin}
 use Rattle.topo_core.specs.Systems.{SameFace, face_step, has_dart}
 use Rattle.topo_core.specs.Picture.{corner, darts, index_of, system}
-use Rattle.topo_core.specs.Routes.{Pricing, Price, IsPricedRoute, IsFirst, IsHeight, IsCertificate}
+use Rattle.topo_core.specs.Routes.{Pricing, Price, IsPricedRoute, IsFirst, IsHeight, IsCertificate, Reaches, unreached}
 use Rattle.topo_core.specs.RouteLaws.{TakesFirstDarts, arrival, IsFirstByHeights}
 use Rattle.topo_route.specs.declared.plan.Plan.{Plan}
 use Rattle.topo_route.specs.declared.plan.PlanFault.{PlanFault}
@@ -15,64 +15,76 @@ use Rattle.topo_route.specs.declared.plan.PlanFault.TheVariants.{WrongLength, Un
 abbrev pub height_in : Rows → List ℕ → Dart → ℕ
 height_in rows heights d = slice_index heights (index_of rows d)
 
+-- heights as a search finds them: the least costs to the target, and a certificate of it
+pub record AreHeights (price : Pricing) (rows : Rows) (v : ℕ) (heights : List ℕ) : Type 0 where
+  pub one_each : length heights ≡ length (darts rows)
+  pub exact : (d : Dart) → has_dart (darts rows) d ≡ true → IsHeight price rows v d (height_in rows heights d)
+  pub certificate : IsCertificate price rows v (height_in rows heights)
+  pub unreached_none : (d : Dart) → has_dart (darts rows) d ≡ true → height_in rows heights d ≡ unreached → (n : ℕ) → Reaches price rows v d n → ⊥
+
 -- a plan as a search makes it
 pub record IsPlan (price : Pricing) (rows : Rows) (u v : ℕ) (plan : Plan) : Type 0 where
-  pub one_each : length plan.heights ≡ length (darts rows)
+  pub heights : AreHeights price rows v plan.heights
   pub first : IsFirst price rows u v plan.route plan.price
-  pub heights : (d : Dart) → has_dart (darts rows) d ≡ true → IsHeight price rows v d (height_in rows plan.heights d)
-  pub certificate : IsCertificate price rows v (height_in rows plan.heights)
   pub by_heights : IsFirstByHeights price rows u v (height_in rows plan.heights) plan.route plan.price
 
 -- ---- The seven tests of a plan, in their order
 
+-- one height for each dart
+abbrev pub HasOneEach : Rows → List ℕ → Type 0
+HasOneEach rows heights = length heights ≡ length (darts rows)
+
+-- each dart has the height of the next along its face
+abbrev pub IsEven : Rows → List ℕ → Type 0
+IsEven rows heights = (d : Dart) → has_dart (darts rows) d ≡ true → height_in rows heights (face_step (system rows) d) ≡ height_in rows heights d
+
+-- no dart with a price stands higher than its price above its twin
+abbrev pub IsGentle : Pricing → Rows → List ℕ → Type 0
+IsGentle price rows heights = (d : Dart) (p : ℕ) → has_dart (darts rows) d ≡ true → Price price rows d p → height_in rows heights d ≤ p + height_in rows heights (dart_twin d)
+
+-- the corners of the target have height 0
+abbrev pub MeetsTarget : Rows → ℕ → List ℕ → Type 0
+MeetsTarget rows v heights = (p : ℕ) (c : Dart) → corner rows v p ≡ Some c → height_in rows heights c ≡ 0
+
+-- the cost is the least height of a corner at the start
+pub record IsLeastHeight (rows : Rows) (u : ℕ) (heights : List ℕ) (cost : ℕ) : Type 0 where
+  pub position : ℕ
+  pub from : Dart
+  pub there : corner rows u position ≡ Some from
+  pub is_height : height_in rows heights from ≡ cost
+  pub least : (p : ℕ) (c : Dart) → corner rows u p ≡ Some c → cost ≤ height_in rows heights c
+
+-- no corner at the start before this position has the height
+abbrev pub HasFirstStart : Rows → ℕ → List ℕ → ℕ → ℕ → Type 0
+HasFirstStart rows u heights start cost = (p : ℕ) (c : Dart) → p < start → corner rows u p ≡ Some c → height_in rows heights c ≢ cost
+
+-- no corner at the target before this position lies in the face of the dart
+abbrev pub HasFirstEnd : Rows → ℕ → ℕ → Dart → Type 0
+HasFirstEnd rows v end last = (p : ℕ) (c : Dart) → p < end → corner rows v p ≡ Some c → SameFace (system rows) last c → ⊥
+
+-- no start, crossed dart or end before those of the route that leaves from this corner would do
+pub record ComesFirst (price : Pricing) (rows : Rows) (u v : ℕ) (plan : Plan) (from : Dart) : Type 0 where
+  pub first_start : HasFirstStart rows u plan.heights plan.route.start plan.price
+  pub first_darts : TakesFirstDarts price rows (height_in rows plan.heights) from plan.route.crossed
+  pub first_end : HasFirstEnd rows v plan.route.end (arrival from plan.route.crossed)
+
 module _ (price : Pricing) (rows : Rows) (u v : ℕ) (plan : Plan) where
-  abbrev height : Dart → ℕ
-  height d = height_in rows plan.heights d
-
-  -- one height for each dart
-  abbrev pub HasOneEach : Type 0
-  HasOneEach = length plan.heights ≡ length (darts rows)
-
-  -- each dart has the height of the next along its face
-  abbrev pub IsEven : Type 0
-  IsEven = (d : Dart) → has_dart (darts rows) d ≡ true → height (face_step (system rows) d) ≡ height d
-
-  -- no dart with a price stands higher than its price above its twin
-  abbrev pub IsGentle : Type 0
-  IsGentle = (d : Dart) (p : ℕ) → has_dart (darts rows) d ≡ true → Price price rows d p → height d ≤ p + height (dart_twin d)
-
-  -- the corners of the target have height 0
-  abbrev pub MeetsTarget : Type 0
-  MeetsTarget = (p : ℕ) (c : Dart) → corner rows v p ≡ Some c → height c ≡ 0
-
-  -- the price is the least height of a corner at the start
-  pub record IsLeastHeight : Type 0 where
-    pub position : ℕ
-    pub from : Dart
-    pub there : corner rows u position ≡ Some from
-    pub is_height : height from ≡ plan.price
-    pub least : (p : ℕ) (c : Dart) → corner rows u p ≡ Some c → plan.price ≤ height c
-
-  -- no corner, crossed dart or end before those of the route would do
-  pub record ComesFirst (priced : IsPricedRoute price rows u v plan.route plan.price) : Type 0 where
-    pub first_start : (p : ℕ) (c : Dart) → p < plan.route.start → corner rows u p ≡ Some c → height c ≢ plan.price
-    pub first_darts : TakesFirstDarts price rows height priced.route.from plan.route.crossed
-    pub first_end : (p : ℕ) (c : Dart) → p < plan.route.end → corner rows v p ≡ Some c → SameFace (system rows) (arrival priced.route.from plan.route.crossed) c → ⊥
-
   -- the plan fails this test, and none before it
   abbrev pub FailsFirst : PlanFault → Type 0
-  FailsFirst WrongLength = HasOneEach → ⊥
-  FailsFirst UnevenFace = HasOneEach × (IsEven → ⊥)
-  FailsFirst TooSteep = HasOneEach × IsEven × (IsGentle → ⊥)
-  FailsFirst TargetNotZero = HasOneEach × IsEven × IsGentle × (MeetsTarget → ⊥)
-  FailsFirst NotARoute = HasOneEach × IsEven × IsGentle × MeetsTarget × (IsPricedRoute price rows u v plan.route plan.price → ⊥)
-  FailsFirst NotLeast = HasOneEach × IsEven × IsGentle × MeetsTarget × IsPricedRoute price rows u v plan.route plan.price × (IsLeastHeight → ⊥)
-  FailsFirst NotFirst = HasOneEach × IsEven × IsGentle × MeetsTarget × IsLeastHeight × (priced : IsPricedRoute price rows u v plan.route plan.price) × (ComesFirst priced → ⊥)
+  FailsFirst WrongLength = HasOneEach rows plan.heights → ⊥
+  FailsFirst UnevenFace = HasOneEach rows plan.heights × (IsEven rows plan.heights → ⊥)
+  FailsFirst TooSteep = HasOneEach rows plan.heights × IsEven rows plan.heights × (IsGentle price rows plan.heights → ⊥)
+  FailsFirst TargetNotZero = HasOneEach rows plan.heights × IsEven rows plan.heights × IsGentle price rows plan.heights × (MeetsTarget rows v plan.heights → ⊥)
+  FailsFirst NotARoute = HasOneEach rows plan.heights × IsCertificate price rows v (height_in rows plan.heights) × (IsPricedRoute price rows u v plan.route plan.price → ⊥)
+  FailsFirst NotLeast = HasOneEach rows plan.heights × IsCertificate price rows v (height_in rows plan.heights) × IsPricedRoute price rows u v plan.route plan.price
+      × (IsLeastHeight rows u plan.heights plan.price → ⊥)
+  FailsFirst NotFirst = HasOneEach rows plan.heights × IsCertificate price rows v (height_in rows plan.heights) × IsLeastHeight rows u plan.heights plan.price
+      × (priced : IsPricedRoute price rows u v plan.route plan.price) × (ComesFirst price rows u v plan priced.route.from → ⊥)
 
   -- the plan passes every test
   pub record PassesAll : Type 0 where
-    pub one_each : HasOneEach
-    pub certificate : IsCertificate price rows v height
-    pub least : IsLeastHeight
+    pub one_each : HasOneEach rows plan.heights
+    pub certificate : IsCertificate price rows v (height_in rows plan.heights)
+    pub least : IsLeastHeight rows u plan.heights plan.price
     pub priced : IsPricedRoute price rows u v plan.route plan.price
-    pub comes_first : ComesFirst priced
+    pub comes_first : ComesFirst price rows u v plan priced.route.from

@@ -7,5 +7,14 @@
 //! first: its Ok means that the route is the first of the least, whoever made the plan.
 #![tactic(auto)]
 
+pub mod check;
+mod descent;
 pub mod dual;
+mod faces;
+mod graph;
+mod heights;
 pub mod plan;
+pub mod search;
+mod spread;
+mod waiting;
+mod walks;

@@ -1,0 +1,206 @@
+-- How heights spread, on numbers of darts.
+use Rattle.std.proofs.Common.{◌≡◌, ◌≢◌, ℕ, ◌+◌, ◌*◌, ◌<◌, ◌≤◌, ◌||◌, ◌==◌, Bool, true, false, cond, List, [], length, Some, inl, inr, refl, sym, ap, subst, ◌∙◌, arith, get_or-set_same, get_or-set_other}
+use Rattle.std.specs.Prelude.{◌⊎◌, slice_index, sum_by}
+use Rattle.std.proofs.Math.ListN.{set}
+use Rattle.std.proofs.lemmas.Bool.{cases_eq, eqb-true, eq-eqb, ne_eqb, false≢true}
+use Rattle.std.proofs.lemmas.List.{length-set}
+use Rattle.std.proofs.Math.Bool.{or-true}
+use Rattle.std.proofs.lemmas.List.Sums.{sum_by-set}
+use Rattle.topo_core.specs.declared.darts.Dart.{Dart}
+use Rattle.topo_core.specs.declared.rows.Rows.{Rows}
+use Rattle.topo_core.specs.Lawful.{Lawful}
+use Rattle.topo_core.specs.Picture.{corner, darts, index_of}
+use Rattle.topo_core.specs.Rotations.{twin}
+use Rattle.topo_core.specs.Routes.{Pricing, Reaches, unreached}
+use Rattle.topo_route.specs.Numbers.{dart_of, next_of}
+use Rattle.topo_route.specs.Plans.{height_in}
+use Rattle.topo_route.proofs.Tests.{before_some, height_at}
+use Rattle.topo_route.specs.Settling.{AreCosts, IsCrossed, IsSettled, Spreads, effort, is_waiting, reached}
+
+abbrev pub counts : ℕ → ℕ
+counts h = cond {A = ℕ} (h == unreached) 0 1
+
+counts_reached : (h : ℕ) → h ≢ unreached → counts h ≡ 1
+counts_reached h ne = ap (λ (b : Bool). cond {A = ℕ} b 0 1) (ne_eqb h unreached ne)
+
+counts_unreached : (h : ℕ) → h ≡ unreached → counts h ≡ 0
+counts_unreached h e = ap (λ (b : Bool). cond {A = ℕ} b 0 1) (eq-eqb h unreached e)
+
+either_false : (a b : Bool) → (a || b) ≡ false → (a ≡ false) × (b ≡ false)
+either_false true b e = cc
+either_false false b e = (refl, e)
+
+either_true : (a b : Bool) → (a || b) ≡ true → (a ≡ true) ⊎ (b ≡ true)
+either_true true b e = inl refl
+either_true false b e = inr e
+
+-- ---- One height lowered
+
+module _ (heights : List ℕ) (t x : ℕ) (within : t < length heights) where
+  abbrev lowered : List ℕ
+  lowered = set heights t x
+
+  pub lowered_there : slice_index lowered t ≡ x
+  lowered_there = get_or-set_same heights t x 0 within
+
+  pub lowered_other : (k : ℕ) → k ≢ t → slice_index lowered k ≡ slice_index heights k
+  lowered_other k ne = get_or-set_other heights t k x 0 ne
+
+  pub lowered_less : (k : ℕ) → x ≤ slice_index heights t → slice_index lowered k ≤ slice_index heights k
+  lowered_less k low = elim (cases_eq k t) [
+    | inl e ↦ let now : slice_index lowered k ≡ x = ap (slice_index lowered) e ∙ lowered_there in let was : slice_index heights k ≡ slice_index heights t = ap (slice_index heights) e in omega arith
+    | inr ne ↦ let same = lowered_other k ne in omega arith
+  ]
+
+  pub lowered_sum : sum_by (λ h. h) lowered + slice_index heights t ≡ sum_by (λ h. h) heights + x
+  lowered_sum = sum_by-set (λ h. h) heights t x 0 within
+
+  -- the darts that were reached are, and t
+  pub lowered_reached : x ≢ unreached → reached lowered + counts (slice_index heights t) ≡ reached heights + 1
+  lowered_reached some = let e = sum_by-set counts heights t x 0 within in let one = counts_reached x some in omega arith
+
+  pub lowered_more : x ≢ unreached → reached heights ≤ reached lowered
+  lowered_more some = let e = lowered_reached some in elim (cases_eq (slice_index heights t) unreached) [
+    | inl was ↦ let none = counts_unreached (slice_index heights t) was in omega arith
+    | inr was ↦ let one = counts_reached (slice_index heights t) was in omega arith
+  ]
+
+module _ (price : Pricing) (rows : Rows) (v : ℕ) (heights : List ℕ) (costs : AreCosts price rows v heights) (t x : ℕ) (there : t < length (darts rows))
+    (low : x < slice_index heights t) (walk : Reaches price rows v (dart_of rows t) x) (near : x ≤ 1000 * reached heights + 1000) where
+  inside : t < length heights
+  inside = let e = costs.one_each in omega arith
+
+  some : x ≢ unreached
+  some e = let cap = costs.capped t in omega arith
+
+  -- a lower cost keeps heights costs
+  pub lowered_costs : AreCosts price rows v (set heights t x)
+  lowered_costs = record {
+    one_each = length-set heights t x ∙ costs.one_each;
+    capped = λ k. let less = lowered_less heights t x inside k (omega arith) in let cap = costs.capped k in omega arith;
+    costs = λ k l reached_k. elim (cases_eq k t) [
+      | inl e ↦
+          let now : slice_index (set heights t x) k ≡ x = ap (slice_index (set heights t x)) e ∙ lowered_there heights t x inside in
+          subst (λ n. Reaches price rows v (dart_of rows k) n) (sym now) (subst (λ j. Reaches price rows v (dart_of rows j) x) (sym e) walk)
+      | inr ne ↦
+          let same = lowered_other heights t x inside k ne in
+          subst (λ n. Reaches price rows v (dart_of rows k) n) (sym same) (costs.costs k l (λ was. reached_k (same ∙ was)))
+    ];
+    bounded = λ k l reached_k.
+        let more = lowered_more heights t x inside some in
+        elim (cases_eq k t) [
+          | inl e ↦
+              let now : slice_index (set heights t x) k ≡ x = ap (slice_index (set heights t x)) e ∙ lowered_there heights t x inside in
+              let total = lowered_reached heights t x inside some in
+              elim (cases_eq (slice_index heights t) unreached) [
+                | inl was ↦ let none = counts_unreached (slice_index heights t) was in omega arith
+                | inr was ↦ let bound = costs.bounded t there was in omega arith
+              ]
+          | inr ne ↦
+              let same = lowered_other heights t x inside k ne in
+              let bound = costs.bounded k l (λ was. reached_k (same ∙ was)) in omega arith
+        ];
+  }
+
+  -- what was reached is
+  pub lowered_stays : (k : ℕ) → slice_index heights k ≢ unreached → slice_index (set heights t x) k ≢ unreached
+  lowered_stays k was now = let less = lowered_less heights t x inside k (omega arith) in let cap = costs.capped k in was (omega arith)
+
+  pub lowered_settled : (k : ℕ) → k ≢ t → IsSettled price rows heights k → IsSettled price rows (set heights t x) k
+  lowered_settled k ne (face, crossed) =
+      let same = lowered_other heights t x inside k ne in (
+        (let less = lowered_less heights t x inside (next_of rows k) (omega arith) in omega arith),
+        (λ p e. let bound = crossed p e in let less = lowered_less heights t x inside (twin k) (omega arith) in omega arith),
+      )
+
+  -- t is lowered and waits
+  pub lowered_waits : (waiting after : List ℕ) (in_hand : ℕ) → Spreads price rows v heights waiting in_hand
+      → ((k : ℕ) → is_waiting after k ≡ (t == k || is_waiting waiting k)) → Spreads price rows v (set heights t x) after in_hand
+  lowered_waits waiting after in_hand spreads added = record {
+    costs = lowered_costs;
+    others = λ k l ne idle.
+        let both = either_false (t == k) (is_waiting waiting k) (sym (added k) ∙ idle) in
+        lowered_settled k (λ e. false≢true (sym both.0 ∙ eq-eqb t k (sym e))) (spreads.others k l ne both.1);
+    reached_waits = λ k waits. elim (either_true (t == k) (is_waiting waiting k) (sym (added k) ∙ waits)) [
+      | inl here ↦
+          let is : t ≡ k = eqb-true t k here in (
+            subst (λ j. j < length (darts rows)) is there,
+            subst (λ j. slice_index (set heights t x) j ≢ unreached) is (λ e. some (sym (lowered_there heights t x inside) ∙ e)),
+          )
+      | inr before ↦ let was = spreads.reached_waits k before in (was.0, lowered_stays k was.1)
+    ];
+  }
+
+-- t is the next along the face of the dart in hand, and is lowered to its height: now it is in hand
+pub passed_on : (price : Pricing) (rows : Rows) (v : ℕ) (heights waiting : List ℕ) (d t : ℕ) → Spreads price rows v heights waiting d
+    → t ≡ next_of rows d → t < length (darts rows) → slice_index heights d < slice_index heights t → IsCrossed price rows heights d
+    → Reaches price rows v (dart_of rows t) (slice_index heights d) → slice_index heights d ≤ 1000 * reached heights
+    → Spreads price rows v (set heights t (slice_index heights d)) waiting t
+passed_on price rows v heights waiting d t spreads is there low crossed walk near =
+    let x = slice_index heights d in
+    let costs = spreads.costs in
+    let within : t < length heights = let e = costs.one_each in omega arith in
+    let near' : x ≤ 1000 * reached heights + 1000 = omega arith in
+    record {
+      costs = lowered_costs price rows v heights costs t x there low walk near';
+      others = λ k l ne idle. elim (cases_eq k d) [
+        | inl e ↦
+            let same : slice_index (set heights t x) k ≡ x = lowered_other heights t x within k ne ∙ ap (slice_index heights) e in
+            let now : slice_index (set heights t x) (next_of rows k) ≡ x = ap (λ j. slice_index (set heights t x) (next_of rows j)) e ∙ ap (slice_index (set heights t x)) (sym is) ∙ lowered_there heights t x within in (
+              (omega arith),
+              (λ p priced.
+                  let bound = subst (IsCrossed price rows heights) (sym e) crossed p priced in
+                  let was : slice_index heights k ≡ x = ap (slice_index heights) e in
+                  let less = lowered_less heights t x within (twin k) (omega arith) in omega arith),
+            )
+        | inr other ↦ lowered_settled price rows v heights costs t x there low walk near' k ne (spreads.others k l other idle)
+      ];
+      reached_waits = λ k waits. let was = spreads.reached_waits k waits in (was.0, lowered_stays price rows v heights costs t x there low walk near' k was.1);
+    }
+
+-- the dart in hand is settled
+pub put_down : (price : Pricing) (rows : Rows) (v : ℕ) (heights waiting : List ℕ) (d : ℕ) → Spreads price rows v heights waiting d
+    → IsSettled price rows heights d → Spreads price rows v heights waiting (length (darts rows))
+put_down price rows v heights waiting d spreads settled = record {
+  costs = spreads.costs;
+  others = λ k l ne idle. elim (cases_eq k d) [
+    | inl e ↦ subst (IsSettled price rows heights) (sym e) settled
+    | inr other ↦ spreads.others k l other idle
+  ];
+  reached_waits = spreads.reached_waits;
+}
+
+-- a dart is taken from those that wait
+pub taken_up : (price : Pricing) (rows : Rows) (v : ℕ) (heights waiting after : List ℕ) (d : ℕ) → Spreads price rows v heights waiting (length (darts rows))
+    → ((k : ℕ) → is_waiting waiting k ≡ (d == k || is_waiting after k)) → Spreads price rows v heights after d
+taken_up price rows v heights waiting after d spreads taken = record {
+  costs = spreads.costs;
+  others = λ k l ne idle. spreads.others k l (omega arith) (taken k ∙ ap (λ (b : Bool). b || is_waiting after k) (ne_eqb d k (λ e. ne (sym e))) ∙ idle);
+  reached_waits = λ k waits. spreads.reached_waits k (taken k ∙ ap (λ (b : Bool). d == k || b) waits ∙ or-true (d == k));
+}
+
+-- a corner of the target gets height 0 and waits
+module _ (price : Pricing) (rows : Rows) (lawful : Lawful rows) (v : ℕ) (heights waiting after : List ℕ) (in_hand i c : ℕ) (spreads : Spreads price rows v heights waiting in_hand)
+    (there : c < length (darts rows)) (at : corner rows v i ≡ Some (dart_of rows c)) (high : 0 < slice_index heights c)
+    (added : (k : ℕ) → is_waiting after k ≡ (c == k || is_waiting waiting k)) where
+  pub started : Spreads price rows v (set heights c 0) after in_hand
+  started =
+      let walk : Reaches price rows v (dart_of rows c) 0 = record { crossed = []; position = i; to = dart_of rows c; ends = at; walk = record { steps = 0; leads = refl }; cost = refl } in
+      lowered_waits price rows v heights spreads.costs c 0 there high walk (omega arith) waiting after in_hand spreads added
+
+  pub started_zero : ((p : ℕ) (d : Dart) → p < i → corner rows v p ≡ Some d → height_in rows heights d ≡ 0)
+      → (p : ℕ) (d : Dart) → p < i + 1 → corner rows v p ≡ Some d → height_in rows (set heights c 0) d ≡ 0
+  started_zero before =
+      let within : c < length heights = omega (arith, spreads.costs.one_each) in
+      before_some rows v (λ p d. height_in rows (set heights c 0) d ≡ 0) i (dart_of rows c) at
+      (height_at rows lawful (set heights c 0) c there ∙ lowered_there heights c 0 within)
+      (λ p d l here. let was = before p d l here in let less = lowered_less heights c 0 within (index_of rows d) (omega arith) in omega arith)
+
+-- nothing waits, so all are settled
+pub all_settled : (price : Pricing) (rows : Rows) (v : ℕ) (heights waiting : List ℕ) → Spreads price rows v heights waiting (length (darts rows)) → waiting ≡ []
+    → (k : ℕ) → k < length (darts rows) → IsSettled price rows heights k
+all_settled price rows v heights waiting spreads none k l = spreads.others k l (omega arith) (ap (λ w. is_waiting w k) none)
+
+-- a step falls
+pub passed_effort : (heights waiting : List ℕ) (t x : ℕ) → t < length heights → x < slice_index heights t → effort (set heights t x) waiting < effort heights waiting
+passed_effort heights waiting t x within low = let e = lowered_sum heights t x within in omega arith

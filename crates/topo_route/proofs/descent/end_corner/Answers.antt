@@ -1,0 +1,39 @@
+use Rattle.std.proofs.Common.{◌≡◌, ◌∙◌, sym, subst, arith}
+use Rattle.std.proofs.lemmas.Bool.{false≢true}
+use Rattle.topo_core.specs.Cycles.{SameCycle}
+use Rattle.topo_core.specs.Picture.{system}
+use Rattle.topo_core.specs.Systems.{SameFace}
+use Rattle.topo_route.specs.Numbers.{dart_of, next_of}
+use Rattle.topo_route.proofs.Numbers.{face_of_numbers, number_of, numbers_of_face}
+use Rattle.topo_route.proofs.Tests.{before_all, before_some, before_past}
+use Rattle.topo_route.proofs.descent.end_corner.Goals as goal
+use Rattle.topo_route.proofs.descent.end_corner.Goals.{in-Some+else-same_face, in_default}
+
+pub returns-then-same_face : goal.returns-then-same_face
+returns-then-same_face g c =
+    let rows = g.D.Dual.shows c.args.dual.now in
+    record {
+      to = dart_of rows c.in-Some.corner;
+      there = c.in-Some.ensures.1;
+      face = face_of_numbers rows (g.met.D.Dual.lawful c.args.dual.now) c.args.last c.in-Some.corner c.requires c.in-Some.ensures.0 (c.same_face.ensures.0 c.if-same_face.true);
+      first = c.loop-position.invariant;
+    }
+
+pub loop-position-preserved : goal.loop-position-preserved
+loop-position-preserved g c =
+    let rows = g.D.Dual.shows c.args.dual.now in
+    let lawful = g.met.D.Dual.lawful c.args.dual.now in
+    elim c.match-corner_at.branch [
+      | in-Some+else-same_face w ↦
+          before_some rows c.args.v (λ p d. SameFace (system rows) (dart_of rows c.args.last) d → ⊥) c.loop-position.position (dart_of rows w.in-Some.corner) w.in-Some.ensures.1
+          (λ same. false≢true (sym w.if-same_face.false ∙ w.same_face.ensures.1
+          (subst (SameCycle (next_of rows) c.args.last) (number_of rows lawful w.in-Some.corner w.in-Some.ensures.0) (numbers_of_face rows lawful c.args.last (dart_of rows w.in-Some.corner) c.requires same))))
+          c.loop-position.invariant
+      | in_default w ↦ before_past rows c.args.v (λ p d. SameFace (system rows) (dart_of rows c.args.last) d → ⊥) c.loop-position.position w.in_default.ensures c.loop-position.invariant
+    ]
+
+pub returns : goal.returns
+returns g c =
+    let rows = g.D.Dual.shows c.args.dual.now in
+    let whole : c.loop-position.position ≡ c.degree-position-end.result = omega arith in
+    before_all rows c.args.v (λ p d. SameFace (system rows) (dart_of rows c.args.last) d → ⊥) c.loop-position.position (whole ∙ c.degree-position-end.ensures) c.loop-position.invariant

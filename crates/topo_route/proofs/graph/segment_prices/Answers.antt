@@ -1,0 +1,19 @@
+use Rattle.std.proofs.Common.{◌≡◌, ◌/◌, ◌+◌, arith, length, subst, sym}
+use Rattle.topo_core.specs.Picture.{darts}
+use Rattle.topo_price.specs.Prices.{prices_of}
+use Rattle.topo_route.specs.Settling.{ArePricesOf}
+use Rattle.topo_route.proofs.Segments.{all_prices, next_price}
+use Rattle.topo_route.proofs.graph.segment_prices.Goals as goal
+
+pub loop-segment-preserved : goal.loop-segment-preserved
+loop-segment-preserved g c =
+    let rows = g.D.Dual.shows c.args.dual.now in
+    let price = prices_of (g.F.Asks.answers c.args.tariff.now) in
+    subst (λ ps. ArePricesOf price rows ps (c.loop-segment.segment + 1)) (sym c.in_ok-push.ensures.items)
+    (next_price price rows c.loop-segment.prices.items c.loop-segment.segment c.segment_price-price.result c.loop-segment.invariant c.segment_price-price.ensures.price c.segment_price-price.ensures.promise)
+
+pub returns : goal.returns
+returns g c =
+    let rows = g.D.Dual.shows c.args.dual.now in
+    let whole : c.loop-segment.segment ≡ length (darts rows) / 2 = omega arith in
+    all_prices (prices_of (g.F.Asks.answers c.args.tariff.now)) rows (g.met.D.Dual.lawful c.args.dual.now) c.loop-segment.prices.items c.loop-segment.segment whole c.loop-segment.invariant

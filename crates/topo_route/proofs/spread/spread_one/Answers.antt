@@ -1,0 +1,45 @@
+use Rattle.std.proofs.Common.{◌≡◌, ◌≢◌, ◌<◌, ◌∙◌, arith, ap, sym, subst, length, get_or}
+use Rattle.std.specs.Prelude.{slice_index}
+use Rattle.topo_core.specs.Picture.{index_of}
+use Rattle.topo_core.specs.Routes.{Reaches, unreached}
+use Rattle.topo_price.specs.Prices.{prices_of}
+use Rattle.topo_route.specs.Numbers.{dart_of, next_of}
+use Rattle.topo_route.proofs.Reaching.{reaches_next}
+use Rattle.topo_route.proofs.Settled.{lowered_there, lowered_less, passed_effort, passed_on, put_down}
+use Rattle.topo_route.proofs.spread.spread_one.Goals as goal
+
+pub returns-then-heights-next-clause-spreads : goal.returns-then-heights-next-clause-spreads
+returns-then-heights-next-clause-spreads g c =
+    let rows = g.D.Dual.shows c.args.graph.now.dual.now in
+    let hs = c.cross_back.new.heights in
+    let step : get_or hs c.next_along-next.result 0 ≡ get_or hs (next_of rows c.loop-next.at) 0 = ap (λ k. get_or hs k 0) c.next_along-next.ensures.next in
+    put_down (prices_of (g.F.Asks.answers c.args.graph.now.tariff.now)) rows c.args.v hs c.cross_back.new.waiting c.loop-next.at c.in_ok-cross_back.ensures.spreads
+    (omega arith, c.in_ok-cross_back.ensures.crossed)
+
+pub returns-then-heights-next-clause-target : goal.returns-then-heights-next-clause-target
+returns-then-heights-next-clause-target g c meets = c.in_ok-cross_back.ensures.target (c.loop-next.invariant.target meets)
+
+pub loop-next-preserved : goal.loop-next-preserved
+loop-next-preserved g c =
+    let rows = g.D.Dual.shows c.args.graph.now.dual.now in
+    let lawful = g.met.D.Dual.lawful c.args.graph.now.dual.now in
+    let price = prices_of (g.F.Asks.answers c.args.graph.now.tariff.now) in
+    let hs = c.cross_back.new.heights in
+    let d = c.loop-next.at in
+    let t = c.next_along-next.result in
+    let spreads = c.in_ok-cross_back.ensures.spreads in
+    let here = c.loop-next.invariant.in_hand.0 in
+    let some : slice_index hs d ≢ unreached = λ e. c.loop-next.invariant.in_hand.1 (sym c.in_ok-cross_back.ensures.same ∙ e) in
+    let there = c.next_along-next.ensures.within in
+    let within : t < length hs = omega (arith, spreads.costs.one_each) in
+    let walk = subst (λ k. Reaches price rows c.args.v (dart_of rows k) (slice_index hs d)) (sym c.next_along-next.ensures.next)
+    (reaches_next price rows lawful c.args.v d (slice_index hs d) here (spreads.costs.costs d here some)) in
+    let less = passed_effort hs c.cross_back.new.waiting t (slice_index hs d) within c.if-heights-next.false in
+    record {
+      spreads = passed_on price rows c.args.v hs c.cross_back.new.waiting d t spreads c.next_along-next.ensures.next there c.if-heights-next.false c.in_ok-cross_back.ensures.crossed walk (spreads.costs.bounded d here some);
+      in_hand = (there, λ e. some (sym (lowered_there hs t (slice_index hs d) within) ∙ e));
+      falls = omega (arith, c.in_ok-cross_back.ensures.falls, c.loop-next.invariant.falls);
+      target = λ meets p k at.
+          let was = c.in_ok-cross_back.ensures.target (c.loop-next.invariant.target meets) p k at in
+          let low = lowered_less hs t (slice_index hs d) within (index_of rows k) (omega arith) in omega arith;
+    }

@@ -1,0 +1,61 @@
+-- The parts of a search's route.
+use Rattle.std.specs.Prelude.{◌≡◌, ◌≢◌, ℕ, ◌<◌, ◌≤◌, List, length, Some, ◌++◌, ◌⊎◌}
+use Rattle.topo_core.specs.declared.darts.Dart.{Dart}
+use Rattle.topo_core.specs.declared.rows.Rows.{Rows}
+use Rattle.topo_core.specs.Cycles.{SameCycle}
+use Rattle.topo_core.specs.Picture.{corner, darts, system}
+use Rattle.topo_core.specs.RouteLaws.{IsTight, TakesFirstDarts, arrival}
+use Rattle.topo_core.specs.Routes.{Costs, Crosses, Pricing, unreached}
+use Rattle.topo_core.specs.Systems.{SameFace}
+use Rattle.topo_route.specs.Numbers.{HasTightBefore, dart_of, next_of}
+use Rattle.topo_route.specs.Plans.{HasFirstEnd, HasFirstStart, height_in}
+
+-- no corner of u is reached
+abbrev pub HasNoStart : Rows → ℕ → List ℕ → Type 0
+HasNoStart rows u heights = (p : ℕ) (c : Dart) → corner rows u p ≡ Some c → height_in rows heights c ≡ unreached
+
+-- the first corner of u with the least height of its corners
+pub record IsStart (rows : Rows) (u : ℕ) (heights : List ℕ) (position from : ℕ) : Type 0 where
+  pub within : from < length (darts rows)
+  pub there : corner rows u position ≡ Some (dart_of rows from)
+  pub reached : height_in rows heights (dart_of rows from) ≢ unreached
+  pub least : (p : ℕ) (c : Dart) → corner rows u p ≡ Some c → height_in rows heights (dart_of rows from) ≤ height_in rows heights c
+  pub first : HasFirstStart rows u heights position (height_in rows heights (dart_of rows from))
+
+-- the first tight dart of the face of `at`
+pub record IsFirstTight (price : Pricing) (rows : Rows) (heights : List ℕ) (at dart : ℕ) : Type 0 where
+  pub within : dart < length (darts rows)
+  pub face : SameCycle (next_of rows) at dart
+  pub tight : IsTight price rows (height_in rows heights) (dart_of rows dart)
+  pub first : HasTightBefore price rows heights at dart → ⊥
+
+-- a walk down to height 0 across the first tight darts, and where it leads
+pub record IsDescent (price : Pricing) (rows : Rows) (heights : List ℕ) (from : ℕ) (crossed : List Dart) (last : ℕ) : Type 0 where
+  pub within : last < length (darts rows)
+  pub zero_there : height_in rows heights (dart_of rows last) ≡ 0
+  pub walk : (to : Dart) → SameFace (system rows) (dart_of rows last) to → Crosses (system rows) (dart_of rows from) crossed to
+  pub cost : Costs price rows crossed (height_in rows heights (dart_of rows from))
+  pub first_darts : TakesFirstDarts price rows (height_in rows heights) (dart_of rows from) crossed
+  pub arrives : arrival (dart_of rows from) crossed ≡ dart_of rows last
+
+-- a walk so far: what leads on from `at` leads on from the start
+pub record Descends (price : Pricing) (rows : Rows) (heights : List ℕ) (from : ℕ) (crossed : List Dart) (at : ℕ) : Type 0 where
+  pub within : at < length (darts rows)
+  pub reached : height_in rows heights (dart_of rows at) ≢ unreached
+  pub walk : (rest : List Dart) (to : Dart) → Crosses (system rows) (dart_of rows at) rest to → Crosses (system rows) (dart_of rows from) (crossed ++ rest) to
+  pub cost : (rest : List Dart) → Costs price rows rest (height_in rows heights (dart_of rows at)) → Costs price rows (crossed ++ rest) (height_in rows heights (dart_of rows from))
+  pub first_darts : (rest : List Dart) → TakesFirstDarts price rows (height_in rows heights) (dart_of rows at) rest → TakesFirstDarts price rows (height_in rows heights) (dart_of rows from) (crossed ++ rest)
+  pub arrives : (rest : List Dart) → arrival (dart_of rows from) (crossed ++ rest) ≡ arrival (dart_of rows at) rest
+
+-- the first corner of v in the face of `last`
+pub record IsEnd (rows : Rows) (v last position : ℕ) : Type 0 where
+  pub to : Dart
+  pub there : corner rows v position ≡ Some to
+  pub face : SameFace (system rows) (dart_of rows last) to
+  pub first : HasFirstEnd rows v position (dart_of rows last)
+
+-- the dart where it comes before the first so far and is tight, and else the first so far
+abbrev pub IsFirstOf : Pricing → Rows → List ℕ → ℕ → ℕ → ℕ → Type 0
+IsFirstOf price rows heights first dart result =
+    ((result ≡ dart) × (dart < first) × IsTight price rows (height_in rows heights) (dart_of rows dart))
+    ⊎ ((result ≡ first) × (dart < first → IsTight price rows (height_in rows heights) (dart_of rows dart) → ⊥))

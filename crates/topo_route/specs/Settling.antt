@@ -1,0 +1,73 @@
+-- Heights while a search spreads them.
+use Rattle.std.specs.Prelude.{◌≡◌, ◌≢◌, ℕ, ◌+◌, ◌*◌, ◌/◌, ◌<◌, ◌≤◌, ◌==◌, Bool, true, false, cond, List, [], length, Option, None, slice_index, slice_index_or, sum_by}
+use Rattle.std.specs.List.{list_any}
+use Rattle.topo_core.specs.declared.rows.Rows.{Rows}
+use Rattle.topo_core.specs.Picture.{darts}
+use Rattle.topo_core.specs.Rotations.{twin}
+use Rattle.topo_core.specs.Routes.{KeepsPromise, Price, Pricing, Reaches, unreached}
+use Rattle.topo_route.specs.Numbers.{IsPriceAt, dart_of, next_of}
+use Rattle.topo_route.specs.Plans.{HasOneEach}
+
+-- ---- Prices
+
+-- the prices of the first segments, one for each
+pub record ArePricesOf (price : Pricing) (rows : Rows) (prices : List (Option ℕ)) (segments : ℕ) : Type 0 where
+  pub one_each : length prices ≡ segments
+  pub right : (s : ℕ) → s < segments → IsPriceAt price rows (2 * s) (slice_index_or prices s None)
+  pub promise : 0 < segments → KeepsPromise price
+
+-- the prices of all segments
+pub record ArePrices (price : Pricing) (rows : Rows) (prices : List (Option ℕ)) : Type 0 where
+  pub half : 2 * length prices ≡ length (darts rows)
+  pub right : (k : ℕ) → k < length (darts rows) → IsPriceAt price rows k (slice_index_or prices (k / 2) None)
+  pub promise : 0 < length (darts rows) → KeepsPromise price
+
+-- ---- What waits
+
+-- the number stands in the list
+abbrev pub is_waiting : List ℕ → ℕ → Bool
+is_waiting waiting k = list_any (λ x. x == k) waiting
+
+-- the lists from one place to another are empty
+abbrev pub AreEmpty : ℕ → ℕ → List (List ℕ) → Type 0
+AreEmpty from to lists = (i : ℕ) → from ≤ i → i < to → slice_index_or lists i [] ≡ []
+
+-- there is a list at this place, and it is not empty
+pub record IsFull (lists : List (List ℕ)) (i : ℕ) : Type 0 where
+  pub there : i < length lists
+  pub some : 0 < length (slice_index_or lists i [])
+
+-- ---- Heights
+
+-- how many heights are less than the greatest number
+abbrev pub reached : List ℕ → ℕ
+reached heights = sum_by (λ h. cond {A = ℕ} (h == unreached) 0 1) heights
+
+-- heights but the greatest number are costs of walks to v
+pub record AreCosts (price : Pricing) (rows : Rows) (v : ℕ) (heights : List ℕ) : Type 0 where
+  pub one_each : HasOneEach rows heights
+  pub capped : (k : ℕ) → slice_index heights k ≤ unreached
+  pub costs : (k : ℕ) → k < length (darts rows) → slice_index heights k ≢ unreached → Reaches price rows v (dart_of rows k) (slice_index heights k)
+  pub bounded : (k : ℕ) → k < length (darts rows) → slice_index heights k ≢ unreached → slice_index heights k ≤ 1000 * reached heights
+
+-- where the dart has a price, its twin stands no higher above it than that
+abbrev pub IsCrossed : Pricing → Rows → List ℕ → ℕ → Type 0
+IsCrossed price rows heights k = (p : ℕ) → Price price rows (dart_of rows k) p → slice_index heights (twin k) ≤ p + slice_index heights k
+
+-- and the next along the face no higher than the dart
+abbrev pub IsSettled : Pricing → Rows → List ℕ → ℕ → Type 0
+IsSettled price rows heights k = (slice_index heights (next_of rows k) ≤ slice_index heights k) × IsCrossed price rows heights k
+
+-- Heights are costs, and each dart but the one in hand is settled or waits.
+pub record Spreads (price : Pricing) (rows : Rows) (v : ℕ) (heights waiting : List ℕ) (in_hand : ℕ) : Type 0 where
+  pub costs : AreCosts price rows v heights
+  pub others : (k : ℕ) → k < length (darts rows) → k ≢ in_hand → is_waiting waiting k ≡ false → IsSettled price rows heights k
+  pub reached_waits : (k : ℕ) → is_waiting waiting k ≡ true → (k < length (darts rows)) × (slice_index heights k ≢ unreached)
+
+-- a dart of the picture that has been reached
+abbrev pub IsReached : Rows → List ℕ → ℕ → Type 0
+IsReached rows heights k = (k < length (darts rows)) × (slice_index heights k ≢ unreached)
+
+-- what falls with each step: the heights, and then how many wait
+abbrev pub effort : List ℕ → List ℕ → ℕ
+effort heights waiting = sum_by (λ h. h) heights + length waiting

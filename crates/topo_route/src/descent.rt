@@ -1,0 +1,163 @@
+//! The route down the heights.
+
+ghost use Rattle.std.specs.Prelude.{◌≡◌, ◌≢◌, ◌<◌, ◌≤◌, ◌↔◌, ℕ, IsTrue, MatchOption, IfOk, Some, length};
+ghost use Rattle.topo_core.specs.declared.darts.Dart.{Dart};
+ghost use Rattle.topo_core.specs.Picture.{corner, darts, system};
+ghost use Rattle.topo_core.specs.RouteLaws.{IsTight};
+ghost use Rattle.topo_core.specs.Routes.{unreached};
+ghost use Rattle.topo_core.specs.Systems.{SameFace};
+ghost use Rattle.topo_price.specs.Prices.{prices_of};
+ghost use Rattle.topo_route.specs.Descents.{HasNoStart, IsDescent, IsEnd, IsFirstOf, IsFirstTight, IsStart};
+ghost use Rattle.topo_route.specs.Numbers.{dart_of};
+ghost use Rattle.topo_route.specs.Plans.{AreHeights, HasFirstStart, HasOneEach, IsLeastHeight, height_in};
+ghost use Rattle.topo_route.specs.Settling.{ArePrices};
+
+use crate::dual::Dual;
+use crate::faces::{across, corner_at, next_along, same_face};
+use crate::graph::Graph;
+use std::alloc::{AllocError, Global};
+use topo_core::darts::Dart;
+use topo_price::tariff::Asks;
+
+/// The least height of a corner, and the greatest number where there is none.
+fn least_corner<D: Dual>(dual: &D, u: u32, heights: &[u64]) -> u64
+    requires { HasOneEach (D.shows dual.now) heights.now }
+    ensures low { (p : ℕ) → (c : Dart) → corner (D.shows dual.now) u p ≡ Some c → result ≤ height_in (D.shows dual.now) heights.now c }
+    ensures attained { result ≢ unreached → IsLeastHeight (D.shows dual.now) u heights.now result }
+{
+    let mut least = u64::MAX;
+    for position in 0..dual.degree(u) {
+        if let Some(corner) = corner_at(dual, u, position) {
+            if heights[corner as usize] < least {
+                least = heights[corner as usize];
+            }
+        }
+    }
+    least
+}
+
+/// The first corner of this height: its position and its dart.
+fn corner_of_height<D: Dual>(dual: &D, u: u32, heights: &[u64], height: u64) -> Option<(u32, u32)>
+    requires { HasOneEach (D.shows dual.now) heights.now }
+    ensures { MatchOption result ((p : ℕ) → (c : Dart) → corner (D.shows dual.now) u p ≡ Some c → height_in (D.shows dual.now) heights.now c ≢ height)
+        (λ r. (r.1 < length (darts (D.shows dual.now))) × (corner (D.shows dual.now) u r.0 ≡ Some (dart_of (D.shows dual.now) r.1))
+        × (height_in (D.shows dual.now) heights.now (dart_of (D.shows dual.now) r.1) ≡ height) × HasFirstStart (D.shows dual.now) u heights.now r.0 height) }
+{
+    for position in 0..dual.degree(u) {
+        if let Some(corner) = corner_at(dual, u, position) {
+            if heights[corner as usize] == height {
+                return Some((position, corner));
+            }
+        }
+    }
+    None
+}
+
+/// The first corner with the least height of all, if one is reached: its position and its dart.
+pub(crate) fn start_corner<D: Dual>(dual: &D, u: u32, heights: &[u64]) -> Option<(u32, u32)>
+    requires { HasOneEach (D.shows dual.now) heights.now }
+    ensures { MatchOption result (HasNoStart (D.shows dual.now) u heights.now) (λ r. IsStart (D.shows dual.now) u heights.now r.0 r.1) }
+{
+    let least = least_corner(dual, u, heights);
+    if least == u64::MAX {
+        return None;
+    }
+    corner_of_height(dual, u, heights, least)
+}
+
+/// The first corner in the face of `last`.
+pub(crate) fn end_corner<D: Dual>(dual: &D, v: u32, last: u32) -> Option<u32>
+    requires { last < length (darts (D.shows dual.now)) }
+    ensures { MatchOption result ((p : ℕ) → (c : Dart) → corner (D.shows dual.now) v p ≡ Some c → SameFace (system (D.shows dual.now)) (dart_of (D.shows dual.now) last) c → ⊥)
+        (IsEnd (D.shows dual.now) v last) }
+{
+    for position in 0..dual.degree(v) {
+        if let Some(corner) = corner_at(dual, v, position) {
+            if same_face(dual, last, corner) {
+                return Some(position);
+            }
+        }
+    }
+    None
+}
+
+/// Whether crossing the dart costs just what its height is above that of its twin.
+fn is_tight<D: Dual, F: Asks>(graph: &Graph<D, F>, heights: &[u64], dart: u32) -> bool
+    requires right { ArePrices (prices_of (F.answers graph.now.tariff.now)) (D.shows graph.now.dual.now) graph.now.prices.items }
+    requires one_each { HasOneEach (D.shows graph.now.dual.now) heights.now }
+    requires within { dart < length (darts (D.shows graph.now.dual.now)) }
+    ensures { IsTrue result ↔ IsTight (prices_of (F.answers graph.now.tariff.now)) (D.shows graph.now.dual.now) (height_in (D.shows graph.now.dual.now) heights.now) (dart_of (D.shows graph.now.dual.now) dart) }
+{
+    let other = heights[across(graph.dual, dart) as usize];
+    let height = heights[dart as usize];
+    match graph.price(dart) {
+        Some(price) => {
+            if height < other {
+                return false;
+            }
+            height - other == price as u64
+        }
+        None => false,
+    }
+}
+
+/// The smaller of two numbers, if it is that of a tight dart.
+fn first_of<D: Dual, F: Asks>(graph: &Graph<D, F>, heights: &[u64], first: u32, dart: u32) -> u32
+    requires right { ArePrices (prices_of (F.answers graph.now.tariff.now)) (D.shows graph.now.dual.now) graph.now.prices.items }
+    requires one_each { HasOneEach (D.shows graph.now.dual.now) heights.now }
+    requires within { dart < length (darts (D.shows graph.now.dual.now)) }
+    ensures { IsFirstOf (prices_of (F.answers graph.now.tariff.now)) (D.shows graph.now.dual.now) heights.now first dart result }
+{
+    if dart < first {
+        if is_tight(graph, heights, dart) {
+            return dart;
+        }
+    }
+    first
+}
+
+/// The first tight dart of the face of `at`, which is reached and above the target.
+fn first_tight<D: Dual, F: Asks>(graph: &Graph<D, F>, heights: &[u64], v: u32, at: u32) -> u32
+    requires right { ArePrices (prices_of (F.answers graph.now.tariff.now)) (D.shows graph.now.dual.now) graph.now.prices.items }
+    requires are_heights { AreHeights (prices_of (F.answers graph.now.tariff.now)) (D.shows graph.now.dual.now) v heights.now }
+    requires within { at < length (darts (D.shows graph.now.dual.now)) }
+    requires reached { height_in (D.shows graph.now.dual.now) heights.now (dart_of (D.shows graph.now.dual.now) at) ≢ unreached }
+    requires above { 0 < height_in (D.shows graph.now.dual.now) heights.now (dart_of (D.shows graph.now.dual.now) at) }
+    ensures { IsFirstTight (prices_of (F.answers graph.now.tariff.now)) (D.shows graph.now.dual.now) heights.now at result }
+{
+    let mut dart = at;
+    let mut first = graph.dual.len();
+    for _steps in 0..graph.dual.len() {
+        first = first_of(graph, heights, first, dart);
+        dart = next_along(graph.dual, dart);
+        if dart == at {
+            return first;
+        }
+    }
+    first
+}
+
+/// Walks down from a dart to the target across the first tight dart of each face: the darts that it
+/// crosses, and one of its last face.
+pub(crate) fn descend<D: Dual, F: Asks>(
+    alloc: Global,
+    graph: &Graph<D, F>,
+    heights: &[u64],
+    v: u32,
+    from: u32,
+) -> Result<(Vec<Dart>, u32), AllocError>
+    requires right { ArePrices (prices_of (F.answers graph.now.tariff.now)) (D.shows graph.now.dual.now) graph.now.prices.items }
+    requires are_heights { AreHeights (prices_of (F.answers graph.now.tariff.now)) (D.shows graph.now.dual.now) v heights.now }
+    requires within { from < length (darts (D.shows graph.now.dual.now)) }
+    requires reached { height_in (D.shows graph.now.dual.now) heights.now (dart_of (D.shows graph.now.dual.now) from) ≢ unreached }
+    ensures { IfOk result (λ r. IsDescent (prices_of (F.answers graph.now.tariff.now)) (D.shows graph.now.dual.now) heights.now from r.0.items r.1) }
+{
+    let mut crossed = Vec::new(alloc);
+    let mut at = from;
+    while heights[at as usize] > 0 {
+        let dart = first_tight(graph, heights, v, at);
+        crossed.push(graph.dual.dart(dart))?;
+        at = across(graph.dual, dart);
+    }
+    Ok((crossed, at))
+}

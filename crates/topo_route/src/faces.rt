@@ -1,0 +1,68 @@
+//! Steps from dart to dart by their numbers, and walks round a face.
+
+ghost use Rattle.std.specs.Prelude.{◌≡◌, ◌<◌, ◌≤◌, ◌↔◌, IsTrue, length, Some, None, MatchOption, IfSome, slice_get};
+ghost use Rattle.topo_core.specs.Cycles.{SameCycle};
+ghost use Rattle.topo_core.specs.Picture.{corner, darts, index_of};
+ghost use Rattle.topo_core.specs.Rotations.{twin};
+ghost use Rattle.topo_core.specs.Routes.{KeepsPromise};
+ghost use Rattle.topo_price.specs.Prices.{prices_of};
+ghost use Rattle.topo_route.specs.Numbers.{IsPriceAt, dart_of, next_of};
+
+use crate::dual::Dual;
+use topo_core::darts::Dart;
+use topo_price::tariff::{Asks, Tariff};
+
+/// The next dart along the face on the left.
+pub(crate) fn next_along<D: Dual>(dual: &D, dart: u32) -> u32
+    requires { dart < length (darts (D.shows dual.now)) }
+    ensures next { result ≡ next_of (D.shows dual.now) dart }
+    ensures within { result < length (darts (D.shows dual.now)) }
+{
+    dual.next(dart)
+}
+
+/// The same segment, the other way.
+pub(crate) fn across<D: Dual>(dual: &D, dart: u32) -> u32
+    requires { dart < length (darts (D.shows dual.now)) }
+    ensures twin { result ≡ twin dart }
+    ensures within { result < length (darts (D.shows dual.now)) }
+{
+    dual.twin(dart)
+}
+
+/// The dart that names a corner.
+pub(crate) fn corner_at<D: Dual>(dual: &D, v: u32, position: u32) -> Option<u32>
+    ensures { MatchOption result (corner (D.shows dual.now) v position ≡ None)
+        (λ c. (c < length (darts (D.shows dual.now))) × (corner (D.shows dual.now) v position ≡ Some (dart_of (D.shows dual.now) c))) }
+{
+    dual.corner(v, position)
+}
+
+/// The price of crossing a dart.
+pub(crate) fn price_at<D: Dual, F: Asks>(dual: &D, tariff: &Tariff<F>, dart: u32) -> Option<u32>
+    requires { dart < length (darts (D.shows dual.now)) }
+    ensures price { IsPriceAt (prices_of (F.answers tariff.now)) (D.shows dual.now) dart result }
+    ensures in_range { IfSome result (λ p. (1 ≤ p) × (p ≤ 1000)) }
+    ensures promise { KeepsPromise (prices_of (F.answers tariff.now)) }
+{
+    let facts = dual.facts(dart);
+    tariff.price(&facts)
+}
+
+/// Whether two darts have one face on their left.
+pub(crate) fn same_face<D: Dual>(dual: &D, a: u32, b: u32) -> bool
+    requires { a < length (darts (D.shows dual.now)) }
+    ensures { IsTrue result ↔ SameCycle (next_of (D.shows dual.now)) a b }
+{
+    let mut at = a;
+    for _steps in 0..dual.len() {
+        if at == b {
+            return true;
+        }
+        at = next_along(dual, at);
+        if at == a {
+            return false;
+        }
+    }
+    false
+}

@@ -1,0 +1,74 @@
+//! A picture with the prices of its segments.
+
+ghost use Rattle.std.specs.Prelude.{◌≡◌, ◌/◌, ◌%◌, ◌<◌, length, IfOk};
+ghost use Rattle.topo_core.specs.Picture.{darts};
+ghost use Rattle.topo_core.specs.Routes.{KeepsPromise};
+ghost use Rattle.topo_price.specs.Prices.{prices_of};
+ghost use Rattle.topo_route.specs.Numbers.{IsPriceAt};
+ghost use Rattle.topo_route.specs.Settling.{ArePrices, ArePricesOf};
+
+use crate::dual::Dual;
+use crate::faces::price_at;
+use std::alloc::{AllocError, Global};
+use topo_price::tariff::{Asks, Tariff};
+
+/// A picture with the price of each segment, asked for once.
+#[derive(Drop)]
+pub(crate) struct Graph<'a, D: Dual, F: Asks> {
+    pub dual: &'a D,
+    pub tariff: &'a Tariff<F>,
+    pub prices: Vec<Option<u32>>,
+}
+
+impl<D: Dual, F: Asks> Graph<'_, D, F> {
+    /// The price of crossing a dart.
+    pub(crate) fn price(&self, dart: u32) -> Option<u32>
+        requires within { dart < length (darts (D.shows self.now.dual.now)) }
+        requires right { ArePrices (prices_of (F.answers self.now.tariff.now)) (D.shows self.now.dual.now) self.now.prices.items }
+        ensures price { IsPriceAt (prices_of (F.answers self.now.tariff.now)) (D.shows self.now.dual.now) dart result }
+        ensures promise { KeepsPromise (prices_of (F.answers self.now.tariff.now)) }
+    {
+        self.prices[(dart / 2) as usize]
+    }
+}
+
+/// The price of the dart of a segment that has the smaller number: that of the segment before it,
+/// where both lie on one edge.
+fn segment_price<D: Dual, F: Asks>(
+    dual: &D,
+    tariff: &Tariff<F>,
+    prices: &[Option<u32>],
+    dart: u32,
+) -> Option<u32>
+    requires within { dart < length (darts (D.shows dual.now)) }
+    requires even { dart % 2 ≡ 0 }
+    requires right { ArePricesOf (prices_of (F.answers tariff.now)) (D.shows dual.now) prices.now (dart / 2) }
+    ensures price { IsPriceAt (prices_of (F.answers tariff.now)) (D.shows dual.now) dart result }
+    ensures promise { KeepsPromise (prices_of (F.answers tariff.now)) }
+{
+    if dart > 0 {
+        let edge = dual.dart(dart).edge.number();
+        let before = dual.dart(dart - 2).edge.number();
+        if before == edge {
+            return prices[(dart / 2 - 1) as usize];
+        }
+    }
+    price_at(dual, tariff, dart)
+}
+
+/// The prices of all segments. Each edge is asked for once.
+pub(crate) fn segment_prices<D: Dual, F: Asks>(
+    alloc: Global,
+    dual: &D,
+    tariff: &Tariff<F>,
+) -> Result<Vec<Option<u32>>, AllocError>
+    ensures { IfOk result (λ prices. ArePrices (prices_of (F.answers tariff.now)) (D.shows dual.now) prices.items) }
+{
+    let segments = dual.len() / 2;
+    let mut prices = Vec::with_capacity(alloc, segments as usize)?;
+    for segment in 0..segments {
+        let price = segment_price(dual, tariff, prices.as_slice(), 2 * segment);
+        prices.push(price)?;
+    }
+    Ok(prices)
+}
