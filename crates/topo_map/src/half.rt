@@ -1,0 +1,49 @@
+//! One end of a segment, with the direction that leads from it.
+
+ghost use Rattle.std.specs.Prelude.{◌≡◌};
+ghost use Rattle.topo_core.specs.Rotations.{twin};
+ghost use Rattle.topo_map.specs.Halves.{half_number};
+
+use std::marker::Model;
+use topo_core::darts::Way;
+
+/// A segment of an embedding with a direction. In contracts it is the number `2 * key`, or
+/// `2 * key + 1` for the way back, so that the twin of `a` is `twin a`.
+#[derive(Clone, Copy, Debug, PartialEq, Eq)]
+pub struct Half {
+    pub(crate) key: u32,
+    pub(crate) way: Way,
+}
+
+impl Model for Half {
+    ghost use Rattle.std.specs.Prelude.{ℕ, ◌/◌};
+    ghost use Rattle.topo_map.specs.Halves.{half_number, way_of};
+    ghost use Rattle.topo_map.specs.HalfInverse.{half_inverse};
+
+    ghost Value = { ℕ };
+
+    ghost view = { λ h. half_number h.key h.way };
+
+    ghost inverse = { λ a. record { key = a / 2; way = way_of a } };
+
+    ghost inverse_ok = { λ h _. half_inverse h };
+}
+
+impl Half {
+    pub(crate) fn new(key: u32, way: Way) -> Self
+        ensures { result ≡ half_number key way }
+    {
+        Half { key, way }
+    }
+
+    /// The other half of the segment.
+    pub(crate) fn twin(self) -> Self
+        ensures { result ≡ twin self }
+    {
+        let way = match self.way {
+            Way::Forward => Way::Back,
+            Way::Back => Way::Forward,
+        };
+        Half { key: self.key, way }
+    }
+}
