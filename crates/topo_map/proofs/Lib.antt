@@ -1,3 +1,4 @@
 pub mod Maps
 pub mod Slots
 pub mod Kept
+pub mod Stored

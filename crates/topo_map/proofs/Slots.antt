@@ -52,7 +52,7 @@ side-at : (key : ℕ) (way : Way) (at : ℕ) (t : Turns) → half_number key way
 side-at key Forward at t e = cond-true _ _ _ (forward-test key at e)
 side-at key Back at t e = cond-false _ _ _ (back-test key at e)
 
-key-at : (key : ℕ) (way : Way) (at : ℕ) → half_number key way ≡ at → at / 2 ≡ key
+pub key-at : (key : ℕ) (way : Way) (at : ℕ) → half_number key way ≡ at → at / 2 ≡ key
 key-at key way at e = ap (λ (n : ℕ). n / 2) (sym e) ∙ number_key key way
 
 pub contains : (s : Slab Segment) (key : ℕ) (way : Way) (at : ℕ) → half_number key way ≡ at → holds s at ≡ true → ContainsKey s key
