@@ -18,7 +18,7 @@ limit-is = refl
 
 -- ---- Room
 
-true_false : true ≡ false → ⊥
+pub true_false : true ≡ false → ⊥
 true_false e = cc
 
 abbrev room_at : ℕ → ℕ → ℕ
@@ -66,7 +66,7 @@ room_more cap len cap' len' ec el = elim (cases_Bool (nat_le cap 2147483648)) [
 
 -- ---- The two halves at a key
 
-twin-key : (a : ℕ) → twin a / 2 ≡ a / 2
+pub twin-key : (a : ℕ) → twin a / 2 ≡ a / 2
 twin-key a = elim (twin-cases a) [
   | inl w ↦ let e : twin a ≡ a + 1 = w.1 in let d : a % 2 ≡ 0 = w.0 in omega arith
   | inr w ↦ let e : twin a ≡ a - 1 = w.1 in let d : a % 2 ≢ 0 = w.0 in omega arith

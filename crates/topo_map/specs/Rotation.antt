@@ -1,6 +1,6 @@
 -- What a contract sees of an embedding: which halves are live, how they turn, and the room for more segments.
 -- A half is a number: 2 * key and 2 * key + 1 are the two of the segment at a key.
-use Rattle.std.specs.Prelude.{◌≡◌, ℕ, ◌+◌, ◌/◌, ◌%◌, ◌<◌, ◌==◌, Bool, true, cond, List, Option, Some, None, is_some, slice_index_or}
+use Rattle.std.specs.Prelude.{◌≡◌, ℕ, ◌+◌, ◌/◌, ◌%◌, ◌<◌, ◌≤◌, ◌==◌, Bool, true, cond, List, Option, Some, None, is_some, slice_index_or}
 use Rattle.topo_core.specs.Rotations.{face_next}
 use Rattle.topo_perm.specs.Joins.{IsConnectedAmong, AddsSegment}
 use Rattle.topo_perm.specs.Live.{IsSlab, live_cycle_count, live_segments}
@@ -51,21 +51,33 @@ faces r = live_cycle_count (is_live r) (face_next (turn r)) half_limit
 
 -- ---- What always holds
 
--- a turn of the halves, in which what is not live is isolated, and which hangs together
-pub record IsEmbedding (r : Rotation) : Type 0 where
-  pub slab : IsSlab (is_live r) (turn r) half_limit
-  pub connected : IsConnectedAmong (is_live r) (turn r) half_limit
-  pub within : (a : ℕ) → is_live r a ≡ true → a < half_limit
+-- a turn of halves, in which what is not live is isolated, and which hangs together
+pub record IsWhole (live : ℕ → Bool) (f : ℕ → ℕ) : Type 0 where
+  pub slab : IsSlab live f half_limit
+  pub connected : IsConnectedAmong live f half_limit
+  pub within : (a : ℕ) → live a ≡ true → a < half_limit
+
+abbrev pub IsEmbedding : Rotation → Type 0
+IsEmbedding r = IsWhole (is_live r) (turn r)
 
 -- ---- What an edit adds or takes
 
--- the segment of x is new, and takes one place of the room
-pub record Adds (old new : Rotation) (x : ℕ) : Type 0 where
+-- the segment of x is new and takes one place of the room, and there are so many points and faces more
+pub record Grows (old new : Rotation) (x more_points more_faces : ℕ) : Type 0 where
   pub within : x < half_limit
   pub live : AddsSegment (is_live old) (is_live new) half_limit x
-  pub room : new.room + 1 ≡ old.room
+  pub points_more : points new ≡ points old + more_points
+  pub segments_more : segments new ≡ segments old + 1
+  pub faces_more : faces new ≡ faces old + more_faces
+  pub room_less : new.room + 1 ≡ old.room
+  pub embedding : IsEmbedding new
 
--- the segment of x goes, and leaves its place to another
-pub record TakesOut (old new : Rotation) (x : ℕ) : Type 0 where
+-- the segment of x is gone and leaves its place to another, and there are so many points and faces fewer
+pub record Shrinks (old new : Rotation) (x fewer_points fewer_faces : ℕ) : Type 0 where
   pub live : AddsSegment (is_live new) (is_live old) half_limit x
-  pub room : new.room ≡ old.room + 1
+  pub points_fewer : points new + fewer_points ≡ points old
+  pub segments_fewer : segments new + 1 ≡ segments old
+  pub faces_fewer : faces new + fewer_faces ≡ faces old
+  pub room_kept : old.room ≤ new.room
+  pub room_more : 0 < old.room → new.room ≡ old.room + 1
+  pub embedding : IsEmbedding new

@@ -2,7 +2,7 @@
 use Rattle.std.specs.Prelude.{◌≡◌, ℕ, ◌+◌, ◌-◌, ◌*◌, ◌<◌, ◌≤◌, ◌==◌, nat_le, Bool, true, cond, List, map, Option, option_map}
 use Rattle.slab.specs.Slab.{Slab, slab_len, HasRoomFor}
 use Rattle.topo_perm.specs.Joins.{AddsSegment, IsConnectedAmong}
-use Rattle.topo_map.specs.Rotation.{Turns, turn_in, live_in, half_limit}
+use Rattle.topo_map.specs.Rotation.{Turns, Rotation, turn_in, live_in, half_limit}
 use Rattle.topo_map.specs.declared.segments.Segment.{Segment}
 
 -- the halves after and before the two of a segment
@@ -27,6 +27,10 @@ holds s = live_in (shown nexts s)
 -- how many segments fit with no memory, as long as their halves stay below the limit
 abbrev pub room_of : Slab Segment → ℕ
 room_of s = cond (nat_le s.capacity 2147483648) (s.capacity - slab_len s) 0
+
+-- what a contract sees
+abbrev pub view_of : Slab Segment → Rotation
+view_of s = record { slots = shown nexts s; room = room_of s }
 
 -- a segment by itself
 abbrev pub isolated_segment : ℕ → Segment

@@ -37,7 +37,7 @@ impl Half {
     }
 
     /// The other half of the segment.
-    pub(crate) fn twin(self) -> Self
+    pub fn twin(self) -> Self
         ensures { result ≡ twin self }
     {
         let way = match self.way {

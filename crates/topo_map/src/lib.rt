@@ -1,7 +1,9 @@
 //! The embedding of a graph on the sphere, kept as segments in a slab.
 #![tactic(auto)]
 
-mod half;
+pub mod embedding;
+pub mod half;
 mod segments;
 
+pub use embedding::Embedding;
 pub use half::Half;
