@@ -24,6 +24,9 @@ use Rattle.topo_map.proofs.Counted.{More, Fewer, hang_more, chord_more, split_mo
 pub same_twin : (s : Slab Segment) (a : ℕ) → holds s (twin a) ≡ holds s a
 same_twin s a = live_at nexts s (twin a) ∙ ap (λ (k : ℕ). is_some (get s k)) (twin-key a) ∙ sym (live_at nexts s a)
 
+pub live_twin : (s : Slab Segment) (a t : ℕ) → t ≡ twin a → holds s a ≡ true → holds s t ≡ true
+live_twin s a t e h = ap (holds s) e ∙ same_twin s a ∙ h
+
 turns_within : (s : Slab Segment) → IsKept s → (a : ℕ) → a < half_limit → next_in s a < half_limit
 turns_within s k a l = elim (cases_Bool (holds s a)) [
   | inl t ↦ k.within (next_in s a) (live_next s a k t)

@@ -1,4 +1,4 @@
-use Rattle.std.proofs.Common.{◌≡◌, true, ap, ◌∙◌, subst, Bool, ℕ}
+use Rattle.std.proofs.Common.{◌≡◌, ◌≢◌, true, ap, ◌∙◌, subst, Bool, ℕ}
 use Rattle.topo_core.specs.Edits.{IsHang}
 use Rattle.topo_map.specs.Rotation.{Rotation, Grows, half_limit, turn, is_live}
 use Rattle.topo_map.specs.Segments.{holds, view_of}
