@@ -2,7 +2,7 @@
 use Rattle.std.proofs.Common.{◌≡◌, ℕ, ◌+◌, ◌<◌, Bool, true, sym}
 use Rattle.topo_core.specs.Rotations.{face_next}
 use Rattle.topo_perm.specs.Edits.{IsAllowedHang, IsAllowedChord, IsAllowedUnchord, IsAllowedSplit, IsAllowedSmooth}
-use Rattle.topo_perm.specs.Joins.{AddsSegment}
+use Rattle.topo_perm.specs.Joins.{AddsSegment, IsConnectedAmong}
 use Rattle.topo_perm.specs.Live.{IsSlab, live_cycle_count, live_segments}
 use Rattle.topo_perm.specs.LiveEdits.{GrowsSlab, ShrinksSlab}
 use Rattle.topo_perm.proofs.Connecting.{hang_connects, chord_connects, split_connects, unchord_connects, smooth_connects}
@@ -18,12 +18,14 @@ pub record More (live live' : ℕ → Bool) (f g : ℕ → ℕ) (p q : ℕ) : Ty
   pub segments : live_segments live' half_limit ≡ live_segments live half_limit + 1
   pub faces : live_cycle_count live' (face_next g) half_limit ≡ live_cycle_count live (face_next f) half_limit + q
   pub whole : IsWhole live' g
+  pub connected : IsConnectedAmong live f half_limit → IsConnectedAmong live' g half_limit
 
 pub record Fewer (live live' : ℕ → Bool) (f g : ℕ → ℕ) (p q : ℕ) : Type 0 where
   pub points : live_cycle_count live' g half_limit + p ≡ live_cycle_count live f half_limit
   pub segments : live_segments live' half_limit + 1 ≡ live_segments live half_limit
   pub faces : live_cycle_count live' (face_next g) half_limit + q ≡ live_cycle_count live (face_next f) half_limit
   pub whole : IsWhole live' g
+  pub connected : IsConnectedAmong live f half_limit → IsConnectedAmong live' g half_limit
 
 pub hang_more : (live live' : ℕ → Bool) (f g : ℕ → ℕ) (c x : ℕ) → IsWhole live f → IsWithin live' → AddsSegment live live' half_limit x → live c ≡ true → IsAllowedHang f g half_limit c x → More live live' f g 1 0
 hang_more live live' f g c x w l t alive k =
@@ -33,7 +35,8 @@ hang_more live live' f g c x w l t alive k =
       points = hang_live_points live live' f g half_limit c x e k;
       segments = segments_grow live live' f g half_limit x e;
       faces = hang_live_faces live live' f g half_limit c x e k;
-      whole = record { slab = s; connected = hang_connects f g live live' half_limit c x k t alive w.connected; within = l };
+      whole = record { slab = s; within = l };
+      connected = hang_connects f g live live' half_limit c x k t alive;
     }
 
 pub chord_more : (live live' : ℕ → Bool) (f g : ℕ → ℕ) (c d x : ℕ) → IsWhole live f → IsWithin live' → AddsSegment live live' half_limit x → live c ≡ true → live d ≡ true → IsAllowedChord f g half_limit c d x → More live live' f g 0 1
@@ -44,7 +47,8 @@ chord_more live live' f g c d x w l t alive alive_d k =
       points = chord_live_points live live' f g half_limit c d x e k;
       segments = segments_grow live live' f g half_limit x e;
       faces = chord_live_faces live live' f g half_limit c d x e k;
-      whole = record { slab = s; connected = chord_connects f g live live' half_limit c d x k t alive w.connected; within = l };
+      whole = record { slab = s; within = l };
+      connected = chord_connects f g live live' half_limit c d x k t alive;
     }
 
 pub split_more : (live live' : ℕ → Bool) (f g : ℕ → ℕ) (h x : ℕ) → IsWhole live f → IsWithin live' → AddsSegment live live' half_limit x → live h ≡ true → IsAllowedSplit f g half_limit h x → More live live' f g 1 0
@@ -55,7 +59,8 @@ split_more live live' f g h x w l t alive k =
       points = split_live_points live live' f g half_limit h x e k;
       segments = segments_grow live live' f g half_limit x e;
       faces = split_live_faces live live' f g half_limit h x e k;
-      whole = record { slab = s; connected = split_connects f g live live' half_limit h x k t alive w.connected; within = l };
+      whole = record { slab = s; within = l };
+      connected = split_connects f g live live' half_limit h x k t alive;
     }
 
 pub unchord_fewer : (live live' : ℕ → Bool) (f g : ℕ → ℕ) (h : ℕ) → IsWhole live f → IsWithin live' → AddsSegment live' live half_limit h → IsAllowedUnchord f g half_limit h → Fewer live live' f g 0 1
@@ -67,7 +72,8 @@ unchord_fewer live live' f g h w l t k =
       points = sym (unchord_live_points live live' f g half_limit h e k);
       segments = sym (segments_grow live' live g f half_limit h b);
       faces = sym (unchord_live_faces live live' f g half_limit h e k);
-      whole = record { slab = s; connected = unchord_connects f g live live' half_limit h k t w.connected; within = l };
+      whole = record { slab = s; within = l };
+      connected = unchord_connects f g live live' half_limit h k t;
     }
 
 pub smooth_fewer : (live live' : ℕ → Bool) (f g : ℕ → ℕ) (x : ℕ) → IsWhole live f → IsWithin live' → AddsSegment live' live half_limit x → IsAllowedSmooth f g half_limit x → Fewer live live' f g 1 0
@@ -79,5 +85,6 @@ smooth_fewer live live' f g x w l t k =
       points = sym (smooth_live_points live live' f g half_limit x e k);
       segments = sym (segments_grow live' live g f half_limit x b);
       faces = sym (smooth_live_faces live live' f g half_limit x e k);
-      whole = record { slab = s; connected = smooth_connects f g live live' half_limit x k t w.connected; within = l };
+      whole = record { slab = s; within = l };
+      connected = smooth_connects f g live live' half_limit x k t;
     }

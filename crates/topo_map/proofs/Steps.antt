@@ -11,7 +11,7 @@ use Rattle.topo_perm.proofs.Faces.{twin-twin, twin-apart, twin-other}
 use Rattle.topo_perm.proofs.Splitting.{without-self, without-onward, without-elsewhere}
 use Rattle.topo_perm.proofs.EditCounts.{put-self, put-led, put-elsewhere}
 use Rattle.topo_map.specs.Rotation.{half_limit, IsWhole, Grows, Shrinks}
-use Rattle.topo_map.specs.Segments.{put, without, holds, next_in, before_in, nexts, room_of, view_of, IsKept, IsTurned, IsInserted, IsRemoved, IsSound}
+use Rattle.topo_map.specs.Segments.{put, without, holds, next_in, before_in, nexts, room_of, view_of, IsKept, IsTurned, IsInserted, IsRemoved}
 use Rattle.topo_map.specs.declared.segments.Segment.{Segment}
 use Rattle.topo_map.proofs.Slots.{live_at}
 use Rattle.topo_map.proofs.Kept.{free_turn, live_next}
@@ -42,22 +42,21 @@ darts s k = record {
   even = (let e : half_limit ≡ 4294967296 = limit-is in let w : half_limit % 2 ≡ 0 = omega arith in w);
 }
 
-pub whole : (s : Slab Segment) → IsSound s → IsWhole (holds s) (next_in s)
+pub whole : (s : Slab Segment) → IsKept s → IsWhole (holds s) (next_in s)
 whole s i = record {
   slab = record {
-    permutation = (darts s i.kept).permutation;
-    even = (darts s i.kept).even;
+    permutation = (darts s i).permutation;
+    even = (darts s i).even;
     twins = λ a la. same_twin s a;
     free = λ a la f. free_turn nexts s a f;
   };
-  connected = i.connected;
-  within = i.kept.within;
+  within = i.within;
 }
 
 -- ---- The start of an edit that adds
 
 pub record IsStart (s s1 : Slab Segment) (x : ℕ) : Type 0 where
-  pub sound : IsSound s
+  pub sound : IsKept s
   pub inserted : IsInserted s s1 x
 
 isolated : (s s1 : Slab Segment) (x : ℕ) → IsStart s s1 x → IsIsolated (next_in s) x
@@ -74,7 +73,7 @@ twin_alone s s1 x st = ap (λ (f : ℕ → ℕ). f (twin x)) st.inserted.next �
 
 pub apart : (s s1 : Slab Segment) (x c : ℕ) → IsStart s s1 x → holds s c ≡ true → IsApart half_limit c x
 apart s s1 x c st h = record {
-  within = st.sound.kept.within c h;
+  within = st.sound.within c h;
   not_self = λ e. true_false (sym h ∙ ap (holds s) e ∙ st.inserted.live.new);
   not_twin = λ e. true_false (sym h ∙ ap (holds s) e ∙ st.inserted.live.new_twin);
 }
@@ -99,7 +98,7 @@ same_room s s1 f t = ap (λ (n : ℕ). cond (nat_le n 2147483648) (n - slab_len 
 
 pub record IsAdded (s s' : Slab Segment) (x p q : ℕ) : Type 0 where
   pub grows : Grows (view_of s) (view_of s') x p q
-  pub sound : IsSound s'
+  pub sound : IsKept s'
 
 live_added : (s s1 s' : Slab Segment) (x : ℕ) (g : ℕ → ℕ) → IsStart s s1 x → IsTurned s1 s' g → AddsSegment (holds s) (holds s') half_limit x
 live_added s s1 s' x g st t = subst (λ (l : ℕ → Bool). AddsSegment (holds s) l half_limit x) (sym t.live) st.inserted.live
@@ -114,13 +113,14 @@ added s s1 s' x p q g st t m = record {
     faces_more = m.faces;
     room_less = ap (λ (n : ℕ). n + 1) (same_room s1 s' g t) ∙ st.inserted.room;
     embedding = m.whole;
+    connected = m.connected;
   };
-  sound = record { kept = t.kept; connected = m.whole.connected };
+  sound = t.kept;
 }
 
 pub record IsTaken (s s' : Slab Segment) (x p q : ℕ) : Type 0 where
   pub shrinks : Shrinks (view_of s) (view_of s') x p q
-  pub sound : IsSound s'
+  pub sound : IsKept s'
 
 live_taken : (s s1 s' : Slab Segment) (x : ℕ) (g : ℕ → ℕ) → IsTurned s s1 g → IsRemoved s1 s' x → AddsSegment (holds s') (holds s) half_limit x
 live_taken s s1 s' x g t r = subst (λ (l : ℕ → Bool). AddsSegment (holds s') l half_limit x) t.live r.live
@@ -138,8 +138,9 @@ taken s s1 s' x p q g t r m =
         room_kept = subst (λ (n : ℕ). n ≤ room_of s') e kept;
         room_more = λ h. r.freed (subst (λ (n : ℕ). 0 < n) (sym e) h) ∙ ap (λ (n : ℕ). n + 1) e;
         embedding = m.whole;
+    connected = m.connected;
       };
-      sound = record { kept = r.kept; connected = m.whole.connected };
+      sound = r.kept;
     }
 
 -- ---- Hang
@@ -152,7 +153,7 @@ pub hung : (s s1 s2 : Slab Segment) (c x : ℕ) → IsStart s s1 x → holds s c
 hung s s1 s2 c x st alive t =
     let e : next_in s2 ≡ put (next_in s) x c = t.next ∙ ap (λ (f : ℕ → ℕ). put f x c) st.inserted.next in
     let k : IsAllowedHang (next_in s) (next_in s2) half_limit c x = subst (λ (g : ℕ → ℕ). IsAllowedHang (next_in s) g half_limit c x) (sym e)
-      (hang_allowed (next_in s) half_limit c x (darts s st.sound.kept) st.inserted.within (isolated s s1 x st) (apart s s1 x c st alive)) in
+      (hang_allowed (next_in s) half_limit c x (darts s st.sound) st.inserted.within (isolated s s1 x st) (apart s s1 x c st alive)) in
     record {
       allowed = k;
       added = added s s1 s2 x 1 0 (put (next_in s1) x c) st t
@@ -176,7 +177,7 @@ chorded s s1 s2 s3 c d x y st alive alive_d one ey t u =
     let both : IsTurned s1 s3 (put (next_in s2) y d) = then_turned s1 s2 s3 (put (next_in s1) x c) (put (next_in s2) y d) t u in
     let e : next_in s3 ≡ put (put (next_in s) x c) (twin x) d = u.next ∙ ap (λ (v : ℕ). put (next_in s2) v d) ey ∙ ap (λ (f : ℕ → ℕ). put f (twin x) d) (t.next ∙ ap (λ (f : ℕ → ℕ). put f x c) st.inserted.next) in
     let k : IsAllowedChord (next_in s) (next_in s3) half_limit c d x = subst (λ (g : ℕ → ℕ). IsAllowedChord (next_in s) g half_limit c d x) (sym e)
-      (chord_allowed (next_in s) half_limit c d x (darts s st.sound.kept) st.inserted.within (isolated s s1 x st) (apart s s1 x c st alive) (apart s s1 x d st alive_d) one) in
+      (chord_allowed (next_in s) half_limit c d x (darts s st.sound) st.inserted.within (isolated s s1 x st) (apart s s1 x c st alive) (apart s s1 x d st alive_d) one) in
     record {
       allowed = k;
       added = added s s1 s3 x 0 1 (put (next_in s2) y d) st both
@@ -208,7 +209,7 @@ splitted s s1 s2 s3 s4 h x y t st alive ey et u v w =
     let e3 : next_in s3 ≡ without (put f (twin x) (twin h)) (twin h) = v.next ∙ ap (λ (k : ℕ → ℕ). without k t) e2 ∙ ap (λ (a : ℕ). without (put f (twin x) (twin h)) a) et in
     let e4 : next_in s4 ≡ put (without (put f (twin x) (twin h)) (twin h)) x (twin h) = w.next ∙ ap (λ (k : ℕ → ℕ). put k x t) e3 ∙ ap (λ (a : ℕ). put (without (put f (twin x) (twin h)) (twin h)) x a) et in
     let k : IsAllowedSplit f (next_in s4) half_limit h x = subst (λ (g : ℕ → ℕ). IsAllowedSplit f g half_limit h x) (sym e4)
-      (split_allowed f half_limit h x (darts s st.sound.kept) st.inserted.within (isolated s s1 x st) (apart s s1 x h st alive)) in
+      (split_allowed f half_limit h x (darts s st.sound) st.inserted.within (isolated s s1 x st) (apart s s1 x h st alive)) in
     record {
       allowed = k;
       added = added s s1 s4 x 1 0 (put (next_in s3) x t) st all
@@ -230,13 +231,13 @@ unchord_alone s s1 s2 h t et u v =
 pub without_alone : (s s1 : Slab Segment) (h t : ℕ) → t ≡ twin h → IsTurned s s1 (without (next_in s) t) → next_in s1 (twin h) ≡ twin h
 without_alone s s1 h t et v = ap (next_in s1) (sym et) ∙ ap (λ (f : ℕ → ℕ). f t) v.next ∙ without-self (next_in s) t t refl ∙ et
 
-pub unchorded : (s s1 s2 s3 : Slab Segment) (h t : ℕ) → IsSound s → holds s h ≡ true → ¬ SameCycle (face_next (next_in s)) h (twin h) → (next_in s h ≡ twin h → next_in s (twin h) ≢ h) → t ≡ twin h → IsTurned s s1 (without (next_in s) h) → IsTurned s1 s2 (without (next_in s1) t) → IsRemoved s2 s3 h → IsUnchorded s s3 h
+pub unchorded : (s s1 s2 s3 : Slab Segment) (h t : ℕ) → IsKept s → holds s h ≡ true → ¬ SameCycle (face_next (next_in s)) h (twin h) → (next_in s h ≡ twin h → next_in s (twin h) ≢ h) → t ≡ twin h → IsTurned s s1 (without (next_in s) h) → IsTurned s1 s2 (without (next_in s1) t) → IsRemoved s2 s3 h → IsUnchorded s s3 h
 unchorded s s1 s2 s3 h t i alive two not_alone et u v r =
     let f : ℕ → ℕ = next_in s in
     let uv : IsTurned s s2 (without (next_in s1) t) = then_turned s s1 s2 (without f h) (without (next_in s1) t) u v in
     let e : next_in s3 ≡ without (without f h) (twin h) = r.next ∙ v.next ∙ ap (λ (k : ℕ → ℕ). without k t) u.next ∙ ap (λ (a : ℕ). without (without f h) a) et in
     let k : IsAllowedUnchord f (next_in s3) half_limit h = subst (λ (g : ℕ → ℕ). IsAllowedUnchord f g half_limit h) (sym e)
-      (unchord_allowed f half_limit h (darts s i.kept) (i.kept.within h alive) two not_alone) in
+      (unchord_allowed f half_limit h (darts s i) (i.within h alive) two not_alone) in
     record {
       allowed = k;
       taken = taken s s2 s3 h 0 1 (without (next_in s1) t) uv r
@@ -260,7 +261,7 @@ smooth_alone s s1 s2 s3 x t y na et ey u v w =
     let b : next_in s2 x ≡ x = ap (λ (f : ℕ → ℕ). f x) v.next ∙ put-elsewhere (next_in s1) t y x (λ e. na (sym (e ∙ et))) (λ e. yx (sym a ∙ e)) ∙ a in
     ap (λ (f : ℕ → ℕ). f x) w.next ∙ without-elsewhere (next_in s2) y x yx (λ e. yx (sym b ∙ e)) ∙ b
 
-pub smoothed_out : (s s1 s2 s3 s4 : Slab Segment) (x t y : ℕ) → IsSound s → holds s x ≡ true → next_in s (next_in s x) ≡ x → next_in s x ≢ x → next_in s x ≢ twin x → t ≡ next_in s x → y ≡ twin x → IsTurned s s1 (without (next_in s) x) → IsTurned s1 s2 (put (next_in s1) t y) → IsTurned s2 s3 (without (next_in s2) y) → IsRemoved s3 s4 x → IsSmoothed s s4 x
+pub smoothed_out : (s s1 s2 s3 s4 : Slab Segment) (x t y : ℕ) → IsKept s → holds s x ≡ true → next_in s (next_in s x) ≡ x → next_in s x ≢ x → next_in s x ≢ twin x → t ≡ next_in s x → y ≡ twin x → IsTurned s s1 (without (next_in s) x) → IsTurned s1 s2 (put (next_in s1) t y) → IsTurned s2 s3 (without (next_in s2) y) → IsRemoved s3 s4 x → IsSmoothed s s4 x
 smoothed_out s s1 s2 s3 s4 x t y i alive back na nl et ey u v w r =
     let f : ℕ → ℕ = next_in s in
     let uv : IsTurned s s2 (put (next_in s1) t y) = then_turned s s1 s2 (without f x) (put (next_in s1) t y) u v in
@@ -268,7 +269,7 @@ smoothed_out s s1 s2 s3 s4 x t y i alive back na nl et ey u v w r =
     let e2 : next_in s2 ≡ put (without f x) (f x) (twin x) = v.next ∙ ap (λ (k : ℕ → ℕ). put k t y) u.next ∙ ap (λ (a : ℕ). put (without f x) a y) et ∙ ap (λ (a : ℕ). put (without f x) (f x) a) ey in
     let e4 : next_in s4 ≡ without (put (without f x) (f x) (twin x)) (twin x) = r.next ∙ w.next ∙ ap (λ (k : ℕ → ℕ). without k y) e2 ∙ ap (λ (a : ℕ). without (put (without f x) (f x) (twin x)) a) ey in
     let k : IsAllowedSmooth f (next_in s4) half_limit x = subst (λ (g : ℕ → ℕ). IsAllowedSmooth f g half_limit x) (sym e4)
-      (smooth_allowed f half_limit x (darts s i.kept) (i.kept.within x alive) back na nl) in
+      (smooth_allowed f half_limit x (darts s i) (i.within x alive) back na nl) in
     record {
       allowed = k;
       taken = taken s s3 s4 x 1 0 (without (next_in s2) y) all r

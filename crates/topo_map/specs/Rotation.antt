@@ -51,14 +51,17 @@ faces r = live_cycle_count (is_live r) (face_next (turn r)) half_limit
 
 -- ---- What always holds
 
--- a turn of halves, in which what is not live is isolated, and which hangs together
+-- a turn of halves, in which what is not live is isolated
 pub record IsWhole (live : ℕ → Bool) (f : ℕ → ℕ) : Type 0 where
   pub slab : IsSlab live f half_limit
-  pub connected : IsConnectedAmong live f half_limit
   pub within : (a : ℕ) → live a ≡ true → a < half_limit
 
 abbrev pub IsEmbedding : Rotation → Type 0
 IsEmbedding r = IsWhole (is_live r) (turn r)
+
+-- any two live halves are joined
+abbrev pub HangsTogether : Rotation → Type 0
+HangsTogether r = IsConnectedAmong (is_live r) (turn r) half_limit
 
 -- ---- What an edit adds or takes
 
@@ -71,6 +74,7 @@ pub record Grows (old new : Rotation) (x more_points more_faces : ℕ) : Type 0 
   pub faces_more : faces new ≡ faces old + more_faces
   pub room_less : new.room + 1 ≡ old.room
   pub embedding : IsEmbedding new
+  pub connected : HangsTogether old → HangsTogether new
 
 -- the segment of x is gone and leaves its place to another, and there are so many points and faces fewer
 pub record Shrinks (old new : Rotation) (x fewer_points fewer_faces : ℕ) : Type 0 where
@@ -81,3 +85,4 @@ pub record Shrinks (old new : Rotation) (x fewer_points fewer_faces : ℕ) : Typ
   pub room_kept : old.room ≤ new.room
   pub room_more : 0 < old.room → new.room ≡ old.room + 1
   pub embedding : IsEmbedding new
+  pub connected : HangsTogether old → HangsTogether new

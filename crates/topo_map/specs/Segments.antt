@@ -1,7 +1,7 @@
 -- How segments lie in a slab. No public clause cites this module.
 use Rattle.std.specs.Prelude.{◌≡◌, ℕ, ◌+◌, ◌-◌, ◌*◌, ◌<◌, ◌≤◌, ◌==◌, nat_le, Bool, true, cond, List, map, Option, option_map}
 use Rattle.slab.specs.Slab.{Slab, slab_len, HasRoomFor}
-use Rattle.topo_perm.specs.Joins.{AddsSegment, IsConnectedAmong}
+use Rattle.topo_perm.specs.Joins.{AddsSegment}
 use Rattle.topo_map.specs.Rotation.{Turns, Rotation, turn_in, live_in, half_limit}
 use Rattle.topo_map.specs.declared.segments.Segment.{Segment}
 
@@ -96,8 +96,3 @@ pub record IsRemoved (old new : Slab Segment) (x : ℕ) : Type 0 where
   pub room : room_of old ≤ room_of new
   pub freed : 0 < room_of old → room_of new ≡ room_of old + 1
   pub kept : IsKept new
-
--- what holds of the segments of an embedding
-pub record IsSound (s : Slab Segment) : Type 0 where
-  pub kept : IsKept s
-  pub connected : IsConnectedAmong (holds s) (next_in s) half_limit

@@ -11,8 +11,8 @@ use crate::segments::{Segment, insert_isolated, next, put_before, remove_isolate
 use slab::Slab;
 use std::marker::Model;
 
-/// A connected graph on the sphere or another closed surface: segments between points, and round
-/// each point its halves in clockwise order.
+/// A graph on closed surfaces: segments between points, and round each point its halves in clockwise
+/// order.
 #[derive(Drop)]
 pub struct Embedding {
     segments: Slab<Segment>,
@@ -23,11 +23,11 @@ impl Model for Embedding {
 
     ghost Value = { Rotation };
 
-    ghost use Rattle.topo_map.specs.Segments.{IsSound, view_of};
+    ghost use Rattle.topo_map.specs.Segments.{IsKept, view_of};
 
     ghost view = { λ e. view_of e.segments };
 
-    ghost invariant = { λ e. IsSound e.segments };
+    ghost invariant = { λ e. IsKept e.segments };
 }
 
 impl Embedding {

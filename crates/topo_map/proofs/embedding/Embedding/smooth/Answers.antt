@@ -10,7 +10,7 @@ use Rattle.topo_map.proofs.embedding.Embedding.smooth.Goals as goal
 
 pub put_before-requires-clause-live : goal.put_before-requires-clause-live
 put_before-requires-clause-live c = turned_live c.self.inside.segments c.take_out.new.segments _ c.next-other.result (next_in c.self.inside.segments c.args.x) c.take_out.ensures c.next-other.ensures
-    (live_next c.self.inside.segments c.args.x c.self.invariant.kept (ap (λ (r : Rotation). is_live r c.args.x) c.self.view_is ∙ c.requires.live))
+    (live_next c.self.inside.segments c.args.x c.self.invariant (ap (λ (r : Rotation). is_live r c.args.x) c.self.view_is ∙ c.requires.live))
 
 pub put_before-requires-clause-live_corner : goal.put_before-requires-clause-live_corner
 put_before-requires-clause-live_corner c = turned_live c.self.inside.segments c.take_out.new.segments _ c.twin-end.result c.twin-end.result c.take_out.ensures refl
