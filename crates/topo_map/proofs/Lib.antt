@@ -5,3 +5,6 @@ pub mod Stored
 pub mod Allowed
 pub mod Counted
 pub mod Steps
+pub mod Rounds
+pub mod Listing
+pub mod Joining

@@ -1,8 +1,10 @@
 -- What a contract sees of an embedding: which halves are live, how they turn, and the room for more segments.
 -- A half is a number: 2 * key and 2 * key + 1 are the two of the segment at a key.
-use Rattle.std.specs.Prelude.{◌≡◌, ℕ, ◌+◌, ◌/◌, ◌%◌, ◌<◌, ◌≤◌, ◌==◌, Bool, true, cond, List, Option, Some, None, is_some, slice_index_or}
+use Rattle.std.specs.Prelude.{◌≡◌, ◌≢◌, ℕ, ◌+◌, ◌/◌, ◌%◌, ◌<◌, ◌≤◌, ◌==◌, Bool, true, cond, List, length, Option, Some, None, is_some, slice_index_or}
+use Rattle.topo_core.specs.Cycles.{after, map_of}
 use Rattle.topo_core.specs.Rotations.{face_next}
 use Rattle.topo_perm.specs.Joins.{IsConnectedAmong, AddsSegment}
+use Rattle.topo_perm.specs.Renumbering.{RenumbersTurn}
 use Rattle.topo_perm.specs.Live.{IsSlab, live_cycle_count, live_segments}
 
 -- the halves that follow the two of a segment, clockwise at their points
@@ -86,3 +88,17 @@ pub record Shrinks (old new : Rotation) (x fewer_points fewer_faces : ℕ) : Typ
   pub room_more : 0 < old.room → new.room ≡ old.room + 1
   pub embedding : IsEmbedding new
   pub connected : HangsTogether old → HangsTogether new
+
+-- k steps, and no fewer, lead round the point of a
+pub record IsDegree (r : Rotation) (a k : ℕ) : Type 0 where
+  pub some : 0 < k
+  pub back : after (turn r) k a ≡ a
+  pub least : (j : ℕ) → 0 < j → j < k → after (turn r) j a ≢ a
+
+-- ---- Built from a list of turns
+
+-- the halves stand for the places of the turns, in order, and turn as these say; there are no others
+pub record IsMadeFrom (turns halves : List ℕ) (r : Rotation) : Type 0 where
+  pub same_length : length halves ≡ length turns
+  pub place_of : ℕ → ℕ
+  pub renumbers : RenumbersTurn (map_of halves) place_of (map_of turns) (turn r) (length turns) (is_live r) half_limit

@@ -1,13 +1,17 @@
 //! Segments in a slab, each with the halves after and before its two. Both directions are kept, so
 //! that a half is put in or taken out in a constant number of steps.
 
-ghost use Rattle.std.specs.Prelude.{◌≡◌, ◌≢◌, ◌<◌, true};
+ghost use Rattle.std.specs.Prelude.{◌≡◌, ◌≢◌, ◌<◌, ◌≤◌, true, OnOk, IsOk};
 ghost use Rattle.topo_core.specs.Rotations.{twin};
 ghost use Rattle.topo_map.specs.Segments.{IsInserted, IsKept, IsRemoved, IsTurned, Rewires, before_in, holds, isolated_segment, next_in, put, room_of, without, written};
 
 use crate::half::Half;
 use slab::Slab;
+use std::alloc::AllocError;
 use topo_core::darts::Way;
+
+/// A slab of more segments is used for no new one, so that each key fits its type.
+const MOST_SEGMENTS: usize = 2_147_483_648;
 
 /// The halves after and before a half, clockwise at its point.
 #[derive(Clone, Copy)]
@@ -91,7 +95,7 @@ fn set_previous(segments: &mut Slab<Segment>, at: Half, to: Half)
 }
 
 /// `to` follows `from`.
-fn link(segments: &mut Slab<Segment>, from: Half, to: Half)
+pub(crate) fn link(segments: &mut Slab<Segment>, from: Half, to: Half)
     requires from { holds segments.old from ≡ true }
     requires to { holds segments.old to ≡ true }
     ensures { Rewires segments.old segments.new (written (next_in segments.old) from to) (written (before_in segments.old) to from) }
@@ -147,4 +151,36 @@ pub(crate) fn remove_isolated(segments: &mut Slab<Segment>, x: Half)
     ensures { IsRemoved segments.old segments.new x }
 {
     segments.remove(x.key as usize);
+}
+
+/// How many segments fit with no memory taken. A slab that is so large that a key might not fit its
+/// type has room for none.
+pub(crate) fn room(segments: &Slab<Segment>) -> usize
+    ensures { result ≡ room_of segments.now }
+{
+    let capacity = segments.capacity();
+    if capacity <= MOST_SEGMENTS {
+        capacity - segments.len()
+    } else {
+        0
+    }
+}
+
+/// Makes room for so many more segments.
+pub(crate) fn reserve(segments: &mut Slab<Segment>, more: usize) -> Result<(), AllocError>
+    ensures slots { segments.new.slots ≡ segments.old.slots }
+    ensures room { OnOk result (more ≤ room_of segments.new) }
+    ensures never_less { OnOk result (room_of segments.old ≤ room_of segments.new) }
+    ensures succeeds { more ≤ room_of segments.old → IsOk result }
+    ensures had_room { more ≤ room_of segments.old → segments.new ≡ segments.old }
+{
+    if more <= room(segments) {
+        return Ok(());
+    }
+    segments.reserve(more)?;
+    if segments.capacity() <= MOST_SEGMENTS {
+        Ok(())
+    } else {
+        Err(AllocError)
+    }
 }
