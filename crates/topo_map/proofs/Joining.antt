@@ -1,5 +1,5 @@
 -- Slabs that are built from a list of turns.
-use Rattle.std.proofs.Common.{◌≡◌, ◌≢◌, ℕ, ◌+◌, ◌/◌, ◌%◌, ◌<◌, Bool, true, false, inl, inr, refl, sym, ◌∙◌, ap, subst, arith, List, [], ◌∷◌, ◌++◌, length, Option, Some, None, is_some, slice_index_or}
+use Rattle.std.proofs.Common.{◌≡◌, ◌≢◌, ℕ, zero, suc, ◌+◌, ◌/◌, ◌%◌, ◌<◌, Bool, true, false, inl, inr, refl, sym, ◌∙◌, ap, subst, arith, List, [], ◌∷◌, ◌++◌, length, Option, Some, None, is_some, slice_index_or}
 use Rattle.std.proofs.lemmas.Bool.{cases_Bool, cases_eq}
 use Rattle.slab.specs.Slab.{Slab, get}
 use Rattle.topo_core.specs.Cycles.{map_of, IsPermutation}
@@ -135,3 +135,25 @@ made_from s hs ts p el j =
         twins = record { each = λ a l. j.listed.twins a (small a l) };
       };
     }
+
+-- ---- One segment
+
+two_places : (a : ℕ) → a < 2 → map_of (0 ∷ 1 ∷ []) a ≡ a
+two_places zero l = refl
+two_places (suc zero) l = refl
+two_places (suc (suc a)) l = absurd (let w : ⊥ = omega arith in w)
+
+pub seed_made : (s s' : Slab Segment) (x : ℕ) → s.slots ≡ [] → IsInserted s s' x → IsMadeFrom (0 ∷ 1 ∷ []) (x ∷ twin x ∷ []) (view_of s')
+seed_made s s' x e i =
+    let hs : List ℕ = x ∷ twin x ∷ [] in
+    let ts : List ℕ = 0 ∷ 1 ∷ [] in
+    let k : AreAlone s' hs = alone_more s s' [] hs x (twin x) (empty_alone s e) i refl refl in
+    let p : IsPermutation (map_of ts) 2 = record {
+      within = λ a l. subst (λ (n : ℕ). n < 2) (sym (two_places a l)) l;
+      apart = λ a b l m w. sym (two_places a l) ∙ w ∙ two_places b m;
+    } in
+    made_from s' hs ts p refl (record {
+      kept = k.kept;
+      listed = k.listed;
+      next = λ a l. ap (λ (f : ℕ → ℕ). f (map_of hs a)) i.next ∙ free_turn nexts s (map_of hs a) (none-live s e (map_of hs a)) ∙ ap (map_of hs) (sym (two_places a l));
+    })
