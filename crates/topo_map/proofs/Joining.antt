@@ -72,7 +72,7 @@ joined_more s s' hs ts k from to p el lk ef et j r =
             let la : a < k = omega arith in
             let lt : a < length ts = omega arith in
             written-else (before_in s) to from (map_of hs (map_of ts a))
-              (λ w. half-apart (holds s) hs (map_of ts a) (map_of ts k) j.listed (small (map_of ts a) (p.within a lt)) (small (map_of ts k) (p.within k lk)) (λ v. ne (p.apart a k lt lk v)) (w ∙ et)) ∙ j.before a la
+            (λ w. half-apart (holds s) hs (map_of ts a) (map_of ts k) j.listed (small (map_of ts a) (p.within a lt)) (small (map_of ts k) (p.within k lk)) (λ v. ne (p.apart a k lt lk v)) (w ∙ et)) ∙ j.before a la
       ];
     }
 

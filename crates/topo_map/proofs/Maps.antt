@@ -49,27 +49,27 @@ put_back : (f b : ℕ → ℕ) (x c : ℕ) → IsLone f b x c → (a : ℕ) → 
 put_back f b x c l a =
     let b' : ℕ → ℕ = written (written b x (b c)) c x in
     elim (cases_eq a x) [
-  | inl e ↦ ap b' (twice-late f (b c) x x c a e) ∙ twice-late b x (b c) c x c refl ∙ sym e
-  | inr ne ↦ elim (cases_eq a (b c)) [
-    | inl e ↦ ap b' (twice-early f (b c) x x c a ne e) ∙ twice-early b x (b c) c x x (λ w. l.different (sym w)) refl ∙ sym e
-    | inr nb ↦ ap b' (twice-else f (b c) x x c a ne nb)
-        ∙ twice-else b x (b c) c x (f a) (λ w. nb (sym (l.inverse.back a) ∙ ap b w)) (λ w. ne (sym (l.inverse.back a) ∙ ap b w ∙ before-alone f b x l.inverse l.alone))
-        ∙ l.inverse.back a
-  ]
-]
+      | inl e ↦ ap b' (twice-late f (b c) x x c a e) ∙ twice-late b x (b c) c x c refl ∙ sym e
+      | inr ne ↦ elim (cases_eq a (b c)) [
+        | inl e ↦ ap b' (twice-early f (b c) x x c a ne e) ∙ twice-early b x (b c) c x x (λ w. l.different (sym w)) refl ∙ sym e
+        | inr nb ↦ ap b' (twice-else f (b c) x x c a ne nb)
+            ∙ twice-else b x (b c) c x (f a) (λ w. nb (sym (l.inverse.back a) ∙ ap b w)) (λ w. ne (sym (l.inverse.back a) ∙ ap b w ∙ before-alone f b x l.inverse l.alone))
+            ∙ l.inverse.back a
+      ]
+    ]
 
 put_onward : (f b : ℕ → ℕ) (x c : ℕ) → IsLone f b x c → (a : ℕ) → written (written f (b c) x) x c (written (written b x (b c)) c x a) ≡ a
 put_onward f b x c l a =
     let f' : ℕ → ℕ = written (written f (b c) x) x c in
     elim (cases_eq a c) [
-  | inl e ↦ ap f' (twice-late b x (b c) c x a e) ∙ twice-late f (b c) x x c x refl ∙ sym e
-  | inr ne ↦ elim (cases_eq a x) [
-    | inl e ↦ ap f' (twice-early b x (b c) c x a ne e) ∙ twice-early f (b c) x x c (b c) (λ w. l.different (sym (l.inverse.onward c) ∙ ap f w ∙ l.alone)) refl ∙ sym e
-    | inr nx ↦ ap f' (twice-else b x (b c) c x a ne nx)
-        ∙ twice-else f (b c) x x c (b a) (λ w. nx (sym (l.inverse.onward a) ∙ ap f w ∙ l.alone)) (λ w. ne (sym (l.inverse.onward a) ∙ ap f w ∙ l.inverse.onward c))
-        ∙ l.inverse.onward a
-  ]
-]
+      | inl e ↦ ap f' (twice-late b x (b c) c x a e) ∙ twice-late f (b c) x x c x refl ∙ sym e
+      | inr ne ↦ elim (cases_eq a x) [
+        | inl e ↦ ap f' (twice-early b x (b c) c x a ne e) ∙ twice-early f (b c) x x c (b c) (λ w. l.different (sym (l.inverse.onward c) ∙ ap f w ∙ l.alone)) refl ∙ sym e
+        | inr nx ↦ ap f' (twice-else b x (b c) c x a ne nx)
+            ∙ twice-else f (b c) x x c (b a) (λ w. nx (sym (l.inverse.onward a) ∙ ap f w ∙ l.alone)) (λ w. ne (sym (l.inverse.onward a) ∙ ap f w ∙ l.inverse.onward c))
+            ∙ l.inverse.onward a
+      ]
+    ]
 
 pub put_inverse : (f b : ℕ → ℕ) (x c : ℕ) → IsLone f b x c → AreInverse (written (written f (b c) x) x c) (written (written b x (b c)) c x)
 put_inverse f b x c l = record { back = put_back f b x c l; onward = put_onward f b x c l }
@@ -92,14 +92,14 @@ without_back : (f b : ℕ → ℕ) (x : ℕ) → AreInverse f b → (a : ℕ) �
 without_back f b x l a =
     let b' : ℕ → ℕ = written (written b (f x) (b x)) x x in
     elim (cases_eq a x) [
-  | inl e ↦ ap b' (twice-late f (b x) (f x) x x a e) ∙ twice-late b (f x) (b x) x x x refl ∙ sym e
-  | inr ne ↦ elim (cases_eq a (b x)) [
-    | inl e ↦ ap b' (twice-early f (b x) (f x) x x a ne e) ∙ twice-early b (f x) (b x) x x (f x) (λ w. ne (e ∙ before-alone f b x l w)) refl ∙ sym e
-    | inr nb ↦ ap b' (twice-else f (b x) (f x) x x a ne nb)
-        ∙ twice-else b (f x) (b x) x x (f a) (λ w. nb (sym (l.back a) ∙ ap b w)) (λ w. ne (sym (l.back a) ∙ ap b w ∙ l.back x))
-        ∙ l.back a
-  ]
-]
+      | inl e ↦ ap b' (twice-late f (b x) (f x) x x a e) ∙ twice-late b (f x) (b x) x x x refl ∙ sym e
+      | inr ne ↦ elim (cases_eq a (b x)) [
+        | inl e ↦ ap b' (twice-early f (b x) (f x) x x a ne e) ∙ twice-early b (f x) (b x) x x (f x) (λ w. ne (e ∙ before-alone f b x l w)) refl ∙ sym e
+        | inr nb ↦ ap b' (twice-else f (b x) (f x) x x a ne nb)
+            ∙ twice-else b (f x) (b x) x x (f a) (λ w. nb (sym (l.back a) ∙ ap b w)) (λ w. ne (sym (l.back a) ∙ ap b w ∙ l.back x))
+            ∙ l.back a
+      ]
+    ]
 
 other_way : (f b : ℕ → ℕ) → AreInverse f b → AreInverse b f
 other_way f b l = record { back = l.onward; onward = l.back }

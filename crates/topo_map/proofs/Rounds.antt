@@ -27,9 +27,9 @@ whole_degree r n k a d h la e ed out =
     elim (cases_eq (after f d a) a) [
       | inl back ↦ record { some = (let w : 0 < d = omega arith in w); back = back; least = outs }
       | inr ne ↦ absurd (must_return f n a h la (λ j l. elim (cases_eq (suc j) d) [
-          | inl same ↦ λ w. ne (ap (λ (m : ℕ). after f m a) (sym same) ∙ w)
-          | inr other ↦ outs (suc j) (let w : 0 < suc j = omega arith in w) (let w : suc j < d = omega arith in w)
-        ]))
+        | inl same ↦ λ w. ne (ap (λ (m : ℕ). after f m a) (sym same) ∙ w)
+        | inr other ↦ outs (suc j) (let w : 0 < suc j = omega arith in w) (let w : suc j < d = omega arith in w)
+      ]))
     ]
 
 pub out_more : (f : ℕ → ℕ) (k a at : ℕ) → at ≡ after f k a → at ≢ a → ((j : ℕ) → 0 < j → j < k → after f j a ≢ a) → (j : ℕ) → 0 < j → j < k + 1 → after f j a ≢ a

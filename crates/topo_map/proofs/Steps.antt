@@ -138,7 +138,7 @@ taken s s1 s' x p q g t r m =
         room_kept = subst (λ (n : ℕ). n ≤ room_of s') e kept;
         room_more = λ h. r.freed (subst (λ (n : ℕ). 0 < n) (sym e) h) ∙ ap (λ (n : ℕ). n + 1) e;
         embedding = m.whole;
-    connected = m.connected;
+        connected = m.connected;
       };
       sound = r.kept;
     }
@@ -153,11 +153,11 @@ pub hung : (s s1 s2 : Slab Segment) (c x : ℕ) → IsStart s s1 x → holds s c
 hung s s1 s2 c x st alive t =
     let e : next_in s2 ≡ put (next_in s) x c = t.next ∙ ap (λ (f : ℕ → ℕ). put f x c) st.inserted.next in
     let k : IsAllowedHang (next_in s) (next_in s2) half_limit c x = subst (λ (g : ℕ → ℕ). IsAllowedHang (next_in s) g half_limit c x) (sym e)
-      (hang_allowed (next_in s) half_limit c x (darts s st.sound) st.inserted.within (isolated s s1 x st) (apart s s1 x c st alive)) in
+    (hang_allowed (next_in s) half_limit c x (darts s st.sound) st.inserted.within (isolated s s1 x st) (apart s s1 x c st alive)) in
     record {
       allowed = k;
       added = added s s1 s2 x 1 0 (put (next_in s1) x c) st t
-        (hang_more (holds s) (holds s2) (next_in s) (next_in s2) c x (whole s st.sound) t.kept.within (live_added s s1 s2 x (put (next_in s1) x c) st t) alive k);
+          (hang_more (holds s) (holds s2) (next_in s) (next_in s2) c x (whole s st.sound) t.kept.within (live_added s s1 s2 x (put (next_in s1) x c) st t) alive k);
     }
 
 -- ---- Chord
@@ -177,11 +177,11 @@ chorded s s1 s2 s3 c d x y st alive alive_d one ey t u =
     let both : IsTurned s1 s3 (put (next_in s2) y d) = then_turned s1 s2 s3 (put (next_in s1) x c) (put (next_in s2) y d) t u in
     let e : next_in s3 ≡ put (put (next_in s) x c) (twin x) d = u.next ∙ ap (λ (v : ℕ). put (next_in s2) v d) ey ∙ ap (λ (f : ℕ → ℕ). put f (twin x) d) (t.next ∙ ap (λ (f : ℕ → ℕ). put f x c) st.inserted.next) in
     let k : IsAllowedChord (next_in s) (next_in s3) half_limit c d x = subst (λ (g : ℕ → ℕ). IsAllowedChord (next_in s) g half_limit c d x) (sym e)
-      (chord_allowed (next_in s) half_limit c d x (darts s st.sound) st.inserted.within (isolated s s1 x st) (apart s s1 x c st alive) (apart s s1 x d st alive_d) one) in
+    (chord_allowed (next_in s) half_limit c d x (darts s st.sound) st.inserted.within (isolated s s1 x st) (apart s s1 x c st alive) (apart s s1 x d st alive_d) one) in
     record {
       allowed = k;
       added = added s s1 s3 x 0 1 (put (next_in s2) y d) st both
-        (chord_more (holds s) (holds s3) (next_in s) (next_in s3) c d x (whole s st.sound) both.kept.within (live_added s s1 s3 x (put (next_in s2) y d) st both) alive alive_d k);
+          (chord_more (holds s) (holds s3) (next_in s) (next_in s3) c d x (whole s st.sound) both.kept.within (live_added s s1 s3 x (put (next_in s2) y d) st both) alive alive_d k);
     }
 
 -- ---- Split
@@ -209,11 +209,11 @@ splitted s s1 s2 s3 s4 h x y t st alive ey et u v w =
     let e3 : next_in s3 ≡ without (put f (twin x) (twin h)) (twin h) = v.next ∙ ap (λ (k : ℕ → ℕ). without k t) e2 ∙ ap (λ (a : ℕ). without (put f (twin x) (twin h)) a) et in
     let e4 : next_in s4 ≡ put (without (put f (twin x) (twin h)) (twin h)) x (twin h) = w.next ∙ ap (λ (k : ℕ → ℕ). put k x t) e3 ∙ ap (λ (a : ℕ). put (without (put f (twin x) (twin h)) (twin h)) x a) et in
     let k : IsAllowedSplit f (next_in s4) half_limit h x = subst (λ (g : ℕ → ℕ). IsAllowedSplit f g half_limit h x) (sym e4)
-      (split_allowed f half_limit h x (darts s st.sound) st.inserted.within (isolated s s1 x st) (apart s s1 x h st alive)) in
+    (split_allowed f half_limit h x (darts s st.sound) st.inserted.within (isolated s s1 x st) (apart s s1 x h st alive)) in
     record {
       allowed = k;
       added = added s s1 s4 x 1 0 (put (next_in s3) x t) st all
-        (split_more (holds s) (holds s4) f (next_in s4) h x (whole s st.sound) all.kept.within (live_added s s1 s4 x (put (next_in s3) x t) st all) alive k);
+          (split_more (holds s) (holds s4) f (next_in s4) h x (whole s st.sound) all.kept.within (live_added s s1 s4 x (put (next_in s3) x t) st all) alive k);
     }
 
 -- ---- Unchord
@@ -237,11 +237,11 @@ unchorded s s1 s2 s3 h t i alive two not_alone et u v r =
     let uv : IsTurned s s2 (without (next_in s1) t) = then_turned s s1 s2 (without f h) (without (next_in s1) t) u v in
     let e : next_in s3 ≡ without (without f h) (twin h) = r.next ∙ v.next ∙ ap (λ (k : ℕ → ℕ). without k t) u.next ∙ ap (λ (a : ℕ). without (without f h) a) et in
     let k : IsAllowedUnchord f (next_in s3) half_limit h = subst (λ (g : ℕ → ℕ). IsAllowedUnchord f g half_limit h) (sym e)
-      (unchord_allowed f half_limit h (darts s i) (i.within h alive) two not_alone) in
+    (unchord_allowed f half_limit h (darts s i) (i.within h alive) two not_alone) in
     record {
       allowed = k;
       taken = taken s s2 s3 h 0 1 (without (next_in s1) t) uv r
-        (unchord_fewer (holds s) (holds s3) f (next_in s3) h (whole s i) r.kept.within (live_taken s s2 s3 h (without (next_in s1) t) uv r) k);
+          (unchord_fewer (holds s) (holds s3) f (next_in s3) h (whole s i) r.kept.within (live_taken s s2 s3 h (without (next_in s1) t) uv r) k);
     }
 
 -- ---- Smooth
@@ -269,9 +269,9 @@ smoothed_out s s1 s2 s3 s4 x t y i alive back na nl et ey u v w r =
     let e2 : next_in s2 ≡ put (without f x) (f x) (twin x) = v.next ∙ ap (λ (k : ℕ → ℕ). put k t y) u.next ∙ ap (λ (a : ℕ). put (without f x) a y) et ∙ ap (λ (a : ℕ). put (without f x) (f x) a) ey in
     let e4 : next_in s4 ≡ without (put (without f x) (f x) (twin x)) (twin x) = r.next ∙ w.next ∙ ap (λ (k : ℕ → ℕ). without k y) e2 ∙ ap (λ (a : ℕ). without (put (without f x) (f x) (twin x)) a) ey in
     let k : IsAllowedSmooth f (next_in s4) half_limit x = subst (λ (g : ℕ → ℕ). IsAllowedSmooth f g half_limit x) (sym e4)
-      (smooth_allowed f half_limit x (darts s i) (i.within x alive) back na nl) in
+    (smooth_allowed f half_limit x (darts s i) (i.within x alive) back na nl) in
     record {
       allowed = k;
       taken = taken s s3 s4 x 1 0 (without (next_in s2) y) all r
-        (smooth_fewer (holds s) (holds s4) f (next_in s4) x (whole s i) r.kept.within (live_taken s s3 s4 x (without (next_in s2) y) all r) k);
+          (smooth_fewer (holds s) (holds s4) f (next_in s4) x (whole s i) r.kept.within (live_taken s s3 s4 x (without (next_in s2) y) all r) k);
     }

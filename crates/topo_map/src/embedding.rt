@@ -8,7 +8,9 @@ ghost use Rattle.topo_map.specs.Rotation.{Grows, IsDegree, IsEmbedding, IsMadeFr
 
 use crate::build::{isolated_halves, join_turns};
 use crate::half::Half;
-use crate::segments::{self, Segment, insert_isolated, next, put_before, remove_isolated, take_out};
+use crate::segments::{
+    self, Segment, insert_isolated, next, put_before, remove_isolated, take_out,
+};
 use slab::Slab;
 use std::alloc::{AllocError, Global};
 use std::marker::Model;
@@ -91,6 +93,13 @@ impl Embedding {
         ensures { IsEmbedding self.now }
     {
         let _segments = &self.segments;
+    }
+
+    /// Whether `h` is a half of this embedding.
+    pub fn contains(&self, h: Half) -> bool
+        ensures { result ≡ is_live self.now h }
+    {
+        segments::contains(&self.segments, h)
     }
 
     /// The other half of the segment of `h`.
@@ -180,10 +189,10 @@ impl Embedding {
         ensures edit { IsChord (turn self.old) (turn self.new) half_limit c d result }
         ensures grows { Grows self.old self.new result 0 1 }
     {
-        let x = insert_isolated(&mut self.segments);
-        put_before(&mut self.segments, x, c);
-        put_before(&mut self.segments, x.twin(), d);
-        x
+        let start = insert_isolated(&mut self.segments);
+        put_before(&mut self.segments, start, c);
+        put_before(&mut self.segments, start.twin(), d);
+        start
     }
 
     /// A new point on the segment of `h`. Answers the half that goes on from it, in the direction

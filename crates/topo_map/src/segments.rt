@@ -48,6 +48,13 @@ impl Segment {
     }
 }
 
+/// Whether a half is one of a segment of the slab.
+pub(crate) fn contains(segments: &Slab<Segment>, half: Half) -> bool
+    ensures { result ≡ holds segments.now half }
+{
+    segments.contains(half.key as usize)
+}
+
 /// The next half clockwise.
 pub(crate) fn next(segments: &Slab<Segment>, at: Half) -> Half
     requires { holds segments.now at ≡ true }

@@ -20,10 +20,10 @@ loop-place-preserved c =
     let lh : k < length c.args.halves.now = subst (λ (n : ℕ). k < n) (sym c.requires.same_length) lk in
     let lt : map_of c.args.turns.now k < length c.args.halves.now = subst (λ (n : ℕ). map_of c.args.turns.now k < n) (sym c.requires.same_length) (c.requires.permutation.within k lk) in
     joined_more c.loop-place.segments c.link.new.segments c.args.halves.now c.args.turns.now k c.index-halves-place.result c.index-halves-turns.result
-      c.requires.permutation c.requires.same_length lk
-      (c.index-halves-place.is ∙ get_or_default_zero c.args.halves.now k _ lh)
-      (c.index-halves-turns.is ∙ get_or_default_zero c.args.halves.now (map_of c.args.turns.now k) _ lt)
-      c.loop-place.invariant c.link.ensures
+    c.requires.permutation c.requires.same_length lk
+    (c.index-halves-place.is ∙ get_or_default_zero c.args.halves.now k _ lh)
+    (c.index-halves-turns.is ∙ get_or_default_zero c.args.halves.now (map_of c.args.turns.now k) _ lt)
+    c.loop-place.invariant c.link.ensures
 
 pub returns : goal.returns
 returns c =

@@ -10,4 +10,4 @@ returns c =
     let even : length c.args.turns.now % 2 ≡ 0 = c.requires.even in
     let e : length hs ≡ length c.args.turns.now = omega arith in
     made_from c.join_turns.new.segments hs c.args.turns.now c.requires.permutation e
-      (subst (λ (l : List ℕ). IsJoined c.join_turns.new.segments l c.args.turns.now) c.deref.ensures.value c.join_turns.ensures)
+    (subst (λ (l : List ℕ). IsJoined c.join_turns.new.segments l c.args.turns.now) c.deref.ensures.value c.join_turns.ensures)

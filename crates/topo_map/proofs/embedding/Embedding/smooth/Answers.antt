@@ -14,11 +14,11 @@ put_before-requires-clause-live c = turned_live c.self.inside.segments c.take_ou
 
 pub put_before-requires-clause-live_corner : goal.put_before-requires-clause-live_corner
 put_before-requires-clause-live_corner c = turned_live c.self.inside.segments c.take_out.new.segments _ c.twin-end.result c.twin-end.result c.take_out.ensures refl
-      (live_twin c.self.inside.segments c.args.x c.twin-end.result c.twin-end.ensures (ap (λ (r : Rotation). is_live r c.args.x) c.self.view_is ∙ c.requires.live))
+    (live_twin c.self.inside.segments c.args.x c.twin-end.result c.twin-end.ensures (ap (λ (r : Rotation). is_live r c.args.x) c.self.view_is ∙ c.requires.live))
 
 pub take_out-requires-2-clause-live : goal.take_out-requires-2-clause-live
 take_out-requires-2-clause-live c = ap (λ (l : ℕ → Bool). l c.twin-end.result) c.put_before.ensures.live ∙ turned_live c.self.inside.segments c.take_out.new.segments _ c.twin-end.result c.twin-end.result c.take_out.ensures refl
-      (live_twin c.self.inside.segments c.args.x c.twin-end.result c.twin-end.ensures (ap (λ (r : Rotation). is_live r c.args.x) c.self.view_is ∙ c.requires.live))
+    (live_twin c.self.inside.segments c.args.x c.twin-end.result c.twin-end.ensures (ap (λ (r : Rotation). is_live r c.args.x) c.self.view_is ∙ c.requires.live))
 
 done : (c : goal.After-remove_isolated) → IsSmoothed c.self.inside.segments c.remove_isolated.new.segments c.args.x
 done c = smoothed_out c.self.inside.segments c.take_out.new.segments c.put_before.new.segments c.take_out-2.new.segments c.remove_isolated.new.segments c.args.x c.next-other.result c.twin-end.result c.self.invariant

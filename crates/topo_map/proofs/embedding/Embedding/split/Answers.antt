@@ -9,9 +9,9 @@ use Rattle.topo_map.proofs.embedding.Embedding.split.Goals as goal
 
 pub put_before-requires-clause-live_corner : goal.put_before-requires-clause-live_corner
 put_before-requires-clause-live_corner c = live_twin c.insert_isolated-x.new.segments c.args.h c.twin-end.result c.twin-end.ensures
-      (still_live c.self.inside.segments c.insert_isolated-x.new.segments c.insert_isolated-x.result c.args.h
-        (record { sound = c.self.invariant; inserted = c.insert_isolated-x.ensures })
-        (ap (λ (r : Rotation). is_live r c.args.h) c.self.view_is ∙ c.requires.live))
+    (still_live c.self.inside.segments c.insert_isolated-x.new.segments c.insert_isolated-x.result c.args.h
+    (record { sound = c.self.invariant; inserted = c.insert_isolated-x.ensures })
+    (ap (λ (r : Rotation). is_live r c.args.h) c.self.view_is ∙ c.requires.live))
 
 pub put_before-requires-clause-alone : goal.put_before-requires-clause-alone
 put_before-requires-clause-alone c =
@@ -21,15 +21,15 @@ put_before-requires-clause-alone c =
 
 pub take_out-requires-clause-live : goal.take_out-requires-clause-live
 take_out-requires-clause-live c = ap (λ (l : ℕ → Bool). l c.twin-end.result) c.put_before.ensures.live ∙ live_twin c.insert_isolated-x.new.segments c.args.h c.twin-end.result c.twin-end.ensures
-      (still_live c.self.inside.segments c.insert_isolated-x.new.segments c.insert_isolated-x.result c.args.h
-        (record { sound = c.self.invariant; inserted = c.insert_isolated-x.ensures })
-        (ap (λ (r : Rotation). is_live r c.args.h) c.self.view_is ∙ c.requires.live))
+    (still_live c.self.inside.segments c.insert_isolated-x.new.segments c.insert_isolated-x.result c.args.h
+    (record { sound = c.self.invariant; inserted = c.insert_isolated-x.ensures })
+    (ap (λ (r : Rotation). is_live r c.args.h) c.self.view_is ∙ c.requires.live))
 
 pub put_before-requires-2-clause-live_corner : goal.put_before-requires-2-clause-live_corner
 put_before-requires-2-clause-live_corner c = ap (λ (l : ℕ → Bool). l c.twin-end.result) (c.take_out.ensures.live ∙ c.put_before.ensures.live) ∙ live_twin c.insert_isolated-x.new.segments c.args.h c.twin-end.result c.twin-end.ensures
-      (still_live c.self.inside.segments c.insert_isolated-x.new.segments c.insert_isolated-x.result c.args.h
-        (record { sound = c.self.invariant; inserted = c.insert_isolated-x.ensures })
-        (ap (λ (r : Rotation). is_live r c.args.h) c.self.view_is ∙ c.requires.live))
+    (still_live c.self.inside.segments c.insert_isolated-x.new.segments c.insert_isolated-x.result c.args.h
+    (record { sound = c.self.invariant; inserted = c.insert_isolated-x.ensures })
+    (ap (λ (r : Rotation). is_live r c.args.h) c.self.view_is ∙ c.requires.live))
 
 pub put_before-requires-2-clause-alone : goal.put_before-requires-2-clause-alone
 put_before-requires-2-clause-alone c = split_alone c.self.inside.segments c.insert_isolated-x.new.segments c.put_before.new.segments c.take_out.new.segments c.args.h c.insert_isolated-x.result c.twin.result c.twin-end.result
