@@ -1,13 +1,13 @@
 -- What the writes of each edit make of the turn is the edit.
-use Rattle.std.proofs.Common.{◌≡◌, ◌≢◌, ℕ, ◌%◌, ◌<◌, refl, sym, ◌∙◌, ap, subst}
-use Rattle.topo_core.specs.Cycles.{IsPermutation, SameCycle, after}
+use Rattle.std.proofs.Common.{◌≡◌, ◌≢◌, ℕ, ◌%◌, ◌<◌, refl, sym, ◌∙◌, ap}
+use Rattle.topo_core.specs.Cycles.{IsPermutation, SameCycle}
 use Rattle.topo_core.specs.Rotations.{twin, face_next}
 use Rattle.topo_core.specs.Edits.{IsIsolated}
 use Rattle.topo_perm.specs.Edits.{IsApart, IsAllowedHang, IsAllowedChord, IsAllowedUnchord, IsAllowedSplit, IsAllowedSmooth, IsPutBefore, IsSmoothing}
 use Rattle.topo_perm.proofs.Walks.{twin-within}
 use Rattle.topo_perm.proofs.Faces.{twin-twin, twin-apart, twin-other}
 use Rattle.topo_perm.proofs.Splitting.{without-self, without-onward, without-elsewhere, without-bypass, bypassed-permutation}
-use Rattle.topo_perm.proofs.EditCounts.{put-self, put-led, put-elsewhere, put-is, put_permutation, put_before, far_apart, smoothing_permutation, smoothing_smooth}
+use Rattle.topo_perm.proofs.EditCounts.{put-self, put-led, put-elsewhere, put-is, put_permutation, put_before, smoothing_permutation, smoothing_smooth}
 use Rattle.topo_map.specs.Segments.{put, without}
 
 -- f turns the darts below n, which are those of n / 2 segments

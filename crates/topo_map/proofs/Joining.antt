@@ -1,13 +1,12 @@
 -- Slabs that are built from a list of turns.
-use Rattle.std.proofs.Common.{◌≡◌, ◌≢◌, ℕ, zero, suc, ◌+◌, ◌/◌, ◌%◌, ◌<◌, Bool, true, false, inl, inr, refl, sym, ◌∙◌, ap, subst, arith, List, [], ◌∷◌, ◌++◌, length, Option, Some, None, is_some, slice_index_or}
+use Rattle.std.proofs.Common.{◌≡◌, ◌≢◌, ℕ, zero, suc, ◌+◌, ◌/◌, ◌%◌, ◌<◌, Bool, false, inl, inr, refl, sym, ◌∙◌, ap, subst, arith, List, [], ◌∷◌, ◌++◌, length, Option, None, is_some, slice_index_or}
 use Rattle.std.proofs.lemmas.Bool.{cases_Bool, cases_eq}
-use Rattle.slab.specs.Slab.{Slab, get}
+use Rattle.slab.specs.Slab.{Slab}
 use Rattle.topo_core.specs.Cycles.{map_of, IsPermutation}
 use Rattle.topo_core.specs.Rotations.{twin}
-use Rattle.topo_perm.specs.Renumbering.{RenumbersTurn}
 use Rattle.topo_perm.proofs.Points.{HasBefore, before_of}
-use Rattle.topo_map.specs.Rotation.{Rotation, half_limit, IsMadeFrom, IsWhole}
-use Rattle.topo_map.specs.Segments.{written, holds, next_in, before_in, nexts, befores, view_of, AreInverse, IsKept, Rewires, IsInserted}
+use Rattle.topo_map.specs.Rotation.{IsMadeFrom, IsWhole}
+use Rattle.topo_map.specs.Segments.{written, holds, next_in, before_in, nexts, befores, view_of, Rewires, IsInserted}
 use Rattle.topo_map.specs.Building.{IsListed, AreAlone, AreJoinedBelow, IsJoined}
 use Rattle.topo_map.specs.declared.segments.Segment.{Segment}
 use Rattle.topo_map.proofs.Maps.{written-at, written-else}

@@ -1,9 +1,9 @@
 -- A slab in which both directions of the turn agree, and halves that are put in or taken out of it.
-use Rattle.std.proofs.Common.{◌≡◌, ◌≢◌, ℕ, ◌/◌, ◌<◌, Bool, true, false, ◌⊎◌, inl, inr, refl, sym, ◌∙◌, ap, subst, Option, Some, None, is_some}
+use Rattle.std.proofs.Common.{◌≡◌, ◌≢◌, ℕ, ◌/◌, Bool, true, false, inl, inr, refl, sym, ◌∙◌, ap, subst, Option, Some, None, is_some}
 use Rattle.std.proofs.lemmas.Bool.{cases_Bool}
 use Rattle.std.specs.Option.{option_map}
 use Rattle.slab.specs.Slab.{Slab, get}
-use Rattle.topo_map.specs.Rotation.{Turns, turned, turn_in, half_limit}
+use Rattle.topo_map.specs.Rotation.{Turns, turned, turn_in}
 use Rattle.topo_map.specs.Segments.{shown, written, put, without, holds, next_in, before_in, nexts, befores, AreInverse, IsKept, Rewires, IsTurned}
 use Rattle.topo_map.specs.declared.segments.Segment.{Segment}
 use Rattle.topo_map.proofs.Maps.{IsLone, put_next, put_inverse, without_next, without_inverse}

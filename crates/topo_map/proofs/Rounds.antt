@@ -1,5 +1,5 @@
 -- Walks round a face and round a point.
-use Rattle.std.proofs.Common.{◌≡◌, ◌≢◌, ◌↔◌, ℕ, zero, suc, ◌+◌, ◌<◌, ◌≤◌, ◌==◌, Bool, true, false, ◌||◌, inl, inr, refl, sym, ◌∙◌, ap, subst, arith}
+use Rattle.std.proofs.Common.{◌≡◌, ◌≢◌, ℕ, suc, ◌+◌, ◌<◌, false, inl, inr, sym, ◌∙◌, ap, arith}
 use Rattle.std.proofs.lemmas.Bool.{cases_eq, or_from, ne_eqb}
 use Rattle.topo_core.specs.Cycles.{IsPermutation, SameCycle, after, is_met}
 use Rattle.topo_perm.proofs.Orbits.{IsPeriod}

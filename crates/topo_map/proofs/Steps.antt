@@ -1,15 +1,15 @@
 -- The slab along each edit: from an embedding to an embedding.
-use Rattle.std.proofs.Common.{◌≡◌, ◌≢◌, ℕ, ◌+◌, ◌-◌, ◌%◌, ◌<◌, ◌≤◌, Bool, true, false, cond, nat_le, is_some, inl, inr, refl, sym, ◌∙◌, ap, subst, arith}
+use Rattle.std.proofs.Common.{◌≡◌, ◌≢◌, ℕ, ◌+◌, ◌-◌, ◌%◌, ◌<◌, ◌≤◌, Bool, true, cond, nat_le, is_some, inl, inr, refl, sym, ◌∙◌, ap, subst, arith}
 use Rattle.std.proofs.lemmas.Bool.{cases_Bool}
 use Rattle.slab.specs.Slab.{Slab, get, slab_len}
-use Rattle.topo_core.specs.Cycles.{IsPermutation, SameCycle}
+use Rattle.topo_core.specs.Cycles.{SameCycle}
 use Rattle.topo_core.specs.Rotations.{twin, face_next}
 use Rattle.topo_core.specs.Edits.{IsIsolated}
 use Rattle.topo_perm.specs.Edits.{IsApart, IsAllowedHang, IsAllowedChord, IsAllowedUnchord, IsAllowedSplit, IsAllowedSmooth}
 use Rattle.topo_perm.specs.Joins.{AddsSegment}
-use Rattle.topo_perm.proofs.Faces.{twin-twin, twin-apart, twin-other}
+use Rattle.topo_perm.proofs.Faces.{twin-twin, twin-other}
 use Rattle.topo_perm.proofs.Splitting.{without-self, without-onward, without-elsewhere}
-use Rattle.topo_perm.proofs.EditCounts.{put-self, put-led, put-elsewhere}
+use Rattle.topo_perm.proofs.EditCounts.{put-elsewhere}
 use Rattle.topo_map.specs.Rotation.{half_limit, IsWhole, Grows, Shrinks}
 use Rattle.topo_map.specs.Segments.{put, without, holds, next_in, before_in, nexts, room_of, view_of, IsKept, IsTurned, IsInserted, IsRemoved}
 use Rattle.topo_map.specs.declared.segments.Segment.{Segment}

@@ -1,6 +1,6 @@
 -- How segments lie in a slab. No public clause cites this module.
 use Rattle.std.specs.Prelude.{◌≡◌, ℕ, ◌+◌, ◌-◌, ◌*◌, ◌<◌, ◌≤◌, ◌==◌, nat_le, Bool, true, cond, List, map, Option, option_map}
-use Rattle.slab.specs.Slab.{Slab, slab_len, HasRoomFor}
+use Rattle.slab.specs.Slab.{Slab, slab_len}
 use Rattle.topo_perm.specs.Joins.{AddsSegment}
 use Rattle.topo_map.specs.Rotation.{Turns, Rotation, turn_in, live_in, half_limit}
 use Rattle.topo_map.specs.declared.segments.Segment.{Segment}

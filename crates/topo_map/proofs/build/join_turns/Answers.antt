@@ -1,4 +1,4 @@
-use Rattle.std.proofs.Common.{◌≡◌, ◌<◌, ℕ, ◌∙◌, ap, sym, subst, arith, length, true}
+use Rattle.std.proofs.Common.{◌≡◌, ◌<◌, ℕ, ◌∙◌, ap, sym, subst, arith, length}
 use Rattle.std.proofs.lemmas.Grind.{get_or_default_zero}
 use Rattle.topo_core.specs.Cycles.{map_of}
 use Rattle.topo_map.specs.Segments.{holds}

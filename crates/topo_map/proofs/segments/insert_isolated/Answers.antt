@@ -1,9 +1,6 @@
-use Rattle.std.proofs.Common.{Some, sym, ◌∙◌, ap, refl, subst, ℕ}
-use Rattle.slab.specs.Slab.{Slab, with_value, Updates}
-use Rattle.topo_map.specs.Segments.{isolated_segment}
-use Rattle.topo_map.specs.declared.segments.Segment.{Segment}
-use Rattle.topo_map.proofs.Slots.{updates}
-use Rattle.topo_map.proofs.Stored.{IsNewAt, inserted, two_writes}
+use Rattle.std.proofs.Common.{sym, ℕ}
+use Rattle.slab.specs.Slab.{with_value}
+use Rattle.topo_map.proofs.Stored.{inserted, two_writes}
 use Rattle.topo_map.proofs.segments.insert_isolated.Goals as goal
 
 pub returns : goal.returns

@@ -1,4 +1,4 @@
-use Rattle.std.proofs.Common.{◌∙◌, ap, ℕ, Bool}
+use Rattle.std.proofs.Common.{◌∙◌, ap}
 use Rattle.topo_map.specs.Segments.{holds}
 use Rattle.topo_map.proofs.Kept.{live_before, live_next, without_turned}
 use Rattle.topo_map.proofs.segments.take_out.Goals as goal

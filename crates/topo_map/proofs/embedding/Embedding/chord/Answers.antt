@@ -1,10 +1,10 @@
-use Rattle.std.proofs.Common.{◌≡◌, ◌≢◌, true, ap, ◌∙◌, sym, subst, Bool, ℕ}
-use Rattle.topo_core.specs.Rotations.{twin, face_next}
+use Rattle.std.proofs.Common.{ap, ◌∙◌, sym, subst}
+use Rattle.topo_core.specs.Rotations.{face_next}
 use Rattle.topo_core.specs.Cycles.{SameCycle}
 use Rattle.topo_core.specs.Edits.{IsChord}
 use Rattle.topo_map.specs.Rotation.{Rotation, Grows, half_limit, turn, is_live}
-use Rattle.topo_map.specs.Segments.{holds, next_in, view_of}
-use Rattle.topo_map.proofs.Steps.{IsStart, IsChorded, alone, chord_end_alone, chorded}
+use Rattle.topo_map.specs.Segments.{view_of}
+use Rattle.topo_map.proofs.Steps.{IsChorded, alone, chord_end_alone, chorded}
 use Rattle.topo_map.proofs.embedding.Embedding.chord.Goals as goal
 
 pub put_before-requires-clause-alone : goal.put_before-requires-clause-alone

@@ -1,4 +1,4 @@
-use Rattle.std.proofs.Common.{◌≡◌, ◌≢◌, ℕ, true, ◌<◌, ◌≤◌}
+use Rattle.std.proofs.Common.{◌≡◌, ◌≢◌, ℕ, true, ◌<◌}
 use Rattle.topo_core.specs.Cycles.{after}
 use Rattle.topo_map.specs.Rotation.{turn, is_live}
 use Rattle.topo_map.proofs.embedding.Embedding.degree.Given as goal

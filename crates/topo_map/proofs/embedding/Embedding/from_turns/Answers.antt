@@ -1,4 +1,4 @@
-use Rattle.std.proofs.Common.{◌≡◌, ◌+◌, ◌*◌, ◌/◌, ◌%◌, ℕ, List, ◌∙◌, ap, sym, subst, arith, length}
+use Rattle.std.proofs.Common.{◌≡◌, ◌*◌, ◌/◌, ◌%◌, ℕ, List, subst, arith, length}
 use Rattle.topo_map.specs.Building.{IsJoined}
 use Rattle.topo_map.proofs.Joining.{made_from}
 use Rattle.topo_map.proofs.embedding.Embedding.from_turns.Goals as goal

@@ -1,8 +1,8 @@
-use Rattle.std.proofs.Common.{◌≡◌, ◌≢◌, true, ap, ◌∙◌, subst, Bool, ℕ}
+use Rattle.std.proofs.Common.{ap, ◌∙◌, subst}
 use Rattle.topo_core.specs.Edits.{IsHang}
 use Rattle.topo_map.specs.Rotation.{Rotation, Grows, half_limit, turn, is_live}
-use Rattle.topo_map.specs.Segments.{holds, view_of}
-use Rattle.topo_map.proofs.Steps.{IsStart, IsHung, alone, hung}
+use Rattle.topo_map.specs.Segments.{view_of}
+use Rattle.topo_map.proofs.Steps.{IsHung, alone, hung}
 use Rattle.topo_map.proofs.embedding.Embedding.hang.Goals as goal
 
 pub put_before-requires-clause-alone : goal.put_before-requires-clause-alone

@@ -1,11 +1,10 @@
-use Rattle.std.proofs.Common.{refl, ◌≡◌, ◌≢◌, true, ap, ◌∙◌, sym, subst, Bool, ℕ}
-use Rattle.topo_core.specs.Rotations.{twin, face_next}
-use Rattle.topo_core.specs.Cycles.{SameCycle}
+use Rattle.std.proofs.Common.{refl, ◌≡◌, ◌≢◌, ap, ◌∙◌, sym, subst, Bool, ℕ}
+use Rattle.topo_core.specs.Rotations.{twin}
 use Rattle.topo_core.specs.Edits.{IsSmooth}
 use Rattle.topo_map.specs.Rotation.{Rotation, Shrinks, half_limit, turn, is_live}
-use Rattle.topo_map.specs.Segments.{holds, next_in, view_of}
+use Rattle.topo_map.specs.Segments.{next_in, view_of}
 use Rattle.topo_map.proofs.Kept.{live_next}
-use Rattle.topo_map.proofs.Steps.{IsSmoothed, smooth_alone, smooth_other_alone, without_alone, smoothed_out, live_twin, turned_live}
+use Rattle.topo_map.proofs.Steps.{IsSmoothed, smoothed_out, live_twin, turned_live}
 use Rattle.topo_map.proofs.embedding.Embedding.smooth.Goals as goal
 
 pub put_before-requires-clause-live : goal.put_before-requires-clause-live

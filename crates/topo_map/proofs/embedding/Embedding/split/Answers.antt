@@ -1,10 +1,8 @@
-use Rattle.std.proofs.Common.{◌≡◌, ◌≢◌, true, ap, ◌∙◌, sym, subst, Bool, ℕ}
-use Rattle.topo_core.specs.Rotations.{twin, face_next}
-use Rattle.topo_core.specs.Cycles.{SameCycle}
+use Rattle.std.proofs.Common.{ap, ◌∙◌, sym, subst, Bool, ℕ}
 use Rattle.topo_core.specs.Edits.{IsSplit}
 use Rattle.topo_map.specs.Rotation.{Rotation, Grows, half_limit, turn, is_live}
-use Rattle.topo_map.specs.Segments.{holds, next_in, view_of}
-use Rattle.topo_map.proofs.Steps.{IsStart, IsSplitUp, twin_alone, split_alone, splitted, still_live, live_twin}
+use Rattle.topo_map.specs.Segments.{next_in, view_of}
+use Rattle.topo_map.proofs.Steps.{IsSplitUp, twin_alone, split_alone, splitted, still_live, live_twin}
 use Rattle.topo_map.proofs.embedding.Embedding.split.Goals as goal
 
 pub put_before-requires-clause-live_corner : goal.put_before-requires-clause-live_corner

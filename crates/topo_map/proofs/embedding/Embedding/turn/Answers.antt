@@ -1,4 +1,4 @@
-use Rattle.std.proofs.Common.{◌≡◌, true, ap, sym, ◌∙◌, subst}
+use Rattle.std.proofs.Common.{◌≡◌, true, ap, ◌∙◌, subst}
 use Rattle.topo_map.specs.Rotation.{Rotation, is_live}
 use Rattle.topo_map.specs.Segments.{holds}
 use Rattle.topo_map.proofs.Kept.{live_next}

@@ -1,10 +1,10 @@
-use Rattle.std.proofs.Common.{◌≡◌, ◌≢◌, true, ap, ◌∙◌, sym, subst, Bool, ℕ}
+use Rattle.std.proofs.Common.{◌≡◌, ◌≢◌, ap, ◌∙◌, sym, subst, Bool, ℕ}
 use Rattle.topo_core.specs.Rotations.{twin, face_next}
 use Rattle.topo_core.specs.Cycles.{SameCycle}
 use Rattle.topo_core.specs.Edits.{IsUnchord}
 use Rattle.topo_map.specs.Rotation.{Rotation, Shrinks, half_limit, turn, is_live}
-use Rattle.topo_map.specs.Segments.{holds, next_in, view_of}
-use Rattle.topo_map.proofs.Steps.{IsUnchorded, unchord_alone, without_alone, unchorded, same_twin, turned_live}
+use Rattle.topo_map.specs.Segments.{holds, view_of}
+use Rattle.topo_map.proofs.Steps.{IsUnchorded, unchord_alone, without_alone, unchorded, same_twin}
 use Rattle.topo_map.proofs.embedding.Embedding.unchord.Goals as goal
 
 pub take_out-requires-2-clause-live : goal.take_out-requires-2-clause-live
