@@ -3,10 +3,14 @@ use Rattle.std.proofs.Common.{◌≡◌, ◌≢◌, ℕ, zero, suc, ◌+◌, ◌
 use Rattle.std.proofs.lemmas.Bool.{cases_Bool, cases_eq}
 use Rattle.slab.specs.Slab.{Slab}
 use Rattle.topo_core.specs.Cycles.{map_of, IsPermutation}
-use Rattle.topo_core.specs.Rotations.{twin}
+use Rattle.topo_core.specs.Rotations.{twin, face_next}
+use Rattle.topo_perm.specs.Renumbering.{RenumbersTurn}
+use Rattle.topo_perm.specs.Live.{IsSlab, live_segments}
+use Rattle.topo_perm.proofs.SlabEdits.{segments_grow}
+use Rattle.topo_perm.proofs.Renumbered.{renumbered_cycles, renumbered_faces, renumbered_connected}
 use Rattle.topo_perm.proofs.Points.{HasBefore, before_of}
-use Rattle.topo_map.specs.Rotation.{IsMadeFrom, IsWhole}
-use Rattle.topo_map.specs.Segments.{written, holds, next_in, before_in, nexts, befores, view_of, Rewires, IsInserted}
+use Rattle.topo_map.specs.Rotation.{half_limit, IsMadeFrom, IsWhole}
+use Rattle.topo_map.specs.Segments.{written, holds, next_in, before_in, nexts, befores, view_of, IsKept, Rewires, IsInserted}
 use Rattle.topo_map.specs.Building.{IsListed, AreAlone, AreJoinedBelow, IsJoined}
 use Rattle.topo_map.specs.declared.segments.Segment.{Segment}
 use Rattle.topo_map.proofs.Maps.{written-at, written-else}
@@ -14,7 +18,7 @@ use Rattle.topo_map.proofs.Slots.{live_at}
 use Rattle.topo_map.proofs.Kept.{free_turn}
 use Rattle.topo_map.proofs.Stored.{true_false}
 use Rattle.topo_map.proofs.Listing.{listed_more, listed_none}
-use Rattle.topo_map.proofs.Steps.{whole}
+use Rattle.topo_map.proofs.Steps.{whole, same_twin}
 
 -- ---- Segments by themselves
 
@@ -33,10 +37,22 @@ empty_alone s e = record {
   listed = listed_none (holds s) (none-live s e);
 }
 
+-- what is not live fixed, all numbers turn to themselves
+still : (s : Slab Segment) → IsKept s → IsSlab (holds s) (λ a. a) half_limit
+still s k = record {
+  permutation = record { within = λ a l. l; apart = λ a b la lb e. e };
+  even = (whole s k).slab.even;
+  twins = λ a l. same_twin s a;
+  free = λ a l e. refl;
+}
+
+one_more : (s s' : Slab Segment) (x : ℕ) → IsKept s → IsInserted s s' x → live_segments (holds s') half_limit ≡ live_segments (holds s) half_limit + 1
+one_more s s' x k i = segments_grow (holds s) (holds s') (λ a. a) (λ a. a) half_limit x (record { before = still s k; after = still s' i.kept; within = i.within; adds = i.live })
+
 pub alone_more : (s s' : Slab Segment) (hs new : List ℕ) (x y : ℕ) → AreAlone s hs → IsInserted s s' x → y ≡ twin x → new ≡ (hs ++ x ∷ []) ++ y ∷ [] → AreAlone s' new
 alone_more s s' hs new x y k i ey en = record {
   kept = i.kept;
-  listed = listed_more (holds s) (holds s') hs new x y k.kept.within i.kept.within k.listed i.live ey en;
+  listed = listed_more (holds s) (holds s') hs new x y (one_more s s' x k.kept i) k.kept.within i.kept.within k.listed i.live ey en;
 }
 
 -- ---- Turns
@@ -108,31 +124,46 @@ joined_all s hs ts k p el ek j =
       next = w.next;
     }
 
--- what is built shows the list
-pub made_from : (s : Slab Segment) (hs ts : List ℕ) → IsPermutation (map_of ts) (length ts) → length hs ≡ length ts → IsJoined s hs ts → IsMadeFrom ts hs (view_of s)
-made_from s hs ts p el j =
+renumbered : (s : Slab Segment) (hs ts : List ℕ) → IsPermutation (map_of ts) (length ts) → length hs ≡ length ts → (j : IsJoined s hs ts) → RenumbersTurn (map_of hs) j.listed.place (map_of ts) (next_in s) (length ts) (holds s) half_limit
+renumbered s hs ts p el j =
     let small : (a : ℕ) → a < length ts → a < length hs = λ a l. subst (λ (n : ℕ). a < n) (sym el) l in
     let w : IsWhole (holds s) (next_in s) = whole s j.kept in
     record {
-      same_length = el;
-      place_of = j.listed.place;
-      renumbers = record {
-        turn = record {
-          before = p;
-          after = w.slab.permutation;
-          numbers = record {
-            within = λ a l. j.kept.within (map_of hs a) (j.listed.alive a (small a l));
-            alive = λ a l. j.listed.alive a (small a l);
-            returns = λ a l. j.listed.returns a (small a l);
-            back_within = λ y l h. subst (λ (n : ℕ). j.listed.place y < n) el (j.listed.place_within y h);
-            back_returns = λ y l h. j.listed.place_returns y h;
-          };
-          map = record { each = λ a l. j.next a l };
+      turn = record {
+        before = p;
+        after = w.slab.permutation;
+        numbers = record {
+          within = λ a l. j.kept.within (map_of hs a) (j.listed.alive a (small a l));
+          alive = λ a l. j.listed.alive a (small a l);
+          returns = λ a l. j.listed.returns a (small a l);
+          back_within = λ y l h. subst (λ (n : ℕ). j.listed.place y < n) el (j.listed.place_within y h);
+          back_returns = λ y l h. j.listed.place_returns y h;
         };
-        even = subst (λ (n : ℕ). n % 2 ≡ 0) el j.listed.even;
-        after_even = w.slab.even;
-        twins = record { each = λ a l. j.listed.twins a (small a l) };
+        map = record { each = λ a l. j.next a l };
       };
+      even = subst (λ (n : ℕ). n % 2 ≡ 0) el j.listed.even;
+      after_even = w.slab.even;
+      twins = record { each = λ a l. j.listed.twins a (small a l) };
+    }
+
+-- what is built shows the list
+pub made_from : (s : Slab Segment) (hs ts : List ℕ) → IsPermutation (map_of ts) (length ts) → length hs ≡ length ts → IsJoined s hs ts → IsMadeFrom ts hs (view_of s)
+made_from s hs ts p el j =
+    let h : ℕ → ℕ = map_of hs in
+    let b : ℕ → ℕ = j.listed.place in
+    let f : ℕ → ℕ = map_of ts in
+    let g : ℕ → ℕ = next_in s in
+    let n : ℕ = length ts in
+    let r : RenumbersTurn h b f g n (holds s) half_limit = renumbered s hs ts p el j in
+    record {
+      same_length = el;
+      place_of = b;
+      renumbers = r;
+      points_all = sym (renumbered_cycles h b f g n (holds s) half_limit r.turn);
+      segments_all = j.listed.counted ∙ el;
+      faces_all = sym (renumbered_cycles h b (face_next f) (face_next g) n (holds s) half_limit (renumbered_faces h b f g n (holds s) half_limit r));
+      embedding = whole s j.kept;
+      connected = λ all. (renumbered_connected h b f g n (holds s) half_limit r).0 (λ a d la ld t u. all a d la ld);
     }
 
 -- ---- One segment

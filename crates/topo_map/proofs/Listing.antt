@@ -1,13 +1,14 @@
 -- Lists of all halves, with twins side by side.
-use Rattle.std.proofs.Common.{◌≡◌, ◌≢◌, ℕ, ◌+◌, ◌%◌, ◌<◌, ◌==◌, Bool, true, false, cond, ◌⊎◌, inl, inr, refl, sym, ◌∙◌, ap, subst, arith, List, [], ◌∷◌, ◌++◌, length}
+use Rattle.std.proofs.Common.{◌≡◌, ◌≢◌, ℕ, zero, suc, ◌+◌, ◌*◌, ◌/◌, ◌%◌, ◌<◌, ◌==◌, Bool, true, false, cond, ◌⊎◌, inl, inr, refl, sym, ◌∙◌, ap, subst, arith, List, [], ◌∷◌, ◌++◌, length}
 use Rattle.std.proofs.lemmas.Bool.{cases_eq, cond-true, cond-false, eq-eqb, ne_eqb}
 use Rattle.std.proofs.lemmas.List.{get_or_append_left, length-append}
 use Rattle.std.proofs.Math.Seq.{get_or-append_seam}
-use Rattle.topo_core.specs.Cycles.{map_of}
+use Rattle.topo_core.specs.Cycles.{map_of, count_below}
 use Rattle.topo_core.specs.Rotations.{twin}
 use Rattle.topo_perm.specs.Joins.{AddsSegment}
 use Rattle.topo_perm.proofs.Walks.{twin-within, twin-cases}
 use Rattle.topo_perm.proofs.Faces.{twin-twin, twin-other}
+use Rattle.topo_perm.specs.Live.{live_segments}
 use Rattle.topo_map.specs.Rotation.{half_limit}
 use Rattle.topo_map.specs.Building.{IsListed}
 use Rattle.topo_map.proofs.Stored.{true_false}
@@ -57,8 +58,8 @@ placed-else : (place : ℕ → ℕ) (x y m v : ℕ) → v ≢ x → v ≢ y → 
 placed-else place x y m v ne nd = cond-false _ _ _ (ne_eqb _ _ ne) ∙ cond-false _ _ _ (ne_eqb _ _ nd)
 
 -- a new segment comes to the end of the list
-pub listed_more : (live live' : ℕ → Bool) (hs new : List ℕ) (x y : ℕ) → ((a : ℕ) → live a ≡ true → a < half_limit) → ((a : ℕ) → live' a ≡ true → a < half_limit) → IsListed live hs → AddsSegment live live' half_limit x → y ≡ twin x → new ≡ (hs ++ x ∷ []) ++ y ∷ [] → IsListed live' new
-listed_more live live' hs new x y within within' k t ey en =
+pub listed_more : (live live' : ℕ → Bool) (hs new : List ℕ) (x y : ℕ) → live_segments live' half_limit ≡ live_segments live half_limit + 1 → ((a : ℕ) → live a ≡ true → a < half_limit) → ((a : ℕ) → live' a ≡ true → a < half_limit) → IsListed live hs → AddsSegment live live' half_limit x → y ≡ twin x → new ≡ (hs ++ x ∷ []) ++ y ∷ [] → IsListed live' new
+listed_more live live' hs new x y one_more within within' k t ey en =
     let m : ℕ = length hs in
     let g : Longer hs new x y = subst (λ (l : List ℕ). Longer hs l x y) (sym en) (longer hs x y) in
     let size : length new ≡ length hs + 2 = g.size in
@@ -70,7 +71,9 @@ listed_more live live' hs new x y within within' k t ey en =
     let was : (v : ℕ) → live' v ≡ true → v ≢ x → v ≢ y → live v ≡ true = λ v h nx ny. sym (t.others v (within' v h) nx (λ w. ny (w ∙ sym ey))) ∙ h in
     let place' : ℕ → ℕ = placed k.place x y m in
     let even_m : length hs % 2 ≡ 0 = k.even in
+    let were : 2 * live_segments live half_limit ≡ length hs = k.counted in
     record {
+      counted = (let w : 2 * live_segments live' half_limit ≡ length new = omega arith in w);
       even = (let w : length new % 2 ≡ 0 = omega arith in w);
       alive = λ a l. elim (three a m (subst (λ (n : ℕ). a < n) size l)) [
         | inl old ↦
@@ -117,9 +120,14 @@ listed_more live live' hs new x y within within' k t ey en =
       ];
     }
 
+count_none : (p : ℕ → Bool) (n : ℕ) → ((i : ℕ) → p i ≡ false) → count_below p n ≡ 0
+count_none p zero h = refl
+count_none p (suc n) h = ap (λ (b : Bool). count_below p n + cond b 1 0) (h n) ∙ (let e : count_below p n ≡ 0 = count_none p n h in let w : count_below p n + 0 ≡ 0 = omega arith in w)
+
 -- nothing is listed where nothing is live
 pub listed_none : (live : ℕ → Bool) → ((a : ℕ) → live a ≡ false) → IsListed live []
 listed_none live none = record {
+  counted = ap (λ (n : ℕ). 2 * n) (count_none (λ i. live (2 * i)) (half_limit / 2) (λ i. none (2 * i)));
   even = refl;
   alive = λ a l. absurd (let w : ⊥ = omega arith in w);
   twins = λ a l. absurd (let w : ⊥ = omega arith in w);

@@ -108,6 +108,7 @@ added s s1 s' x p q g st t m = record {
   grows = record {
     within = st.inserted.within;
     live = live_added s s1 s' x g st t;
+    stays = λ a h. turned_live s1 s' g a a t refl (still_live s s1 x a st h);
     points_more = m.points;
     segments_more = m.segments;
     faces_more = m.faces;
@@ -132,6 +133,7 @@ taken s s1 s' x p q g t r m =
     record {
       shrinks = record {
         live = live_taken s s1 s' x g t r;
+        stays = λ a nx nt h. sym (r.live.others a (t.kept.within a (turned_live s s1 g a a t refl h)) nx nt) ∙ turned_live s s1 g a a t refl h;
         points_fewer = m.points;
         segments_fewer = m.segments;
         faces_fewer = m.faces;

@@ -1,8 +1,9 @@
 -- How the segments of a list of turns are built. No public clause cites this module.
-use Rattle.std.specs.Prelude.{◌≡◌, ℕ, ◌%◌, ◌<◌, Bool, true, List, length}
+use Rattle.std.specs.Prelude.{◌≡◌, ℕ, ◌*◌, ◌%◌, ◌<◌, Bool, true, List, length}
 use Rattle.slab.specs.Slab.{Slab}
 use Rattle.topo_core.specs.Cycles.{map_of}
 use Rattle.topo_core.specs.Rotations.{twin}
+use Rattle.topo_perm.specs.Live.{live_segments}
 use Rattle.topo_map.specs.Rotation.{half_limit}
 use Rattle.topo_map.specs.Segments.{holds, next_in, before_in, IsKept}
 use Rattle.topo_map.specs.declared.segments.Segment.{Segment}
@@ -10,6 +11,7 @@ use Rattle.topo_map.specs.declared.segments.Segment.{Segment}
 -- the live halves, each once, with twins side by side
 pub record IsListed (live : ℕ → Bool) (halves : List ℕ) : Type 0 where
   pub even : length halves % 2 ≡ 0
+  pub counted : 2 * live_segments live half_limit ≡ length halves
   pub alive : (a : ℕ) → a < length halves → live (map_of halves a) ≡ true
   pub twins : (a : ℕ) → a < length halves → twin (map_of halves a) ≡ map_of halves (twin a)
   pub place : ℕ → ℕ

@@ -1,8 +1,8 @@
 -- What a contract sees of an embedding: which halves are live, how they turn, and the room for more segments.
 -- A half is a number: 2 * key and 2 * key + 1 are the two of the segment at a key.
-use Rattle.std.specs.Prelude.{◌≡◌, ◌≢◌, ℕ, ◌+◌, ◌/◌, ◌%◌, ◌<◌, ◌≤◌, ◌==◌, Bool, true, cond, List, length, Option, Some, None, is_some, slice_index_or}
-use Rattle.topo_core.specs.Cycles.{after, map_of}
-use Rattle.topo_core.specs.Rotations.{face_next}
+use Rattle.std.specs.Prelude.{◌≡◌, ◌≢◌, ℕ, ◌+◌, ◌*◌, ◌/◌, ◌%◌, ◌<◌, ◌≤◌, ◌==◌, Bool, true, cond, List, length, Option, Some, None, is_some, slice_index_or}
+use Rattle.topo_core.specs.Cycles.{after, map_of, cycles_of}
+use Rattle.topo_core.specs.Rotations.{twin, face_next, faces_of, IsConnected}
 use Rattle.topo_perm.specs.Joins.{IsConnectedAmong, AddsSegment}
 use Rattle.topo_perm.specs.Renumbering.{RenumbersTurn}
 use Rattle.topo_perm.specs.Live.{IsSlab, live_cycle_count, live_segments}
@@ -71,6 +71,7 @@ HangsTogether r = IsConnectedAmong (is_live r) (turn r) half_limit
 pub record Grows (old new : Rotation) (x more_points more_faces : ℕ) : Type 0 where
   pub within : x < half_limit
   pub live : AddsSegment (is_live old) (is_live new) half_limit x
+  pub stays : (a : ℕ) → is_live old a ≡ true → is_live new a ≡ true
   pub points_more : points new ≡ points old + more_points
   pub segments_more : segments new ≡ segments old + 1
   pub faces_more : faces new ≡ faces old + more_faces
@@ -81,6 +82,7 @@ pub record Grows (old new : Rotation) (x more_points more_faces : ℕ) : Type 0 
 -- the segment of x is gone and leaves its place to another, and there are so many points and faces fewer
 pub record Shrinks (old new : Rotation) (x fewer_points fewer_faces : ℕ) : Type 0 where
   pub live : AddsSegment (is_live new) (is_live old) half_limit x
+  pub stays : (a : ℕ) → a ≢ x → a ≢ twin x → is_live old a ≡ true → is_live new a ≡ true
   pub points_fewer : points new + fewer_points ≡ points old
   pub segments_fewer : segments new + 1 ≡ segments old
   pub faces_fewer : faces new + fewer_faces ≡ faces old
@@ -102,3 +104,8 @@ pub record IsMadeFrom (turns halves : List ℕ) (r : Rotation) : Type 0 where
   pub same_length : length halves ≡ length turns
   pub place_of : ℕ → ℕ
   pub renumbers : RenumbersTurn (map_of halves) place_of (map_of turns) (turn r) (length turns) (is_live r) half_limit
+  pub points_all : points r ≡ cycles_of turns
+  pub segments_all : 2 * segments r ≡ length turns
+  pub faces_all : faces r ≡ faces_of turns
+  pub embedding : IsEmbedding r
+  pub connected : IsConnected turns → HangsTogether r

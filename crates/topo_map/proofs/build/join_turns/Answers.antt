@@ -5,6 +5,12 @@ use Rattle.topo_map.specs.Segments.{holds}
 use Rattle.topo_map.proofs.Joining.{joined_more, joined_all}
 use Rattle.topo_map.proofs.build.join_turns.Goals as goal
 
+pub link-requires-clause-from : goal.link-requires-clause-from
+link-requires-clause-from c =
+    let k : ℕ = c.loop-place.place in
+    let lh : k < length c.args.halves.now = subst (λ (n : ℕ). k < n) (sym c.requires.same_length) c.loop-place-test.true in
+    ap (holds c.loop-place.segments) (c.index-halves-place.is ∙ get_or_default_zero c.args.halves.now k _ lh) ∙ c.loop-place.invariant.listed.alive k lh
+
 pub link-requires-clause-to : goal.link-requires-clause-to
 link-requires-clause-to c =
     let k : ℕ = c.loop-place.place in
