@@ -1,0 +1,10 @@
+pub mod Maps
+pub mod Slots
+pub mod Kept
+pub mod Stored
+pub mod Allowed
+pub mod Counted
+pub mod Steps
+pub mod Rounds
+pub mod Listing
+pub mod Joining

@@ -1,0 +1,279 @@
+-- The slab along each edit: from an embedding to an embedding.
+use Rattle.std.proofs.Common.{◌≡◌, ◌≢◌, ℕ, ◌+◌, ◌-◌, ◌%◌, ◌<◌, ◌≤◌, Bool, true, cond, nat_le, is_some, inl, inr, refl, sym, ◌∙◌, ap, subst, arith}
+use Rattle.std.proofs.lemmas.Bool.{cases_Bool}
+use Rattle.slab.specs.Slab.{Slab, get, slab_len}
+use Rattle.topo_core.specs.Cycles.{SameCycle}
+use Rattle.topo_core.specs.Rotations.{twin, face_next}
+use Rattle.topo_core.specs.Edits.{IsIsolated}
+use Rattle.topo_perm.specs.Edits.{IsApart, IsAllowedHang, IsAllowedChord, IsAllowedUnchord, IsAllowedSplit, IsAllowedSmooth}
+use Rattle.topo_perm.specs.Joins.{AddsSegment}
+use Rattle.topo_perm.proofs.Faces.{twin-twin, twin-other}
+use Rattle.topo_perm.proofs.Splitting.{without-self, without-onward, without-elsewhere}
+use Rattle.topo_perm.proofs.EditCounts.{put-elsewhere}
+use Rattle.topo_map.specs.Rotation.{half_limit, IsWhole, Grows, Shrinks}
+use Rattle.topo_map.specs.Segments.{put, without, holds, next_in, before_in, nexts, room_of, view_of, IsKept, IsTurned, IsInserted, IsRemoved}
+use Rattle.topo_map.specs.declared.segments.Segment.{Segment}
+use Rattle.topo_map.proofs.Slots.{live_at}
+use Rattle.topo_map.proofs.Kept.{free_turn, live_next}
+use Rattle.topo_map.proofs.Stored.{limit-is, twin-key, true_false}
+use Rattle.topo_map.proofs.Allowed.{AreDarts, hang_allowed, chord_allowed, unchord_allowed, split_allowed, smooth_allowed}
+use Rattle.topo_map.proofs.Counted.{More, Fewer, hang_more, chord_more, split_more, unchord_fewer, smooth_fewer}
+
+-- ---- A sound slab
+
+pub same_twin : (s : Slab Segment) (a : ℕ) → holds s (twin a) ≡ holds s a
+same_twin s a = live_at nexts s (twin a) ∙ ap (λ (k : ℕ). is_some (get s k)) (twin-key a) ∙ sym (live_at nexts s a)
+
+pub live_twin : (s : Slab Segment) (a t : ℕ) → t ≡ twin a → holds s a ≡ true → holds s t ≡ true
+live_twin s a t e h = ap (holds s) e ∙ same_twin s a ∙ h
+
+turns_within : (s : Slab Segment) → IsKept s → (a : ℕ) → a < half_limit → next_in s a < half_limit
+turns_within s k a l = elim (cases_Bool (holds s a)) [
+  | inl t ↦ k.within (next_in s a) (live_next s a k t)
+  | inr f ↦ subst (λ (v : ℕ). v < half_limit) (sym (free_turn nexts s a f)) l
+]
+
+darts : (s : Slab Segment) → IsKept s → AreDarts (next_in s) half_limit
+darts s k = record {
+  permutation = record {
+    within = turns_within s k;
+    apart = λ a b la lb e. sym (k.inverse.back a) ∙ ap (before_in s) e ∙ k.inverse.back b;
+  };
+  even = (let e : half_limit ≡ 4294967296 = limit-is in let w : half_limit % 2 ≡ 0 = omega arith in w);
+}
+
+pub whole : (s : Slab Segment) → IsKept s → IsWhole (holds s) (next_in s)
+whole s i = record {
+  slab = record {
+    permutation = (darts s i).permutation;
+    even = (darts s i).even;
+    twins = λ a la. same_twin s a;
+    free = λ a la f. free_turn nexts s a f;
+  };
+  within = i.within;
+}
+
+-- ---- The start of an edit that adds
+
+pub record IsStart (s s1 : Slab Segment) (x : ℕ) : Type 0 where
+  pub sound : IsKept s
+  pub inserted : IsInserted s s1 x
+
+isolated : (s s1 : Slab Segment) (x : ℕ) → IsStart s s1 x → IsIsolated (next_in s) x
+isolated s s1 x st = record {
+  this = free_turn nexts s x st.inserted.live.new;
+  other = free_turn nexts s (twin x) st.inserted.live.new_twin;
+}
+
+pub alone : (s s1 : Slab Segment) (x : ℕ) → IsStart s s1 x → next_in s1 x ≡ x
+alone s s1 x st = ap (λ (f : ℕ → ℕ). f x) st.inserted.next ∙ (isolated s s1 x st).this
+
+pub twin_alone : (s s1 : Slab Segment) (x : ℕ) → IsStart s s1 x → next_in s1 (twin x) ≡ twin x
+twin_alone s s1 x st = ap (λ (f : ℕ → ℕ). f (twin x)) st.inserted.next ∙ (isolated s s1 x st).other
+
+pub apart : (s s1 : Slab Segment) (x c : ℕ) → IsStart s s1 x → holds s c ≡ true → IsApart half_limit c x
+apart s s1 x c st h = record {
+  within = st.sound.within c h;
+  not_self = λ e. true_false (sym h ∙ ap (holds s) e ∙ st.inserted.live.new);
+  not_twin = λ e. true_false (sym h ∙ ap (holds s) e ∙ st.inserted.live.new_twin);
+}
+
+pub still_live : (s s1 : Slab Segment) (x c : ℕ) → IsStart s s1 x → holds s c ≡ true → holds s1 c ≡ true
+still_live s s1 x c st h =
+    let k : IsApart half_limit c x = apart s s1 x c st h in
+    st.inserted.live.others c k.within k.not_self k.not_twin ∙ h
+
+-- ---- Steps in a row
+
+pub then_turned : (s s1 s2 : Slab Segment) (f g : ℕ → ℕ) → IsTurned s s1 f → IsTurned s1 s2 g → IsTurned s s2 g
+then_turned s s1 s2 f g t u = record { next = u.next; live = u.live ∙ t.live; len = u.len ∙ t.len; capacity = u.capacity ∙ t.capacity; kept = u.kept }
+
+pub turned_live : (s s1 : Slab Segment) (f : ℕ → ℕ) (a b : ℕ) → IsTurned s s1 f → a ≡ b → holds s b ≡ true → holds s1 a ≡ true
+turned_live s s1 f a b t e h = ap (λ (l : ℕ → Bool). l a) t.live ∙ ap (holds s) e ∙ h
+
+same_room : (s s1 : Slab Segment) (f : ℕ → ℕ) → IsTurned s s1 f → room_of s1 ≡ room_of s
+same_room s s1 f t = ap (λ (n : ℕ). cond (nat_le n 2147483648) (n - slab_len s1) 0) t.capacity ∙ ap (λ (n : ℕ). cond (nat_le s.capacity 2147483648) (s.capacity - n) 0) t.len
+
+-- ---- The ends
+
+pub record IsAdded (s s' : Slab Segment) (x p q : ℕ) : Type 0 where
+  pub grows : Grows (view_of s) (view_of s') x p q
+  pub sound : IsKept s'
+
+live_added : (s s1 s' : Slab Segment) (x : ℕ) (g : ℕ → ℕ) → IsStart s s1 x → IsTurned s1 s' g → AddsSegment (holds s) (holds s') half_limit x
+live_added s s1 s' x g st t = subst (λ (l : ℕ → Bool). AddsSegment (holds s) l half_limit x) (sym t.live) st.inserted.live
+
+added : (s s1 s' : Slab Segment) (x p q : ℕ) (g : ℕ → ℕ) → IsStart s s1 x → IsTurned s1 s' g → More (holds s) (holds s') (next_in s) (next_in s') p q → IsAdded s s' x p q
+added s s1 s' x p q g st t m = record {
+  grows = record {
+    within = st.inserted.within;
+    live = live_added s s1 s' x g st t;
+    stays = λ a h. turned_live s1 s' g a a t refl (still_live s s1 x a st h);
+    points_more = m.points;
+    segments_more = m.segments;
+    faces_more = m.faces;
+    room_less = ap (λ (n : ℕ). n + 1) (same_room s1 s' g t) ∙ st.inserted.room;
+    embedding = m.whole;
+    connected = m.connected;
+  };
+  sound = t.kept;
+}
+
+pub record IsTaken (s s' : Slab Segment) (x p q : ℕ) : Type 0 where
+  pub shrinks : Shrinks (view_of s) (view_of s') x p q
+  pub sound : IsKept s'
+
+live_taken : (s s1 s' : Slab Segment) (x : ℕ) (g : ℕ → ℕ) → IsTurned s s1 g → IsRemoved s1 s' x → AddsSegment (holds s') (holds s) half_limit x
+live_taken s s1 s' x g t r = subst (λ (l : ℕ → Bool). AddsSegment (holds s') l half_limit x) t.live r.live
+
+taken : (s s1 s' : Slab Segment) (x p q : ℕ) (g : ℕ → ℕ) → IsTurned s s1 g → IsRemoved s1 s' x → Fewer (holds s) (holds s') (next_in s) (next_in s') p q → IsTaken s s' x p q
+taken s s1 s' x p q g t r m =
+    let e : room_of s1 ≡ room_of s = same_room s s1 g t in
+    let kept : room_of s1 ≤ room_of s' = r.room in
+    record {
+      shrinks = record {
+        live = live_taken s s1 s' x g t r;
+        stays = λ a nx nt h. sym (r.live.others a (t.kept.within a (turned_live s s1 g a a t refl h)) nx nt) ∙ turned_live s s1 g a a t refl h;
+        points_fewer = m.points;
+        segments_fewer = m.segments;
+        faces_fewer = m.faces;
+        room_kept = subst (λ (n : ℕ). n ≤ room_of s') e kept;
+        room_more = λ h. r.freed (subst (λ (n : ℕ). 0 < n) (sym e) h) ∙ ap (λ (n : ℕ). n + 1) e;
+        embedding = m.whole;
+        connected = m.connected;
+      };
+      sound = r.kept;
+    }
+
+-- ---- Hang
+
+pub record IsHung (s s' : Slab Segment) (c x : ℕ) : Type 0 where
+  pub allowed : IsAllowedHang (next_in s) (next_in s') half_limit c x
+  pub added : IsAdded s s' x 1 0
+
+pub hung : (s s1 s2 : Slab Segment) (c x : ℕ) → IsStart s s1 x → holds s c ≡ true → IsTurned s1 s2 (put (next_in s1) x c) → IsHung s s2 c x
+hung s s1 s2 c x st alive t =
+    let e : next_in s2 ≡ put (next_in s) x c = t.next ∙ ap (λ (f : ℕ → ℕ). put f x c) st.inserted.next in
+    let k : IsAllowedHang (next_in s) (next_in s2) half_limit c x = subst (λ (g : ℕ → ℕ). IsAllowedHang (next_in s) g half_limit c x) (sym e)
+    (hang_allowed (next_in s) half_limit c x (darts s st.sound) st.inserted.within (isolated s s1 x st) (apart s s1 x c st alive)) in
+    record {
+      allowed = k;
+      added = added s s1 s2 x 1 0 (put (next_in s1) x c) st t
+          (hang_more (holds s) (holds s2) (next_in s) (next_in s2) c x (whole s st.sound) t.kept.within (live_added s s1 s2 x (put (next_in s1) x c) st t) alive k);
+    }
+
+-- ---- Chord
+
+pub record IsChorded (s s' : Slab Segment) (c d x : ℕ) : Type 0 where
+  pub allowed : IsAllowedChord (next_in s) (next_in s') half_limit c d x
+  pub added : IsAdded s s' x 0 1
+
+pub chord_end_alone : (s s1 s2 : Slab Segment) (c x y : ℕ) → IsStart s s1 x → holds s c ≡ true → IsTurned s1 s2 (put (next_in s1) x c) → y ≡ twin x → next_in s2 y ≡ y
+chord_end_alone s s1 s2 c x y st alive t e =
+    let k : IsApart half_limit c x = apart s s1 x c st alive in
+    let a : next_in s1 (twin x) ≡ twin x = twin_alone s s1 x st in
+    ap (next_in s2) e ∙ ap (λ (f : ℕ → ℕ). f (twin x)) t.next ∙ put-elsewhere (next_in s1) x c (twin x) (twin-other x) (λ w. k.not_twin (sym w ∙ a)) ∙ a ∙ sym e
+
+pub chorded : (s s1 s2 s3 : Slab Segment) (c d x y : ℕ) → IsStart s s1 x → holds s c ≡ true → holds s d ≡ true → SameCycle (face_next (next_in s)) c d → y ≡ twin x → IsTurned s1 s2 (put (next_in s1) x c) → IsTurned s2 s3 (put (next_in s2) y d) → IsChorded s s3 c d x
+chorded s s1 s2 s3 c d x y st alive alive_d one ey t u =
+    let both : IsTurned s1 s3 (put (next_in s2) y d) = then_turned s1 s2 s3 (put (next_in s1) x c) (put (next_in s2) y d) t u in
+    let e : next_in s3 ≡ put (put (next_in s) x c) (twin x) d = u.next ∙ ap (λ (v : ℕ). put (next_in s2) v d) ey ∙ ap (λ (f : ℕ → ℕ). put f (twin x) d) (t.next ∙ ap (λ (f : ℕ → ℕ). put f x c) st.inserted.next) in
+    let k : IsAllowedChord (next_in s) (next_in s3) half_limit c d x = subst (λ (g : ℕ → ℕ). IsAllowedChord (next_in s) g half_limit c d x) (sym e)
+    (chord_allowed (next_in s) half_limit c d x (darts s st.sound) st.inserted.within (isolated s s1 x st) (apart s s1 x c st alive) (apart s s1 x d st alive_d) one) in
+    record {
+      allowed = k;
+      added = added s s1 s3 x 0 1 (put (next_in s2) y d) st both
+          (chord_more (holds s) (holds s3) (next_in s) (next_in s3) c d x (whole s st.sound) both.kept.within (live_added s s1 s3 x (put (next_in s2) y d) st both) alive alive_d k);
+    }
+
+-- ---- Split
+
+pub record IsSplitUp (s s' : Slab Segment) (h x : ℕ) : Type 0 where
+  pub allowed : IsAllowedSplit (next_in s) (next_in s') half_limit h x
+  pub added : IsAdded s s' x 1 0
+
+-- after its end is out of the turn, x still stands alone
+pub split_alone : (s s1 s2 s3 : Slab Segment) (h x y t : ℕ) → IsStart s s1 x → holds s h ≡ true → y ≡ twin x → t ≡ twin h → IsTurned s1 s2 (put (next_in s1) y t) → IsTurned s2 s3 (without (next_in s2) t) → next_in s3 x ≡ x
+split_alone s s1 s2 s3 h x y t st alive ey et u v =
+    let k : IsApart half_limit h x = apart s s1 x h st alive in
+    let tx : t ≢ x = λ w. k.not_twin (sym (twin-twin h) ∙ ap twin (sym et ∙ w)) in
+    let a : next_in s1 x ≡ x = alone s s1 x st in
+    let yx : x ≢ y = λ w. twin-other x (sym (w ∙ ey)) in
+    let b : next_in s2 x ≡ x = ap (λ (f : ℕ → ℕ). f x) u.next ∙ put-elsewhere (next_in s1) y t x yx (λ w. tx (sym w ∙ a)) ∙ a in
+    ap (λ (f : ℕ → ℕ). f x) v.next ∙ without-elsewhere (next_in s2) t x (λ w. tx (sym w)) (λ w. tx (sym w ∙ b)) ∙ b
+
+pub splitted : (s s1 s2 s3 s4 : Slab Segment) (h x y t : ℕ) → IsStart s s1 x → holds s h ≡ true → y ≡ twin x → t ≡ twin h → IsTurned s1 s2 (put (next_in s1) y t) → IsTurned s2 s3 (without (next_in s2) t) → IsTurned s3 s4 (put (next_in s3) x t) → IsSplitUp s s4 h x
+splitted s s1 s2 s3 s4 h x y t st alive ey et u v w =
+    let f : ℕ → ℕ = next_in s in
+    let uv : IsTurned s1 s3 (without (next_in s2) t) = then_turned s1 s2 s3 (put (next_in s1) y t) (without (next_in s2) t) u v in
+    let all : IsTurned s1 s4 (put (next_in s3) x t) = then_turned s1 s3 s4 (without (next_in s2) t) (put (next_in s3) x t) uv w in
+    let e2 : next_in s2 ≡ put f (twin x) (twin h) = u.next ∙ ap (λ (k : ℕ → ℕ). put k y t) st.inserted.next ∙ ap (λ (a : ℕ). put f a t) ey ∙ ap (λ (a : ℕ). put f (twin x) a) et in
+    let e3 : next_in s3 ≡ without (put f (twin x) (twin h)) (twin h) = v.next ∙ ap (λ (k : ℕ → ℕ). without k t) e2 ∙ ap (λ (a : ℕ). without (put f (twin x) (twin h)) a) et in
+    let e4 : next_in s4 ≡ put (without (put f (twin x) (twin h)) (twin h)) x (twin h) = w.next ∙ ap (λ (k : ℕ → ℕ). put k x t) e3 ∙ ap (λ (a : ℕ). put (without (put f (twin x) (twin h)) (twin h)) x a) et in
+    let k : IsAllowedSplit f (next_in s4) half_limit h x = subst (λ (g : ℕ → ℕ). IsAllowedSplit f g half_limit h x) (sym e4)
+    (split_allowed f half_limit h x (darts s st.sound) st.inserted.within (isolated s s1 x st) (apart s s1 x h st alive)) in
+    record {
+      allowed = k;
+      added = added s s1 s4 x 1 0 (put (next_in s3) x t) st all
+          (split_more (holds s) (holds s4) f (next_in s4) h x (whole s st.sound) all.kept.within (live_added s s1 s4 x (put (next_in s3) x t) st all) alive k);
+    }
+
+-- ---- Unchord
+
+pub record IsUnchorded (s s' : Slab Segment) (h : ℕ) : Type 0 where
+  pub allowed : IsAllowedUnchord (next_in s) (next_in s') half_limit h
+  pub taken : IsTaken s s' h 0 1
+
+pub unchord_alone : (s s1 s2 : Slab Segment) (h t : ℕ) → t ≡ twin h → IsTurned s s1 (without (next_in s) h) → IsTurned s1 s2 (without (next_in s1) t) → next_in s2 h ≡ h
+unchord_alone s s1 s2 h t et u v =
+    let ne : h ≢ t = λ w. twin-other h (sym (w ∙ et)) in
+    let a : next_in s1 h ≡ h = ap (λ (f : ℕ → ℕ). f h) u.next ∙ without-self (next_in s) h h refl in
+    ap (λ (f : ℕ → ℕ). f h) v.next ∙ without-elsewhere (next_in s1) t h ne (λ w. ne (sym a ∙ w)) ∙ a
+
+pub without_alone : (s s1 : Slab Segment) (h t : ℕ) → t ≡ twin h → IsTurned s s1 (without (next_in s) t) → next_in s1 (twin h) ≡ twin h
+without_alone s s1 h t et v = ap (next_in s1) (sym et) ∙ ap (λ (f : ℕ → ℕ). f t) v.next ∙ without-self (next_in s) t t refl ∙ et
+
+pub unchorded : (s s1 s2 s3 : Slab Segment) (h t : ℕ) → IsKept s → holds s h ≡ true → ¬ SameCycle (face_next (next_in s)) h (twin h) → (next_in s h ≡ twin h → next_in s (twin h) ≢ h) → t ≡ twin h → IsTurned s s1 (without (next_in s) h) → IsTurned s1 s2 (without (next_in s1) t) → IsRemoved s2 s3 h → IsUnchorded s s3 h
+unchorded s s1 s2 s3 h t i alive two not_alone et u v r =
+    let f : ℕ → ℕ = next_in s in
+    let uv : IsTurned s s2 (without (next_in s1) t) = then_turned s s1 s2 (without f h) (without (next_in s1) t) u v in
+    let e : next_in s3 ≡ without (without f h) (twin h) = r.next ∙ v.next ∙ ap (λ (k : ℕ → ℕ). without k t) u.next ∙ ap (λ (a : ℕ). without (without f h) a) et in
+    let k : IsAllowedUnchord f (next_in s3) half_limit h = subst (λ (g : ℕ → ℕ). IsAllowedUnchord f g half_limit h) (sym e)
+    (unchord_allowed f half_limit h (darts s i) (i.within h alive) two not_alone) in
+    record {
+      allowed = k;
+      taken = taken s s2 s3 h 0 1 (without (next_in s1) t) uv r
+          (unchord_fewer (holds s) (holds s3) f (next_in s3) h (whole s i) r.kept.within (live_taken s s2 s3 h (without (next_in s1) t) uv r) k);
+    }
+
+-- ---- Smooth
+
+pub record IsSmoothed (s s' : Slab Segment) (x : ℕ) : Type 0 where
+  pub allowed : IsAllowedSmooth (next_in s) (next_in s') half_limit x
+  pub taken : IsTaken s s' x 1 0
+
+pub smooth_other_alone : (s s1 : Slab Segment) (x t : ℕ) → next_in s (next_in s x) ≡ x → next_in s x ≢ x → t ≡ next_in s x → IsTurned s s1 (without (next_in s) x) → next_in s1 t ≡ t
+smooth_other_alone s s1 x t back na et u =
+    ap (next_in s1) et ∙ ap (λ (f : ℕ → ℕ). f (next_in s x)) u.next ∙ without-onward (next_in s) x (next_in s x) na back ∙ sym et
+
+pub smooth_alone : (s s1 s2 s3 : Slab Segment) (x t y : ℕ) → next_in s x ≢ x → t ≡ next_in s x → y ≡ twin x → IsTurned s s1 (without (next_in s) x) → IsTurned s1 s2 (put (next_in s1) t y) → IsTurned s2 s3 (without (next_in s2) y) → next_in s3 x ≡ x
+smooth_alone s s1 s2 s3 x t y na et ey u v w =
+    let yx : x ≢ y = λ e. twin-other x (sym (e ∙ ey)) in
+    let a : next_in s1 x ≡ x = ap (λ (f : ℕ → ℕ). f x) u.next ∙ without-self (next_in s) x x refl in
+    let b : next_in s2 x ≡ x = ap (λ (f : ℕ → ℕ). f x) v.next ∙ put-elsewhere (next_in s1) t y x (λ e. na (sym (e ∙ et))) (λ e. yx (sym a ∙ e)) ∙ a in
+    ap (λ (f : ℕ → ℕ). f x) w.next ∙ without-elsewhere (next_in s2) y x yx (λ e. yx (sym b ∙ e)) ∙ b
+
+pub smoothed_out : (s s1 s2 s3 s4 : Slab Segment) (x t y : ℕ) → IsKept s → holds s x ≡ true → next_in s (next_in s x) ≡ x → next_in s x ≢ x → next_in s x ≢ twin x → t ≡ next_in s x → y ≡ twin x → IsTurned s s1 (without (next_in s) x) → IsTurned s1 s2 (put (next_in s1) t y) → IsTurned s2 s3 (without (next_in s2) y) → IsRemoved s3 s4 x → IsSmoothed s s4 x
+smoothed_out s s1 s2 s3 s4 x t y i alive back na nl et ey u v w r =
+    let f : ℕ → ℕ = next_in s in
+    let uv : IsTurned s s2 (put (next_in s1) t y) = then_turned s s1 s2 (without f x) (put (next_in s1) t y) u v in
+    let all : IsTurned s s3 (without (next_in s2) y) = then_turned s s2 s3 (put (next_in s1) t y) (without (next_in s2) y) uv w in
+    let e2 : next_in s2 ≡ put (without f x) (f x) (twin x) = v.next ∙ ap (λ (k : ℕ → ℕ). put k t y) u.next ∙ ap (λ (a : ℕ). put (without f x) a y) et ∙ ap (λ (a : ℕ). put (without f x) (f x) a) ey in
+    let e4 : next_in s4 ≡ without (put (without f x) (f x) (twin x)) (twin x) = r.next ∙ w.next ∙ ap (λ (k : ℕ → ℕ). without k y) e2 ∙ ap (λ (a : ℕ). without (put (without f x) (f x) (twin x)) a) ey in
+    let k : IsAllowedSmooth f (next_in s4) half_limit x = subst (λ (g : ℕ → ℕ). IsAllowedSmooth f g half_limit x) (sym e4)
+    (smooth_allowed f half_limit x (darts s i) (i.within x alive) back na nl) in
+    record {
+      allowed = k;
+      taken = taken s s3 s4 x 1 0 (without (next_in s2) y) all r
+          (smooth_fewer (holds s) (holds s4) f (next_in s4) x (whole s i) r.kept.within (live_taken s s3 s4 x (without (next_in s2) y) all r) k);
+    }

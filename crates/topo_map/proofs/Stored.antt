@@ -1,0 +1,194 @@
+-- Segments that are stored by themselves, and those that are taken out.
+use Rattle.std.proofs.Common.{◌≡◌, ◌≢◌, ℕ, ◌+◌, ◌-◌, ◌*◌, ◌/◌, ◌%◌, ◌<◌, ◌≤◌, ◌==◌, Bool, true, false, cond, ◌⊎◌, inl, inr, refl, sym, ◌∙◌, ap, subst, arith, Option, Some, None, is_some, nat_le}
+use Rattle.std.proofs.lemmas.Bool.{cases_Bool, cases_eq, cond-true, cond-false, eq-eqb, ne_eqb, leb-true}
+use Rattle.std.specs.Option.{option_map}
+use Rattle.slab.specs.Slab.{Slab, get, slab_len, with_value, Updates}
+use Rattle.topo_core.specs.Rotations.{twin}
+use Rattle.topo_perm.specs.Joins.{AddsSegment}
+use Rattle.topo_perm.proofs.Walks.{twin-cases}
+use Rattle.topo_map.specs.Rotation.{Turns, turned, turn_in, half_limit}
+use Rattle.topo_map.specs.Segments.{shown, holds, next_in, before_in, nexts, befores, room_of, isolated_segment, AreInverse, IsKept, IsInserted, IsRemoved}
+use Rattle.topo_map.specs.declared.segments.Segment.{Segment}
+use Rattle.topo_map.proofs.Maps.{funext}
+use Rattle.topo_map.proofs.Slots.{turn_at, live_at, updates, same_len}
+
+pub limit-is : half_limit ≡ 4294967296
+unfolding half_limit
+limit-is = refl
+
+-- ---- Room
+
+pub true_false : true ≡ false → ⊥
+true_false e = cc
+
+abbrev room_at : ℕ → ℕ → ℕ
+room_at cap len = cond (nat_le cap 2147483648) (cap - len) 0
+
+record HasRoom (cap len : ℕ) : Type 0 where
+  narrow : cap ≤ 2147483648
+  below : len + 1 ≤ cap
+
+has_room : (cap len : ℕ) → 0 < room_at cap len → HasRoom cap len
+has_room cap len h = elim (cases_Bool (nat_le cap 2147483648)) [
+  | inl t ↦
+      let e : room_at cap len ≡ cap - len = cond-true _ _ _ t in
+      record { narrow = leb-true cap 2147483648 t; below = omega arith }
+  | inr f ↦
+      let e : room_at cap len ≡ 0 = cond-false _ _ _ f in
+      absurd (omega arith)
+]
+
+room_less : (cap len cap' len' : ℕ) → 0 < room_at cap len → cap' ≡ cap → len' ≡ len + 1 → room_at cap' len' + 1 ≡ room_at cap len
+room_less cap len cap' len' h ec el = elim (cases_Bool (nat_le cap 2147483648)) [
+  | inl t ↦
+      let e : room_at cap len ≡ cap - len = cond-true _ _ _ t in
+      let d : room_at cap' len' ≡ cap' - len' = cond-true _ _ _ (ap (λ (n : ℕ). nat_le n 2147483648) ec ∙ t) in
+      omega arith
+  | inr f ↦
+      let e : room_at cap len ≡ 0 = cond-false _ _ _ f in
+      absurd (omega arith)
+]
+
+record Frees (cap len cap' len' : ℕ) : Type 0 where
+  never_less : room_at cap len ≤ room_at cap' len'
+  one_more : 0 < room_at cap len → room_at cap' len' ≡ room_at cap len + 1
+
+room_more : (cap len cap' len' : ℕ) → cap' ≡ cap → len' + 1 ≡ len → Frees cap len cap' len'
+room_more cap len cap' len' ec el = elim (cases_Bool (nat_le cap 2147483648)) [
+  | inl t ↦
+      let e : room_at cap len ≡ cap - len = cond-true _ _ _ t in
+      let d : room_at cap' len' ≡ cap' - len' = cond-true _ _ _ (ap (λ (n : ℕ). nat_le n 2147483648) ec ∙ t) in
+      record { never_less = omega arith; one_more = λ h. omega arith }
+  | inr f ↦
+      let e : room_at cap len ≡ 0 = cond-false _ _ _ f in
+      record { never_less = omega arith; one_more = λ h. absurd (omega arith) }
+]
+
+-- ---- The two halves at a key
+
+pub twin-key : (a : ℕ) → twin a / 2 ≡ a / 2
+twin-key a = elim (twin-cases a) [
+  | inl w ↦ let e : twin a ≡ a + 1 = w.1 in let d : a % 2 ≡ 0 = w.0 in omega arith
+  | inr w ↦ let e : twin a ≡ a - 1 = w.1 in let d : a % 2 ≢ 0 = w.0 in omega arith
+]
+
+one_of_two : (a x : ℕ) → a / 2 ≡ x / 2 → (a ≡ x) ⊎ (a ≡ twin x)
+one_of_two a x e = elim (cases_eq a x) [
+  | inl same ↦ inl same
+  | inr ne ↦ inr (elim (twin-cases x) [
+    | inl w ↦ let d : twin x ≡ x + 1 = w.1 in let z : x % 2 ≡ 0 = w.0 in omega arith
+    | inr w ↦ let d : twin x ≡ x - 1 = w.1 in let z : x % 2 ≢ 0 = w.0 in omega arith
+  ])
+]
+
+adds : (live live' : ℕ → Bool) (n key x : ℕ) → x / 2 ≡ key → ((a : ℕ) → a / 2 ≡ key → live a ≡ false) → ((a : ℕ) → a / 2 ≡ key → live' a ≡ true) → ((a : ℕ) → a / 2 ≢ key → live' a ≡ live a) → AddsSegment live live' n x
+adds live live' n key x e none some others = record {
+  new = none x e;
+  new_twin = none (twin x) (twin-key x ∙ e);
+  here = some x e;
+  here_twin = some (twin x) (twin-key x ∙ e);
+  others = λ a la nx nt. others a (λ w. elim (one_of_two a x (w ∙ sym e)) [ inl p ↦ nx p | inr p ↦ nt p ]);
+}
+
+-- ---- A slot that changes
+
+live-there : (s new : Slab Segment) (key : ℕ) (slot : Option Segment) → Updates s new key slot → (a : ℕ) → a / 2 ≡ key → holds new a ≡ is_some slot
+live-there s new key slot u a e = live_at nexts new a ∙ ap (λ (k : ℕ). is_some (get new k)) e ∙ ap is_some u.changed
+
+live-else : (s new : Slab Segment) (key : ℕ) (slot : Option Segment) → Updates s new key slot → (a : ℕ) → a / 2 ≢ key → holds new a ≡ holds s a
+live-else s new key slot u a ne = live_at nexts new a ∙ ap is_some (u.others (a / 2) ne) ∙ sym (live_at nexts s a)
+
+live-was : (s : Slab Segment) (key : ℕ) (slot : Option Segment) → get s key ≡ slot → (a : ℕ) → a / 2 ≡ key → holds s a ≡ is_some slot
+live-was s key slot g a e = live_at nexts s a ∙ ap (λ (k : ℕ). is_some (get s k)) e ∙ ap is_some g
+
+same_turn : (pick : Segment → Turns) (s new : Slab Segment) (key : ℕ) (slot : Option Segment) → Updates s new key slot → ((a : ℕ) → a / 2 ≡ key → turned a (option_map pick slot) ≡ a) → ((a : ℕ) → a / 2 ≡ key → turn_in (shown pick s) a ≡ a) → turn_in (shown pick new) ≡ turn_in (shown pick s)
+same_turn pick s new key slot u after before = funext (turn_in (shown pick new)) (turn_in (shown pick s)) (λ a. elim (cases_eq (a / 2) key) [
+  | inl e ↦ turn_at pick new a ∙ ap (λ (k : ℕ). turned a (option_map pick (get new k))) e ∙ ap (λ (o : Option Segment). turned a (option_map pick o)) u.changed ∙ after a e ∙ sym (before a e)
+  | inr ne ↦ turn_at pick new a ∙ ap (λ (o : Option Segment). turned a (option_map pick o)) (u.others (a / 2) ne) ∙ sym (turn_at pick s a)
+])
+
+turn-none : (pick : Segment → Turns) (s : Slab Segment) (key : ℕ) → get s key ≡ None → (a : ℕ) → a / 2 ≡ key → turn_in (shown pick s) a ≡ a
+turn-none pick s key g a e = turn_at pick s a ∙ ap (λ (k : ℕ). turned a (option_map pick (get s k))) e ∙ ap (λ (o : Option Segment). turned a (option_map pick o)) g
+
+by_itself : (a key : ℕ) → a / 2 ≡ key → cond (a % 2 == 0) (2 * key) (2 * key + 1) ≡ a
+by_itself a key e = elim (cases_eq (a % 2) 0) [
+  | inl z ↦ cond-true _ _ _ (eq-eqb _ _ z) ∙ (let w : 2 * key ≡ a = omega arith in w)
+  | inr z ↦ cond-false _ _ _ (ne_eqb _ _ z) ∙ (let w : 2 * key + 1 ≡ a = omega arith in w)
+]
+
+inverse-same : (f b f' b' : ℕ → ℕ) → f' ≡ f → b' ≡ b → AreInverse f b → AreInverse f' b'
+inverse-same f b f' b' e d k = subst (λ (g : ℕ → ℕ). AreInverse g b') (sym e) (subst (λ (g : ℕ → ℕ). AreInverse f g) (sym d) k)
+
+-- ---- The two changes
+
+-- the key of a new segment, and what the slab says of it
+pub record IsNewAt (s new : Slab Segment) (key : ℕ) : Type 0 where
+  pub free : get s key ≡ None
+  pub updates : Updates s new key (Some (isolated_segment key))
+  pub len : slab_len new ≡ slab_len s + 1
+  pub capacity : new.capacity ≡ s.capacity
+  pub below : key < s.capacity
+
+pub inserted : (s new : Slab Segment) (key x : ℕ) → IsKept s → 0 < room_of s → IsNewAt s new key → 2 * key ≡ x → IsInserted s new x
+inserted s new key x k room i ex =
+    let kx : x / 2 ≡ key = omega arith in
+    let r : HasRoom s.capacity (slab_len s) = has_room s.capacity (slab_len s) room in
+    let narrow : s.capacity ≤ 2147483648 = r.narrow in
+    let below : key < s.capacity = i.below in
+    let lim : half_limit ≡ 4294967296 = limit-is in
+    let f : next_in new ≡ next_in s = same_turn nexts s new key (Some (isolated_segment key)) i.updates (λ a e. by_itself a key e) (turn-none nexts s key i.free) in
+    let b : before_in new ≡ before_in s = same_turn befores s new key (Some (isolated_segment key)) i.updates (λ a e. by_itself a key e) (turn-none befores s key i.free) in
+    record {
+      next = f;
+      within = omega arith;
+      live = adds (holds s) (holds new) half_limit key x kx (live-was s key None i.free) (live-there s new key (Some (isolated_segment key)) i.updates) (live-else s new key (Some (isolated_segment key)) i.updates);
+      room = room_less s.capacity (slab_len s) new.capacity (slab_len new) room i.capacity i.len;
+      kept = record {
+        inverse = inverse-same (next_in s) (before_in s) (next_in new) (before_in new) f b k.inverse;
+        within = λ a h. elim (cases_eq (a / 2) key) [
+          | inl e ↦ let l : a < half_limit = omega arith in l
+          | inr ne ↦ k.within a (sym (live-else s new key (Some (isolated_segment key)) i.updates a ne) ∙ h)
+        ];
+      };
+    }
+
+pub record IsGoneAt (s new : Slab Segment) (key : ℕ) (seg : Segment) : Type 0 where
+  pub was : get s key ≡ Some seg
+  pub updates : Updates s new key None
+  pub len : slab_len new + 1 ≡ slab_len s
+  pub capacity : new.capacity ≡ s.capacity
+
+pub removed : (s new : Slab Segment) (key x : ℕ) (seg : Segment) → IsKept s → next_in s x ≡ x → next_in s (twin x) ≡ twin x → IsGoneAt s new key seg → x / 2 ≡ key → IsRemoved s new x
+removed s new key x seg k alone twin_alone i kx =
+    let fixed : (a : ℕ) → a / 2 ≡ key → next_in s a ≡ a = λ a e. elim (one_of_two a x (e ∙ sym kx)) [
+      | inl p ↦ ap (next_in s) p ∙ alone ∙ sym p
+      | inr p ↦ ap (next_in s) p ∙ twin_alone ∙ sym p
+    ] in
+    let f : next_in new ≡ next_in s = same_turn nexts s new key None i.updates (λ a e. refl) fixed in
+    let b : before_in new ≡ before_in s = same_turn befores s new key None i.updates (λ a e. refl) (λ a e. ap (before_in s) (sym (fixed a e)) ∙ k.inverse.back a) in
+    let r : Frees s.capacity (slab_len s) new.capacity (slab_len new) = room_more s.capacity (slab_len s) new.capacity (slab_len new) i.capacity i.len in
+    record {
+      next = f;
+      live = adds (holds new) (holds s) half_limit key x kx (live-there s new key None i.updates) (live-was s key (Some seg) i.was) (λ a ne. sym (live-else s new key None i.updates a ne));
+      room = r.never_less;
+      freed = r.one_more;
+      kept = record {
+        inverse = inverse-same (next_in s) (before_in s) (next_in new) (before_in new) f b k.inverse;
+        within = λ a h. elim (cases_eq (a / 2) key) [
+          | inl e ↦ absurd (true_false (sym h ∙ live-there s new key None i.updates a e))
+          | inr ne ↦ k.within a (sym (live-else s new key None i.updates a ne) ∙ h)
+        ];
+      };
+    }
+
+-- stored, and then written again at its key
+pub two_writes : (s mid : Slab Segment) (key : ℕ) (blank seg : Segment) → get s key ≡ None → Updates s mid key (Some blank) → seg ≡ isolated_segment key → slab_len mid ≡ slab_len s + 1 → mid.capacity ≡ s.capacity → key < mid.capacity → IsNewAt s (with_value mid key seg) key
+two_writes s mid key blank seg free u e len cap below =
+    let v : Updates mid (with_value mid key seg) key (Some seg) = updates mid key blank seg u.changed in
+    record {
+      free = free;
+      updates = record { changed = v.changed ∙ ap Some e; others = λ other ne. v.others other ne ∙ u.others other ne };
+      len = same_len mid key blank seg u.changed ∙ len;
+      capacity = cap;
+      below = subst (λ (n : ℕ). key < n) cap below;
+    }

@@ -1,0 +1,24 @@
+use Rattle.std.proofs.Common.{ap, ◌∙◌, subst}
+use Rattle.topo_core.specs.Edits.{IsHang}
+use Rattle.topo_map.specs.Rotation.{Rotation, Grows, half_limit, turn, is_live}
+use Rattle.topo_map.specs.Segments.{view_of}
+use Rattle.topo_map.proofs.Steps.{IsHung, alone, hung}
+use Rattle.topo_map.proofs.embedding.Embedding.hang.Goals as goal
+
+pub put_before-requires-clause-alone : goal.put_before-requires-clause-alone
+put_before-requires-clause-alone c = alone c.self.inside.segments c.insert_isolated-x.new.segments c.insert_isolated-x.result (record { sound = c.self.invariant; inserted = c.insert_isolated-x.ensures })
+
+done : (c : goal.After-put_before) → IsHung c.self.inside.segments c.put_before.new.segments c.args.c c.insert_isolated-x.result
+done c = hung c.self.inside.segments c.insert_isolated-x.new.segments c.put_before.new.segments c.args.c c.insert_isolated-x.result
+    (record { sound = c.self.invariant; inserted = c.insert_isolated-x.ensures })
+    (ap (λ (r : Rotation). is_live r c.args.c) c.self.view_is ∙ c.requires.live)
+    c.put_before.ensures
+
+pub invariant_of-self : goal.invariant_of-self
+invariant_of-self c = (done c).added.sound
+
+pub returns-clause-edit : goal.returns-clause-edit
+returns-clause-edit c = subst (λ (r : Rotation). IsHang (turn r) (turn (view_of c.put_before.new.segments)) half_limit c.args.c c.insert_isolated-x.result) c.self.view_is (done c).allowed.edit
+
+pub returns-clause-grows : goal.returns-clause-grows
+returns-clause-grows c = subst (λ (r : Rotation). Grows r (view_of c.put_before.new.segments) c.insert_isolated-x.result 1 0) c.self.view_is (done c).added.grows

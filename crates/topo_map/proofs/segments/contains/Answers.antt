@@ -1,0 +1,15 @@
+use Rattle.std.proofs.Common.{◌≡◌, Bool, true, false, ℕ, refl, sym, ◌∙◌, ap, is_some}
+use Rattle.slab.specs.Slab.{get}
+use Rattle.topo_map.specs.Segments.{nexts}
+use Rattle.topo_map.proofs.Slots.{key-at, live_at}
+use Rattle.topo_map.proofs.segments.contains.Goals as goal
+
+same_test : (a b : Bool) → (a ≡ true → b ≡ true) → (b ≡ true → a ≡ true) → a ≡ b
+same_test true b p q = sym (p refl)
+same_test false true p q = q refl
+same_test false false p q = refl
+
+pub returns : goal.returns
+returns c =
+    same_test c.contains.result (is_some (get c.args.segments.now c.half.inside.key)) c.contains.ensures.0 c.contains.ensures.1
+    ∙ sym (live_at nexts c.args.segments.now c.args.half ∙ ap (λ (k : ℕ). is_some (get c.args.segments.now k)) (key-at c.half.inside.key c.half.inside.way c.args.half c.half.view_is))

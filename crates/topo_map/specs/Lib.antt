@@ -1,0 +1,5 @@
+pub mod Halves
+pub mod HalfInverse
+pub mod Rotation
+pub mod Segments
+pub mod Building

@@ -1,0 +1,111 @@
+-- What a contract sees of an embedding: which halves are live, how they turn, and the room for more segments.
+-- A half is a number: 2 * key and 2 * key + 1 are the two of the segment at a key.
+use Rattle.std.specs.Prelude.{◌≡◌, ◌≢◌, ℕ, ◌+◌, ◌*◌, ◌/◌, ◌%◌, ◌<◌, ◌≤◌, ◌==◌, Bool, true, cond, List, length, Option, Some, None, is_some, slice_index_or}
+use Rattle.topo_core.specs.Cycles.{after, map_of, cycles_of}
+use Rattle.topo_core.specs.Rotations.{twin, face_next, faces_of, IsConnected}
+use Rattle.topo_perm.specs.Joins.{IsConnectedAmong, AddsSegment}
+use Rattle.topo_perm.specs.Renumbering.{RenumbersTurn}
+use Rattle.topo_perm.specs.Live.{IsSlab, live_cycle_count, live_segments}
+
+-- the halves that follow the two of a segment, clockwise at their points
+pub record Turns : Type 0 where
+  pub forward : ℕ
+  pub back : ℕ
+
+-- at each key the turns of a segment or nothing, and how many segments can be added with no memory taken
+pub record Rotation : Type 0 where
+  pub slots : List (Option Turns)
+  pub room : ℕ
+
+-- the half that follows a; at a slot with no segment a itself
+abbrev pub turned : ℕ → Option Turns → ℕ
+turned a None = a
+turned a (Some t) = cond (a % 2 == 0) t.forward t.back
+
+unfoldable pub turn_in : List (Option Turns) → ℕ → ℕ
+turn_in slots a = turned a (slice_index_or slots (a / 2) None)
+
+unfoldable pub live_in : List (Option Turns) → ℕ → Bool
+live_in slots a = is_some (slice_index_or slots (a / 2) None)
+
+-- the next half clockwise
+abbrev pub turn : Rotation → ℕ → ℕ
+turn r = turn_in r.slots
+
+-- whether a number is a half of a segment
+abbrev pub is_live : Rotation → ℕ → Bool
+is_live r = live_in r.slots
+
+-- above all halves. It is a name and no numeral, since counts run up to it
+unfoldable pub half_limit : ℕ
+half_limit = 4294967296
+
+-- ---- What is counted
+
+abbrev pub points : Rotation → ℕ
+points r = live_cycle_count (is_live r) (turn r) half_limit
+
+abbrev pub segments : Rotation → ℕ
+segments r = live_segments (is_live r) half_limit
+
+abbrev pub faces : Rotation → ℕ
+faces r = live_cycle_count (is_live r) (face_next (turn r)) half_limit
+
+-- ---- What always holds
+
+-- a turn of halves, in which what is not live is isolated
+pub record IsWhole (live : ℕ → Bool) (f : ℕ → ℕ) : Type 0 where
+  pub slab : IsSlab live f half_limit
+  pub within : (a : ℕ) → live a ≡ true → a < half_limit
+
+abbrev pub IsEmbedding : Rotation → Type 0
+IsEmbedding r = IsWhole (is_live r) (turn r)
+
+-- any two live halves are joined
+abbrev pub HangsTogether : Rotation → Type 0
+HangsTogether r = IsConnectedAmong (is_live r) (turn r) half_limit
+
+-- ---- What an edit adds or takes
+
+-- the segment of x is new and takes one place of the room, and there are so many points and faces more
+pub record Grows (old new : Rotation) (x more_points more_faces : ℕ) : Type 0 where
+  pub within : x < half_limit
+  pub live : AddsSegment (is_live old) (is_live new) half_limit x
+  pub stays : (a : ℕ) → is_live old a ≡ true → is_live new a ≡ true
+  pub points_more : points new ≡ points old + more_points
+  pub segments_more : segments new ≡ segments old + 1
+  pub faces_more : faces new ≡ faces old + more_faces
+  pub room_less : new.room + 1 ≡ old.room
+  pub embedding : IsEmbedding new
+  pub connected : HangsTogether old → HangsTogether new
+
+-- the segment of x is gone and leaves its place to another, and there are so many points and faces fewer
+pub record Shrinks (old new : Rotation) (x fewer_points fewer_faces : ℕ) : Type 0 where
+  pub live : AddsSegment (is_live new) (is_live old) half_limit x
+  pub stays : (a : ℕ) → a ≢ x → a ≢ twin x → is_live old a ≡ true → is_live new a ≡ true
+  pub points_fewer : points new + fewer_points ≡ points old
+  pub segments_fewer : segments new + 1 ≡ segments old
+  pub faces_fewer : faces new + fewer_faces ≡ faces old
+  pub room_kept : old.room ≤ new.room
+  pub room_more : 0 < old.room → new.room ≡ old.room + 1
+  pub embedding : IsEmbedding new
+  pub connected : HangsTogether old → HangsTogether new
+
+-- k steps, and no fewer, lead round the point of a
+pub record IsDegree (r : Rotation) (a k : ℕ) : Type 0 where
+  pub some : 0 < k
+  pub back : after (turn r) k a ≡ a
+  pub least : (j : ℕ) → 0 < j → j < k → after (turn r) j a ≢ a
+
+-- ---- Built from a list of turns
+
+-- the halves stand for the places of the turns, in order, and turn as these say; there are no others
+pub record IsMadeFrom (turns halves : List ℕ) (r : Rotation) : Type 0 where
+  pub same_length : length halves ≡ length turns
+  pub place_of : ℕ → ℕ
+  pub renumbers : RenumbersTurn (map_of halves) place_of (map_of turns) (turn r) (length turns) (is_live r) half_limit
+  pub points_all : points r ≡ cycles_of turns
+  pub segments_all : 2 * segments r ≡ length turns
+  pub faces_all : faces r ≡ faces_of turns
+  pub embedding : IsEmbedding r
+  pub connected : IsConnected turns → HangsTogether r

@@ -1,0 +1,44 @@
+//! The segments of a list of turns.
+
+ghost use Rattle.std.specs.Prelude.{◌≡◌, ◌+◌, ◌*◌, ◌%◌, ◌<◌, ◌≤◌, [], ◌++◌, ◌∷◌, true, length, slice_index, IfOk};
+ghost use Rattle.topo_core.specs.Cycles.{IsPermutationList, map_of};
+ghost use Rattle.topo_core.specs.Rotations.{twin};
+ghost use Rattle.topo_map.specs.Building.{AreAlone, IsJoined};
+ghost use Rattle.topo_map.specs.Segments.{IsKept, holds, next_in, room_of};
+
+use crate::half::Half;
+use crate::segments::{self, Segment, insert_isolated, link};
+use slab::Slab;
+use std::alloc::{AllocError, Global};
+
+/// So many segments, each half a point by itself, and their halves.
+pub(crate) fn isolated_halves(
+    alloc: Global,
+    segments: &mut Slab<Segment>,
+    count: usize,
+) -> Result<Vec<Half>, AllocError>
+    requires { segments.old.slots ≡ [] }
+    ensures length { IfOk result (λ halves. length halves.items ≡ 2 * count) }
+    ensures alone { IfOk result (λ halves. AreAlone segments.new halves.items) }
+{
+    segments::reserve(segments, count)?;
+    let mut halves: Vec<Half> = Vec::new(alloc);
+    for _segment in 0..count {
+        let half = insert_isolated(segments);
+        halves.push(half)?;
+        halves.push(half.twin())?;
+    }
+    Ok(halves)
+}
+
+/// Each half is followed by that of its turn.
+pub(crate) fn join_turns(segments: &mut Slab<Segment>, halves: &[Half], turns: &[u32])
+    requires permutation { IsPermutationList turns.now }
+    requires same_length { length halves.now ≡ length turns.now }
+    requires alone { AreAlone segments.old halves.now }
+    ensures { IsJoined segments.new halves.now turns.now }
+{
+    for place in 0..turns.len() {
+        link(segments, halves[place], halves[turns[place] as usize]);
+    }
+}

@@ -1,0 +1,244 @@
+//! The embedding and its edits.
+
+ghost use Rattle.std.specs.Prelude.{◌≡◌, ◌≢◌, ◌↔◌, ◌%◌, [], ◌∷◌, length, ◌<◌, ◌≤◌, true, IsTrue, IsOk, IfOk, OnOk};
+ghost use Rattle.topo_core.specs.Cycles.{IsPermutationList, SameCycle};
+ghost use Rattle.topo_core.specs.Edits.{IsChord, IsHang, IsSmooth, IsSplit, IsUnchord};
+ghost use Rattle.topo_core.specs.Rotations.{face_next, twin};
+ghost use Rattle.topo_map.specs.Rotation.{Grows, IsDegree, IsEmbedding, IsMadeFrom, Shrinks, half_limit, is_live, turn};
+
+use crate::build::{isolated_halves, join_turns};
+use crate::half::Half;
+use crate::segments::{
+    self, Segment, insert_isolated, next, put_before, remove_isolated, take_out,
+};
+use slab::Slab;
+use std::alloc::{AllocError, Global};
+use std::marker::Model;
+
+/// Above the numbers of all halves.
+const HALF_LIMIT: u64 = 4_294_967_296;
+
+/// A graph on closed surfaces: segments between points, and round each point its halves in clockwise
+/// order.
+#[derive(Drop)]
+pub struct Embedding {
+    segments: Slab<Segment>,
+}
+
+impl Model for Embedding {
+    ghost use Rattle.topo_map.specs.Rotation.{Rotation};
+
+    ghost Value = { Rotation };
+
+    ghost use Rattle.topo_map.specs.Segments.{IsKept, view_of};
+
+    ghost view = { λ e. view_of e.segments };
+
+    ghost invariant = { λ e. IsKept e.segments };
+}
+
+impl Embedding {
+    /// One segment with two points, and one of its halves.
+    pub fn seed(alloc: Global) -> Result<(Self, Half), AllocError>
+        ensures { IfOk result (λ made. IsMadeFrom (0 ∷ 1 ∷ []) (made.1 ∷ twin made.1 ∷ []) made.0) }
+    {
+        let mut segments = Slab::new(alloc);
+        segments::reserve(&mut segments, 1)?;
+        let half = insert_isolated(&mut segments);
+        Ok((Embedding { segments }, half))
+    }
+
+    /// The embedding of which `turns` are the turns, where `2i` and `2i + 1` are the two halves of one
+    /// segment, and its halves in this order.
+    pub fn from_turns(alloc: Global, turns: &[u32]) -> Result<(Self, Vec<Half>), AllocError>
+        requires permutation { IsPermutationList turns.now }
+        requires even { length turns.now % 2 ≡ 0 }
+        ensures { IfOk result (λ made. IsMadeFrom turns.now made.1.items made.0) }
+    {
+        let mut segments = Slab::new(alloc);
+        let halves = isolated_halves(alloc, &mut segments, turns.len() / 2)?;
+        join_turns(&mut segments, &halves, turns);
+        Ok((Embedding { segments }, halves))
+    }
+
+    /// How many segments can be added with no memory taken.
+    pub fn room(&self) -> usize
+        ensures { result ≡ self.now.room }
+    {
+        segments::room(&self.segments)
+    }
+
+    /// Makes room for so many more segments. An error leaves all halves as they were.
+    pub fn reserve(&mut self, more: usize) -> Result<(), AllocError>
+        ensures same { self.new.slots ≡ self.old.slots }
+        ensures room { OnOk result (more ≤ self.new.room) }
+        ensures never_less { OnOk result (self.old.room ≤ self.new.room) }
+        ensures succeeds { more ≤ self.old.room → IsOk result }
+        ensures had_room { more ≤ self.old.room → self.new ≡ self.old }
+    {
+        segments::reserve(&mut self.segments, more)
+    }
+
+    /// The same halves with the same turn, in memory of its own.
+    pub fn copy(&self) -> Result<Self, AllocError>
+        ensures { IfOk result (λ copy. copy.slots ≡ self.now.slots) }
+    {
+        Ok(Embedding {
+            segments: self.segments.clone()?,
+        })
+    }
+
+    /// What always holds, for a caller that sees the halves and their turn alone. It does nothing.
+    pub fn is_embedding(&self)
+        ensures { IsEmbedding self.now }
+    {
+        let _segments = &self.segments;
+    }
+
+    /// Whether `h` is a half of this embedding.
+    pub fn contains(&self, h: Half) -> bool
+        ensures { result ≡ is_live self.now h }
+    {
+        segments::contains(&self.segments, h)
+    }
+
+    /// The other half of the segment of `h`.
+    pub fn twin(&self, h: Half) -> Half
+        requires { is_live self.now h ≡ true }
+        ensures twin { result ≡ twin h }
+        ensures live { is_live self.now result ≡ true }
+    {
+        let _segments = &self.segments;
+        h.twin()
+    }
+
+    /// The next half clockwise at the point where `h` starts.
+    pub fn turn(&self, h: Half) -> Half
+        requires { is_live self.now h ≡ true }
+        ensures turn { result ≡ turn self.now h }
+        ensures live { is_live self.now result ≡ true }
+    {
+        next(&self.segments, h)
+    }
+
+    /// The next half along the face on the left of `h`.
+    pub fn face_next(&self, h: Half) -> Half
+        requires { is_live self.now h ≡ true }
+        ensures next { result ≡ face_next (turn self.now) h }
+        ensures live { is_live self.now result ≡ true }
+    {
+        next(&self.segments, h.twin())
+    }
+
+    /// Whether `a` and `b` lie in one face. It walks round the face of `a`.
+    pub fn same_face(&self, a: Half, b: Half) -> bool
+        requires live { is_live self.now a ≡ true }
+        requires live_other { is_live self.now b ≡ true }
+        ensures { IsTrue result ↔ SameCycle (face_next (turn self.now)) a b }
+    {
+        self.is_embedding();
+        let mut at = a;
+        for _steps in 0..HALF_LIMIT {
+            if at == b {
+                return true;
+            }
+            at = self.face_next(at);
+            if at == a {
+                return false;
+            }
+        }
+        false
+    }
+
+    /// How many halves start at the point of `h`. It walks round the point.
+    pub fn degree(&self, h: Half) -> u64
+        requires { is_live self.now h ≡ true }
+        ensures { IsDegree self.now h result }
+    {
+        self.is_embedding();
+        let mut at = self.turn(h);
+        for steps in 1..HALF_LIMIT {
+            if at == h {
+                return steps;
+            }
+            at = self.turn(at);
+        }
+        HALF_LIMIT
+    }
+
+    /// A new point on a new segment that starts in the corner before `c`. Answers the half that
+    /// leads to the point.
+    pub fn hang(&mut self, c: Half) -> Half
+        requires live { is_live self.old c ≡ true }
+        requires room { 0 < self.old.room }
+        ensures edit { IsHang (turn self.old) (turn self.new) half_limit c result }
+        ensures grows { Grows self.old self.new result 1 0 }
+    {
+        let x = insert_isolated(&mut self.segments);
+        put_before(&mut self.segments, x, c);
+        x
+    }
+
+    /// A new segment from the corner before `c` to the corner before `d`, which lie in one face.
+    /// Answers its half that starts at `c`.
+    pub fn chord(&mut self, c: Half, d: Half) -> Half
+        requires live { is_live self.old c ≡ true }
+        requires live_end { is_live self.old d ≡ true }
+        requires one_face { SameCycle (face_next (turn self.old)) c d }
+        requires room { 0 < self.old.room }
+        ensures edit { IsChord (turn self.old) (turn self.new) half_limit c d result }
+        ensures grows { Grows self.old self.new result 0 1 }
+    {
+        let start = insert_isolated(&mut self.segments);
+        put_before(&mut self.segments, start, c);
+        put_before(&mut self.segments, start.twin(), d);
+        start
+    }
+
+    /// A new point on the segment of `h`. Answers the half that goes on from it, in the direction
+    /// of `h`.
+    pub fn split(&mut self, h: Half) -> Half
+        requires live { is_live self.old h ≡ true }
+        requires room { 0 < self.old.room }
+        ensures edit { IsSplit (turn self.old) (turn self.new) half_limit h result }
+        ensures grows { Grows self.old self.new result 1 0 }
+    {
+        let end = h.twin();
+        let x = insert_isolated(&mut self.segments);
+        put_before(&mut self.segments, x.twin(), end);
+        take_out(&mut self.segments, end);
+        put_before(&mut self.segments, x, end);
+        x
+    }
+
+    /// The segment of `h` goes, and the two faces beside it become one. It is no loop alone at its
+    /// point.
+    pub fn unchord(&mut self, h: Half)
+        requires live { is_live self.old h ≡ true }
+        requires two_faces { ¬ SameCycle (face_next (turn self.old)) h (twin h) }
+        requires not_alone { turn self.old h ≡ twin h → turn self.old (twin h) ≢ h }
+        ensures edit { IsUnchord (turn self.old) (turn self.new) half_limit h }
+        ensures shrinks { Shrinks self.old self.new h 0 1 }
+    {
+        take_out(&mut self.segments, h);
+        take_out(&mut self.segments, h.twin());
+        remove_isolated(&mut self.segments, h);
+    }
+
+    /// The point where `x` starts goes, and its two segments become that of the half after `x`.
+    pub fn smooth(&mut self, x: Half)
+        requires live { is_live self.old x ≡ true }
+        requires degree_two { turn self.old (turn self.old x) ≡ x }
+        requires not_alone { turn self.old x ≢ x }
+        requires two_segments { turn self.old x ≢ twin x }
+        ensures edit { IsSmooth (turn self.old) (turn self.new) half_limit x }
+        ensures shrinks { Shrinks self.old self.new x 1 0 }
+    {
+        let other = next(&self.segments, x);
+        let end = x.twin();
+        take_out(&mut self.segments, x);
+        put_before(&mut self.segments, other, end);
+        take_out(&mut self.segments, end);
+        remove_isolated(&mut self.segments, x);
+    }
+}

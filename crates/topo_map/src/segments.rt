@@ -1,0 +1,193 @@
+//! Segments in a slab, each with the halves after and before its two. Both directions are kept, so
+//! that a half is put in or taken out in a constant number of steps.
+
+ghost use Rattle.std.specs.Prelude.{◌≡◌, ◌≢◌, ◌<◌, ◌≤◌, true, OnOk, IsOk};
+ghost use Rattle.topo_core.specs.Rotations.{twin};
+ghost use Rattle.topo_map.specs.Segments.{IsInserted, IsKept, IsRemoved, IsTurned, Rewires, before_in, holds, isolated_segment, next_in, put, room_of, without, written};
+
+use crate::half::Half;
+use slab::Slab;
+use std::alloc::AllocError;
+use topo_core::darts::Way;
+
+/// A slab of more segments is used for no new one, so that each key fits its type.
+const MOST_SEGMENTS: usize = 2_147_483_648;
+
+/// The halves after and before a half, clockwise at its point.
+#[derive(Clone, Copy)]
+pub(crate) struct Links {
+    next: Half,
+    previous: Half,
+}
+
+/// What is kept for a segment: the links of its two halves. A label of the face beside a half would
+/// stand in its links.
+#[derive(Clone, Copy)]
+pub(crate) struct Segment {
+    forward: Links,
+    back: Links,
+}
+
+impl Segment {
+    // Each half a point by itself.
+    fn isolated(key: u32) -> Self
+        ensures { result ≡ isolated_segment key }
+    {
+        let forward = Half::new(key, Way::Forward);
+        let back = Half::new(key, Way::Back);
+        Segment {
+            forward: Links {
+                next: forward,
+                previous: forward,
+            },
+            back: Links {
+                next: back,
+                previous: back,
+            },
+        }
+    }
+}
+
+/// Whether a half is one of a segment of the slab.
+pub(crate) fn contains(segments: &Slab<Segment>, half: Half) -> bool
+    ensures { result ≡ holds segments.now half }
+{
+    segments.contains(half.key as usize)
+}
+
+/// The next half clockwise.
+pub(crate) fn next(segments: &Slab<Segment>, at: Half) -> Half
+    requires { holds segments.now at ≡ true }
+    ensures { result ≡ next_in segments.now at }
+{
+    let segment = &segments[at.key as usize];
+    match at.way {
+        Way::Forward => segment.forward.next,
+        Way::Back => segment.back.next,
+    }
+}
+
+/// The next half the other way round.
+pub(crate) fn previous(segments: &Slab<Segment>, at: Half) -> Half
+    requires { holds segments.now at ≡ true }
+    ensures { result ≡ before_in segments.now at }
+{
+    let segment = &segments[at.key as usize];
+    match at.way {
+        Way::Forward => segment.forward.previous,
+        Way::Back => segment.back.previous,
+    }
+}
+
+fn set_next(segments: &mut Slab<Segment>, at: Half, to: Half)
+    requires { holds segments.old at ≡ true }
+    ensures { Rewires segments.old segments.new (written (next_in segments.old) at to) (before_in segments.old) }
+{
+    let segment = &mut segments[at.key as usize];
+    match at.way {
+        Way::Forward => segment.forward.next = to,
+        Way::Back => segment.back.next = to,
+    }
+}
+
+fn set_previous(segments: &mut Slab<Segment>, at: Half, to: Half)
+    requires { holds segments.old at ≡ true }
+    ensures { Rewires segments.old segments.new (next_in segments.old) (written (before_in segments.old) at to) }
+{
+    let segment = &mut segments[at.key as usize];
+    match at.way {
+        Way::Forward => segment.forward.previous = to,
+        Way::Back => segment.back.previous = to,
+    }
+}
+
+/// `to` follows `from`.
+pub(crate) fn link(segments: &mut Slab<Segment>, from: Half, to: Half)
+    requires from { holds segments.old from ≡ true }
+    requires to { holds segments.old to ≡ true }
+    ensures { Rewires segments.old segments.new (written (next_in segments.old) from to) (written (before_in segments.old) to from) }
+{
+    set_next(segments, from, to);
+    set_previous(segments, to, from);
+}
+
+/// `x`, a point by itself, comes to stand before `c`.
+pub(crate) fn put_before(segments: &mut Slab<Segment>, x: Half, c: Half)
+    requires kept { IsKept segments.old }
+    requires live { holds segments.old x ≡ true }
+    requires live_corner { holds segments.old c ≡ true }
+    requires alone { next_in segments.old x ≡ x }
+    requires different { c ≢ x }
+    ensures { IsTurned segments.old segments.new (put (next_in segments.old) x c) }
+{
+    let before = previous(segments, c);
+    link(segments, before, x);
+    link(segments, x, c);
+}
+
+/// `x` becomes a point by itself, and what led to it leads on.
+pub(crate) fn take_out(segments: &mut Slab<Segment>, x: Half)
+    requires kept { IsKept segments.old }
+    requires live { holds segments.old x ≡ true }
+    ensures { IsTurned segments.old segments.new (without (next_in segments.old) x) }
+{
+    let before = previous(segments, x);
+    let after = next(segments, x);
+    link(segments, before, after);
+    link(segments, x, x);
+}
+
+/// A new segment, with each half a point by itself. The slab tells the key only as it stores, so
+/// the segment is written a second time.
+pub(crate) fn insert_isolated(segments: &mut Slab<Segment>) -> Half
+    requires kept { IsKept segments.old }
+    requires room { 0 < room_of segments.old }
+    ensures { IsInserted segments.old segments.new result }
+{
+    let key = segments.insert_reserved(Segment::isolated(0));
+    segments[key] = Segment::isolated(key as u32);
+    Half::new(key as u32, Way::Forward)
+}
+
+/// The segment of `x`, each half of which is a point by itself, is gone.
+pub(crate) fn remove_isolated(segments: &mut Slab<Segment>, x: Half)
+    requires kept { IsKept segments.old }
+    requires live { holds segments.old x ≡ true }
+    requires alone { next_in segments.old x ≡ x }
+    requires twin_alone { next_in segments.old (twin x) ≡ twin x }
+    ensures { IsRemoved segments.old segments.new x }
+{
+    segments.remove(x.key as usize);
+}
+
+/// How many segments fit with no memory taken. A slab that is so large that a key might not fit its
+/// type has room for none.
+pub(crate) fn room(segments: &Slab<Segment>) -> usize
+    ensures { result ≡ room_of segments.now }
+{
+    let capacity = segments.capacity();
+    if capacity <= MOST_SEGMENTS {
+        capacity - segments.len()
+    } else {
+        0
+    }
+}
+
+/// Makes room for so many more segments.
+pub(crate) fn reserve(segments: &mut Slab<Segment>, more: usize) -> Result<(), AllocError>
+    ensures slots { segments.new.slots ≡ segments.old.slots }
+    ensures room { OnOk result (more ≤ room_of segments.new) }
+    ensures never_less { OnOk result (room_of segments.old ≤ room_of segments.new) }
+    ensures succeeds { more ≤ room_of segments.old → IsOk result }
+    ensures had_room { more ≤ room_of segments.old → segments.new ≡ segments.old }
+{
+    if more <= room(segments) {
+        return Ok(());
+    }
+    segments.reserve(more)?;
+    if segments.capacity() <= MOST_SEGMENTS {
+        Ok(())
+    } else {
+        Err(AllocError)
+    }
+}
