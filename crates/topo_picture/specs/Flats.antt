@@ -1,5 +1,5 @@
 -- The flat lists of rows: numbers of darts by edges, by crossings and round points, and what is written where.
-use Rattle.std.specs.Prelude.{◌≡◌, ℕ, ◌+◌, ◌-◌, ◌*◌, ◌==◌, cond, List, [], ◌∷◌, ◌++◌, map, flat_map, length, slice_index, slice_index_or, slice_set}
+use Rattle.std.specs.Prelude.{◌≡◌, ℕ, ◌+◌, ◌-◌, ◌*◌, ◌==◌, cond, List, [], ◌∷◌, ◌++◌, map, length, Some, slice_get, slice_index, slice_index_or, slice_set}
 use Rattle.std.specs.List.{position_or_len}
 use Rattle.topo_core.specs.declared.darts.Sign.{Sign}
 use Rattle.topo_core.specs.declared.darts.Sign.TheVariants.{LeftToRight, RightToLeft}
@@ -58,11 +58,13 @@ abbrev pub round_ahead : Sign → ℕ → ℕ → List ℕ
 round_ahead LeftToRight crossed newcomer = crossed ∷ newcomer ∷ (crossed - 1) ∷ (newcomer - 1) ∷ []
 round_ahead RightToLeft crossed newcomer = crossed ∷ (newcomer - 1) ∷ (crossed - 1) ∷ newcomer ∷ []
 
--- for each crossing the numbers of the darts ahead of it, on the crossed edge and on the newcomer
-abbrev pub ahead_numbers : Rows → List ℕ
-ahead_numbers rows = flat_map (λ x. index_of rows (ahead rows x.crossed x.id) ∷ index_of rows (ahead rows x.newcomer x.id) ∷ []) rows.crossings
+-- for each crossing the numbers of the darts ahead of it: at 2p on the crossed edge of crossing p, and at 2p + 1 on the newcomer
+pub record AreAhead (rows : Rows) (numbers : List ℕ) : Type 0 where
+  pub as_many : length numbers ≡ 2 * length rows.crossings
+  pub crossed : (p : ℕ) (x : CrossRow) → slice_get rows.crossings p ≡ Some x → slice_index numbers (2 * p) ≡ index_of rows (ahead rows x.crossed x.id)
+  pub newcomer : (p : ℕ) (x : CrossRow) → slice_get rows.crossings p ≡ Some x → slice_index numbers (2 * p + 1) ≡ index_of rows (ahead rows x.newcomer x.id)
 
 -- the lists hold what they should of the rows
-pub record AreListsOf (rows : Rows) (images : List ℕ) : Type 0 where
+pub record AreListsOf (rows : Rows) (turns : List ℕ) : Type 0 where
   pub well_formed : IsWellFormed rows
-  pub images : images ≡ turn_images rows
+  pub images : turns ≡ turn_images rows

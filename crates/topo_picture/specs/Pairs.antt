@@ -1,12 +1,12 @@
--- Which items stand in which lists, as pairs of a list's name and an item: once as they stand, and once as they should.
+-- Which edges meet which crossings and vertices, as pairs: once as the lists have them, and once as they should.
 use Rattle.std.specs.Prelude.{ℕ, ◌+◌, ◌*◌, ◌==◌, ◌≢◌, Bool, not, List, [], ◌∷◌, ◌++◌, map, flat_map, ◌&&◌, nat_lt, nat_le, slice_index_or, length}
 use Rattle.std.specs.List.{list_all, list_any}
 use Rattle.topo_core.specs.declared.rows.EdgeRow.{EdgeRow}
 use Rattle.topo_core.specs.declared.rows.CrossRow.{CrossRow}
 
--- a pair of two 32-bit numbers as one number
+-- a pair of an edge and a crossing or a vertex, as one number
 abbrev pub pair : ℕ → ℕ → ℕ
-pair group item = group * 4294967296 + item
+pair e x = e * 4294967296 + x
 
 -- each edge with each crossing on its path, as the paths have them
 abbrev pub path_pairs : List EdgeRow → List ℕ
@@ -16,14 +16,14 @@ path_pairs edges = flat_map (λ row. map (pair row.id) row.crossings) edges
 abbrev pub crossing_pairs : List CrossRow → List ℕ
 crossing_pairs crossings = flat_map (λ x. pair x.crossed x.id ∷ pair x.newcomer x.id ∷ []) crossings
 
--- each vertex with each edge in its list, as the lists from that of vertex v on have them
+-- each edge with each vertex in whose list it stands, as the lists from that of vertex v on have them
 abbrev pub rotation_pairs : ℕ → List (List ℕ) → List ℕ
 rotation_pairs v [] = []
-rotation_pairs v (around ∷ rest) = map (pair v) around ++ rotation_pairs (v + 1) rest
+rotation_pairs v (around ∷ rest) = map (λ e. pair e v) around ++ rotation_pairs (v + 1) rest
 
--- each vertex with each edge in its list, as the ends of the edges want them
+-- each edge with its ends
 abbrev pub end_pairs : List EdgeRow → List ℕ
-end_pairs edges = flat_map (λ row. pair row.a row.id ∷ pair row.b row.id ∷ []) edges
+end_pairs edges = flat_map (λ row. pair row.id row.a ∷ pair row.id row.b ∷ []) edges
 
 -- the ends of an edge are two of n vertices, its kind is known, and its path names these crossings alone
 abbrev pub is_path_over : ℕ → List ℕ → EdgeRow → Bool

@@ -1,13 +1,12 @@
 //! The tests of rows that say whether they are an embedding, each in little more than linear time.
 
-ghost use Rattle.std.specs.Prelude.{◌≡◌, ◌*◌, ◌≤◌, ◌^◌, ◌<◌, IfOk, IsTrue, true, length, map};
+ghost use Rattle.std.specs.Prelude.{◌≡◌, ◌*◌, ◌^◌, ◌<◌, ◌==◌, ◌&&◌, ◌↔◌, ℕ, IfOk, IsTrue, true, not, length, map};
 ghost use Rattle.std.specs.List.{list_any, list_all};
-ghost use Rattle.std.specs.Prelude.{◌==◌, not};
-ghost use Rattle.std.specs.List.Sorted.{IsNonDecreasing};
-ghost use Rattle.topo_core.specs.Items.{rises_below};
+ghost use Rattle.std.specs.List.Sorted.{IsNonDecreasing, IsPermutation};
+ghost use Rattle.topo_core.specs.Items.{occurrences, rises_below};
 ghost use Rattle.topo_core.specs.Lawful.{has_good_paths, has_good_crossings, has_good_rotations};
 ghost use Rattle.topo_picture.specs.Loading.{fits};
-ghost use Rattle.topo_picture.specs.Pairs.{begins_with_least, is_path_over, path_pairs};
+ghost use Rattle.topo_picture.specs.Pairs.{begins_with_least, crossing_pairs, end_pairs, is_path_over, path_pairs, rotation_pairs};
 
 use crate::pairs::{crossing_pairs, end_pairs, hold_the_same, path_pairs, rotation_pairs};
 use std::alloc::{AllocError, Global};
@@ -50,12 +49,7 @@ fn has_numbers(numbers: &[u32], xs: &[u32]) -> bool
     requires { IsNonDecreasing numbers.now }
     ensures { result ≡ list_all (λ x. list_any (λ y. y == x) numbers.now) xs.now }
 {
-    for x in xs {
-        if !has_number(numbers, *x) {
-            return false;
-        }
-    }
-    true
+    xs.iter().all(|x| has_number(numbers, *x))
 }
 
 /// Whether an edge has two vertices for its ends, a kind that is known, and a path of crossings that
@@ -76,12 +70,7 @@ fn are_paths_over(vertices: usize, ids: &[u32], edges: &[EdgeRow]) -> bool
     requires { IsNonDecreasing ids.now }
     ensures { result ≡ list_all (is_path_over vertices ids.now) edges.now }
 {
-    for row in edges {
-        if !is_path_over(vertices, ids, row) {
-            return false;
-        }
-    }
-    true
+    edges.iter().all(|row| is_path_over(vertices, ids, row))
 }
 
 /// The ids of edges.
@@ -98,18 +87,34 @@ pub(crate) fn crossing_ids(alloc: Global, crossings: &[CrossRow]) -> Result<Vec<
     crossings.iter().map(|row| row.id).collect(alloc)
 }
 
+/// Whether the ids of edges rise and stay below the next.
+fn edge_ids_rise(alloc: Global, rows: &Rows) -> Result<bool, AllocError>
+    ensures { IfOk result (λ yes. yes ≡ rises_below rows.now.next_edge (map (λ row. row.id) rows.now.edges)) }
+{
+    let ids = edge_ids(alloc, rows.edges.as_slice())?;
+    Ok(rise_below(rows.next_edge, ids.as_slice()))
+}
+
+/// The ids of crossings, in order.
+fn sorted_ids(alloc: Global, crossings: &[CrossRow]) -> Result<Vec<u32>, AllocError>
+    ensures sorted { IfOk result (λ ids. IsNonDecreasing ids.items) }
+    ensures permutation { IfOk result (λ ids. IsPermutation (map (λ x. x.id) crossings.now) ids.items) }
+{
+    let mut ids = crossing_ids(alloc, crossings)?;
+    ids.sort_unstable();
+    Ok(ids)
+}
+
 /// Whether the paths are good.
 pub(crate) fn are_paths_good(alloc: Global, rows: &Rows) -> Result<bool, AllocError>
     ensures { IfOk result (λ yes. yes ≡ has_good_paths rows.now) }
 {
-    let edges = rows.edges.as_slice();
-    let ids = edge_ids(alloc, edges)?;
-    if !rise_below(rows.next_edge, ids.as_slice()) {
+    if !edge_ids_rise(alloc, rows)? {
         return Ok(false);
     }
-    let mut known = crossing_ids(alloc, rows.crossings.as_slice())?;
-    known.sort_unstable();
-    Ok(are_paths_over(rows.rotations.as_slice().len(), known.as_slice(), edges))
+    let ids = sorted_ids(alloc, rows.crossings.as_slice())?;
+    let vertices = rows.rotations.as_slice().len();
+    Ok(are_paths_over(vertices, ids.as_slice(), rows.edges.as_slice()))
 }
 
 /// Whether each crossing is of two different edges.
@@ -119,6 +124,30 @@ fn differ(crossings: &[CrossRow]) -> bool
     crossings.iter().all(|row| row.crossed != row.newcomer)
 }
 
+/// Whether the ids of crossings rise and stay below the next, and each is of two different edges.
+fn rise_and_differ(alloc: Global, rows: &Rows) -> Result<bool, AllocError>
+    ensures { IfOk result (λ yes. yes ≡ (rises_below rows.now.next_crossing (map (λ x. x.id) rows.now.crossings)
+        && list_all (λ x. not (x.crossed == x.newcomer)) rows.now.crossings)) }
+{
+    let crossings = rows.crossings.as_slice();
+    let ids = crossing_ids(alloc, crossings)?;
+    Ok(rise_below(rows.next_crossing, ids.as_slice()) && differ(crossings))
+}
+
+/// Whether the paths have just the crossings that the crossings want.
+fn paths_agree(
+    alloc: Global,
+    edges: &[EdgeRow],
+    crossings: &[CrossRow],
+) -> Result<bool, AllocError>
+    ensures same { IfOk result (λ yes. IsTrue yes ↔ ((k : ℕ) → occurrences k (path_pairs edges.now) ≡ occurrences k (crossing_pairs crossings.now))) }
+    ensures as_many { IfOk result (λ yes. IsTrue yes → length (path_pairs edges.now) ≡ length (crossing_pairs crossings.now)) }
+{
+    let mut stand = path_pairs(alloc, edges)?;
+    let mut due = crossing_pairs(alloc, crossings)?;
+    Ok(hold_the_same(&mut stand, &mut due))
+}
+
 /// Whether the crossings are good, where the paths are. If they are, a path entry stands for each
 /// end of an edge at a crossing, so there are two for each crossing.
 pub(crate) fn are_crossings_good(alloc: Global, rows: &Rows) -> Result<bool, AllocError>
@@ -126,14 +155,11 @@ pub(crate) fn are_crossings_good(alloc: Global, rows: &Rows) -> Result<bool, All
     ensures good { IfOk result (λ yes. yes ≡ has_good_crossings rows.now) }
     ensures two_each { IfOk result (λ yes. IsTrue yes → length (path_pairs rows.now.edges) ≡ 2 * length rows.now.crossings) }
 {
-    let crossings = rows.crossings.as_slice();
-    let ids = crossing_ids(alloc, crossings)?;
-    if !rise_below(rows.next_crossing, ids.as_slice()) || !differ(crossings) {
+    let _next = rows.next_crossing;
+    if !rise_and_differ(alloc, rows)? {
         return Ok(false);
     }
-    let mut stand = path_pairs(alloc, rows.edges.as_slice())?;
-    let mut due = crossing_pairs(alloc, crossings)?;
-    Ok(hold_the_same(&mut stand, &mut due))
+    paths_agree(alloc, rows.edges.as_slice(), rows.crossings.as_slice())
 }
 
 /// Whether a list begins with its least number.
@@ -151,12 +177,21 @@ fn begins_with_least(around: &[u32]) -> bool
 fn begin_with_least(rotations: &[Listed<u32>]) -> bool
     ensures { result ≡ list_all begins_with_least rotations.now }
 {
-    for around in rotations {
-        if !begins_with_least(around.as_slice()) {
-            return false;
-        }
-    }
-    true
+    rotations.iter().all(|around| begins_with_least(around.as_slice()))
+}
+
+/// Whether the lists of the vertices have just the edges that have an end there.
+fn rotations_agree(
+    alloc: Global,
+    rotations: &[Listed<u32>],
+    edges: &[EdgeRow],
+) -> Result<bool, AllocError>
+    requires { length rotations.now < 2 ^ 32 }
+    ensures { IfOk result (λ yes. IsTrue yes ↔ ((k : ℕ) → occurrences k (rotation_pairs 0 rotations.now) ≡ occurrences k (end_pairs edges.now))) }
+{
+    let mut stand = rotation_pairs(alloc, rotations)?;
+    let mut due = end_pairs(alloc, edges)?;
+    Ok(hold_the_same(&mut stand, &mut due))
 }
 
 /// Whether the rotations are good, where the paths are.
@@ -169,7 +204,5 @@ pub(crate) fn are_rotations_good(alloc: Global, rows: &Rows) -> Result<bool, All
     if !begin_with_least(rotations) {
         return Ok(false);
     }
-    let mut stand = rotation_pairs(alloc, rotations)?;
-    let mut due = end_pairs(alloc, rows.edges.as_slice())?;
-    Ok(hold_the_same(&mut stand, &mut due))
+    rotations_agree(alloc, rotations, rows.edges.as_slice())
 }

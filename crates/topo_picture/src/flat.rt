@@ -5,7 +5,7 @@ ghost use Rattle.std.specs.List.{list_all, list_any, position_or_len};
 ghost use Rattle.std.specs.List.Sorted.{IsStrictlyIncreasing};
 ghost use Rattle.topo_core.specs.Lawful.{IsWellFormed, has_good_paths};
 ghost use Rattle.topo_core.specs.Picture.{segment_count, index_of, end_dart, edge_row, darts, vertices, turn_images};
-ghost use Rattle.topo_picture.specs.Flats.{begins_from, written, links, path_notes, notes_from, vertex_round, crossing_round, round_ahead, ahead_numbers};
+ghost use Rattle.topo_picture.specs.Flats.{begins_from, written, links, note_place, path_notes, notes_from, vertex_round, crossing_round, round_ahead, AreAhead};
 
 use crate::faults::{crossing_ids, edge_ids};
 use std::alloc::{AllocError, Global};
@@ -51,27 +51,43 @@ fn link_round(images: &mut [u32], round: &[u32])
     }
 }
 
+/// Where the dart ahead of crossing `x` on edge `e` is noted.
+fn note_place(crossings: &[CrossRow], ids: &[u32], e: u32, x: u32) -> usize
+    requires ids { ids.now ≡ map (λ c. c.id) crossings.now }
+    requires rise { IsStrictlyIncreasing ids.now }
+    requires there { list_any (λ y. y == x) ids.now ≡ true }
+    requires few { length crossings.now < 2 ^ 32 }
+    ensures place { result ≡ note_place crossings.now e x }
+    ensures within { result < 2 * length crossings.now }
+{
+    let place = place_of(ids, x);
+    if e == crossings[place].crossed {
+        2 * place
+    } else {
+        2 * place + 1
+    }
+}
+
 /// Notes for each crossing of a path the number of the dart ahead, where the path's first dart has
 /// the number `begin`.
 fn note_path(
     ahead: &mut [u32],
     crossings: &[CrossRow],
     ids: &[u32],
-    row: &EdgeRow,
+    e: u32,
     begin: u32,
+    path: &[u32],
 )
     requires ids { ids.now ≡ map (λ x. x.id) crossings.now }
     requires rise { IsStrictlyIncreasing ids.now }
-    requires known { (k : ℕ) → k < length row.now.crossings → list_any (λ y. y == slice_index row.now.crossings k) ids.now ≡ true }
-    requires few { begin + 2 * segment_count row.now < 2 ^ 32 }
+    requires known { list_all (λ x. list_any (λ y. y == x) ids.now) path.now ≡ true }
+    requires few { length crossings.now < 2 ^ 32 }
+    requires fits { begin + 2 * (length path.now + 1) < 2 ^ 32 }
     requires room { length ahead.old ≡ 2 * length crossings.now }
-    ensures { ahead.new ≡ written ahead.old (path_notes crossings.now row.now.id begin row.now.crossings) }
+    ensures { ahead.new ≡ written ahead.old (path_notes crossings.now e begin path.now) }
 {
-    let path = row.crossings.as_slice();
     for s in 0..path.len() {
-        let place = place_of(ids, path[s]);
-        let side = if row.id == crossings[place].crossed { 0 } else { 1 };
-        ahead[2 * place + side] = begin + 2 * s as u32 + 2;
+        ahead[note_place(crossings, ids, e, path[s])] = begin + 2 * s as u32 + 2;
     }
 }
 
@@ -80,14 +96,17 @@ fn note_paths(ahead: &mut [u32], crossings: &[CrossRow], ids: &[u32], edges: &[E
     requires ids { ids.now ≡ map (λ x. x.id) crossings.now }
     requires rise { IsStrictlyIncreasing ids.now }
     requires known { list_all (λ row. list_all (λ x. list_any (λ y. y == x) ids.now) row.crossings) edges.now ≡ true }
-    requires few { 2 * sum_by segment_count edges.now < 2 ^ 32 }
+    requires few { length crossings.now < 2 ^ 32 }
+    requires fits { 2 * sum_by segment_count edges.now < 2 ^ 32 }
     requires room { length ahead.old ≡ 2 * length crossings.now }
     ensures { ahead.new ≡ written ahead.old (notes_from crossings.now 0 edges.now) }
 {
     let mut begin = 0;
     for row in edges {
-        note_path(ahead, crossings, ids, row, begin);
-        begin += 2 * (row.crossings.as_slice().len() as u32 + 1);
+        let path = row.crossings.as_slice();
+        let next = begin + 2 * (path.len() as u32 + 1);
+        note_path(ahead, crossings, ids, row.id, begin, path);
+        begin = next;
     }
 }
 
@@ -96,7 +115,7 @@ fn ahead_of(alloc: Global, rows: &Rows) -> Result<Vec<u32>, AllocError>
     requires well_formed { IsWellFormed rows.now }
     requires few { 2 * sum_by segment_count rows.now.edges < 2 ^ 32 }
     requires crossings { length rows.now.crossings < 2 ^ 32 }
-    ensures { IfOk result (λ ahead. ahead.items ≡ ahead_numbers rows.now) }
+    ensures { IfOk result (λ ahead. AreAhead rows.now ahead.items) }
 {
     let crossings = rows.crossings.as_slice();
     let ids = crossing_ids(alloc, crossings)?;
@@ -143,6 +162,29 @@ fn push_round(
     Ok(())
 }
 
+/// Writes the turns round a vertex, and puts the numbers of the darts round it at the end.
+fn link_vertex(
+    images: &mut [u32],
+    corners: &mut Vec<u32>,
+    rows: &Rows,
+    ids: &[u32],
+    begins: &[u32],
+    v: u32,
+) -> Result<(), AllocError>
+    requires well_formed { IsWellFormed rows.now }
+    requires ids { ids.now ≡ map (λ row. row.id) rows.now.edges }
+    requires begins { begins.now ≡ begins_from 0 rows.now.edges }
+    requires vertex { v < length rows.now.rotations }
+    requires room { length images.old ≡ length (darts rows.now) }
+    ensures images { OnOk result (images.new ≡ written images.old (links (vertex_round rows.now v))) }
+    ensures corners { OnOk result (corners.new.items ≡ corners.old.items ++ vertex_round rows.now v) }
+{
+    let begin = corners.len();
+    push_round(corners, rows, ids, begins, v)?;
+    link_round(images, &corners.as_slice()[begin..]);
+    Ok(())
+}
+
 /// Writes the turns round the vertices, and keeps the numbers of the darts round them.
 fn link_vertices(
     alloc: Global,
@@ -160,9 +202,7 @@ fn link_vertices(
     let ids = edge_ids(alloc, rows.edges.as_slice())?;
     let mut corners = Vec::new(alloc);
     for v in 0..rows.rotations.as_slice().len() {
-        let begin = corners.len();
-        push_round(&mut corners, rows, ids.as_slice(), begins, v as u32)?;
-        link_round(images, &corners[begin..]);
+        link_vertex(images, &mut corners, rows, ids.as_slice(), begins, v as u32)?;
     }
     Ok(corners)
 }
@@ -186,7 +226,7 @@ fn link_crossing(images: &mut [u32], sign: Sign, crossed: u32, newcomer: u32)
 fn link_crossings(images: &mut [u32], rows: &Rows, ahead: &[u32])
     requires well_formed { IsWellFormed rows.now }
     requires crossings { length rows.now.crossings < 2 ^ 32 }
-    requires ahead { ahead.now ≡ ahead_numbers rows.now }
+    requires ahead { AreAhead rows.now ahead.now }
     requires room { length images.old ≡ length (darts rows.now) }
     ensures { images.new ≡ written images.old (flat_map (λ x. links (crossing_round rows.now x)) rows.now.crossings) }
 {
@@ -194,6 +234,27 @@ fn link_crossings(images: &mut [u32], rows: &Rows, ahead: &[u32])
     for i in 0..crossings.len() {
         link_crossing(images, crossings[i].sign, ahead[2 * i], ahead[2 * i + 1]);
     }
+}
+
+/// Writes the images of the turn.
+fn write_turns(
+    alloc: Global,
+    images: &mut [u32],
+    rows: &Rows,
+    begins: &[u32],
+) -> Result<(), AllocError>
+    requires well_formed { IsWellFormed rows.now }
+    requires begins { begins.now ≡ begins_from 0 rows.now.edges }
+    requires few { 2 * sum_by segment_count rows.now.edges < 2 ^ 32 }
+    requires vertices { length rows.now.rotations < 2 ^ 32 }
+    requires crossings { length rows.now.crossings < 2 ^ 32 }
+    requires room { length images.old ≡ length (darts rows.now) }
+    ensures { OnOk result (images.new ≡ turn_images rows.now) }
+{
+    let ahead = ahead_of(alloc, rows)?;
+    let _corners = link_vertices(alloc, images, rows, begins)?;
+    link_crossings(images, rows, ahead.as_slice());
+    Ok(())
 }
 
 /// The images of the turn in canonical numbers.
@@ -205,9 +266,7 @@ pub(crate) fn turns_of(alloc: Global, rows: &Rows) -> Result<Vec<u32>, AllocErro
     ensures { IfOk result (λ images. images.items ≡ turn_images rows.now) }
 {
     let begins = begins_of(alloc, rows.edges.as_slice())?;
-    let ahead = ahead_of(alloc, rows)?;
     let mut images = vec![in alloc; 0; begins[begins.len() - 1] as usize]?;
-    let _corners = link_vertices(alloc, &mut images, rows, begins.as_slice())?;
-    link_crossings(&mut images, rows, ahead.as_slice());
+    write_turns(alloc, &mut images, rows, begins.as_slice())?;
     Ok(images)
 }

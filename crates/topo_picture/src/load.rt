@@ -66,12 +66,7 @@ fn faces(alloc: Global, images: &[u32]) -> Result<u64, AllocError>
 fn has_bare_vertex(rotations: &[Listed<u32>]) -> bool
     ensures { result ≡ list_any (λ around. length around == 0) rotations.now }
 {
-    for around in rotations {
-        if around.as_slice().is_empty() {
-            return true;
-        }
-    }
-    false
+    rotations.iter().any(|around| around.as_slice().is_empty())
 }
 
 /// Whether the rotation system of rows is connected, from the images of its turn.

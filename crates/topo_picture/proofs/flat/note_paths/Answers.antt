@@ -1,0 +1,22 @@
+use Rattle.std.proofs.Common.{◌≡◌, ◌+◌, ◌*◌, ap, arith, drop, length, rules, subst, sym, true, ◌∙◌, ℕ, List}
+use Rattle.std.specs.Prelude.{◌==◌}
+use Rattle.std.specs.List.{list_all, list_any}
+use Rattle.topo_core.specs.declared.rows.EdgeRow.{EdgeRow}
+use Rattle.topo_picture.specs.Flats.{notes_from, path_notes, written}
+use Rattle.topo_picture.proofs.Noting.{all_at, paths_step}
+use Rattle.topo_picture.proofs.flat.note_paths.Goals as goal
+
+pub note_path-requires-clause-known : goal.note_path-requires-clause-known
+note_path-requires-clause-known c =
+    subst (λ (path : List ℕ). list_all (λ x. list_any (λ y. y == x) c.args.ids.now) path ≡ true) (sym c.as_slice-path.ensures)
+    (all_at (λ (row : EdgeRow). list_all (λ x. list_any (λ y. y == x) c.args.ids.now) row.crossings) c.args.edges.now c.loop-row.row-index c.row-item.result c.requires.known c.loop-row-test.true c.row-item.is)
+
+pub loop-row-preserved : goal.loop-row-preserved
+loop-row-preserved c = record {
+  counted = search rules;
+  noted =
+    ap (λ xs. written xs (notes_from c.args.crossings.now (c.loop-row.begin + 2 * (length c.as_slice-path.result.now + 1)) (drop (c.loop-row.row-index + 1) c.args.edges.now))) c.note_path.ensures
+    ∙ ap (λ path. written (written c.loop-row.ahead (path_notes c.args.crossings.now c.row-item.result.id c.loop-row.begin path)) (notes_from c.args.crossings.now (c.loop-row.begin + 2 * (length path + 1)) (drop (c.loop-row.row-index + 1) c.args.edges.now))) c.as_slice-path.ensures
+    ∙ sym (paths_step c.args.crossings.now c.loop-row.begin c.loop-row.row-index c.args.edges.now c.row-item.result c.loop-row.ahead c.loop-row-test.true c.row-item.is)
+    ∙ c.loop-row.invariant.noted;
+}
