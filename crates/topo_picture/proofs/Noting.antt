@@ -72,16 +72,16 @@ note_place_read crossings ids e x place row are is within at =
     ap (λ p. 2 * p + cond {A = ℕ} (e == slice_index (map (λ c. c.crossed) crossings) p) 0 1) p_is
     ∙ ap (λ z. 2 * place + cond {A = ℕ} (e == z) 0 1) (get_or-map (λ c. c.crossed) crossings place row 0 (omega arith) ∙ ap (λ (c : CrossRow). c.crossed) (sym at))
 
-pub noted_at_crossed : (crossings : List CrossRow) (ids : List ℕ) (e x place : ℕ) {d : CrossRow} → ids ≡ map (λ c. c.id) crossings → place ≡ position_or_len (λ y. y == x) ids → place < length ids → e ≡ (get_or crossings place d).crossed
+pub noted_at_crossed : (crossings : List CrossRow) (ids : List ℕ) (e x place : ℕ) (d : CrossRow) → ids ≡ map (λ c. c.id) crossings → place ≡ position_or_len (λ y. y == x) ids → place < length ids → e ≡ (get_or crossings place d).crossed
     → 2 * place ≡ note_place crossings e x
-noted_at_crossed crossings ids e x place {d} are is within same =
+noted_at_crossed crossings ids e x place d are is within same =
     let as_many : length ids ≡ length crossings = ap length are ∙ length-map crossings (λ (c : CrossRow). c.id) in
     let read = note_place_read crossings ids e x place (get_or crossings place d) are is within (sym (get_or_default crossings place (get_or crossings place d) d (omega arith))) in
     let side : cond {A = ℕ} (e == (get_or crossings place d).crossed) 0 1 ≡ 0 = ap (λ (t : Bool). cond {A = ℕ} t 0 1) (eq-eqb e (get_or crossings place d).crossed same) in omega arith
 
-pub noted_at_newcomer : (crossings : List CrossRow) (ids : List ℕ) (e x place : ℕ) {d : CrossRow} → ids ≡ map (λ c. c.id) crossings → place ≡ position_or_len (λ y. y == x) ids → place < length ids → e ≢ (get_or crossings place d).crossed
+pub noted_at_newcomer : (crossings : List CrossRow) (ids : List ℕ) (e x place : ℕ) (d : CrossRow) → ids ≡ map (λ c. c.id) crossings → place ≡ position_or_len (λ y. y == x) ids → place < length ids → e ≢ (get_or crossings place d).crossed
     → 2 * place + 1 ≡ note_place crossings e x
-noted_at_newcomer crossings ids e x place {d} are is within other =
+noted_at_newcomer crossings ids e x place d are is within other =
     let as_many : length ids ≡ length crossings = ap length are ∙ length-map crossings (λ (c : CrossRow). c.id) in
     let read = note_place_read crossings ids e x place (get_or crossings place d) are is within (sym (get_or_default crossings place (get_or crossings place d) d (omega arith))) in
     let side : cond {A = ℕ} (e == (get_or crossings place d).crossed) 0 1 ≡ 1 = ap (λ (t : Bool). cond {A = ℕ} t 0 1) (differs e (get_or crossings place d).crossed other) in omega arith where

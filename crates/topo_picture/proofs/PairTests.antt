@@ -2,9 +2,11 @@
 use Rattle.std.proofs.Common.{◌≡◌, ◌⊎◌, ◌&&◌, ◌||◌, ◌+◌, ◌*◌, ◌/◌, ◌%◌, ◌<◌, ◌≤◌, ap, arith, Bool, cond, eqb, false, inl, inr, length, List, None, not, refl, Some, subst, suc, sym, true, zero, ℕ, [], ◌++◌, ◌∙◌, ◌∷◌}
 use Rattle.std.specs.Bool.{IsTrue}
 use Rattle.std.specs.Prelude.{find, if◌then◌else◌, is_some, map, nat_le, nat_lt, Option, option_map, slice_index_or, unwrap_or, ◌==◌, ◌↔◌}
-use Rattle.std.specs.List.{list_all}
+use Rattle.std.specs.List.{list_all, list_any}
+use Rattle.std.specs.List.Sorted.{IsPermutation}
 use Rattle.std.proofs.lemmas.Bool.Decides.{nat_tests}
 use Rattle.std.proofs.lemmas.Bool.{cases_Bool, cases_lt, eq-eqb, eqb-true, false≢true, not-true}
+use Rattle.std.proofs.lemmas.List.Sorted.{list_any-IsPermutation}
 use Rattle.topo_core.specs.declared.rows.CrossRow.{CrossRow}
 use Rattle.topo_core.specs.declared.rows.EdgeRow.{EdgeRow}
 use Rattle.topo_core.specs.declared.rows.Rows.{Rows}
@@ -15,7 +17,7 @@ use Rattle.topo_core.proofs.Counting.{eqb_symm, ids_above, lt_of_test, one}
 use Rattle.topo_core.proofs.Members.{found, in_map, in_range, left_true, range_below, right_true, test_of_each}
 use Rattle.topo_core.proofs.Standing.{GoodCrossing, good_crossing, GoodRotation, good_rotation}
 use Rattle.topo_core.proofs.SystemDarts.{crossing_there, path_facts, row_id, row_in, some_of}
-use Rattle.topo_picture.specs.Pairs.{begins_with_least, crossing_pairs, end_pairs, pair, path_pairs, rotation_pairs}
+use Rattle.topo_picture.specs.Pairs.{begins_with_least, crossing_pairs, end_pairs, is_path_over, pair, path_pairs, rotation_pairs}
 use Rattle.topo_picture.proofs.PairCounts.{crossing_count, end_count, path_count, rotation_count}
 use Rattle.topo_picture.proofs.Sorting.{counted_in, ids_below, in_counted}
 
@@ -181,11 +183,134 @@ module _ (rows : Rows) (paths : has_good_paths rows ≡ true) (small : rows.next
   ]
 
 -- crossings whose ids do not rise, or of which one is of one edge alone, are not good
-pub crossings_refused : (rows : Rows) → (not (rises_below rows.next_crossing (map (λ x. x.id) rows.crossings)) || not (list_all (λ x. not (x.crossed == x.newcomer)) rows.crossings)) ≡ true → false ≡ has_good_crossings rows
+pub crossings_refused : (rows : Rows) → (rises_below rows.next_crossing (map (λ x. x.id) rows.crossings) && list_all (λ x. not (x.crossed == x.newcomer)) rows.crossings) ≡ false → false ≡ has_good_crossings rows
 crossings_refused rows fails = elim (cases_Bool (has_good_crossings rows)) [
   | inl good ↦ absurd (
-      let rises = left_true _ (list_all (is_good_crossing rows) rows.crossings) good in
+      let rises = left_true (rises_below rows.next_crossing (map (λ x. x.id) rows.crossings)) (list_all (is_good_crossing rows) rows.crossings) good in
       let differ = all_from (λ x. not (x.crossed == x.newcomer)) rows.crossings (λ x h. ap not (good_crossing rows good x h).apart) in
-      false≢true (sym (ap (λ (b : Bool). not b || not (list_all (λ x. not (x.crossed == x.newcomer)) rows.crossings)) rises ∙ ap not differ) ∙ fails))
+      false≢true (sym fails ∙ ap (λ (b : Bool). b && list_all (λ x. not (x.crossed == x.newcomer)) rows.crossings) rises ∙ differ))
+  | inr bad ↦ sym bad
+]
+
+-- two pairs for each crossing
+pub two_pairs_each : (crossings : List CrossRow) → length (crossing_pairs crossings) ≡ 2 * length crossings
+two_pairs_each [] = refl
+two_pairs_each (x ∷ xs) = let rest = two_pairs_each xs in omega arith
+
+-- ---- Paths
+
+same_all : {X : Type 0} (p q : X → Bool) (xs : List X) → ((x : X) → p x ≡ q x) → list_all p xs ≡ list_all q xs
+same_all p q [] same = refl
+same_all p q (x ∷ xs) same = ap (λ b. b && list_all p xs) (same x) ∙ ap (λ b. q x && b) (same_all p q xs same)
+
+named : (crossings : List CrossRow) (x : ℕ) → list_any (λ y. y == x) (map (λ c. c.id) crossings) ≡ is_some (find (λ c. c.id == x) crossings)
+named [] x = refl
+named (c ∷ cs) x = elim (cases_Bool (c.id == x)) [
+  | inl e ↦ ap (λ b. b || list_any (λ y. y == x) (map (λ c. c.id) cs)) e ∙ sym (ap (λ (b : Bool). is_some (cond b (Some c) (find (λ c. c.id == x) cs))) e)
+  | inr e ↦ ap (λ b. b || list_any (λ y. y == x) (map (λ c. c.id) cs)) e ∙ named cs x ∙ sym (ap (λ (b : Bool). is_some (cond b (Some c) (find (λ c. c.id == x) cs))) e)
+]
+
+-- the paths are good over the ids of the crossings in any order
+pub paths_over : (rows : Rows) (ids : List ℕ) → IsPermutation (map (λ x. x.id) rows.crossings) ids → list_all (is_path_over (length rows.rotations) ids) rows.edges ≡ list_all (has_good_path rows) rows.edges
+paths_over rows ids moved = same_all (is_path_over (length rows.rotations) ids) (has_good_path rows) rows.edges (λ row.
+    ap (λ b. nat_lt row.a (length rows.rotations) && nat_lt row.b (length rows.rotations) && not (row.a == row.b) && nat_lt row.kind 64 && b)
+    (same_all (λ x. list_any (λ y. y == x) ids) (λ x. is_some (cross_row rows x)) row.crossings (λ x. sym (list_any-IsPermutation (λ y. y == x) (map (λ x. x.id) rows.crossings) ids moved) ∙ named rows.crossings x)))
+
+-- ---- Rotations
+
+all_by_place : {X : Type 0} (p : X → Bool) (xs : List X) (d : X) → ((i : ℕ) → i < length xs → p (slice_index_or xs i d) ≡ true) → list_all p xs ≡ true
+all_by_place p [] d each = refl
+all_by_place p (x ∷ xs) d each = ap (λ b. b && list_all p xs) (each 0 (omega arith)) ∙ all_by_place p xs d (λ i h. each (suc i) (omega arith))
+
+place_of_all : {X : Type 0} (p : X → Bool) (xs : List X) (d : X) (i : ℕ) → list_all p xs ≡ true → i < length xs → p (slice_index_or xs i d) ≡ true
+place_of_all p [] d i all h = absurd (omega arith)
+place_of_all p (x ∷ xs) d zero all h = left_true (p x) (list_all p xs) all
+place_of_all p (x ∷ xs) d (suc i) all h = place_of_all p xs d i (right_true (p x) (list_all p xs) all) (omega arith)
+
+past : {X : Type 0} (xs : List X) (i : ℕ) (d : X) → length xs ≤ i → slice_index_or xs i d ≡ d
+past [] i d h = refl
+past (x ∷ xs) zero d h = absurd (omega arith)
+past (x ∷ xs) (suc i) d h = past xs i d (omega arith)
+
+module _ (rows : Rows) (paths : has_good_paths rows ≡ true) (small : length rows.rotations < 4294967296) where
+  edges_climb : rises_below rows.next_edge (map (λ row. row.id) rows.edges) ≡ true
+  edges_climb = left_true _ (list_all (has_good_path rows) rows.edges) paths
+
+  ends_small : (row : EdgeRow) → IsIn row rows.edges → (row.a < 4294967296) × (row.b < 4294967296)
+  ends_small row h = let facts = path_facts rows paths row h in (omega (arith, facts.a_in), omega (arith, facts.b_in))
+
+  stand : (e v : ℕ) → v < 4294967296 → occurrences (pair e v) (rotation_pairs 0 rows.rotations) ≡ occurrences e (rotation rows v)
+  stand e v h = rotation_count 0 v e v rows.rotations (omega arith) h (omega arith)
+
+  want : (e v : ℕ) → v < 4294967296 → occurrences (pair e v) (end_pairs rows.edges) ≡ unwrap_or (option_map (λ row. one (row.a == v) + one (row.b == v)) (edge_row rows e)) 0
+  want e v h = end_count rows.next_edge rows.edges edges_climb e v h ends_small
+
+  abbrev Agree : Type 0
+  Agree = (k : ℕ) → occurrences k (rotation_pairs 0 rows.rotations) ≡ occurrences k (end_pairs rows.edges)
+
+  -- what is wanted of an edge that is there
+  wanted : (row : EdgeRow) → IsIn row rows.edges → (e v : ℕ) → edge_row rows e ≡ Some row → unwrap_or (option_map (λ row. one (row.a == v) + one (row.b == v)) (edge_row rows e)) 0 ≡ one (row.a == v || row.b == v)
+  wanted row h e v at = ap (λ (o : Option EdgeRow). unwrap_or (option_map (λ row. one (row.a == v) + one (row.b == v)) o) 0) at ∙ one_end row.a row.b v (path_facts rows paths row h).apart
+
+  rotations_from_agree : Agree → list_all begins_with_least rows.rotations ≡ true → has_good_rotations rows ≡ true
+  rotations_from_agree agree least = all_from (has_good_rotation rows) (vertices rows) (λ v h.
+      let inside : v < length rows.rotations = omega (arith, range_below v 0 (length rows.rotations) h) in
+      let counted : list_all (λ row. occurrences row.id (rotation rows v) == (if row.a == v || row.b == v then 1 else 0)) rows.edges ≡ true =
+        all_from (λ row. occurrences row.id (rotation rows v) == (if row.a == v || row.b == v then 1 else 0)) rows.edges (λ row k. eq-eqb _ _ (
+          sym (stand row.id v (omega arith)) ∙ agree (pair row.id v) ∙ want row.id v (omega arith) ∙ wanted row k row.id v (find_item (λ row. row.id) rows.next_edge row rows.edges edges_climb k))) in
+      let known : list_all (λ e. is_some (edge_row rows e)) (rotation rows v) ≡ true = all_from (λ e. is_some (edge_row rows e)) (rotation rows v) (λ e k. elim (some_or_none (edge_row rows e)) [
+        | inl (row, at) ↦ ap is_some at
+        | inr none ↦ absurd (
+            let zero_want : occurrences (pair e v) (end_pairs rows.edges) ≡ 0 = want e v (omega arith) ∙ ap (λ (o : Option EdgeRow). unwrap_or (option_map (λ row. one (row.a == v) + one (row.b == v)) o) 0) none in
+            let here = stand e v (omega arith) in
+            let same = agree (pair e v) in
+            let some = in_counted e (rotation rows v) k in omega arith)
+      ]) in
+      let begins : begins_with_least (rotation rows v) ≡ true = place_of_all begins_with_least rows.rotations [] v least inside in
+      ap (λ b. b && list_all (λ e. is_some (edge_row rows e)) (rotation rows v) && begins_with_least (rotation rows v)) counted
+      ∙ ap (λ b. b && begins_with_least (rotation rows v)) known ∙ begins)
+
+  agree_from_rotations : has_good_rotations rows ≡ true → Agree
+  agree_from_rotations good k = ap (λ n. occurrences n (rotation_pairs 0 rows.rotations)) (split k) ∙ stand (high k) (low k) (low_below k) ∙ by_vertex (high k) (low k) ∙ sym (want (high k) (low k) (low_below k)) ∙ ap (λ n. occurrences n (end_pairs rows.edges)) (sym (split k)) where
+    by_vertex : (e v : ℕ) → occurrences e (rotation rows v) ≡ unwrap_or (option_map (λ row. one (row.a == v) + one (row.b == v)) (edge_row rows e)) 0
+    by_vertex e v = elim (cases_lt v (length rows.rotations)) [
+      | inl inside ↦
+          let says = good_rotation rows good v (in_range 0 (length rows.rotations) v (omega arith) (omega arith)) in
+          elim (some_or_none (edge_row rows e)) [
+            | inl (row, at) ↦ ap (λ n. occurrences n (rotation rows v)) (sym (row_id rows e row at)) ∙ says.counted row (row_in rows e row at) ∙ sym (wanted row (row_in rows e row at) e v at)
+            | inr none ↦ absent says none ∙ sym (ap (λ (o : Option EdgeRow). unwrap_or (option_map (λ row. one (row.a == v) + one (row.b == v)) o) 0) none)
+          ]
+      | inr outside ↦
+          let left : occurrences e (rotation rows v) ≡ 0 = ap (occurrences e) (past rows.rotations v [] outside) in
+          elim (some_or_none (edge_row rows e)) [
+            | inl (row, at) ↦
+                let facts = path_facts rows paths row (row_in rows e row at) in
+                let a_no : one (row.a == v) ≡ 0 = ap one (below_apart row.a v (omega (arith, facts.a_in))) in
+                let b_no : one (row.b == v) ≡ 0 = ap one (below_apart row.b v (omega (arith, facts.b_in))) in
+                let right : unwrap_or (option_map (λ row. one (row.a == v) + one (row.b == v)) (edge_row rows e)) 0 ≡ one (row.a == v) + one (row.b == v) = ap (λ (o : Option EdgeRow). unwrap_or (option_map (λ row. one (row.a == v) + one (row.b == v)) o) 0) at in omega arith
+            | inr none ↦ left ∙ sym (ap (λ (o : Option EdgeRow). unwrap_or (option_map (λ row. one (row.a == v) + one (row.b == v)) o) 0) none)
+          ]
+    ] where
+      below_apart : (m n : ℕ) → m < n → eqb m n ≡ false
+      below_apart m n h = grind (arith, nat_tests)
+
+      absent : GoodRotation rows v → edge_row rows e ≡ None → occurrences e (rotation rows v) ≡ 0
+      absent says none = elim (cases_lt 0 (occurrences e (rotation rows v))) [
+        | inl some ↦ absurd (false≢true (sym (ap is_some none) ∙ says.known e (counted_in e (rotation rows v) some)))
+        | inr zero_here ↦ omega arith
+      ]
+
+  pub rotations_decided : (t : Bool) → (IsTrue t ↔ Agree) → list_all begins_with_least rows.rotations ≡ true → t ≡ has_good_rotations rows
+  rotations_decided true tells least = sym (rotations_from_agree (tells.0 refl) least)
+  rotations_decided false tells least = elim (cases_Bool (has_good_rotations rows)) [
+    | inl good ↦ absurd (false≢true (tells.1 (agree_from_rotations good)))
+    | inr bad ↦ sym bad
+  ]
+
+-- where a list does not begin with its least id, the rotations are not good
+pub rotations_refused : (rows : Rows) → list_all begins_with_least rows.rotations ≡ false → false ≡ has_good_rotations rows
+rotations_refused rows fails = elim (cases_Bool (has_good_rotations rows)) [
+  | inl good ↦ absurd (false≢true (sym fails ∙ all_by_place begins_with_least rows.rotations [] (λ v h.
+      right_true _ _ (test_of_each (has_good_rotation rows) v (vertices rows) good (in_range 0 (length rows.rotations) v (omega arith) (omega arith))))))
   | inr bad ↦ sym bad
 ]

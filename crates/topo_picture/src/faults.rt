@@ -159,7 +159,8 @@ pub(crate) fn are_crossings_good(alloc: Global, rows: &Rows) -> Result<bool, All
     if !rise_and_differ(alloc, rows)? {
         return Ok(false);
     }
-    paths_agree(alloc, rows.edges.as_slice(), rows.crossings.as_slice())
+    let agree = paths_agree(alloc, rows.edges.as_slice(), rows.crossings.as_slice())?;
+    Ok(agree)
 }
 
 /// Whether a list begins with its least number.
@@ -204,5 +205,6 @@ pub(crate) fn are_rotations_good(alloc: Global, rows: &Rows) -> Result<bool, All
     if !begin_with_least(rotations) {
         return Ok(false);
     }
-    rotations_agree(alloc, rotations, rows.edges.as_slice())
+    let agree = rotations_agree(alloc, rotations, rows.edges.as_slice())?;
+    Ok(agree)
 }

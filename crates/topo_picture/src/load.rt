@@ -59,7 +59,8 @@ fn faces(alloc: Global, images: &[u32]) -> Result<u64, AllocError>
         let twin = if dart % 2 == 0 { dart + 1 } else { dart - 1 };
         nexts.push(images[twin])?;
     }
-    cycles(alloc, &nexts)
+    let count = cycles(alloc, &nexts)?;
+    Ok(count)
 }
 
 /// Whether a vertex has no edge.
@@ -78,7 +79,8 @@ fn is_whole(alloc: Global, rows: &Rows, images: &[u32]) -> Result<bool, AllocErr
     if has_bare_vertex(rows.rotations.as_slice()) {
         return Ok(false);
     }
-    is_connected(alloc, images)
+    let joined = is_connected(alloc, images)?;
+    Ok(joined)
 }
 
 /// Whether Euler's formula gives 2.

@@ -1,7 +1,9 @@
-use Rattle.std.proofs.Common.{◌≡◌, ◌+◌, ◌*◌, ap, arith, drop, length, rules, subst, sym, true, ◌∙◌, ℕ, List}
+use Rattle.std.proofs.Common.{◌≡◌, ◌+◌, ◌*◌, ap, arith, drop, get_or, length, rules, subst, sym, true, ◌∙◌, ℕ, List}
 use Rattle.std.specs.Prelude.{◌==◌}
 use Rattle.std.specs.List.{list_all, list_any}
 use Rattle.topo_core.specs.declared.rows.EdgeRow.{EdgeRow}
+use Rattle.std.proofs.lemmas.List.Sums.{sum_by_more}
+use Rattle.topo_core.specs.Picture.{segment_count}
 use Rattle.topo_picture.specs.Flats.{notes_from, path_notes, written}
 use Rattle.topo_picture.proofs.Noting.{all_at, paths_step}
 use Rattle.topo_picture.proofs.flat.note_paths.Goals as goal
@@ -13,7 +15,11 @@ note_path-requires-clause-known c =
 
 pub loop-row-preserved : goal.loop-row-preserved
 loop-row-preserved c = record {
-  counted = search rules;
+  counted =
+    let more = sum_by_more segment_count c.args.edges.now c.loop-row.row-index c.row-item.result c.loop-row-test.true in
+    let here : segment_count c.row-item.result ≡ segment_count (get_or c.args.edges.now c.loop-row.row-index c.row-item.result) = ap segment_count c.row-item.is in
+    let path : length c.as_slice-path.result.now ≡ length c.row-item.result.crossings = ap length c.as_slice-path.ensures in
+    omega arith;
   noted =
     ap (λ xs. written xs (notes_from c.args.crossings.now (c.loop-row.begin + 2 * (length c.as_slice-path.result.now + 1)) (drop (c.loop-row.row-index + 1) c.args.edges.now))) c.note_path.ensures
     ∙ ap (λ path. written (written c.loop-row.ahead (path_notes c.args.crossings.now c.row-item.result.id c.loop-row.begin path)) (notes_from c.args.crossings.now (c.loop-row.begin + 2 * (length path + 1)) (drop (c.loop-row.row-index + 1) c.args.edges.now))) c.as_slice-path.ensures
