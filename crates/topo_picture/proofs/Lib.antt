@@ -4,5 +4,6 @@ pub mod Linking
 pub mod Noting
 pub mod PairCounts
 pub mod PairTests
+pub mod Rounds
 pub mod Sorting
 pub mod Written

@@ -97,7 +97,7 @@ module _ (rows : Rows) (good : IsWellFormed rows) where
     ]
   ]
 
-  in_has : (d : Dart) (ds : List Dart) → IsIn d ds → has_dart ds d ≡ true
+  pub in_has : (d : Dart) (ds : List Dart) → IsIn d ds → has_dart ds d ≡ true
   in_has d [] h = absurd h
   in_has d (c ∷ ds) (inl e) = ap (λ b. b || has_dart ds d) (ap (same_dart d) (sym e) ∙ same_dart_self d)
   in_has d (c ∷ ds) (inr h) = elim (cases_Bool (same_dart d c)) [

@@ -1,4 +1,4 @@
-use Rattle.std.proofs.Common.{◌≡◌, ap, arith, length, sym, true, ◌≤◌, ◌∙◌, ◌&&◌, List}
+use Rattle.std.proofs.Common.{◌≡◌, ◌*◌, ap, arith, length, sym, true, ◌≤◌, ◌∙◌, ◌&&◌, List}
 use Rattle.std.specs.Prelude.{not, map, ◌==◌}
 use Rattle.std.specs.List.{list_all}
 use Rattle.topo_core.specs.declared.rows.CrossRow.{CrossRow}
