@@ -203,7 +203,7 @@ same_all : {X : Type 0} (p q : X → Bool) (xs : List X) → ((x : X) → p x �
 same_all p q [] same = refl
 same_all p q (x ∷ xs) same = ap (λ b. b && list_all p xs) (same x) ∙ ap (λ b. q x && b) (same_all p q xs same)
 
-named : (crossings : List CrossRow) (x : ℕ) → list_any (λ y. y == x) (map (λ c. c.id) crossings) ≡ is_some (find (λ c. c.id == x) crossings)
+pub named : (crossings : List CrossRow) (x : ℕ) → list_any (λ y. y == x) (map (λ c. c.id) crossings) ≡ is_some (find (λ c. c.id == x) crossings)
 named [] x = refl
 named (c ∷ cs) x = elim (cases_Bool (c.id == x)) [
   | inl e ↦ ap (λ b. b || list_any (λ y. y == x) (map (λ c. c.id) cs)) e ∙ sym (ap (λ (b : Bool). is_some (cond b (Some c) (find (λ c. c.id == x) cs))) e)

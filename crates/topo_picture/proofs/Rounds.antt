@@ -1,12 +1,13 @@
 -- The numbers of the darts at crossings and vertices, as the code finds them.
-use Rattle.std.proofs.Common.{◌≡◌, ◌&&◌, ◌||◌, ◌+◌, ◌-◌, ◌*◌, ◌<◌, ◌≤◌, ap, arith, Bool, cond, eqb, false, get_or, inl, inr, length, List, None, not, refl, Some, subst, suc, sym, true, zero, ℕ, [], ◌++◌, ◌∙◌, ◌∷◌}
-use Rattle.std.specs.Prelude.{count_by, find, is_some, map, Option, option_map, slice_get, slice_index, sum_by, unwrap_or, ◌==◌}
-use Rattle.std.specs.List.{list_all, list_any, position_or_len}
+use Rattle.std.proofs.Common.{append-nil, append_assoc, drop, take, ◌≡◌, ◌&&◌, ◌||◌, ◌+◌, ◌-◌, ◌*◌, ◌<◌, ◌≤◌, ap, arith, Bool, cond, eqb, false, get_or, inl, inr, length, List, None, not, refl, Some, subst, suc, sym, true, zero, ℕ, [], ◌++◌, ◌∙◌, ◌∷◌}
+use Rattle.std.specs.Prelude.{count_by, find, is_some, map, Option, flat_map, option_map, slice_get, slice_index, sum_by, unwrap_or, ◌==◌}
+use Rattle.std.specs.List.{list_all, list_any, position_or_len, range_with_len}
 use Rattle.std.specs.List.Sorted.{IsStrictlyIncreasing}
 use Rattle.std.proofs.lemmas.Bool.Decides.{nat_tests}
 use Rattle.std.proofs.lemmas.Bool.{cases_Bool, eq-eqb, eqb-true, false≢true}
 use Rattle.std.proofs.lemmas.List.Sums.{sum_by-cons}
-use Rattle.std.proofs.lemmas.List.{get_or-map, length-map}
+use Rattle.std.proofs.lemmas.List.{get_or-map, length-map, map-append, take_more}
+use Rattle.std.proofs.lemmas.List.Concat.{flat_map-append}
 use Rattle.std.proofs.lemmas.Option.{get_or_from_slice_get, slice_get-get_or}
 use Rattle.topo_core.specs.declared.darts.Dart.{Dart}
 use Rattle.topo_core.specs.declared.darts.Sign.{Sign}
@@ -17,19 +18,20 @@ use Rattle.topo_core.specs.declared.rows.EdgeRow.{EdgeRow}
 use Rattle.topo_core.specs.declared.rows.Rows.{Rows}
 use Rattle.topo_core.specs.Items.{IsIn, occurrences, rises_below}
 use Rattle.topo_core.specs.Lawful.{has_good_path, is_good_crossing, IsWellFormed}
-use Rattle.topo_core.specs.Picture.{ahead, around_vertex, behind, clockwise, cross_row, darts, edge_at, edge_row, end_dart, index_of, place_on, rotation, segment_count}
+use Rattle.topo_core.specs.Picture.{ahead, around_crossing, around_vertex, behind, clockwise, cross_row, darts, edge_row, index_of, place_on, rotation, segment_count, system, vertices}
+use Rattle.topo_core.specs.Systems.{darts_in}
 use Rattle.topo_core.proofs.Counting.{one, sum_found, sum_if, sum_same, weigh_no, weigh_yes}
-use Rattle.topo_core.proofs.Members.{found, in_map, in_range, left_true, right_true}
-use Rattle.topo_core.proofs.Numbering.{get_index, index_less, images_length}
+use Rattle.topo_core.proofs.Members.{found, in_joined, in_map, in_range, in_right, left_true}
+use Rattle.topo_core.proofs.Numbering.{place_less}
 use Rattle.topo_core.proofs.Standing.{GoodCrossing, good_crossing, good_rotation, system_test}
 use Rattle.topo_core.proofs.SystemDarts.{at_vertex_in, crossing_there, edge_at_row, row_id, row_in, some_of}
 use Rattle.topo_picture.specs.Flats.{AreAhead, begins_from, crossing_place, crossing_round, note_place, notes_from, round_ahead, vertex_round, written}
 use Rattle.topo_picture.proofs.Begins.{found_at, number_back, number_forward}
 use Rattle.topo_picture.proofs.Linking.{in_has}
 use Rattle.topo_picture.proofs.Noting.{note_in, place_among, times_notes}
-use Rattle.topo_picture.proofs.PairTests.{find_item}
+use Rattle.topo_picture.proofs.PairTests.{all_from, named}
 use Rattle.topo_picture.proofs.Sorting.{place_is, rises_strictly}
-use Rattle.topo_picture.proofs.Written.{length_written, times, written_once}
+use Rattle.topo_picture.proofs.Written.{length_written, times, written_append, written_once}
 
 -- a number that a path has stands at its place
 place_got : (x : ℕ) (path : List ℕ) → 1 ≤ occurrences x path → slice_get path (position_or_len (λ y. y == x) path) ≡ Some x
@@ -245,3 +247,125 @@ module _ (rows : Rows) (good : IsWellFormed rows) where
       other_side true false n is both = refl
       other_side false true n is both = refl
       other_side false false n is both = is
+
+  -- ---- Round vertices
+
+  -- each number of a round is that of a dart
+  number_within : (d : Dart) → IsIn d (darts_in (system rows)) → index_of rows d < length (darts rows)
+  number_within d h = place_less (darts rows) d (sym (system_test rows good.paths good.crossings good.rotations d) ∙ in_has rows good d (darts_in (system rows)) h)
+
+  each_within : (ds : List Dart) → ((d : Dart) → IsIn d ds → index_of rows d < length (darts rows)) → (k : ℕ) → k < length (map (index_of rows) ds) → slice_index (map (index_of rows) ds) k < length (darts rows)
+  each_within [] each k h = absurd (omega arith)
+  each_within (d ∷ ds) each zero h = each d (inl refl)
+  each_within (d ∷ ds) each (suc k) h = each_within ds (λ d i. each d (inr i)) k (omega arith)
+
+  pub round_within : (v : ℕ) → v < length rows.rotations → (round : List ℕ) → round ≡ vertex_round rows v → (k : ℕ) → k < length round → slice_index round k < length (darts rows)
+  round_within v h round is k below =
+      subst (λ xs. slice_index xs k < length (darts rows)) (sym is)
+      (each_within (around_vertex rows v) (λ d i. number_within d (at_vertex_in rows v d h i)) k (omega (arith, ap length is)))
+
+  -- the edges in a vertex's list are there
+  pub edge_known : (v : ℕ) → v < length rows.rotations → (around : List ℕ) → around ≡ rotation rows v → (i : ℕ) → i < length around → is_some (edge_row rows (slice_index around i)) ≡ true
+  edge_known v h around is i below =
+      (good_rotation rows good.rotations v (in_range 0 (length rows.rotations) v (omega arith) (omega arith))).known (slice_index around i)
+      (subst (IsIn (slice_index around i)) is (at_in around i below)) where
+    at_in : (xs : List ℕ) (i : ℕ) → i < length xs → IsIn (slice_index xs i) xs
+    at_in [] i h = absurd (omega arith)
+    at_in (x ∷ xs) zero h = inl refl
+    at_in (x ∷ xs) (suc i) h = inr (at_in xs i (omega arith))
+
+  -- ---- Round crossings
+
+  -- the two numbers ahead of a crossing give its round
+  pub record AheadOf (c : CrossRow) (crossed newcomer : ℕ) : Type 0 where
+    pub crossed_some : 0 < crossed
+    pub newcomer_some : 0 < newcomer
+    pub crossed_within : crossed < length (darts rows)
+    pub newcomer_within : newcomer < length (darts rows)
+    pub round : round_ahead c.sign crossed newcomer ≡ crossing_round rows c
+
+  at_crossing : (d : Dart) (c : CrossRow) → IsIn c rows.crossings → IsIn d (around_crossing rows c) → index_of rows d < length (darts rows)
+  at_crossing d c h i = number_within d (in_joined d (around_crossing rows c) (system rows) i
+      (in_right (around_crossing rows c) (map (around_vertex rows) (vertices rows)) (map (around_crossing rows) rows.crossings) (in_map (around_crossing rows) c rows.crossings h)))
+
+  crossed_in : (s : Sign) (a b m n : Dart) → IsIn a (clockwise s a b m n)
+  crossed_in LeftToRight a b m n = inl refl
+  crossed_in RightToLeft a b m n = inl refl
+
+  newcomer_in : (s : Sign) (a b m n : Dart) → IsIn m (clockwise s a b m n)
+  newcomer_in LeftToRight a b m n = inr (inl refl)
+  newcomer_in RightToLeft a b m n = inr (inr (inr (inl refl)))
+
+  round_of : (s : Sign) (a b m n : Dart) → index_of rows b + 1 ≡ index_of rows a → index_of rows n + 1 ≡ index_of rows m → round_ahead s (index_of rows a) (index_of rows m) ≡ map (index_of rows) (clockwise s a b m n)
+  round_of LeftToRight a b m n first second =
+      let x : index_of rows a - 1 ≡ index_of rows b = omega arith in
+      let y : index_of rows m - 1 ≡ index_of rows n = omega arith in cc
+  round_of RightToLeft a b m n first second =
+      let x : index_of rows a - 1 ≡ index_of rows b = omega arith in
+      let y : index_of rows m - 1 ≡ index_of rows n = omega arith in cc
+
+  row_in_crossings : (q : ℕ) (c : CrossRow) (cs : List CrossRow) → slice_get cs q ≡ Some c → IsIn c cs
+  row_in_crossings q c [] e = cc
+  row_in_crossings zero c (d ∷ cs) e = let same : d ≡ c = cc in inl (sym same)
+  row_in_crossings (suc q) c (d ∷ cs) e = inr (row_in_crossings q c cs e)
+
+  pub ahead_of_crossing : (numbers : List ℕ) → AreAhead rows numbers → (q : ℕ) (c : CrossRow) → slice_get rows.crossings q ≡ Some c → AheadOf c (slice_index numbers (2 * q)) (slice_index numbers (2 * q + 1))
+  ahead_of_crossing numbers are q c at =
+      let h = row_in_crossings q c rows.crossings at in
+      let says = good_crossing rows good.crossings c h in
+      let self : (n : ℕ) → eqb n n ≡ true = λ n. eq-eqb n n refl in
+      let p = on_path c h c.crossed says.crossed (ap (λ b. b || eqb c.crossed c.newcomer) (self c.crossed)) in
+      let n = on_path c h c.newcomer says.newcomer (ap (λ b. eqb c.newcomer c.crossed || b) (self c.newcomer) ∙ yes (eqb c.newcomer c.crossed)) in
+      let first = behind_number c.crossed c.id p in
+      let second = behind_number c.newcomer c.id n in
+      let crossed_is = are.crossed q c at in
+      let newcomer_is = are.newcomer q c at in
+      let first_within = at_crossing (ahead rows c.crossed c.id) c h (crossed_in c.sign (ahead rows c.crossed c.id) (behind rows c.crossed c.id) (ahead rows c.newcomer c.id) (behind rows c.newcomer c.id)) in
+      let second_within = at_crossing (ahead rows c.newcomer c.id) c h (newcomer_in c.sign (ahead rows c.crossed c.id) (behind rows c.crossed c.id) (ahead rows c.newcomer c.id) (behind rows c.newcomer c.id)) in
+      record {
+        crossed_some = omega arith;
+        newcomer_some = omega arith;
+        crossed_within = omega arith;
+        newcomer_within = omega arith;
+        round = ap (λ k. round_ahead c.sign k (slice_index numbers (2 * q + 1))) crossed_is ∙ ap (λ k. round_ahead c.sign (index_of rows (ahead rows c.crossed c.id)) k) newcomer_is
+          ∙ round_of c.sign (ahead rows c.crossed c.id) (behind rows c.crossed c.id) (ahead rows c.newcomer c.id) (behind rows c.newcomer c.id) first second;
+      } where
+    yes : (b : Bool) → (b || true) ≡ true
+    yes true = refl
+    yes false = refl
+
+  -- what a path names is known
+  pub paths_known : (ids : List ℕ) → ids ≡ map (λ c. c.id) rows.crossings → list_all (λ row. list_all (λ x. list_any (λ y. y == x) ids) row.crossings) rows.edges ≡ true
+  paths_known ids are = all_from (λ row. list_all (λ x. list_any (λ y. y == x) ids) row.crossings) rows.edges (λ row h.
+      all_from (λ x. list_any (λ y. y == x) ids) row.crossings (λ x k. ap (list_any (λ y. y == x)) are ∙ named rows.crossings x ∙ crossing_there rows good.paths row h x k))
+
+  pub cross_ids_climb : (ids : List ℕ) → ids ≡ map (λ c. c.id) rows.crossings → IsStrictlyIncreasing ids
+  cross_ids_climb ids are = subst IsStrictlyIncreasing (sym are) (rises_strictly rows.next_crossing (map (λ c. c.id) rows.crossings) cross_ids_rise)
+
+-- ---- Steps of loops
+
+pub drop_old : (xs ys : List ℕ) → drop (length xs) (xs ++ ys) ≡ ys
+drop_old [] ys = refl
+drop_old (x ∷ xs) ys = drop_old xs ys
+
+pub range_push : (a n : ℕ) → range_with_len a (n + 1) ≡ range_with_len a n ++ (a + n) ∷ []
+range_push a zero = let e : a ≡ a + 0 = omega arith in ap (λ x. x ∷ []) e
+range_push a (suc n) =
+    let e : suc n + 1 ≡ suc (n + 1) = omega arith in
+    let f : (a + 1) + n ≡ a + suc n = omega arith in
+    ap (range_with_len a) e ∙ ap (λ xs. a ∷ xs) (range_push (a + 1) n ∙ ap (λ k. range_with_len (a + 1) n ++ k ∷ []) f)
+
+pub linked_more : {X : Type 0} (f : X → List (ℕ × ℕ)) (xs : List X) (x : X) (images now next : List ℕ) → now ≡ written images (flat_map f xs) → next ≡ written now (f x) → next ≡ written images (flat_map f (xs ++ x ∷ []))
+linked_more f xs x images now next was step =
+    step ∙ ap (λ (ys : List ℕ). written ys (f x)) was ∙ sym (written_append images (flat_map f xs) (f x))
+    ∙ ap (written images) (sym (flat_map-append f xs (x ∷ []) ∙ ap (λ us. flat_map f xs ++ us) (append-nil (f x))))
+
+pub listed_more : (f : ℕ → List ℕ) (xs : List ℕ) (x : ℕ) (now next : List ℕ) → now ≡ flat_map f xs → next ≡ now ++ f x → next ≡ flat_map f (xs ++ x ∷ [])
+listed_more f xs x now next was step = step ∙ ap (λ ys. ys ++ f x) was ∙ sym (flat_map-append f xs (x ∷ []) ∙ ap (λ us. flat_map f xs ++ us) (append-nil (f x)))
+
+pub round_more : (f : Dart → ℕ) (g : ℕ → Dart) (around : List ℕ) (i : ℕ) (first now next : List ℕ) (number : ℕ) → i < length around → now ≡ first ++ map f (map g (take i around)) → number ≡ f (g (slice_index around i)) → next ≡ now ++ number ∷ []
+    → next ≡ first ++ map f (map g (take (i + 1) around))
+round_more f g around i first now next number inside was is step =
+    step ∙ ap (λ ys. ys ++ number ∷ []) was ∙ append_assoc first (map f (map g (take i around))) (number ∷ [])
+    ∙ ap (λ ys. first ++ ys) (ap (λ n. map f (map g (take i around)) ++ n ∷ []) is
+      ∙ sym (ap (λ ys. map f (map g ys)) (take_more around i 0 inside) ∙ ap (map f) (map-append g (take i around) (slice_index around i ∷ [])) ∙ map-append f (map g (take i around)) (g (slice_index around i) ∷ [])))

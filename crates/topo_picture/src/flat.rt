@@ -4,7 +4,7 @@ ghost use Rattle.std.specs.Prelude.{◌≡◌, ◌+◌, ◌*◌, ◌<◌, ◌≤
 ghost use Rattle.std.specs.List.{list_all, list_any, position_or_len};
 ghost use Rattle.std.specs.List.Sorted.{IsStrictlyIncreasing};
 ghost use Rattle.topo_core.specs.Lawful.{IsWellFormed, has_good_paths};
-ghost use Rattle.topo_core.specs.Picture.{segment_count, index_of, end_dart, edge_row, darts, vertices, turn_images};
+ghost use Rattle.topo_core.specs.Picture.{segment_count, index_of, end_dart, edge_row, darts, rotation, vertices, turn_images};
 ghost use Rattle.topo_picture.specs.Flats.{begins_from, written, links, note_place, path_notes, notes_from, vertex_round, crossing_round, round_ahead, AreAhead};
 
 use crate::faults::{crossing_ids, edge_ids};
@@ -148,14 +148,15 @@ fn push_round(
     ids: &[u32],
     begins: &[u32],
     v: u32,
+    around: &[u32],
 ) -> Result<(), AllocError>
     requires well_formed { IsWellFormed rows.now }
     requires ids { ids.now ≡ map (λ row. row.id) rows.now.edges }
     requires begins { begins.now ≡ begins_from 0 rows.now.edges }
     requires vertex { v < length rows.now.rotations }
+    requires around { around.now ≡ rotation rows.now v }
     ensures { OnOk result (round.new.items ≡ round.old.items ++ vertex_round rows.now v) }
 {
-    let around = rows.rotations.as_slice()[v as usize].as_slice();
     for e in around {
         round.push(end_number(rows, ids, begins, v, *e))?;
     }
@@ -180,7 +181,8 @@ fn link_vertex(
     ensures corners { OnOk result (corners.new.items ≡ corners.old.items ++ vertex_round rows.now v) }
 {
     let begin = corners.len();
-    push_round(corners, rows, ids, begins, v)?;
+    let around = rows.rotations.as_slice()[v as usize].as_slice();
+    push_round(corners, rows, ids, begins, v, around)?;
     link_round(images, &corners.as_slice()[begin..]);
     Ok(())
 }
