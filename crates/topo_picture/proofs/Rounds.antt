@@ -1,12 +1,12 @@
 -- The numbers of the darts at crossings and vertices, as the code finds them.
-use Rattle.std.proofs.Common.{append-nil, append_assoc, drop, take, ◌≡◌, ◌&&◌, ◌||◌, ◌+◌, ◌-◌, ◌*◌, ◌<◌, ◌≤◌, ap, arith, Bool, cond, eqb, false, get_or, inl, inr, length, List, None, not, refl, Some, subst, suc, sym, true, zero, ℕ, [], ◌++◌, ◌∙◌, ◌∷◌}
+use Rattle.std.proofs.Common.{append-nil, append_assoc, length-append, drop, take, ◌≡◌, ◌&&◌, ◌||◌, ◌+◌, ◌-◌, ◌*◌, ◌<◌, ◌≤◌, ap, arith, Bool, cond, eqb, false, get_or, inl, inr, length, List, None, not, refl, Some, subst, suc, sym, true, zero, ℕ, [], ◌++◌, ◌∙◌, ◌∷◌}
 use Rattle.std.specs.Prelude.{count_by, find, is_some, map, Option, flat_map, option_map, slice_get, slice_index, sum_by, unwrap_or, ◌==◌}
 use Rattle.std.specs.List.{list_all, list_any, position_or_len, range_with_len}
 use Rattle.std.specs.List.Sorted.{IsStrictlyIncreasing}
 use Rattle.std.proofs.lemmas.Bool.Decides.{nat_tests}
 use Rattle.std.proofs.lemmas.Bool.{cases_Bool, eq-eqb, eqb-true, false≢true}
 use Rattle.std.proofs.lemmas.List.Sums.{sum_by-cons}
-use Rattle.std.proofs.lemmas.List.{get_or-map, length-map, map-append, take_more}
+use Rattle.std.proofs.lemmas.List.{get_or-map, get_or_default, length-map, map-append, take_all, take_more}
 use Rattle.std.proofs.lemmas.List.Concat.{flat_map-append}
 use Rattle.std.proofs.lemmas.Option.{get_or_from_slice_get, slice_get-get_or}
 use Rattle.topo_core.specs.declared.darts.Dart.{Dart}
@@ -25,7 +25,7 @@ use Rattle.topo_core.proofs.Members.{found, in_joined, in_map, in_range, in_righ
 use Rattle.topo_core.proofs.Numbering.{place_less}
 use Rattle.topo_core.proofs.Standing.{GoodCrossing, good_crossing, good_rotation, system_test}
 use Rattle.topo_core.proofs.SystemDarts.{at_vertex_in, crossing_there, edge_at_row, row_id, row_in, some_of}
-use Rattle.topo_picture.specs.Flats.{AreAhead, begins_from, crossing_place, crossing_round, note_place, notes_from, round_ahead, vertex_round, written}
+use Rattle.topo_picture.specs.Flats.{AreAhead, begins_from, crossing_place, crossing_round, links, note_place, notes_from, round_ahead, vertex_round, written}
 use Rattle.topo_picture.proofs.Begins.{found_at, number_back, number_forward}
 use Rattle.topo_picture.proofs.Linking.{in_has}
 use Rattle.topo_picture.proofs.Noting.{note_in, place_among, times_notes}
@@ -369,3 +369,29 @@ round_more f g around i first now next number inside was is step =
     step ∙ ap (λ ys. ys ++ number ∷ []) was ∙ append_assoc first (map f (map g (take i around))) (number ∷ [])
     ∙ ap (λ ys. first ++ ys) (ap (λ n. map f (map g (take i around)) ++ n ∷ []) is
       ∙ sym (ap (λ ys. map f (map g ys)) (take_more around i 0 inside) ∙ ap (map f) (map-append g (take i around) (slice_index around i ∷ [])) ∙ map-append f (map g (take i around)) (g (slice_index around i) ∷ [])))
+
+-- the last part of a list, from where an older one ended
+pub last_part : (old new all : List ℕ) (b : ℕ) → all ≡ old ++ new → b ≡ length old → take (length all - b) (drop b all) ≡ new
+last_part old new all b is at =
+    ap (λ n. take (length all - n) (drop n all)) at ∙ ap (λ xs. take (length xs - length old) (drop (length old) xs)) is
+    ∙ ap (take (length (old ++ new) - length old)) (drop_old old new) ∙ take_all (length (old ++ new) - length old) new (omega (arith, length-append old new))
+
+pub rotation_read : (rows : Rows) (v : ℕ) (around item : List ℕ) (read : List (List ℕ)) → v < length rows.rotations → around ≡ item → item ≡ get_or read v item → read ≡ rows.rotations → around ≡ rotation rows v
+rotation_read rows v around item read inside is at same = is ∙ at ∙ ap (λ xs. get_or xs v item) same ∙ get_or_default rows.rotations v item [] inside
+
+pub range_push_zero : (n : ℕ) → range_with_len 0 (n + 1) ≡ range_with_len 0 n ++ n ∷ []
+range_push_zero n = let e : 0 + n ≡ n = omega arith in range_push 0 n ∙ ap (λ k. range_with_len 0 n ++ k ∷ []) e
+
+-- the next crossing
+pub crossing_more : (rows : Rows) (i : ℕ) (row : CrossRow) (images now next : List ℕ) (crossings : List CrossRow) (round : List ℕ) → crossings ≡ rows.crossings → i < length crossings → row ≡ get_or crossings i row → round ≡ crossing_round rows row
+    → now ≡ written images (flat_map (λ x. links (crossing_round rows x)) (take i crossings)) → next ≡ written now (links round)
+    → next ≡ written images (flat_map (λ x. links (crossing_round rows x)) (take (i + 1) crossings))
+crossing_more rows i row images now next crossings round same inside at is was step =
+    linked_more (λ x. links (crossing_round rows x)) (take i crossings) row images now next was (step ∙ ap (λ r. written now (links r)) is)
+    ∙ ap (λ xs. written images (flat_map (λ x. links (crossing_round rows x)) xs)) (sym (take_more crossings i row inside ∙ ap (λ r. take i crossings ++ r ∷ []) (sym at)))
+
+-- what is read of the crossing at a place
+pub crossing_read : (rows : Rows) (good : IsWellFormed rows) (numbers : List ℕ) → AreAhead rows numbers → (i : ℕ) (crossings : List CrossRow) (d : CrossRow) → crossings ≡ rows.crossings → i < length crossings
+    → AheadOf rows good (get_or crossings i d) (slice_index numbers (2 * i)) (slice_index numbers (2 * i + 1))
+crossing_read rows good numbers are i crossings d same inside =
+    ahead_of_crossing rows good numbers are i (get_or crossings i d) (sym (ap (λ xs. slice_get xs i) same) ∙ slice_get-get_or crossings i d inside)

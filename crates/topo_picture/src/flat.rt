@@ -180,7 +180,7 @@ fn link_vertex(
     ensures images { OnOk result (images.new ≡ written images.old (links (vertex_round rows.now v))) }
     ensures corners { OnOk result (corners.new.items ≡ corners.old.items ++ vertex_round rows.now v) }
 {
-    let begin = corners.len();
+    let begin = corners.as_slice().len();
     let around = rows.rotations.as_slice()[v as usize].as_slice();
     push_round(corners, rows, ids, begins, v, around)?;
     link_round(images, &corners.as_slice()[begin..]);
@@ -259,6 +259,14 @@ fn write_turns(
     Ok(())
 }
 
+/// How many darts there are.
+fn dart_count(rows: &Rows, begins: &[u32]) -> usize
+    requires { begins.now ≡ begins_from 0 rows.now.edges }
+    ensures { result ≡ length (darts rows.now) }
+{
+    begins[rows.edges.as_slice().len()] as usize
+}
+
 /// The images of the turn in canonical numbers.
 pub(crate) fn turns_of(alloc: Global, rows: &Rows) -> Result<Vec<u32>, AllocError>
     requires well_formed { IsWellFormed rows.now }
@@ -268,7 +276,8 @@ pub(crate) fn turns_of(alloc: Global, rows: &Rows) -> Result<Vec<u32>, AllocErro
     ensures { IfOk result (λ images. images.items ≡ turn_images rows.now) }
 {
     let begins = begins_of(alloc, rows.edges.as_slice())?;
-    let mut images = vec![in alloc; 0; begins[begins.len() - 1] as usize]?;
+    let count = dart_count(rows, begins.as_slice());
+    let mut images = vec![in alloc; 0; count]?;
     write_turns(alloc, &mut images, rows, begins.as_slice())?;
     Ok(images)
 }
