@@ -6,4 +6,5 @@ pub mod PairCounts
 pub mod PairTests
 pub mod Rounds
 pub mod Sorting
+pub mod Verdicts
 pub mod Written

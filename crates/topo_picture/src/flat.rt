@@ -264,7 +264,8 @@ fn dart_count(rows: &Rows, begins: &[u32]) -> usize
     requires { begins.now ≡ begins_from 0 rows.now.edges }
     ensures { result ≡ length (darts rows.now) }
 {
-    begins[rows.edges.as_slice().len()] as usize
+    let last = rows.edges.as_slice().len();
+    begins[last] as usize
 }
 
 /// The images of the turn in canonical numbers.

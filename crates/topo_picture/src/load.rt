@@ -87,6 +87,7 @@ fn is_whole(alloc: Global, rows: &Rows, images: &[u32]) -> Result<bool, AllocErr
 fn has_genus_zero(alloc: Global, rows: &Rows, images: &[u32]) -> Result<bool, AllocError>
     requires well_formed { IsWellFormed rows.now }
     requires images { images.now ≡ turn_images rows.now }
+    requires few { 2 * sum_by segment_count rows.now.edges < 2 ^ 32 }
     requires vertices { length rows.now.rotations < 2 ^ 32 }
     requires crossings { length rows.now.crossings < 2 ^ 32 }
     ensures { IfOk result (λ yes. IsTrue yes ↔ HasGenusZero rows.now) }

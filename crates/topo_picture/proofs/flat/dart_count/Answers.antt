@@ -4,12 +4,12 @@ use Rattle.topo_picture.specs.Flats.{begins_from}
 use Rattle.topo_picture.proofs.Begins.{begins_last, begins_length}
 use Rattle.topo_picture.proofs.flat.dart_count.Goals as goal
 
-pub bounds-begins-len : goal.bounds-begins-len
-bounds-begins-len c =
+pub bounds-begins-last : goal.bounds-begins-last
+bounds-begins-last c =
     let begins = ap length c.requires ∙ begins_length 0 c.args.rows.now.edges in
-    let edges = ap length c.as_slice.ensures in omega arith
+    let edges = ap length c.as_slice-last.ensures in omega arith
 
 pub returns : goal.returns
 returns c =
     let last = begins_last 0 c.args.rows.now.edges in
-    ap (λ xs. slice_index xs (length c.as_slice.result.now)) c.requires ∙ ap (λ xs. slice_index (begins_from 0 c.args.rows.now.edges) (length xs)) c.as_slice.ensures ∙ last ∙ omega arith
+    ap (λ xs. slice_index xs (length c.as_slice-last.result.now)) c.requires ∙ ap (λ xs. slice_index (begins_from 0 c.args.rows.now.edges) (length xs)) c.as_slice-last.ensures ∙ last ∙ omega arith
