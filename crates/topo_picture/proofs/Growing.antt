@@ -10,11 +10,11 @@ use Rattle.topo_core.specs.Changes.{grown}
 use Rattle.topo_core.specs.Steps.{grow_refusal, has_vertex}
 use Rattle.topo_picture.specs.Shown.{IsPicture}
 use Rattle.topo_core.proofs.Connection.{seed_is_embedding}
-use Rattle.topo_core.proofs.Growing.{growth_keeps_embedding}
+use Rattle.topo_core.proofs.GrownFaces.{growth_keeps_lawful}
 
 pub seed_is_picture : (limits : Limits) → IsPicture limits seed
 seed_is_picture limits = record {
-  embedding = seed_is_embedding;
+  lawful = record { embedding = seed_is_embedding; genus_zero = refl };
   vertices = limits.two_vertices;
   edges = limits.one_edge;
   crossings = omega arith;
@@ -52,7 +52,7 @@ growable limits rows u p kind h =
 pub grown_is_picture : (limits : Limits) (rows : Rows) (u p kind : ℕ) → IsPicture limits rows → grow_refusal limits rows u p kind ≡ None → IsPicture limits (grown rows u p kind)
 grown_is_picture limits rows u p kind was accepted =
     let may = growable limits rows u p kind accepted in record {
-      embedding = growth_keeps_embedding rows was.embedding u p kind may.vertex may.position may.known;
+      lawful = growth_keeps_lawful rows was.lawful u p kind may.vertex may.position may.known;
       vertices = simp (length-append, length-set) (omega (arith, may.vertex_left));
       edges = omega (arith, may.edge_left);
       crossings = was.crossings;

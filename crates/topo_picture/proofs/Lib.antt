@@ -1,1 +1,10 @@
+pub mod Begins
 pub mod Growing
+pub mod Linking
+pub mod Noting
+pub mod PairCounts
+pub mod PairTests
+pub mod Rounds
+pub mod Sorting
+pub mod Verdicts
+pub mod Written

@@ -1,1 +1,4 @@
+pub mod Flats
+pub mod Loading
+pub mod Pairs
 pub mod Shown

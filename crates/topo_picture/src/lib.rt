@@ -6,7 +6,14 @@
 #![tactic(auto)]
 
 mod copies;
+mod faults;
+mod flat;
 mod growth;
+pub mod load;
+mod pairs;
 pub mod picture;
+#[cfg(test)]
+mod tests;
 
+pub use load::LoadFault;
 pub use picture::Picture;

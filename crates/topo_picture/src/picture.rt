@@ -2,6 +2,7 @@
 
 use crate::copies::copy_rows;
 use crate::growth::grow_rows;
+use crate::load::{LoadFault, first_fault};
 use std::alloc::{AllocError, Global};
 use std::marker::Model;
 use topo_core::calls::Refusal;
@@ -10,7 +11,7 @@ use topo_core::limits::Limits;
 use topo_core::listed::Listed;
 use topo_core::rows::{EdgeRow, Rows};
 
-/// A connected embedding of a graph, within limits.
+/// A connected embedding of a graph of genus zero, within limits.
 #[derive(Drop)]
 pub struct Picture {
     limits: Limits,
@@ -32,6 +33,7 @@ impl Picture {
     ghost use Rattle.topo_core.specs.Pictures.{seed};
     ghost use Rattle.topo_core.specs.Changes.{grown};
     ghost use Rattle.topo_core.specs.Steps.{grow_refusal};
+    ghost use Rattle.topo_picture.specs.Loading.{FailsFirst};
     ghost use Rattle.topo_picture.specs.Shown.{IsPicture};
 
     /// The picture of two vertices, 0 and 1, and edge 0 of kind 0 from the one to the other.
@@ -41,6 +43,25 @@ impl Picture {
     {
         let rows = seed_rows(alloc)?;
         Ok(Picture { limits, rows })
+    }
+
+    /// The picture with these rows and limits. Rows that are none are refused by the first test that
+    /// they fail, in the order of the faults. Memory may be answered in place of any answer.
+    pub fn load(alloc: Global, limits: Limits, rows: &Rows) -> Result<Self, LoadFault>
+        ensures rows { IfOk result (λ p. p.rows ≡ rows.now) }
+        ensures limits { IfOk result (λ p. p.limits ≡ limits) }
+        ensures lawful { IfOk result (λ _. IsPicture limits rows.now) }
+        ensures refused { IfErr result (FailsFirst limits rows.now) }
+    {
+        match first_fault(alloc, &limits, rows) {
+            Ok(None) => {}
+            Ok(Some(fault)) => return Err(fault),
+            Err(_) => return Err(LoadFault::Memory),
+        }
+        match copy_rows(alloc, rows) {
+            Ok(rows) => Ok(Picture { limits, rows }),
+            Err(_) => Err(LoadFault::Memory),
+        }
     }
 
     /// How large it may grow.
