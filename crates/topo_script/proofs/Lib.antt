@@ -1,1 +1,5 @@
+pub mod Bytes
+pub mod Items
+pub mod Lookups
 pub mod Members
+pub mod Steps

@@ -1,1 +1,8 @@
+pub mod CallForms
+pub mod Paths
 pub mod Pictures
+pub mod Prices
+pub mod Reads
+pub mod ReplyForms
+pub mod RowForms
+pub mod Scripts

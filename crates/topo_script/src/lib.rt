@@ -5,7 +5,19 @@
 //! it is written in one pass.
 #![tactic(auto)]
 
+mod calls;
+pub mod fault;
+pub mod form;
+pub mod path;
+mod prices;
+pub mod read_script;
+mod replies;
+pub mod report;
+pub mod row_forms;
 mod rows;
+pub mod script;
+#[cfg(test)]
+mod tests;
 pub mod written;
 
 ghost use Rattle.std.specs.Prelude.{◌≡◌, IfOk, string_bytes};
