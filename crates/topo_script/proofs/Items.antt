@@ -1,5 +1,5 @@
 -- Reading the elements of an array one after another.
-use Rattle.std.proofs.Common.{◌≡◌, ℕ, ◌+◌, ◌<◌, List, [], ◌∷◌, ◌++◌, length, get_or, drop, Result, Ok, Err, refl, ap, sym, ◌∙◌, subst, append_assoc, add-one, arith, drop-cons, append-nil, ◌≤◌}
+use Rattle.std.proofs.Common.{◌≡◌, ℕ, ◌+◌, ◌<◌, List, [], ◌∷◌, ◌++◌, length, get_or, drop, Result, Ok, Err, refl, ap, sym, ◌∙◌, subst, append_assoc, add-one, arith, drop-cons, append-nil, ◌≤◌, ap₂}
 use Rattle.std.proofs.lemmas.List.{drop_all}
 use Rattle.serde_json.specs.Data.{Data}
 use Rattle.serde_json.specs.View.{view, items_view}
@@ -45,3 +45,11 @@ pub all_found : {A : Type 0} (form : Path → Data → Read A) (path : Path) (vs
     → and_then (items_from form path i (items_view (drop i vs))) (λ rest. Ok (found ++ rest)) ≡ Ok found
 unfolding and_then
 all_found form path vs i found h = rw (none_left form path i (drop i vs) (drop_all i vs h)) (ap (λ ys. Ok ys) (append-nil found))
+
+pub placed : {A : Type 0} (form : Path → Data → Read A) (path at_element : Path) (vs : List Value) (i : ℕ) (d : Value) (r : Read A)
+    → at_element ≡ element_of path i → d ≡ get_or vs i d → form at_element (view d) ≡ r → form (element_of path i) (view (get_or vs i d)) ≡ r
+placed form path at_element vs i d r e is h = ap₂ (λ (p : Path) (v : Value). form p (view v)) (sym e) (sym is) ∙ h
+
+pub placed_fault : {A : Type 0} (form : Path → Data → Read A) (path at_element : Path) (vs : List Value) (i : ℕ) (d : Value) (e : ScriptFault)
+    → at_element ≡ element_of path i → d ≡ get_or vs i d → IsFirstFault (form at_element (view d)) e → IsFirstFault (form (element_of path i) (view (get_or vs i d))) e
+placed_fault form path at_element vs i d fault e is h = subst (λ r. IsFirstFault r fault) (ap₂ (λ (p : Path) (v : Value). form p (view v)) e is) h

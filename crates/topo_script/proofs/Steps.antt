@@ -30,3 +30,19 @@ past found next a e is h = rw is h
 pub gives_past : {A B : Type 0} (found : Read A) (next : A → Read B) (a : A) (r : Read B) → found ≡ Ok a → Gives r (next a) → Gives r (and_then found next)
 unfolding and_then
 gives_past found next a r is h = rw is h
+
+-- an error that is the first fault
+pub told : {A : Type 0} (found : Read A) (e : ScriptFault) → Err e ≡ found → IsFirstFault found e
+told found Memory h = tt
+told found NotJson h = sym h
+told found TooLong h = sym h
+told found (BadShape path) h = sym h
+told found BadVersion h = sym h
+told found (BadNumber path) h = sym h
+
+pub stops_at : {A B : Type 0} (found : Read A) (next : A → Read B) (e : ScriptFault) (r : Read B) → r ≡ Err e → IsFirstFault found e → Gives r (and_then found next)
+stops_at found next e r is h = subst (λ q. Gives q (and_then found next)) (sym is) (stopped found next e h)
+
+pub gives_same : {A : Type 0} (r found : Read A) → r ≡ found → Gives r found
+gives_same (Ok a) found e = sym e
+gives_same (Err fault) found e = told found fault e

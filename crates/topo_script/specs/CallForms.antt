@@ -48,7 +48,11 @@ planned_form path d = do
   kind ← element number_form path 3 d
   Ok (Planned u v kind)
 
--- what a script may have: a call, or a planned insertion
+unfoldable pub plain_form : Path → Data → Read Command
+plain_form path d = do
+  call ← call_form path d
+  Ok (Plain call)
+
+-- what a script may have: a planned insertion, or a call
 unfoldable pub command_form : Path → Data → Read Command
-command_form path d =
-    if begins (codes "planned") 4 d then planned_form path d else (call_form path d >>= λ call. Ok (Plain call))
+command_form path d = if begins (codes "planned") 4 d then planned_form path d else plain_form path d

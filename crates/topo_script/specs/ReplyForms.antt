@@ -48,8 +48,13 @@ plain_refusal path d =
     Err (BadShape path)))))))
 
 -- Cut has a segment, which is tested as every number is
+unfoldable pub cut_form : Path → Data → Read Refusal
+cut_form path d = do
+  segment ← element number_form path 2 d
+  Ok (Cut segment)
+
 unfoldable pub refusal_form : Path → Data → Read Refusal
-refusal_form path d = if is_pair 3 6 (codes "Cut") d then (element number_form path 2 d >>= λ segment. Ok (Cut segment)) else plain_refusal path d
+refusal_form path d = if is_pair 3 6 (codes "Cut") d then cut_form path d else plain_refusal path d
 
 -- ---- Replies
 

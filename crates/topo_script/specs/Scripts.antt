@@ -1,8 +1,7 @@
 -- The forms of scripts and reports.
-use Rattle.std.specs.Prelude.{ℕ, ◌==◌, ◌&&◌, ◌||◌, not, nat_lt, nat_le, Bool, true, false, List, [], ◌∷◌, length, codes, Option, Some, None, is_some, if◌then◌else◌, Ok, Err}
-use Rattle.serde_json.specs.Data.{Data, Items}
-use Rattle.serde_json.specs.Find.{as_array, as_object, as_null}
-use Rattle.serde_json.specs.Events.{items_len}
+use Rattle.std.specs.Prelude.{ℕ, ◌==◌, ◌&&◌, nat_lt, nat_le, Bool, true, false, List, [], ◌∷◌, length, codes, Option, Some, None, is_some, if◌then◌else◌, Ok, Err}
+use Rattle.serde_json.specs.Data.{Data}
+use Rattle.serde_json.specs.Find.{as_object, as_null}
 use Rattle.topo_core.specs.declared.calls.Command.{Command}
 use Rattle.topo_core.specs.declared.rows.Rows.{Rows}
 use Rattle.topo_script.specs.declared.script.LimitRows.{LimitRows}
@@ -12,7 +11,7 @@ use Rattle.topo_script.specs.declared.path.Key.TheVariants.{Crossings, Edges, Hi
 use Rattle.topo_script.specs.declared.path.Path.{Path}
 use Rattle.topo_script.specs.declared.fault.ScriptFault.TheVariants.{BadShape, BadVersion}
 use Rattle.topo_script.specs.Paths.{whole}
-use Rattle.topo_script.specs.Reads.{Read, ◌>>=◌, due, passes, number_form, is_text, list_form, items_from, has_keys, member_form, member_or, value_of}
+use Rattle.topo_script.specs.Reads.{Read, ◌>>=◌, passes, number_form, is_text, element_count, list_form, has_keys, member_form, member_or, value_of}
 use Rattle.topo_script.specs.Prices.{without_ones}
 use Rattle.topo_script.specs.RowForms.{rows_form}
 use Rattle.topo_script.specs.CallForms.{command_form}
@@ -33,37 +32,48 @@ limits_form path d = do
 
 -- ---- Versions and prices
 
--- whether the version lets a price be null: version 1 does not, version 2 does
+-- whether a version lets a price be null: version 1 does not, version 2 does
+unfoldable pub nulls_of : ℕ → Read Bool
+nulls_of version = if version == 1 then Ok false else (if version == 2 then Ok true else Err BadVersion)
+
 unfoldable pub nulls_in : Data → Read Bool
 nulls_in d = do
-  _ ← due (BadShape whole) (as_object d)
+  _ ← passes (BadShape whole) (is_some (as_object d))
   version ← member_form number_form whole Version d
-  if version == 1 then Ok false else (if version == 2 then Ok true else Err BadVersion)
+  nulls_of version
+
+unfoldable pub some_price : Path → Data → Read (Option ℕ)
+some_price path d = do
+  price ← number_form path d
+  Ok (Some price)
 
 -- a number, or null where the version lets it be
 unfoldable pub price_form : Bool → Path → Data → Read (Option ℕ)
-price_form nulls path d = if nulls && is_some (as_null d) then Ok None else (number_form path d >>= λ price. Ok (Some price))
+price_form nulls path d = if nulls && is_some (as_null d) then Ok None else some_price path d
 
 -- at most 64 prices, kept without the ones at their end
 unfoldable pub prices_form : Bool → Path → Data → Read (List (Option ℕ))
 prices_form nulls path d = do
-  items ← due (BadShape path) (as_array d)
-  _ ← passes (BadShape path) (not (nat_lt 64 (items_len items)))
-  prices ← items_from (price_form nulls) path 0 items
+  _ ← passes (BadShape path) (nat_le (element_count d) 64)
+  prices ← list_form (price_form nulls) path d
   Ok (without_ones prices)
 
 -- ---- Scripts
 
+unfoldable pub picture_form : Path → Data → Read (Option Rows)
+picture_form path d = do
+  rows ← rows_form path d
+  Ok (Some rows)
+
 -- the text `seed`, or a picture
 unfoldable pub start_form : Path → Data → Read (Option Rows)
-start_form path d = if is_text (codes "seed") d then Ok None else (rows_form path d >>= λ rows. Ok (Some rows))
+start_form path d = if is_text (codes "seed") d then Ok None else picture_form path d
 
--- 1 to 16 lists of commands
+-- an array of 1 to 16 lists of commands
 unfoldable pub workers_form : Path → Data → Read (List (List Command))
 workers_form path d = do
-  items ← due (BadShape path) (as_array d)
-  _ ← passes (BadShape path) (nat_lt 0 (items_len items) && not (nat_lt 16 (items_len items)))
-  items_from (list_form command_form) path 0 items
+  _ ← passes (BadShape path) (nat_lt 0 (element_count d) && nat_le (element_count d) 16)
+  list_form (list_form command_form) path d
 
 unfoldable pub script_form : Data → Read Script
 script_form d = do

@@ -3,7 +3,7 @@
 ghost use Rattle.std.specs.Prelude.{◌≡◌};
 ghost use Rattle.serde_json.specs.View.{view};
 ghost use Rattle.topo_script.specs.Reads.{Gives};
-ghost use Rattle.topo_script.specs.CallForms.{begins, call_form, grow_form, insert_form, delete_form, command_form, planned_form};
+ghost use Rattle.topo_script.specs.CallForms.{begins, call_form, grow_form, insert_form, delete_form, command_form, planned_form, plain_form};
 
 use crate::fault::ScriptFault;
 use crate::form::{Form, element_count, is_text, read_element};
@@ -76,14 +76,22 @@ impl Form for Call {
     }
 }
 
+fn read_plain(alloc: Global, path: Path, value: &Value) -> Result<Command, ScriptFault>
+    ensures { Gives result (plain_form path (view value.now)) }
+{
+    let call = Call::read(alloc, path, value)?;
+    Ok(Command::Plain(call))
+}
+
 impl Form for Command {
     ghost form = { command_form };
 
+    #[tactic(auto, unfolding(crate::specs::CallForms::command_form))]
     fn read(alloc: Global, path: Path, value: &Value) -> Result<Self, ScriptFault> {
         if begins("planned", 4, value) {
-            return read_planned(alloc, path, value);
+            read_planned(alloc, path, value)
+        } else {
+            read_plain(alloc, path, value)
         }
-        let call = Call::read(alloc, path, value)?;
-        Ok(Command::Plain(call))
     }
 }

@@ -1,13 +1,15 @@
 //! What can be read from a JSON value.
 
-ghost use Rattle.std.specs.Prelude.{◌≡◌, ◌+◌};
+ghost use Rattle.std.specs.Prelude.{◌≡◌, ◌+◌, ◌==◌};
+ghost use Rattle.topo_script.specs.declared.fault.ScriptFault.TheVariants.{BadShape};
 ghost use Rattle.serde_json.specs.View.{view, items_view, members_view};
-ghost use Rattle.topo_script.specs.Reads.{Gives, read_map, number_below, number_form, is_text, element_count, items_from, list_form, element, has_key, is_known, all_known, all_there, has_keys, member_form, member_or, value_of};
+ghost use Rattle.topo_script.specs.Reads.{Gives, passes, read_map, number_below, number_form, is_text, element_count, items_from, list_form, element, has_key, is_known, all_known, all_there, has_keys, member_form, member_or, value_of};
 
 use crate::fault::ScriptFault;
 use crate::path::{Key, Path};
 use serde_json::{Map, Value};
 use std::alloc::Global;
+use topo_core::ids::{EdgeId, VertexId};
 use topo_core::listed::Listed;
 
 /// A type that can be read from a JSON value. Its `form` says what a value is read as, or which fault
@@ -44,6 +46,28 @@ impl Form for u32 {
     fn read(_alloc: Global, path: Path, value: &Value) -> Result<Self, ScriptFault> {
         let number = read_number(u64::from(u32::MAX), path, value)?;
         Ok(number as u32)
+    }
+}
+
+impl Form for EdgeId {
+    ghost form = { number_form };
+
+    fn read(alloc: Global, path: Path, value: &Value) -> Result<Self, ScriptFault> {
+        match u32::read(alloc, path, value) {
+            Ok(number) => Ok(EdgeId::new(number)),
+            Err(fault) => Err(fault),
+        }
+    }
+}
+
+impl Form for VertexId {
+    ghost form = { number_form };
+
+    fn read(alloc: Global, path: Path, value: &Value) -> Result<Self, ScriptFault> {
+        match u32::read(alloc, path, value) {
+            Ok(number) => Ok(VertexId::new(number)),
+            Err(fault) => Err(fault),
+        }
     }
 }
 
@@ -148,6 +172,17 @@ pub fn element_count(value: &Value) -> usize
     match value.as_array() {
         Some(elements) => elements.len(),
         None => 0,
+    }
+}
+
+/// Tests that a value is an array of so many elements.
+pub fn check_count(path: Path, count: usize, value: &Value) -> Result<(), ScriptFault>
+    ensures { result ≡ passes (BadShape path) (element_count (view value.now) == count) }
+{
+    if element_count(value) == count {
+        Ok(())
+    } else {
+        Err(ScriptFault::BadShape(path))
     }
 }
 

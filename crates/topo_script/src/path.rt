@@ -99,21 +99,17 @@ pub struct Path {
 }
 
 impl Path {
-    ghost use Rattle.topo_script.specs.Paths.{whole, under};
+    ghost use Rattle.topo_script.specs.Paths.{under};
 
     /// The path of the whole text, `$`.
-    pub fn whole() -> Self
-        ensures { result ≡ whole }
-    {
-        Path {
-            first: None,
-            second: None,
-            third: None,
-            fourth: None,
-            fifth: None,
-            sixth: None,
-        }
-    }
+    pub const WHOLE: Path = Path {
+        first: None,
+        second: None,
+        third: None,
+        fourth: None,
+        fifth: None,
+        sixth: None,
+    };
 
     /// The path of what one step leads to.
     #[tactic(auto, unfolding(crate::specs::Paths::under))]

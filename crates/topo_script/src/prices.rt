@@ -1,13 +1,14 @@
 //! Lists of prices, read from their JSON form.
 
-ghost use Rattle.std.specs.Prelude.{◌≡◌, ◌≤◌, ◌<◌, length, take};
+ghost use Rattle.std.specs.Prelude.{◌≡◌, ◌≤◌, length, take, nat_le};
+ghost use Rattle.topo_script.specs.declared.fault.ScriptFault.TheVariants.{BadShape};
 ghost use Rattle.serde_json.specs.View.{view, items_view};
-ghost use Rattle.topo_script.specs.Reads.{Gives, items_from};
+ghost use Rattle.topo_script.specs.Reads.{Gives, passes, element_count, list_form, items_from};
 ghost use Rattle.topo_script.specs.Prices.{without_ones};
-ghost use Rattle.topo_script.specs.Scripts.{price_form, prices_form};
+ghost use Rattle.topo_script.specs.Scripts.{some_price, price_form, prices_form};
 
 use crate::fault::ScriptFault;
-use crate::form::Form;
+use crate::form::{Form, element_count};
 use crate::path::Path;
 use serde_json::Value;
 use std::alloc::Global;
@@ -16,7 +17,15 @@ use topo_core::listed::Listed;
 /// The greatest number of prices in a list: one for each kind.
 const MAX_PRICES: usize = 64;
 
+fn read_some_price(alloc: Global, path: Path, value: &Value) -> Result<Option<u32>, ScriptFault>
+    ensures { Gives result (some_price path (view value.now)) }
+{
+    let price = u32::read(alloc, path, value)?;
+    Ok(Some(price))
+}
+
 /// A number, or null where the version lets it be.
+#[tactic(auto, unfolding(crate::specs::Scripts::price_form))]
 fn read_price(
     alloc: Global,
     nulls: bool,
@@ -26,10 +35,21 @@ fn read_price(
     ensures { Gives result (price_form nulls path (view value.now)) }
 {
     if nulls && value.is_null() {
-        return Ok(None);
+        Ok(None)
+    } else {
+        read_some_price(alloc, path, value)
     }
-    let price = u32::read(alloc, path, value)?;
-    Ok(Some(price))
+}
+
+/// Tests that there is at most one price for each kind.
+fn check_prices(path: Path, value: &Value) -> Result<(), ScriptFault>
+    ensures { result ≡ passes (BadShape path) (nat_le (element_count (view value.now)) 64) }
+{
+    if element_count(value) <= MAX_PRICES {
+        Ok(())
+    } else {
+        Err(ScriptFault::BadShape(path))
+    }
 }
 
 /// At most 64 prices, without the ones at their end.
@@ -41,25 +61,34 @@ pub fn read_prices(
 ) -> Result<Listed<Option<u32>>, ScriptFault>
     ensures { Gives result (prices_form nulls path (view value.now)) }
 {
-    let Some(items) = value.as_array() else {
-        return Err(ScriptFault::BadShape(path));
-    };
-    if items.len() > MAX_PRICES {
-        return Err(ScriptFault::BadShape(path));
+    check_prices(path, value)?;
+    let prices = read_price_list(alloc, nulls, path, value)?;
+    Ok(without_ones(prices))
+}
+
+/// What the elements of an array are read as, up to the first fault.
+fn read_price_list(
+    alloc: Global,
+    nulls: bool,
+    path: Path,
+    value: &Value,
+) -> Result<Listed<Option<u32>>, ScriptFault>
+    ensures { Gives result (list_form (price_form nulls) path (view value.now)) }
+{
+    match value.as_array() {
+        Some(items) => read_price_items(alloc, nulls, path, items.as_slice()),
+        None => Err(ScriptFault::BadShape(path)),
     }
-    let mut prices = read_all(alloc, nulls, path, items.as_slice())?;
-    prices.truncate(kept_len(prices.as_slice()));
-    Ok(Listed::from_vec(prices))
 }
 
 /// What each element is read as, up to the first fault.
-fn read_all(
+fn read_price_items(
     alloc: Global,
     nulls: bool,
     path: Path,
     items: &[Value],
-) -> Result<Vec<Option<u32>>, ScriptFault>
-    ensures { Gives (items_result result) (items_from (price_form nulls) path 0 (items_view items.now)) }
+) -> Result<Listed<Option<u32>>, ScriptFault>
+    ensures { Gives result (items_from (price_form nulls) path 0 (items_view items.now)) }
 {
     let mut prices = Vec::new(alloc);
     for (i, item) in items.iter().enumerate() {
@@ -70,7 +99,17 @@ fn read_all(
             Err(fault) => return Err(fault),
         }
     }
-    Ok(prices)
+    Ok(Listed::from_vec(prices))
+}
+
+/// The prices without the ones at their end.
+fn without_ones(prices: Listed<Option<u32>>) -> Listed<Option<u32>>
+    ensures { result ≡ without_ones prices }
+{
+    let mut prices = prices.into_vec();
+    let kept = kept_len(prices.as_slice());
+    prices.truncate(kept);
+    Listed::from_vec(prices)
 }
 
 /// How many prices there are up to the last one that is not 1.

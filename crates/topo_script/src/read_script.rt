@@ -1,15 +1,17 @@
 //! Scripts and reports, read from their JSON forms.
 
-ghost use Rattle.std.specs.Prelude.{◌≡◌, []};
+ghost use Rattle.std.specs.Prelude.{◌≡◌, ◌&&◌, [], nat_lt, nat_le, is_some};
 ghost use Rattle.serde_json.specs.View.{view};
-ghost use Rattle.topo_script.specs.Reads.{Gives, member_form, member_or};
+ghost use Rattle.serde_json.specs.Find.{as_object};
+ghost use Rattle.topo_script.specs.declared.fault.ScriptFault.TheVariants.{BadShape};
+ghost use Rattle.topo_script.specs.Reads.{Gives, passes, element_count, member_form, member_or};
 ghost use Rattle.topo_script.specs.Paths.{whole};
 ghost use Rattle.topo_script.specs.declared.path.Key.TheVariants.{Prices, Workers};
-ghost use Rattle.topo_script.specs.Scripts.{limits_form, greatest_limits, nulls_in, prices_form, start_form, workers_form, script_form, script_of, report_form, report_of};
+ghost use Rattle.topo_script.specs.Scripts.{limits_form, nulls_of, nulls_in, prices_form, picture_form, start_form, workers_form, script_form, script_of, report_form, report_of};
 
 use crate::fault::ScriptFault;
 use crate::form::{
-    Form, check_keys, has_key, is_text, parse, read_items, read_member, read_member_or,
+    Form, check_keys, element_count, has_key, is_text, parse, read_member, read_member_or,
 };
 use crate::path::{Key, Path};
 use crate::prices::read_prices;
@@ -45,14 +47,22 @@ impl Form for LimitRows {
     }
 }
 
-/// Whether the version of a script or a report lets a price be null.
-fn read_nulls(alloc: Global, value: &Value) -> Result<bool, ScriptFault>
-    ensures { Gives result (nulls_in (view value.now)) }
+/// Tests that a value is an object.
+fn check_object(path: Path, value: &Value) -> Result<(), ScriptFault>
+    ensures { result ≡ passes (BadShape path) (is_some (as_object (view value.now))) }
 {
-    if !value.is_object() {
-        return Err(ScriptFault::BadShape(Path::whole()));
+    if value.is_object() {
+        Ok(())
+    } else {
+        Err(ScriptFault::BadShape(path))
     }
-    let version: u32 = read_member(alloc, Path::whole(), Key::Version, value)?;
+}
+
+/// Whether a version lets a price be null.
+#[tactic(auto, unfolding(crate::specs::Scripts::nulls_of))]
+fn nulls_of(version: u32) -> Result<bool, ScriptFault>
+    ensures { result ≡ nulls_of version }
+{
     match version {
         1 => Ok(false),
         2 => Ok(true),
@@ -60,16 +70,21 @@ fn read_nulls(alloc: Global, value: &Value) -> Result<bool, ScriptFault>
     }
 }
 
-/// The greatest limits.
-fn greatest_limits() -> LimitRows
-    ensures { result ≡ greatest_limits }
+/// Whether the version of a script or a report lets a price be null.
+fn read_nulls(alloc: Global, value: &Value) -> Result<bool, ScriptFault>
+    ensures { Gives result (nulls_in (view value.now)) }
 {
-    LimitRows {
-        vertices: 65_536,
-        edges: 65_536,
-        crossings: 1_048_576,
-    }
+    check_object(Path::WHOLE, value)?;
+    let version = read_member(alloc, Path::WHOLE, Key::Version, value)?;
+    nulls_of(version)
 }
+
+/// The greatest limits.
+const GREATEST_LIMITS: LimitRows = LimitRows {
+    vertices: 65_536,
+    edges: 65_536,
+    crossings: 1_048_576,
+};
 
 /// The prices of a report.
 fn read_price_member(
@@ -79,7 +94,7 @@ fn read_price_member(
 ) -> Result<Listed<Option<u32>>, ScriptFault>
     ensures { Gives result (member_form (prices_form nulls) whole Prices (view value.now)) }
 {
-    let path = Path::whole().member(Key::Prices);
+    let path = Path::WHOLE.member(Key::Prices);
     match value.get(Key::Prices.name()) {
         Some(prices) => read_prices(alloc, nulls, path, prices),
         None => Err(ScriptFault::BadShape(path)),
@@ -87,7 +102,6 @@ fn read_price_member(
 }
 
 /// The prices of a script, which may be missing.
-#[tactic(auto, unfolding(crate::specs::Reads::member_or))]
 fn read_prices_or_none(
     alloc: Global,
     nulls: bool,
@@ -96,20 +110,41 @@ fn read_prices_or_none(
     ensures { Gives result (member_or [] (prices_form nulls) whole Prices (view value.now)) }
 {
     if has_key(Key::Prices, value) {
-        return read_price_member(alloc, nulls, value);
+        read_price_member(alloc, nulls, value)
+    } else {
+        Ok(Listed::from_vec(Vec::new(alloc)))
     }
-    Ok(Listed::from_vec(Vec::new(alloc)))
+}
+
+fn read_picture(alloc: Global, path: Path, value: &Value) -> Result<Option<Rows>, ScriptFault>
+    ensures { Gives result (picture_form path (view value.now)) }
+{
+    let rows = Rows::read(alloc, path, value)?;
+    Ok(Some(rows))
 }
 
 impl Form for Option<Rows> {
     ghost form = { start_form };
 
+    #[tactic(auto, unfolding(crate::specs::Scripts::start_form))]
     fn read(alloc: Global, path: Path, value: &Value) -> Result<Self, ScriptFault> {
         if is_text("seed", value) {
-            return Ok(None);
+            Ok(None)
+        } else {
+            read_picture(alloc, path, value)
         }
-        let rows = Rows::read(alloc, path, value)?;
-        Ok(Some(rows))
+    }
+}
+
+/// Tests that there are 1 to 16 lists of commands.
+fn check_workers(path: Path, value: &Value) -> Result<(), ScriptFault>
+    ensures { result ≡ passes (BadShape path) (nat_lt 0 (element_count (view value.now)) && nat_le (element_count (view value.now)) 16) }
+{
+    let count = element_count(value);
+    if 0 < count && count <= MAX_WORKERS {
+        Ok(())
+    } else {
+        Err(ScriptFault::BadShape(path))
     }
 }
 
@@ -121,20 +156,15 @@ fn read_workers(
 ) -> Result<Listed<Listed<Command>>, ScriptFault>
     ensures { Gives result (workers_form path (view value.now)) }
 {
-    let Some(items) = value.as_array() else {
-        return Err(ScriptFault::BadShape(path));
-    };
-    if items.is_empty() || items.len() > MAX_WORKERS {
-        return Err(ScriptFault::BadShape(path));
-    }
-    read_items(alloc, path, items.as_slice())
+    check_workers(path, value)?;
+    Listed::read(alloc, path, value)
 }
 
 /// The lists of commands of a script.
 fn read_workers_member(alloc: Global, value: &Value) -> Result<Listed<Listed<Command>>, ScriptFault>
     ensures { Gives result (member_form workers_form whole Workers (view value.now)) }
 {
-    let path = Path::whole().member(Key::Workers);
+    let path = Path::WHOLE.member(Key::Workers);
     match value.get(Key::Workers.name()) {
         Some(workers) => read_workers(alloc, path, workers),
         None => Err(ScriptFault::BadShape(path)),
@@ -146,10 +176,10 @@ fn script_in(alloc: Global, value: &Value) -> Result<Script, ScriptFault>
     ensures { Gives result (script_form (view value.now)) }
 {
     let nulls = read_nulls(alloc, value)?;
-    let whole = Path::whole();
+    let whole = Path::WHOLE;
     let optional = [Key::Limits, Key::Prices, Key::Start];
     check_keys(whole, &[Key::Version, Key::Workers], &optional, value)?;
-    let limits = read_member_or(alloc, whole, Key::Limits, value, greatest_limits())?;
+    let limits = read_member_or(alloc, whole, Key::Limits, value, GREATEST_LIMITS)?;
     let prices = read_prices_or_none(alloc, nulls, value)?;
     let start = read_member_or(alloc, whole, Key::Start, value, None)?;
     let workers = read_workers_member(alloc, value)?;
@@ -174,7 +204,7 @@ fn report_in(alloc: Global, value: &Value) -> Result<Report, ScriptFault>
     ensures { Gives result (report_form (view value.now)) }
 {
     let nulls = read_nulls(alloc, value)?;
-    let whole = Path::whole();
+    let whole = Path::WHOLE;
     let keys = [
         Key::History,
         Key::Limits,

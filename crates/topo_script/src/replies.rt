@@ -3,18 +3,18 @@
 ghost use Rattle.std.specs.Prelude.{◌≡◌, option_map};
 ghost use Rattle.serde_json.specs.View.{view};
 ghost use Rattle.topo_script.specs.Reads.{Gives, long_form};
-ghost use Rattle.topo_script.specs.ReplyForms.{is_number, is_pair, way_form, dart_form, refusal_form, plain_refusal, deleted_form, refused_form, grown_form, inserted_form, reply_form, entry_form};
+ghost use Rattle.topo_script.specs.ReplyForms.{is_number, is_pair, way_form, dart_form, refusal_form, cut_form, plain_refusal, deleted_form, refused_form, grown_form, inserted_form, reply_form, entry_form};
 
 use crate::fault::ScriptFault;
 use crate::form::{
-    Form, check_keys, element_count, has_key, is_text, read_element, read_member, read_number,
+    Form, check_count, check_keys, element_count, has_key, is_text, read_element, read_member,
+    read_number,
 };
 use crate::path::{Key, Path};
 use serde_json::Value;
 use std::alloc::Global;
 use topo_core::calls::{Entry, Refusal, Reply};
 use topo_core::darts::{Dart, Way};
-use topo_core::ids::{EdgeId, VertexId};
 use topo_core::routes::{Inserted, Route};
 
 impl Form for u64 {
@@ -44,17 +44,11 @@ impl Form for Dart {
     ghost form = { dart_form };
 
     fn read(alloc: Global, path: Path, value: &Value) -> Result<Self, ScriptFault> {
-        if element_count(value) != 3 {
-            return Err(ScriptFault::BadShape(path));
-        }
+        check_count(path, 3, value)?;
         let edge = read_element(alloc, path, 0, value)?;
         let seg = read_element(alloc, path, 1, value)?;
         let way = read_element(alloc, path, 2, value)?;
-        Ok(Dart {
-            edge: EdgeId::new(edge),
-            seg,
-            way,
-        })
+        Ok(Dart { edge, seg, way })
     }
 }
 
@@ -102,15 +96,23 @@ fn plain_refusal(path: Path, value: &Value) -> Result<Refusal, ScriptFault>
     }
 }
 
+fn read_cut(alloc: Global, path: Path, value: &Value) -> Result<Refusal, ScriptFault>
+    ensures { Gives result (cut_form path (view value.now)) }
+{
+    let segment = read_element(alloc, path, 2, value)?;
+    Ok(Refusal::Cut(segment))
+}
+
 impl Form for Refusal {
     ghost form = { refusal_form };
 
+    #[tactic(auto, using(crate::proofs::Steps::gives_same), unfolding(crate::specs::ReplyForms::refusal_form))]
     fn read(alloc: Global, path: Path, value: &Value) -> Result<Self, ScriptFault> {
         if is_pair(3, 6, "Cut", value) {
-            let segment = read_element(alloc, path, 2, value)?;
-            return Ok(Refusal::Cut(segment));
+            read_cut(alloc, path, value)
+        } else {
+            plain_refusal(path, value)
         }
-        plain_refusal(path, value)
     }
 }
 
@@ -119,7 +121,7 @@ fn read_deleted(alloc: Global, path: Path, value: &Value) -> Result<Reply, Scrip
 {
     check_keys(path, &[Key::Deleted], &[], value)?;
     let edge = read_member(alloc, path, Key::Deleted, value)?;
-    Ok(Reply::Deleted(EdgeId::new(edge)))
+    Ok(Reply::Deleted(edge))
 }
 
 fn read_refused(alloc: Global, path: Path, value: &Value) -> Result<Reply, ScriptFault>
@@ -136,10 +138,7 @@ fn read_grown(alloc: Global, path: Path, value: &Value) -> Result<Reply, ScriptF
     check_keys(path, &[Key::Edge, Key::Vertex], &[], value)?;
     let edge = read_member(alloc, path, Key::Edge, value)?;
     let vertex = read_member(alloc, path, Key::Vertex, value)?;
-    Ok(Reply::Grown {
-        vertex: VertexId::new(vertex),
-        edge: EdgeId::new(edge),
-    })
+    Ok(Reply::Grown { vertex, edge })
 }
 
 fn read_inserted(alloc: Global, path: Path, value: &Value) -> Result<Reply, ScriptFault>
@@ -148,7 +147,7 @@ fn read_inserted(alloc: Global, path: Path, value: &Value) -> Result<Reply, Scri
     let keys = [Key::Crossed, Key::Edge, Key::End, Key::Price, Key::Start];
     check_keys(path, &keys, &[], value)?;
     let crossed = read_member(alloc, path, Key::Crossed, value)?;
-    let edge = read_member(alloc, path, Key::Edge, value)?;
+    let id = read_member(alloc, path, Key::Edge, value)?;
     let end = read_member(alloc, path, Key::End, value)?;
     let price = read_member(alloc, path, Key::Price, value)?;
     let start = read_member(alloc, path, Key::Start, value)?;
@@ -157,11 +156,7 @@ fn read_inserted(alloc: Global, path: Path, value: &Value) -> Result<Reply, Scri
         crossed,
         end,
     };
-    Ok(Reply::Inserted(Inserted {
-        id: EdgeId::new(edge),
-        route,
-        price,
-    }))
+    Ok(Reply::Inserted(Inserted { id, route, price }))
 }
 
 impl Form for Reply {

@@ -102,5 +102,5 @@ pub fn read_rows(alloc: Global, bytes: &[u8]) -> Result<Rows, ScriptFault>
     ensures { Gives result (rows_of bytes.now) }
 {
     let value = parse(alloc, MAX_PICTURE_BYTES, bytes)?;
-    Rows::read(alloc, Path::whole(), &value)
+    Rows::read(alloc, Path::WHOLE, &value)
 }
