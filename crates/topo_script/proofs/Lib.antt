@@ -2,4 +2,5 @@ pub mod Bytes
 pub mod Items
 pub mod Lookups
 pub mod Members
+pub mod PriceLists
 pub mod Steps

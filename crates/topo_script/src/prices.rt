@@ -4,7 +4,7 @@ ghost use Rattle.std.specs.Prelude.{◌≡◌, ◌≤◌, length, take, nat_le};
 ghost use Rattle.topo_script.specs.declared.fault.ScriptFault.TheVariants.{BadShape};
 ghost use Rattle.serde_json.specs.View.{view, items_view};
 ghost use Rattle.topo_script.specs.Reads.{Gives, passes, element_count, list_form, items_from};
-ghost use Rattle.topo_script.specs.Prices.{without_ones};
+ghost use Rattle.topo_script.specs.Prices.{is_one, without_ones};
 ghost use Rattle.topo_script.specs.Scripts.{some_price, price_form, prices_form};
 
 use crate::fault::ScriptFault;
@@ -112,14 +112,26 @@ fn without_ones(prices: Listed<Option<u32>>) -> Listed<Option<u32>>
     Listed::from_vec(prices)
 }
 
+/// Whether a price is 1.
+fn is_one(price: Option<u32>) -> bool
+    ensures { result ≡ is_one price }
+{
+    match price {
+        Some(number) => number == 1,
+        None => false,
+    }
+}
+
 /// How many prices there are up to the last one that is not 1.
 pub fn kept_len(prices: &[Option<u32>]) -> usize
     ensures within { result ≤ length prices.now }
     ensures kept { take result prices.now ≡ without_ones prices.now }
 {
-    let mut kept = prices.len();
-    while kept > 0 && prices[kept - 1] == Some(1) {
-        kept -= 1;
+    let mut kept = 0;
+    for (i, price) in prices.iter().enumerate() {
+        if !is_one(*price) {
+            kept = i + 1;
+        }
     }
     kept
 }
