@@ -4,5 +4,6 @@ pub mod Pictures
 pub mod Prices
 pub mod Reads
 pub mod ReplyForms
+pub mod ReportTexts
 pub mod RowForms
 pub mod Scripts

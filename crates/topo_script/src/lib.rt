@@ -13,6 +13,7 @@ mod prices;
 pub mod read_script;
 mod replies;
 pub mod report;
+pub mod report_text;
 pub mod row_forms;
 mod rows;
 pub mod script;
