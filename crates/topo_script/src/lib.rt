@@ -13,10 +13,14 @@ mod prices;
 pub mod read_script;
 mod replies;
 pub mod report;
+#[cfg(test)]
+mod report_rows;
 pub mod report_text;
 pub mod row_forms;
 mod rows;
 pub mod script;
+#[cfg(test)]
+mod script_rows;
 #[cfg(test)]
 mod tests;
 pub mod written;
