@@ -131,7 +131,7 @@ fn the_length_of_a_script(rt: HostRuntime) -> Result<(), Fail> {
     let alloc = rt.alloc();
     let mut text = Vec::new(alloc);
     text.extend_from_slice(FIRST_SCRIPT.as_bytes())?;
-    while text.len() < MAX_SCRIPT_BYTES {
+    for _ in FIRST_SCRIPT.len()..MAX_SCRIPT_BYTES {
         text.push(b' ')?;
     }
     let script = read_script(alloc, text.as_slice())?;

@@ -1,7 +1,11 @@
 use Rattle.std.proofs.Common.{rules}
 use Rattle.topo_script.specs.Pictures.{rows_text}
+use Rattle.topo_script.proofs.RowsBack.{rows_read_back}
 use Rattle.topo_script.proofs.picture_text.Goals as goal
 
-pub returns : goal.returns
+pub returns-clause-text : goal.returns-clause-text
 unfolding rows_text
-returns c = search rules
+returns-clause-text c = search rules
+
+pub returns-clause-reads_back : goal.returns-clause-reads_back
+returns-clause-reads_back c = ?
