@@ -1,5 +1,5 @@
 -- The value of rows is read as those rows.
-use Rattle.std.proofs.Common.{◌≡◌, ℕ, suc, ◌+◌, ◌^◌, ◌<◌, ◌≤◌, nat_lt, List, [], ◌∷◌, map, length, codes, Option, Some, Ok, refl, sym, ap, ◌∙◌, arith, IsUtf8, lt-ltb}
+use Rattle.std.proofs.Common.{◌≡◌, ℕ, suc, ◌+◌, ◌^◌, ◌<◌, ◌≤◌, nat_lt, List, [], ◌∷◌, map, length, codes, Option, Some, Ok, refl, sym, ap, ◌∙◌, arith, IsUtf8, lt-ltb, subst}
 use Rattle.std.specs.List.{AllByRecursion}
 use Rattle.serde_json.specs.Data.{Data, Items, no_items, item, Members, no_members, member, array, object}
 use Rattle.serde_json.specs.Find.{get}
@@ -128,7 +128,7 @@ plain_crossing x h = plain_object 0 _ refl
     (one_plain_member 0 _ _ _ (plain_short 0 x.newcomer h.newcomer)
     (one_plain_member 0 _ _ _ (plain_sign 0 x.sign) (no_plain_members 0)))))
 
-deeper : (n m : ℕ) (d : Data) → n ≤ m → IsPlain n d → IsPlain m d
+pub deeper : (n m : ℕ) (d : Data) → n ≤ m → IsPlain n d → IsPlain m d
 deeper n m d le h = record { same = h.same; numbers = h.numbers; shallow = omega (arith, h.shallow) }
 
 pub plain_rows : (rows : Rows) → RowsFit rows → IsPlain 4 (rows_data rows)
@@ -148,3 +148,7 @@ pub rows_read_back : (rows : Rows) → RowsFit rows → IsUtf8 (rows_text rows) 
 unfolding rows_of rows_text
 rows_read_back rows h utf8 short =
     went _ _ (rows_data rows) (text_value 268435456 4 (rows_data rows) (plain_rows rows h) (omega arith) utf8 short) ∙ rows_back whole rows h
+
+pub rows_text_read_back : (rows : Rows) (text : List ℕ) → text ≡ rows_text rows → IsUtf8 text → RowsFit rows → length text ≤ 268435456 → rows_of text ≡ Ok rows
+rows_text_read_back rows text e utf8 h short =
+    ap rows_of e ∙ rows_read_back rows h (subst IsUtf8 e utf8) (subst (λ (t : List ℕ). length t ≤ 268435456) e short)
