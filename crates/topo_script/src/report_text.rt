@@ -1,12 +1,15 @@
 //! The text of a report.
 
-ghost use Rattle.std.specs.Prelude.{◌≡◌, ◌++◌, OnOk, IfOk, string_bytes};
+ghost use Rattle.std.specs.Prelude.{◌≡◌, ◌++◌, ◌≤◌, OnOk, IfOk, Ok, length, string_bytes};
 ghost use Rattle.serde_json.specs.Data.{number, unsigned};
 ghost use Rattle.serde_json.specs.Written.{compact_text};
 ghost use Rattle.topo_core.specs.declared.calls.Call.TheVariants.{Grow, Insert, Delete};
 ghost use Rattle.topo_core.specs.declared.calls.Reply.TheVariants.{Grown, Deleted, Refused};
 ghost use Rattle.topo_core.specs.declared.calls.Refusal.TheVariants.{Cut};
 ghost use Rattle.topo_script.specs.Pictures.{number_data};
+ghost use Rattle.topo_script.specs.Prices.{without_ones};
+ghost use Rattle.topo_script.specs.Ranges.{ReportFits};
+ghost use Rattle.topo_script.specs.Scripts.{report_of};
 ghost use Rattle.topo_script.specs.ReportTexts.{limits_data, price_data, prices_data, has_null, version_of, way_data, dart_data, call_data, refusal_data, inserted_data, reply_data, entry_data, report_data, report_text};
 
 use crate::prices::kept_len;
@@ -265,7 +268,9 @@ impl Written for Report {
 /// The text of a report, on one line and without a line feed. The ones at the end of its prices are
 /// left out, and its version is 2 exactly where a price is null.
 pub fn report(alloc: Global, report: &Report) -> Result<String, AllocError>
-    ensures { IfOk result (λ text. string_bytes text ≡ report_text report.now) }
+    ensures text { IfOk result (λ text. string_bytes text ≡ report_text report.now) }
+    ensures reads_back { IfOk result (λ text. ReportFits report.now → length report.now.prices ≤ 64 → without_ones report.now.prices ≡ report.now.prices
+        → length (string_bytes text) ≤ 268435456 → report_of (string_bytes text) ≡ Ok report.now) }
 {
     let mut text = String::new(alloc);
     report.write(&mut text)?;
