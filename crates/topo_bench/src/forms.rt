@@ -137,6 +137,8 @@ impl Form {
                 return Ok(None);
             }
         }
-        Ok(Some(start.elapsed(rt)?.as_millis() as u64))
+        let taken = start.elapsed(rt)?;
+        let millis = taken.as_secs().saturating_mul(1000);
+        Ok(Some(millis.saturating_add(u64::from(taken.subsec_millis()))))
     }
 }
