@@ -6,15 +6,19 @@ ghost use Rattle.std.specs.Prelude.{◌≡◌, ◌<◌, ◌%◌, IfSome};
 use std::time::Clock;
 use std::{env, io};
 
+mod forms;
 mod permutations;
 mod report;
 
+use forms::Form;
 use permutations::Measured;
 
 const USAGE: &str = "usage: topo_bench NAME SIZE..
 
 NAME is cycles, is_connected or euler; each SIZE is a number of darts, even and from 2 to 100000000.
-A line for each size: nanoseconds a call, and a dart.";
+A line for each size: nanoseconds a call, and a dart.
+Or NAME is read_script, read_report or report; each SIZE is a number of calls in the text.
+A line for each size: megabytes a second.";
 
 /// The size that a word stands for, if it is one.
 fn size_of(word: &str) -> Option<u32>
@@ -29,20 +33,28 @@ fn size_of(word: &str) -> Option<u32>
     }
 }
 
-fn run<R: Clock + Print + Alloc>(rt: &R, words: &[String<R::A>]) -> io::Result<()> {
+fn run<R: Clock + Print + AllocGlobal>(rt: &R, words: &[String<R::A>]) -> io::Result<()> {
     let Some((name, sizes)) = words.split_first() else {
         return println!(rt; "{USAGE}");
     };
-    let Some(call) = Measured::from_name(name.as_str()) else {
-        return println!(rt; "{USAGE}");
-    };
     for word in sizes {
-        match size_of(word.as_str()) {
-            Some(darts) => call.time(rt, darts)?,
-            None => println!(rt; "{USAGE}")?,
-        }
+        time_at(rt, name.as_str(), word.as_str())?;
     }
     Ok(())
+}
+
+/// Times the call of a name at a size.
+fn time_at<R: Clock + Print + AllocGlobal>(rt: &R, name: &str, word: &str) -> io::Result<()> {
+    let Some(size) = size_of(word) else {
+        return println!(rt; "{USAGE}");
+    };
+    if let Some(call) = Measured::from_name(name) {
+        return call.time(rt, size);
+    }
+    match Form::from_name(name) {
+        Some(form) => form.time(rt, size),
+        None => println!(rt; "{USAGE}"),
+    }
 }
 
 fn main(rt: HostRuntime) -> io::Result<()> {

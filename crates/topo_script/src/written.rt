@@ -33,13 +33,19 @@ impl<T: Written> Written for Listed<T> {
     ghost value = { λ list. array (items_of (map T.value list)) };
 
     fn write(&self, out: &mut String) -> Result<(), AllocError> {
-        let items = self.as_slice();
-        out.push_str("[")?;
-        for (i, item) in items.iter().enumerate() {
-            write_after(out, comma(i), item)?;
-        }
-        out.push_str("]")
+        write_list(out, self.as_slice())
     }
+}
+
+/// Writes an array of the items.
+pub fn write_list<T: Written>(out: &mut String, items: &[T]) -> Result<(), AllocError>
+    ensures { OnOk result (string_bytes out.new ≡ string_bytes out.old ++ compact_text (array (items_of (map T.value items.now)))) }
+{
+    out.push_str("[")?;
+    for (i, item) in items.iter().enumerate() {
+        write_after(out, comma(i), item)?;
+    }
+    out.push_str("]")
 }
 
 /// What stands before the item at place `i` of an array.

@@ -21,5 +21,5 @@ returns c =
       };
       rows = c.in_ok-rows.rows;
       grown = run_of_growths limits growths c.in_ok-rows.rows shown;
-      line = c.in_ok-push_str.ensures.bytes ∙ ap (λ (text : List ℕ). text ++ 10 ∷ []) c.in_ok-text.ensures;
+      line = c.in_ok-push_str.ensures.bytes ∙ ap (λ (text : List ℕ). text ++ 10 ∷ []) c.in_ok-text.ensures.text;
     }

@@ -1,7 +1,7 @@
 use Rattle.std.proofs.Common.{◌≡◌, ◌++◌, ◌==◌, not, false, map, drop, string_bytes}
 use Rattle.serde_json.specs.View.{items_of}
 use Rattle.serde_json.specs.Written.{items_text}
-use Rattle.topo_script.proofs.written.ListedWritten.write.Given as goal
+use Rattle.topo_script.proofs.written.write_list.Given as goal
 
 -- what is written and the text of the items to come are the text of all items
 abbrev pub invariant-loop-i : goal.invariant-loop-i

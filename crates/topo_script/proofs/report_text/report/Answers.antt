@@ -1,0 +1,12 @@
+use Rattle.std.proofs.Common.{◌≡◌, string_bytes, rules}
+use Rattle.std.proofs.lemmas.Str.{IsUtf8-string_bytes}
+use Rattle.topo_script.specs.ReportTexts.{report_text}
+use Rattle.topo_script.proofs.ReportTextBack.{report_text_read_back}
+use Rattle.topo_script.proofs.report_text.report.Goals as goal
+
+pub returns-clause-text : goal.returns-clause-text
+unfolding report_text
+returns-clause-text c = search rules
+
+pub returns-clause-reads_back : goal.returns-clause-reads_back
+returns-clause-reads_back c = report_text_read_back c.args.report.now (string_bytes c.write.new.out) (returns-clause-text c) (IsUtf8-string_bytes c.write.new.out)
