@@ -2,7 +2,7 @@
 use Rattle.std.proofs.Common.{◌≡◌, ◌≢◌, ℕ, suc, ◌+◌, ◌<◌, false, inl, inr, sym, ◌∙◌, ap, arith}
 use Rattle.std.proofs.lemmas.Bool.{cases_eq, or_from, ne_eqb}
 use Rattle.topo_core.specs.Cycles.{IsPermutation, SameCycle, after, is_met}
-use Rattle.topo_perm.proofs.Orbits.{IsPeriod}
+use Rattle.topo_core.proofs.Orbits.{IsPeriod}
 use Rattle.topo_perm.proofs.Lists.{after_more, is_met_more, is_met-period, unmet_apart, must_return}
 use Rattle.topo_map.specs.Rotation.{Rotation, IsDegree, turn}
 
