@@ -1,37 +1,35 @@
--- Lists in buckets: one item more, and one item less.
-use Rattle.std.proofs.Common.{◌≡◌, ℕ, zero, suc, ◌+◌, ◌<◌, ◌≤◌, ◌||◌, ◌==◌, Bool, true, false, List, [], ◌∷◌, ◌++◌, length, refl, sym, ap, ◌∙◌, arith, get_or, length-append, subst, inl, inr}
-use Rattle.std.specs.Prelude.{flat_map, map, slice_index_or, Option, Some, None, IsSome, MatchOption}
-use Rattle.std.specs.Option.{option_to_list}
-use Rattle.std.proofs.lemmas.Bool.{cases_lt, false≢true}
+-- Chains of entries: one entry more, and one less.
+use Rattle.std.proofs.Common.{◌≡◌, ◌≢◌, ℕ, zero, suc, ◌+◌, ◌-◌, ◌<◌, ◌≤◌, ◌||◌, ◌==◌, Bool, true, false, List, [], ◌∷◌, ◌++◌, length, refl, sym, ap, ◌∙◌, arith, get_or, length-append, subst, inl, inr, get_or-set_same, get_or-set_other}
+use Rattle.std.specs.Prelude.{flat_map, slice_index, slice_index_or}
 use Rattle.std.specs.List.{list_any}
-use Rattle.std.proofs.Math.ListN.{set}
+use Rattle.std.proofs.Math.ListN.{replicate, set, get_or-append}
+use Rattle.std.proofs.Math.Seq.{get_or-append_seam, get_or-append_right}
+use Rattle.std.proofs.lemmas.Bool.{cases_eq, cases_lt}
+use Rattle.std.proofs.lemmas.List.{get_or-replicate, get_or_default, get_or_past, length-replicate}
 use Rattle.std.proofs.lemmas.List.Folds.{list_any-append}
-use Rattle.topo_route.specs.Settling.{AreEmpty, IsFull, is_waiting}
+use Rattle.topo_route.specs.declared.waiting.Entry.{Entry}
+use Rattle.topo_route.specs.Chains.{GoesDown, StaysBelow, all_chained, chain, chained, no_entry}
+use Rattle.topo_route.specs.Settling.{is_waiting}
 
 or_last : (a b c : Bool) → (a || (b || c)) ≡ (b || (a || c))
 or_last true true c = refl
 or_last true false c = refl
 or_last false b c = refl
 
-or_middle : (a b c : Bool) → ((a || (b || false)) || c) ≡ (b || (a || c))
-or_middle true true c = refl
-or_middle true false c = refl
-or_middle false true c = refl
-or_middle false false c = refl
+or_first : (a b c : Bool) → ((a || b) || c) ≡ (a || (b || c))
+or_first true b c = refl
+or_first false b c = refl
 
-not_some : (o : Option ℕ) → o ≡ None → IsSome o → ⊥
-not_some (Some x) e h = cc
-not_some None e h = false≢true h
+-- ---- Lists in places
 
 module _ {X : Type 0} (f : X → List ℕ) where
-  -- one item at the end of a bucket
-  pub waiting_more : (xs : List X) (i t k : ℕ) (y d : X) → i < length xs → f y ≡ f (get_or xs i d) ++ t ∷ [] → is_waiting (flat_map f (set xs i y)) k ≡ (t == k || is_waiting (flat_map f xs) k)
+  -- one item more at the front of a list
+  pub waiting_more : (xs : List X) (i t k : ℕ) (y d : X) → i < length xs → f y ≡ t ∷ f (get_or xs i d) → is_waiting (flat_map f (set xs i y)) k ≡ (t == k || is_waiting (flat_map f xs) k)
   waiting_more [] i t k y d l e = absurd (omega arith)
   waiting_more (x ∷ xs) zero t k y d l e =
       list_any-append (λ z. z == k) (f y) (flat_map f xs)
       ∙ ap (λ ys. list_any (λ z. z == k) ys || is_waiting (flat_map f xs) k) e
-      ∙ ap (λ (b : Bool). b || is_waiting (flat_map f xs) k) (list_any-append (λ z. z == k) (f x) (t ∷ []))
-      ∙ or_middle (is_waiting (f x) k) (t == k) (is_waiting (flat_map f xs) k)
+      ∙ or_first (t == k) (is_waiting (f x) k) (is_waiting (flat_map f xs) k)
       ∙ ap (λ (b : Bool). t == k || b) (sym (list_any-append (λ z. z == k) (f x) (flat_map f xs)))
   waiting_more (x ∷ xs) (suc i) t k y d l e =
       list_any-append (λ z. z == k) (f x) (flat_map f (set xs i y))
@@ -39,19 +37,21 @@ module _ {X : Type 0} (f : X → List ℕ) where
       ∙ or_last (is_waiting (f x) k) (t == k) (is_waiting (flat_map f xs) k)
       ∙ ap (λ (b : Bool). t == k || b) (sym (list_any-append (λ z. z == k) (f x) (flat_map f xs)))
 
-  pub length_set : (xs : List X) (i : ℕ) (y d : X) → i < length xs → length (flat_map f (set xs i y)) + length (f (get_or xs i d)) ≡ length (flat_map f xs) + length (f y)
+  length_set : (xs : List X) (i : ℕ) (y d : X) → i < length xs → length (flat_map f (set xs i y)) + length (f (get_or xs i d)) ≡ length (flat_map f xs) + length (f y)
   length_set [] i y d l = absurd (omega arith)
   length_set (x ∷ xs) zero y d l = omega (arith, length-append (f y) (flat_map f xs), length-append (f x) (flat_map f xs))
   length_set (x ∷ xs) (suc i) y d l = omega (arith, length_set xs i y d (omega arith), length-append (f x) (flat_map f (set xs i y)), length-append (f x) (flat_map f xs))
 
-  -- one item less at the end of a bucket
-  pub waiting_less : (xs : List X) (i t k : ℕ) (y d : X) → i < length xs → f (get_or xs i d) ≡ f y ++ t ∷ [] → is_waiting (flat_map f xs) k ≡ (t == k || is_waiting (flat_map f (set xs i y)) k)
+  pub more_length : (xs : List X) (i t : ℕ) (y d : X) → i < length xs → f y ≡ t ∷ f (get_or xs i d) → length (flat_map f (set xs i y)) ≡ length (flat_map f xs) + 1
+  more_length xs i t y d l e = omega (arith, length_set xs i y d l, ap length e)
+
+  -- one item less at the front of a list
+  pub waiting_less : (xs : List X) (i t k : ℕ) (y d : X) → i < length xs → f (get_or xs i d) ≡ t ∷ f y → is_waiting (flat_map f xs) k ≡ (t == k || is_waiting (flat_map f (set xs i y)) k)
   waiting_less [] i t k y d l e = absurd (omega arith)
   waiting_less (x ∷ xs) zero t k y d l e =
       list_any-append (λ z. z == k) (f x) (flat_map f xs)
       ∙ ap (λ ys. list_any (λ z. z == k) ys || is_waiting (flat_map f xs) k) e
-      ∙ ap (λ (b : Bool). b || is_waiting (flat_map f xs) k) (list_any-append (λ z. z == k) (f y) (t ∷ []))
-      ∙ or_middle (is_waiting (f y) k) (t == k) (is_waiting (flat_map f xs) k)
+      ∙ or_first (t == k) (is_waiting (f y) k) (is_waiting (flat_map f xs) k)
       ∙ ap (λ (b : Bool). t == k || b) (sym (list_any-append (λ z. z == k) (f y) (flat_map f xs)))
   waiting_less (x ∷ xs) (suc i) t k y d l e =
       list_any-append (λ z. z == k) (f x) (flat_map f xs)
@@ -59,42 +59,116 @@ module _ {X : Type 0} (f : X → List ℕ) where
       ∙ or_last (is_waiting (f x) k) (t == k) (is_waiting (flat_map f (set xs i y)) k)
       ∙ ap (λ (b : Bool). t == k || b) (sym (list_any-append (λ z. z == k) (f x) (flat_map f (set xs i y))))
 
-  -- nothing in any bucket
-  pub all_empty : (xs : List X) → ((i : ℕ) → i < length xs → slice_index_or (map f xs) i [] ≡ []) → flat_map f xs ≡ []
-  all_empty [] h = refl
-  all_empty (x ∷ xs) h = ap (λ ys. ys ++ flat_map f xs) (h 0 (omega arith)) ∙ all_empty xs (λ i l. h (suc i) (omega arith))
+  pub less_length : (xs : List X) (i t : ℕ) (y d : X) → i < length xs → f (get_or xs i d) ≡ t ∷ f y → length (flat_map f (set xs i y)) + 1 ≡ length (flat_map f xs)
+  less_length xs i t y d l e = omega (arith, length_set xs i y d l, ap length e)
 
-  pub bucket_at : (xs : List X) (i : ℕ) (d : X) → i < length xs → slice_index_or (map f xs) i [] ≡ f (get_or xs i d)
-  bucket_at [] i d l = absurd (omega arith)
-  bucket_at (x ∷ xs) zero d l = refl
-  bucket_at (x ∷ xs) (suc i) d l = bucket_at xs i d (omega arith)
+same_lists : {X : Type 0} (f g : X → List ℕ) (xs : List X) → ((i : ℕ) (d : X) → i < length xs → f (get_or xs i d) ≡ g (get_or xs i d)) → flat_map f xs ≡ flat_map g xs
+same_lists f g [] h = refl
+same_lists f g (x ∷ xs) h = ap (λ ys. ys ++ flat_map f xs) (h 0 x (omega arith)) ∙ ap (λ ys. g x ++ ys) (same_lists f g xs (λ i d l. h (suc i) d (omega arith)))
 
-  -- one item more
-  pub more_length : (xs : List X) (i t : ℕ) (y d : X) → i < length xs → f y ≡ f (get_or xs i d) ++ t ∷ [] → length (flat_map f (set xs i y)) ≡ length (flat_map f xs) + 1
-  more_length xs i t y d l e = omega (arith, length_set xs i y d l, ap length e, length-append (f (get_or xs i d)) (t ∷ []))
+-- ---- Chains
 
-  pub less_length : (xs : List X) (i t : ℕ) (y d : X) → i < length xs → f (get_or xs i d) ≡ f y ++ t ∷ [] → length (flat_map f (set xs i y)) + 1 ≡ length (flat_map f xs)
-  less_length xs i t y d l e = omega (arith, length_set xs i y d l, ap length e, length-append (f y) (t ∷ []))
+-- a chain is the same for any bound that it keeps
+bounded : (entries : List Entry) → GoesDown entries → (m n h : ℕ) → h ≤ m → h ≤ n → chain entries m h ≡ chain entries n h
+bounded entries down zero zero h a b = refl
+bounded entries down zero (suc n) zero a b = refl
+bounded entries down zero (suc n) (suc i) a b = absurd (omega arith)
+bounded entries down (suc m) zero zero a b = refl
+bounded entries down (suc m) zero (suc i) a b = absurd (omega arith)
+bounded entries down (suc m) (suc n) zero a b = refl
+bounded entries down (suc m) (suc n) (suc i) a b =
+    let below = (slice_index_or entries i no_entry).below in
+    let low = down i in
+    ap (λ ds. (slice_index_or entries i no_entry).dart ∷ ds) (bounded entries down m n below (omega arith) (omega arith))
 
-  -- the last item of a bucket is taken out
-  pub taken_waits : (xs : List X) (i : ℕ) (y d : X) (whole : List ℕ) (o : Option ℕ) → i < length xs → f (get_or xs i d) ≡ f y ++ option_to_list o → (0 < length (f (get_or xs i d)) → IsSome o) → IsFull (map f xs) i
-      → flat_map f xs ≡ whole → MatchOption o (whole ≡ []) (λ t. (k : ℕ) → is_waiting whole k ≡ (t == k || is_waiting (flat_map f (set xs i y)) k))
-  taken_waits xs i y d whole (Some t) l e some full is = λ k. subst (λ w. is_waiting w k ≡ (t == k || is_waiting (flat_map f (set xs i y)) k)) is (waiting_less xs i t k y d l e)
-  taken_waits xs i y d whole None l e some full is = absurd (not_some None refl (some (omega (arith, full.some, ap length (bucket_at xs i d l)))))
+-- an entry at the end changes no chain of the others
+appended : (entries : List Entry) (e : Entry) → GoesDown entries → (m h : ℕ) → h ≤ length entries → chain (entries ++ e ∷ []) m h ≡ chain entries m h
+appended entries e down zero h l = refl
+appended entries e down (suc m) zero l = refl
+appended entries e down (suc m) (suc i) l =
+    let same : slice_index_or (entries ++ e ∷ []) i no_entry ≡ slice_index_or entries i no_entry = get_or-append entries (e ∷ []) no_entry i (omega arith) in
+    let low = down i in
+    ap (λ x. x.dart ∷ chain (entries ++ e ∷ []) m x.below) same
+    ∙ ap (λ ds. (slice_index_or entries i no_entry).dart ∷ ds) (appended entries e down m (slice_index_or entries i no_entry).below (omega arith))
 
-  pub taken_length : (xs : List X) (i : ℕ) (y d : X) (whole : List ℕ) (o : Option ℕ) → i < length xs → f (get_or xs i d) ≡ f y ++ option_to_list o → (0 < length (f (get_or xs i d)) → IsSome o) → IsFull (map f xs) i
-      → flat_map f xs ≡ whole → MatchOption o (flat_map f (set xs i y) ≡ []) (λ t. length (flat_map f (set xs i y)) + 1 ≡ length whole)
-  taken_length xs i y d whole (Some t) l e some full is = less_length xs i t y d l e ∙ ap length is
-  taken_length xs i y d whole None l e some full is = absurd (not_some None refl (some (omega (arith, full.some, ap length (bucket_at xs i d l)))))
+-- the chain of a head
+pub unchained : (entries : List Entry) → GoesDown entries → (i : ℕ) → chained entries (suc i) ≡ (slice_index_or entries i no_entry).dart ∷ chained entries (slice_index_or entries i no_entry).below
+unchained entries down i =
+    let below = (slice_index_or entries i no_entry).below in
+    let low = down i in
+    ap (λ ds. (slice_index_or entries i no_entry).dart ∷ ds) (bounded entries down i below below low (omega arith))
 
-pub empty_of : (xs : List ℕ) → length xs ≡ 0 → xs ≡ []
-empty_of [] e = refl
-empty_of (x ∷ xs) e = absurd (omega arith)
+module _ (entries : List Entry) (heads : List ℕ) (down : GoesDown entries) (stay : StaysBelow entries heads) (b dart below : ℕ) (is_below : below ≡ slice_index heads b) (within : b < length heads) where
+  abbrev e : Entry
+  e = record { dart = dart; below = below }
+
+  abbrev longer : List Entry
+  longer = entries ++ e ∷ []
+
+  pub down_longer : GoesDown longer
+  down_longer i = elim (cases_lt i (length entries)) [
+    | inl less ↦ let same : (slice_index_or longer i no_entry).below ≡ (slice_index_or entries i no_entry).below = ap (λ x. x.below) (get_or-append entries (e ∷ []) no_entry i less) in let low = down i in omega arith
+    | inr more ↦ elim (cases_eq i (length entries)) [
+      | inl here ↦
+          let is : (slice_index_or longer i no_entry).below ≡ below = ap (λ k. (slice_index_or longer k no_entry).below) here ∙ ap (λ x. x.below) (get_or-append_seam entries e [] no_entry) in
+          let low = stay b in omega arith
+      | inr past ↦
+          let long = length-append entries (e ∷ []) in
+          let none : (slice_index_or longer i no_entry).below ≡ 0 = ap (λ x. x.below) (get_or_past longer i no_entry (omega arith)) in omega arith
+    ]
+  ]
+
+  pub stay_longer : StaysBelow longer (set heads b (length longer))
+  stay_longer k = elim (cases_eq k b) [
+    | inl here ↦ let is : slice_index (set heads b (length longer)) k ≡ length longer = ap (slice_index (set heads b (length longer))) here ∙ get_or-set_same heads b (length longer) 0 within in omega arith
+    | inr ne ↦ let is = get_or-set_other heads b k (length longer) 0 ne in let low = stay k in let long = length-append entries (e ∷ []) in omega arith
+  ]
+
+  same_others : all_chained longer heads ≡ all_chained entries heads
+  same_others = same_lists (chained longer) (chained entries) heads (λ i d l.
+      let h = get_or heads i d in
+      let same : h ≡ slice_index heads i = get_or_default heads i d 0 l in
+      let low : h ≤ length entries = let bound = stay i in omega arith in
+      appended entries e down h h low)
+
+  on_top : chained longer (length longer) ≡ dart ∷ chained longer (slice_index heads b)
+  on_top =
+      let long : length longer ≡ suc (length entries) = omega (arith, length-append entries (e ∷ [])) in
+      let at = get_or-append_seam entries e [] no_entry in
+      ap (chained longer) long ∙ unchained longer down_longer (length entries) ∙ ap (λ x. x.dart ∷ chained longer x.below) at ∙ ap (λ k. dart ∷ chained longer k) is_below
+
+  pub pushed_waits : (k : ℕ) → is_waiting (all_chained longer (set heads b (length longer))) k ≡ (dart == k || is_waiting (all_chained entries heads) k)
+  pushed_waits k = waiting_more (chained longer) heads b dart k (length longer) 0 within on_top ∙ ap (λ ws. dart == k || is_waiting ws k) same_others
+
+  pub pushed_length : length (all_chained longer (set heads b (length longer))) ≡ length (all_chained entries heads) + 1
+  pushed_length = more_length (chained longer) heads b dart (length longer) 0 within on_top ∙ ap (λ ws. length ws + 1) same_others
+
+-- nothing in any chain
+pub all_empty : (entries : List Entry) (heads : List ℕ) → ((i : ℕ) → i < length heads → slice_index heads i ≡ 0) → all_chained entries heads ≡ []
+all_empty entries [] h = refl
+all_empty entries (x ∷ heads) h = ap (λ y. chained entries y ++ all_chained entries heads) (h 0 (omega arith)) ∙ all_empty entries heads (λ i l. h (suc i) (omega arith))
 
 -- of the numbers from a to b and from 0 to a
 pub both_ranges : (P : ℕ → Type 0) (a b : ℕ) → ((i : ℕ) → a ≤ i → i < b → P i) → ((i : ℕ) → 0 ≤ i → i < a → P i) → (i : ℕ) → i < b → P i
 both_ranges P a b high low i l = elim (cases_lt i a) [ inl less ↦ low i (omega arith) less | inr more ↦ high i (omega arith) l ]
 
-pub or_empty : (lists : List (List ℕ)) (a b : ℕ) (o : Option ℕ) → AreEmpty a b lists → MatchOption o (AreEmpty 0 a lists) (IsFull lists) → MatchOption o (AreEmpty 0 b lists) (IsFull lists)
-or_empty lists a b (Some i) high full = full
-or_empty lists a b None high low = λ i from l. both_ranges (λ i. slice_index_or lists i [] ≡ []) a b high low i l
+pub all_zero : (n b : ℕ) → slice_index (replicate n 0) b ≡ 0
+all_zero n b = elim (cases_lt b n) [
+  | inl less ↦ get_or-replicate n b 0 0 less
+  | inr more ↦ get_or_past (replicate n 0) b 0 (omega (arith, length-replicate {A = ℕ} n 0))
+]
+
+-- an entry is taken from the top of a chain
+module _ (entries : List Entry) (heads whole : List ℕ) (down : GoesDown entries) (b dart below : ℕ) (within : b < length heads) (some : 0 < slice_index heads b)
+    (is : dart ≡ (slice_index_or entries (slice_index heads b - 1) no_entry).dart) (is_below : below ≡ (slice_index_or entries (slice_index heads b - 1) no_entry).below) (same : all_chained entries heads ≡ whole) where
+  top : chained entries (slice_index heads b) ≡ dart ∷ chained entries below
+  top =
+      let i = slice_index heads b - 1 in
+      let next : slice_index heads b ≡ suc i = omega arith in
+      ap (chained entries) next ∙ unchained entries down i ∙ ap (λ d. d ∷ chained entries (slice_index_or entries i no_entry).below) (sym is) ∙ ap (λ k. dart ∷ chained entries k) (sym is_below)
+
+  pub popped_waits : (k : ℕ) → is_waiting whole k ≡ (dart == k || is_waiting (all_chained entries (set heads b below)) k)
+  popped_waits k = ap (λ ws. is_waiting ws k) (sym same) ∙ waiting_less (chained entries) heads b dart k below 0 within top
+
+  pub popped_length : length (all_chained entries (set heads b below)) + 1 ≡ length whole
+  popped_length = less_length (chained entries) heads b dart below 0 within top ∙ ap length same

@@ -1,3 +1,4 @@
+pub mod Chains
 pub mod Descents
 pub mod Numbers
 pub mod Plans

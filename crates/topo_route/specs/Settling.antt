@@ -28,15 +28,6 @@ pub record ArePrices (price : Pricing) (rows : Rows) (prices : List (Option ℕ)
 abbrev pub is_waiting : List ℕ → ℕ → Bool
 is_waiting waiting k = list_any (λ x. x == k) waiting
 
--- the lists from one place to another are empty
-abbrev pub AreEmpty : ℕ → ℕ → List (List ℕ) → Type 0
-AreEmpty from to lists = (i : ℕ) → from ≤ i → i < to → slice_index_or lists i [] ≡ []
-
--- there is a list at this place, and it is not empty
-pub record IsFull (lists : List (List ℕ)) (i : ℕ) : Type 0 where
-  pub there : i < length lists
-  pub some : 0 < length (slice_index_or lists i [])
-
 -- ---- Heights
 
 -- how many heights are less than the greatest number

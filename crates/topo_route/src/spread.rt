@@ -127,7 +127,7 @@ pub(crate) fn least_heights<D: Dual, F: Asks>(
     ensures { IfOk result (λ heights. AreHeights (prices_of (F.answers graph.now.tariff.now)) (D.shows graph.now.dual.now) v heights.items) }
 {
     let mut heights = vec![in alloc; u64::MAX; graph.dual.len() as usize]?;
-    let mut waiting = Waiting::new(alloc)?;
+    let mut waiting = Waiting::new(alloc, graph.dual.len() as usize)?;
     start_at(graph, heights.as_mut_slice(), &mut waiting, v)?;
     spread_all(graph, heights.as_mut_slice(), &mut waiting, v)?;
     Ok(heights)

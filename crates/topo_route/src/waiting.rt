@@ -1,7 +1,7 @@
 //! The darts that wait to spread their heights.
 
-ghost use Rattle.std.specs.Prelude.{◌≡◌, ℕ, ◌+◌, ◌<◌, ◌≤◌, ◌==◌, ◌||◌, MatchOption, IfOk, length, map, [], slice_index_or};
-ghost use Rattle.topo_route.specs.Settling.{AreEmpty, IsFull, is_waiting};
+ghost use Rattle.std.specs.Prelude.{◌≡◌, ℕ, ◌+◌, ◌<◌, ◌≤◌, ◌==◌, ◌||◌, MatchOption, IfOk, length, [], slice_index};
+ghost use Rattle.topo_route.specs.Settling.{is_waiting};
 
 use std::alloc::{AllocError, Global};
 use std::marker::Model;
@@ -9,33 +9,48 @@ use std::marker::Model;
 /// No price is above 1000, so the heights of those that wait are less than this number apart.
 const BUCKETS: usize = 1001;
 
+/// A dart that waits, or has waited, and what lies below it in its bucket: one more than the place
+/// of an earlier entry, and 0 where there is none.
+#[derive(Clone, Copy, Drop)]
+pub(crate) struct Entry {
+    dart: u32,
+    below: usize,
+}
+
 /// Darts in buckets by their heights modulo 1001, the least heights first. Contracts see the list of
-/// the darts: which of the equal ones comes out first, and in what order of heights, is speed alone.
+/// the darts: which of them comes out first is speed alone. A bucket is a chain of entries, from one
+/// more than the place of its last one down; entries are put at the end and never moved.
 #[derive(Drop)]
 pub(crate) struct Waiting {
-    buckets: Vec<Vec<u32>>,
+    entries: Vec<Entry>,
+    heads: Vec<usize>,
     first: usize,
 }
 
 impl Model for Waiting {
-    ghost use Rattle.std.specs.Prelude.{◌≡◌, ◌<◌, ℕ, List, length, flat_map};
+    ghost use Rattle.std.specs.Prelude.{◌≡◌, ◌<◌, ℕ, List, length};
 
     ghost Value = { List ℕ };
 
-    ghost view = { λ w. flat_map (λ bucket. bucket.items) w.buckets.items };
+    ghost use Rattle.topo_route.specs.Chains.{all_chained, GoesDown, StaysBelow};
 
-    ghost invariant = { λ w. (length w.buckets.items ≡ 1001) × (w.first < 1001) };
+    ghost view = { λ w. all_chained w.entries.items w.heads.items };
+
+    ghost invariant = { λ w. (length w.heads.items ≡ 1001) × (w.first < 1001) × GoesDown w.entries.items × StaysBelow w.entries.items w.heads.items };
 }
 
 impl Waiting {
-    pub(crate) fn new(alloc: Global) -> Result<Self, AllocError>
+    /// With room for as many darts as come to wait if each does so once.
+    pub(crate) fn new(alloc: Global, room: usize) -> Result<Self, AllocError>
         ensures { IfOk result (λ w. w ≡ []) }
     {
-        let mut buckets = Vec::with_capacity(alloc, BUCKETS)?;
-        for _bucket in 0..BUCKETS {
-            buckets.push(Vec::new(alloc))?;
-        }
-        Ok(Waiting { buckets, first: 0 })
+        let entries = Vec::with_capacity(alloc, room)?;
+        let heads = vec![in alloc; 0; BUCKETS]?;
+        Ok(Waiting {
+            entries,
+            heads,
+            first: 0,
+        })
     }
 
     /// Lets a dart of this height wait.
@@ -44,7 +59,9 @@ impl Waiting {
         ensures len { IfOk result (λ _. length self.new ≡ length self.old + 1) }
     {
         let bucket = (height % BUCKETS as u64) as usize;
-        self.buckets[bucket].push(dart)?;
+        let below = self.heads[bucket];
+        self.entries.push(Entry { dart, below })?;
+        self.heads[bucket] = self.entries.len();
         Ok(())
     }
 
@@ -53,36 +70,40 @@ impl Waiting {
         ensures waits { MatchOption result (self.old ≡ []) (λ dart. (k : ℕ) → is_waiting self.old k ≡ (dart == k || is_waiting self.new k)) }
         ensures len { MatchOption result (self.new ≡ []) (λ _. length self.new + 1 ≡ length self.old) }
     {
-        match full_bucket(self.buckets.as_slice(), self.first) {
+        match full_bucket(self.heads.as_slice(), self.first) {
             Some(bucket) => {
+                let entry = self.entries[self.heads[bucket] - 1];
                 self.first = bucket;
-                self.buckets[bucket].pop()
+                self.heads[bucket] = entry.below;
+                Some(entry.dart)
             }
             None => None,
         }
     }
 }
 
-/// A bucket that is not empty, from this one on.
-fn full_bucket(buckets: &[Vec<u32>], first: usize) -> Option<usize>
-    requires { first ≤ length buckets.now }
-    ensures { MatchOption result (AreEmpty 0 (length buckets.now) (map (λ bucket. bucket.items) buckets.now))
-        (IsFull (map (λ bucket. bucket.items) buckets.now)) }
+/// A bucket that is not empty, from this one on and round.
+fn full_bucket(heads: &[usize], first: usize) -> Option<usize>
+    requires { first ≤ length heads.now }
+    ensures {
+        MatchOption result ((i : ℕ) → i < length heads.now → slice_index heads.now i ≡ 0)
+        (λ bucket. (bucket < length heads.now) × (0 < slice_index heads.now bucket)) }
 {
-    match full_between(buckets, first, buckets.len()) {
+    match full_between(heads, first, heads.len()) {
         Some(bucket) => Some(bucket),
-        None => full_between(buckets, 0, first),
+        None => full_between(heads, 0, first),
     }
 }
 
 /// The first bucket of a range that is not empty.
-fn full_between(buckets: &[Vec<u32>], from: usize, to: usize) -> Option<usize>
-    requires { to ≤ length buckets.now }
-    ensures { MatchOption result (AreEmpty from to (map (λ bucket. bucket.items) buckets.now))
-        (IsFull (map (λ bucket. bucket.items) buckets.now)) }
+fn full_between(heads: &[usize], from: usize, to: usize) -> Option<usize>
+    requires { to ≤ length heads.now }
+    ensures {
+        MatchOption result ((i : ℕ) → from ≤ i → i < to → slice_index heads.now i ≡ 0)
+        (λ bucket. (bucket < length heads.now) × (0 < slice_index heads.now bucket)) }
 {
     for bucket in from..to {
-        if !buckets[bucket].as_slice().is_empty() {
+        if heads[bucket] > 0 {
             return Some(bucket);
         }
     }

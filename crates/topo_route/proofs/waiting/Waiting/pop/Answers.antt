@@ -1,38 +1,45 @@
-use Rattle.std.proofs.Common.{◌≡◌, ◌<◌, ◌∙◌, arith, ap, subst, sym, length, get_or}
-use Rattle.std.specs.Prelude.{flat_map, map}
-use Rattle.std.proofs.lemmas.List.{length-map}
-use Rattle.topo_route.specs.Settling.{IsFull}
-use Rattle.topo_route.proofs.Buckets.{all_empty, taken_length, taken_waits}
+use Rattle.std.proofs.Common.{◌≡◌, ◌<◌, ◌+◌, ◌-◌, ◌∙◌, ◌∷◌, ◌==◌, ◌||◌, [], ℕ, suc, arith, ap, subst, sym, length, get_or}
+use Rattle.std.proofs.lemmas.List.{get_or_default}
+use Rattle.std.specs.Prelude.{slice_index, slice_index_or}
+use Rattle.topo_route.specs.Chains.{all_chained, chained, no_entry}
+use Rattle.topo_route.specs.Settling.{is_waiting}
+use Rattle.topo_route.proofs.Buckets.{all_empty, popped_length, popped_waits}
 use Rattle.topo_route.proofs.waiting.Waiting.pop.Goals as goal
 
 pub returns-in-Some-clause-waits : goal.returns-in-Some-clause-waits
 returns-in-Some-clause-waits c =
-    let xs = c.self.inside.buckets.items in
-    let full = subst (λ ys. IsFull (map (λ b. b.items) ys) c.in-Some.bucket) c.as_slice.ensures.value c.in-Some.ensures in
-    let within : c.in-Some.bucket < length xs = omega (arith, full.there, length-map xs (λ b. b.items)) in
-    let is = c.index_mut.ensures.value in
-    let whole : length (get_or xs c.in-Some.bucket c.index_mut.result.now).items ≡ length c.index_mut.result.now.items = ap (λ b. length b.items) (sym is) in
-    taken_waits (λ b. b.items) xs c.in-Some.bucket c.pop.new.self c.index_mut.result.now c.args.self.now c.pop.result within
-    (ap (λ b. b.items) (sym is) ∙ c.pop.ensures.items)
-    (λ some. c.pop.ensures.variant.1 (omega (arith, c.index_mut.result.now.ok.0)))
-    full c.self.view_is
+    let b = c.in-Some.bucket in
+    let heads = c.self.inside.heads.items in
+    let entries = c.self.inside.entries.items in
+    let whole = c.as_slice.ensures.value in
+    let within : b < length heads = omega (arith, c.in-Some.ensures.0, ap length whole) in
+    let read : slice_index c.as_slice.result.now b ≡ slice_index heads b = ap (λ xs. slice_index xs b) whole in
+    let some : 0 < slice_index heads b = omega (arith, c.in-Some.ensures.1) in
+    let head : c.index.result.now ≡ slice_index heads b = c.index.ensures ∙ get_or_default heads b c.index.result.now 0 within in
+    let low = c.self.invariant.3 b in
+    let inside : c.index.result.now - 1 < length entries = omega arith in
+    let entry : c.index-entry.result.now ≡ slice_index_or entries (slice_index heads b - 1) no_entry =
+    c.index-entry.ensures ∙ get_or_default entries (c.index.result.now - 1) c.index-entry.result.now no_entry inside ∙ ap (λ k. slice_index_or entries (k - 1) no_entry) head in
+    popped_waits entries heads c.args.self.now c.self.invariant.2 b c.index-entry.result.now.dart c.index-entry.result.now.below within some (ap (λ x. x.dart) entry) (ap (λ x. x.below) entry) c.self.view_is
 
 pub returns-in-Some-clause-len : goal.returns-in-Some-clause-len
 returns-in-Some-clause-len c =
-    let xs = c.self.inside.buckets.items in
-    let full = subst (λ ys. IsFull (map (λ b. b.items) ys) c.in-Some.bucket) c.as_slice.ensures.value c.in-Some.ensures in
-    let within : c.in-Some.bucket < length xs = omega (arith, full.there, length-map xs (λ b. b.items)) in
-    let is = c.index_mut.ensures.value in
-    let whole : length (get_or xs c.in-Some.bucket c.index_mut.result.now).items ≡ length c.index_mut.result.now.items = ap (λ b. length b.items) (sym is) in
-    taken_length (λ b. b.items) xs c.in-Some.bucket c.pop.new.self c.index_mut.result.now c.args.self.now c.pop.result within
-    (ap (λ b. b.items) (sym is) ∙ c.pop.ensures.items)
-    (λ some. c.pop.ensures.variant.1 (omega (arith, c.index_mut.result.now.ok.0)))
-    full c.self.view_is
+    let b = c.in-Some.bucket in
+    let heads = c.self.inside.heads.items in
+    let entries = c.self.inside.entries.items in
+    let whole = c.as_slice.ensures.value in
+    let within : b < length heads = omega (arith, c.in-Some.ensures.0, ap length whole) in
+    let read : slice_index c.as_slice.result.now b ≡ slice_index heads b = ap (λ xs. slice_index xs b) whole in
+    let some : 0 < slice_index heads b = omega (arith, c.in-Some.ensures.1) in
+    let head : c.index.result.now ≡ slice_index heads b = c.index.ensures ∙ get_or_default heads b c.index.result.now 0 within in
+    let low = c.self.invariant.3 b in
+    let inside : c.index.result.now - 1 < length entries = omega arith in
+    let entry : c.index-entry.result.now ≡ slice_index_or entries (slice_index heads b - 1) no_entry =
+    c.index-entry.ensures ∙ get_or_default entries (c.index.result.now - 1) c.index-entry.result.now no_entry inside ∙ ap (λ k. slice_index_or entries (k - 1) no_entry) head in
+    popped_length entries heads c.args.self.now c.self.invariant.2 b c.index-entry.result.now.dart c.index-entry.result.now.below within some (ap (λ x. x.dart) entry) (ap (λ x. x.below) entry) c.self.view_is
 
 pub returns-in-None-clause-waits : goal.returns-in-None-clause-waits
-returns-in-None-clause-waits c =
-    sym c.self.view_is ∙ ap (λ ys. flat_map (λ b. b.items) ys) (sym c.as_slice.ensures.value) ∙ all_empty (λ b. b.items) c.as_slice.result.now (λ i l. c.in-None.ensures i (omega arith) l)
+returns-in-None-clause-waits c = sym c.self.view_is ∙ all_empty c.self.inside.entries.items c.self.inside.heads.items (λ i l. ap (λ xs. slice_index xs i) (sym c.as_slice.ensures.value) ∙ c.in-None.ensures i (omega (arith, c.as_slice.ensures.len, ap length c.as_slice.ensures.value)))
 
 pub returns-in-None-clause-len : goal.returns-in-None-clause-len
-returns-in-None-clause-len c =
-    sym c.self.view_is ∙ ap (λ ys. flat_map (λ b. b.items) ys) (sym c.as_slice.ensures.value) ∙ all_empty (λ b. b.items) c.as_slice.result.now (λ i l. c.in-None.ensures i (omega arith) l)
+returns-in-None-clause-len c = sym c.self.view_is ∙ all_empty c.self.inside.entries.items c.self.inside.heads.items (λ i l. ap (λ xs. slice_index xs i) (sym c.as_slice.ensures.value) ∙ c.in-None.ensures i (omega (arith, c.as_slice.ensures.len, ap length c.as_slice.ensures.value)))
