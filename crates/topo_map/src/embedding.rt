@@ -68,7 +68,8 @@ impl Embedding {
         segments::room(&self.segments)
     }
 
-    /// Makes room for so many more segments. An error leaves all halves as they were.
+    /// Makes room for so many more segments. An error leaves all halves as they were; the room may have
+    /// changed.
     pub fn reserve(&mut self, more: usize) -> Result<(), AllocError>
         ensures same { self.new.slots ≡ self.old.slots }
         ensures room { OnOk result (more ≤ self.new.room) }
@@ -89,7 +90,7 @@ impl Embedding {
     }
 
     /// What always holds, for a caller that sees the halves and their turn alone. It does nothing.
-    pub fn is_embedding(&self)
+    pub fn laws(&self)
         ensures { IsEmbedding self.now }
     {
         let _segments = &self.segments;
@@ -136,7 +137,7 @@ impl Embedding {
         requires live_other { is_live self.now b ≡ true }
         ensures { IsTrue result ↔ SameCycle (face_next (turn self.now)) a b }
     {
-        self.is_embedding();
+        self.laws();
         let mut at = a;
         for _steps in 0..HALF_LIMIT {
             if at == b {
@@ -155,7 +156,7 @@ impl Embedding {
         requires { is_live self.now h ≡ true }
         ensures { IsDegree self.now h result }
     {
-        self.is_embedding();
+        self.laws();
         let mut at = self.turn(h);
         for steps in 1..HALF_LIMIT {
             if at == h {
@@ -179,8 +180,8 @@ impl Embedding {
         x
     }
 
-    /// A new segment from the corner before `c` to the corner before `d`, which lie in one face.
-    /// Answers its half that starts at `c`.
+    /// A new segment from the corner before `c` to the corner before `d`, which lie in one face; they
+    /// may be one corner, and the segment is then a loop. Answers its half that starts at `c`.
     pub fn chord(&mut self, c: Half, d: Half) -> Half
         requires live { is_live self.old c ≡ true }
         requires live_end { is_live self.old d ≡ true }
@@ -211,8 +212,8 @@ impl Embedding {
         x
     }
 
-    /// The segment of `h` goes, and the two faces beside it become one. It is no loop alone at its
-    /// point.
+    /// The segment of `h` goes, and the two faces beside it become one. It must not be a loop alone
+    /// at its point.
     pub fn unchord(&mut self, h: Half)
         requires live { is_live self.old h ≡ true }
         requires two_faces { ¬ SameCycle (face_next (turn self.old)) h (twin h) }

@@ -31,8 +31,8 @@ returns-then-eq-2 c =
     let below : c.loop-steps._steps < half_limit = omega arith in (
       λ w. absurd (false_true w),
       λ s. absurd (round_without f half_limit c.loop-steps._steps c.args.a c.args.b c.loop-steps.at
-          (face_next-permutation (turn c.args.self.now) half_limit c.is_embedding.ensures.slab.permutation c.is_embedding.ensures.slab.even)
-          (c.is_embedding.ensures.within c.args.a c.requires.live) below c.loop-steps.invariant.place (sym c.face_next-at.ensures.next ∙ home)
+          (face_next-permutation (turn c.args.self.now) half_limit c.laws.ensures.slab.permutation c.laws.ensures.slab.even)
+          (c.laws.ensures.within c.args.a c.requires.live) below c.loop-steps.invariant.place (sym c.face_next-at.ensures.next ∙ home)
           (unmet_more f c.loop-steps._steps c.args.a c.args.b c.loop-steps.at c.loop-steps.invariant.place ne c.loop-steps.invariant.unmet) s),
     )
 
@@ -44,6 +44,6 @@ returns c =
     let all : c.loop-steps._steps ≡ half_limit = omega arith in (
       λ w. absurd (false_true w),
       λ s. absurd (never_met f half_limit c.loop-steps._steps c.args.a c.args.b
-          (face_next-permutation (turn c.args.self.now) half_limit c.is_embedding.ensures.slab.permutation c.is_embedding.ensures.slab.even)
-          (c.is_embedding.ensures.within c.args.a c.requires.live) all c.loop-steps.invariant.unmet s),
+          (face_next-permutation (turn c.args.self.now) half_limit c.laws.ensures.slab.permutation c.laws.ensures.slab.even)
+          (c.laws.ensures.within c.args.a c.requires.live) all c.loop-steps.invariant.unmet s),
     )
