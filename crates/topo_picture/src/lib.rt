@@ -12,8 +12,6 @@ mod growth;
 pub mod load;
 mod pairs;
 pub mod picture;
-#[cfg(test)]
-mod tests;
 
 pub use load::LoadFault;
 pub use picture::Picture;
