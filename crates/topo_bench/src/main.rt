@@ -3,9 +3,11 @@
 
 ghost use Rattle.std.specs.Prelude.{◌≡◌, ◌<◌, ◌%◌, IfSome};
 
+use std::alloc::Global;
 use std::time::Clock;
 use std::{env, io};
 
+mod loads;
 mod permutations;
 mod report;
 
@@ -13,7 +15,8 @@ use permutations::Measured;
 
 const USAGE: &str = "usage: topo_bench NAME SIZE..
 
-NAME is cycles, is_connected or euler; each SIZE is a number of darts, even and from 2 to 100000000.
+NAME is cycles, is_connected, euler or load; each SIZE is a number of darts, even and from 2 to
+100000000. For load it is that of a square grid, and at most about 130000.
 A line for each size: nanoseconds a call, and a dart.";
 
 /// The size that a word stands for, if it is one.
@@ -29,17 +32,19 @@ fn size_of(word: &str) -> Option<u32>
     }
 }
 
-fn run<R: Clock + Print + Alloc>(rt: &R, words: &[String<R::A>]) -> io::Result<()> {
+fn run<R: Clock + Print + Alloc<A = Global>>(rt: &R, words: &[String]) -> io::Result<()> {
     let Some((name, sizes)) = words.split_first() else {
         return println!(rt; "{USAGE}");
     };
-    let Some(call) = Measured::from_name(name.as_str()) else {
+    let call = Measured::from_name(name.as_str());
+    if call.is_none() && name.as_str() != "load" {
         return println!(rt; "{USAGE}");
-    };
+    }
     for word in sizes {
-        match size_of(word.as_str()) {
-            Some(darts) => call.time(rt, darts)?,
-            None => println!(rt; "{USAGE}")?,
+        match (size_of(word.as_str()), call) {
+            (Some(darts), Some(call)) => call.time(rt, darts)?,
+            (Some(darts), None) => loads::time(rt, darts)?,
+            (None, _) => println!(rt; "{USAGE}")?,
         }
     }
     Ok(())
