@@ -3,10 +3,12 @@
 
 ghost use Rattle.std.specs.Prelude.{◌≡◌, ◌<◌, ◌%◌, IfSome};
 
+use std::alloc::Global;
 use std::time::Clock;
 use std::{env, io};
 
 mod forms;
+mod loads;
 mod permutations;
 mod report;
 
@@ -15,7 +17,8 @@ use permutations::Measured;
 
 const USAGE: &str = "usage: topo_bench NAME SIZE..
 
-NAME is cycles, is_connected or euler; each SIZE is a number of darts, even and from 2 to 100000000.
+NAME is cycles, is_connected, euler or load; each SIZE is a number of darts, even and from 2 to
+100000000. For load it is that of a square grid, and at most about 130000.
 A line for each size: nanoseconds a call, and a dart.
 Or NAME is read_script, read_report or report; each SIZE is a number of calls in the text.
 A line for each size: megabytes a second.";
@@ -48,6 +51,9 @@ fn time_at<R: Clock + Print + AllocGlobal>(rt: &R, name: &str, word: &str) -> io
     let Some(size) = size_of(word) else {
         return println!(rt; "{USAGE}");
     };
+    if name == "load" {
+        return loads::time(rt, size);
+    }
     if let Some(call) = Measured::from_name(name) {
         return call.time(rt, size);
     }

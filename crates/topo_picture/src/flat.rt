@@ -9,8 +9,101 @@ ghost use Rattle.topo_picture.specs.Flats.{begins_from, written, links, note_pla
 
 use crate::faults::{crossing_ids, edge_ids};
 use std::alloc::{AllocError, Global};
+use std::marker::Model;
 use topo_core::darts::Sign;
 use topo_core::rows::{CrossRow, EdgeRow, Rows};
+
+/// Well-formed rows with their darts as numbers in canonical order: 2i and 2i + 1 are the two of one
+/// segment. A number that is handed in is below `len`.
+#[derive(Drop)]
+pub struct Flat {
+    rows: Rows,
+    turns: Vec<u32>,
+}
+
+impl Model for Flat {
+    ghost use Rattle.topo_core.specs.declared.rows.Rows.{Rows};
+    ghost use Rattle.topo_picture.specs.Flats.{AreListsOf};
+
+    ghost Value = { Rows };
+
+    ghost view = { λ f. f.rows };
+
+    ghost invariant = { λ f. AreListsOf f.rows f.turns.items };
+}
+
+impl Flat {
+    ghost use Rattle.std.specs.Prelude.{◌≡◌, ◌*◌, ◌<◌, ◌^◌, IfOk, length, sum_by};
+    ghost use Rattle.topo_core.specs.Cycles.{map_of};
+    ghost use Rattle.topo_core.specs.Lawful.{IsWellFormed};
+    ghost use Rattle.topo_core.specs.Picture.{darts, segment_count, turn_images};
+    ghost use Rattle.topo_core.specs.Rotations.{face_next, twin};
+
+    /// The lists of these rows.
+    pub fn new(alloc: Global, rows: Rows) -> Result<Self, AllocError>
+        requires well_formed { IsWellFormed rows }
+        requires few { 2 * sum_by segment_count rows.edges < 2 ^ 32 }
+        requires vertices { length rows.rotations < 2 ^ 32 }
+        requires crossings { length rows.crossings < 2 ^ 32 }
+        ensures { IfOk result (λ f. f ≡ rows) }
+    {
+        let turns = turns_of(alloc, &rows)?;
+        Ok(Flat { rows, turns })
+    }
+
+    /// The rows.
+    pub fn rows(&self) -> &Rows
+        ensures { result.now ≡ self.now }
+    {
+        &self.rows
+    }
+
+    /// How many darts there are.
+    pub fn len(&self) -> u32
+        ensures { result ≡ length (darts self.now) }
+    {
+        self.turns.as_slice().len() as u32
+    }
+
+    /// The same segment, the other way.
+    pub fn twin(&self, dart: u32) -> u32
+        requires { dart < length (darts self.now) }
+        ensures { result ≡ twin dart }
+    {
+        twin_of(dart)
+    }
+
+    /// The next dart along the face on the left.
+    pub fn next(&self, dart: u32) -> u32
+        requires { dart < length (darts self.now) }
+        ensures { result ≡ face_next (map_of (turn_images self.now)) dart }
+    {
+        let turns = self.turns.as_slice();
+        next_along(turns, dart)
+    }
+}
+
+ghost use Rattle.std.specs.Prelude.{◌%◌};
+ghost use Rattle.topo_core.specs.Cycles.{map_of};
+ghost use Rattle.topo_core.specs.Rotations.{face_next, twin};
+
+/// The other dart of the segment.
+fn twin_of(dart: u32) -> u32
+    ensures { result ≡ twin dart }
+{
+    if dart % 2 == 0 { dart + 1 } else { dart - 1 }
+}
+
+/// The turn of the other dart of the segment.
+fn next_along(turns: &[u32], dart: u32) -> u32
+    requires within { dart < length turns.now }
+    requires even { length turns.now % 2 ≡ 0 }
+    ensures { result ≡ face_next (map_of turns.now) dart }
+{
+    let at = dart as usize;
+    let other = if at % 2 == 0 { at + 1 } else { at - 1 };
+    turns[other]
+}
 
 /// For each edge the number of its first dart, and last the number of all darts.
 fn begins_of(alloc: Global, edges: &[EdgeRow]) -> Result<Vec<u32>, AllocError>

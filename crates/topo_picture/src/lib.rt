@@ -1,19 +1,22 @@
 //! Pictures that threads will share: an embedding of a graph that grows and never stops being one.
 //!
-//! A `Picture` is seen as its rows and its limits. Its rows are a connected embedding at all times,
-//! and its counts never pass its limits. Each call does exactly what the definitions of `topo_core`
-//! say, or answers the first reason why it cannot and then changes nothing.
+//! A `Picture` is seen as its rows and its limits. Its rows are lawful at all times, a connected
+//! embedding of genus zero, and its counts never pass its limits. Each call does exactly what the
+//! definitions of `topo_core` say, or answers the first reason why it cannot and then changes
+//! nothing. `Picture::load` takes rows that are handed in: it answers the picture with these rows and
+//! limits exactly where the rows are lawful and within the limits, and else names the first test that
+//! they fail, in time that grows with the rows but for a logarithm. A `Flat` holds the flat lists of
+//! well-formed rows, its darts as numbers.
 #![tactic(auto)]
 
 mod copies;
 mod faults;
-mod flat;
+pub mod flat;
 mod growth;
 pub mod load;
 mod pairs;
 pub mod picture;
-#[cfg(test)]
-mod tests;
 
+pub use flat::Flat;
 pub use load::LoadFault;
 pub use picture::Picture;

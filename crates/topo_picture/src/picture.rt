@@ -59,7 +59,7 @@ impl Picture {
             Err(_) => return Err(LoadFault::Memory),
         }
         match copy_rows(alloc, rows) {
-            Ok(rows) => Ok(Picture { limits, rows }),
+            Ok(copy) => Ok(Picture { limits, rows: copy }),
             Err(_) => Err(LoadFault::Memory),
         }
     }

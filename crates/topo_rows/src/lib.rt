@@ -4,4 +4,6 @@
 #[cfg(test)]
 mod first_path;
 #[cfg(test)]
+mod loading;
+#[cfg(test)]
 mod streams;
