@@ -18,8 +18,8 @@ use Rattle.topo_core.specs.declared.darts.Way.TheVariants.{Forward, Back}
 use Rattle.topo_core.specs.declared.routes.Inserted.{Inserted as Made}
 use Rattle.topo_script.specs.declared.path.Key.TheVariants as key
 use Rattle.topo_script.specs.declared.path.Path.{Path}
-use Rattle.topo_script.specs.declared.script.LimitRows.{LimitRows}
-use Rattle.topo_script.specs.declared.report.Report.{Report}
+use Rattle.topo_script.specs.declared.scripts.LimitRows.{LimitRows}
+use Rattle.topo_script.specs.declared.reports.Report.{Report}
 use Rattle.topo_script.specs.declared.fault.ScriptFault.TheVariants.{BadShape}
 use Rattle.topo_script.specs.Paths.{whole, element_of, member_of}
 use Rattle.topo_script.specs.Pictures.{number_data, list_data, rows_data}

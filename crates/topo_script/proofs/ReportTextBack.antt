@@ -14,8 +14,8 @@ use Rattle.topo_core.specs.declared.darts.Dart.{Dart}
 use Rattle.topo_core.specs.declared.darts.Way.{Way}
 use Rattle.topo_core.specs.declared.darts.Way.TheVariants.{Forward, Back}
 use Rattle.topo_core.specs.declared.routes.Inserted.{Inserted as Made}
-use Rattle.topo_script.specs.declared.script.LimitRows.{LimitRows}
-use Rattle.topo_script.specs.declared.report.Report.{Report}
+use Rattle.topo_script.specs.declared.scripts.LimitRows.{LimitRows}
+use Rattle.topo_script.specs.declared.reports.Report.{Report}
 use Rattle.topo_script.specs.Pictures.{number_data, list_data, rows_data}
 use Rattle.topo_script.specs.Prices.{without_ones}
 use Rattle.topo_script.specs.Ranges.{LimitsFit, PriceFits, CallFits, DartFits, InsertedFits, RefusalFits, ReplyFits, EntryFits, ReportFits}

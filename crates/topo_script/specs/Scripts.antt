@@ -4,9 +4,9 @@ use Rattle.serde_json.specs.Data.{Data}
 use Rattle.serde_json.specs.Find.{as_object, as_null}
 use Rattle.topo_core.specs.declared.calls.Command.{Command}
 use Rattle.topo_core.specs.declared.rows.Rows.{Rows}
-use Rattle.topo_script.specs.declared.script.LimitRows.{LimitRows}
-use Rattle.topo_script.specs.declared.script.Script.{Script}
-use Rattle.topo_script.specs.declared.report.Report.{Report}
+use Rattle.topo_script.specs.declared.scripts.LimitRows.{LimitRows}
+use Rattle.topo_script.specs.declared.scripts.Script.{Script}
+use Rattle.topo_script.specs.declared.reports.Report.{Report}
 use Rattle.topo_script.specs.declared.path.Key.TheVariants.{Crossings, Edges, History, Limits, Picture, Prices, Start, Version, Vertices, Workers}
 use Rattle.topo_script.specs.declared.path.Path.{Path}
 use Rattle.topo_script.specs.declared.fault.ScriptFault.TheVariants.{BadShape, BadVersion}

@@ -1,8 +1,9 @@
-//! The JSON forms of the project, and their texts.
+//! The JSON forms of the project: scripts, pictures and reports, read and written.
 //!
-//! `picture_text` gives the text of rows: compact, keys in the order of their bytes, nothing else. The
-//! text is the one that `serde_json`'s own definition gives for the value that `rows_data` names, and
-//! it is written in one pass.
+//! `read_script`, `read_rows` and `read_report` give what the definitions of `specs/` give on the value
+//! of a text: the form, or its first fault with its path. `picture_text` and `report` write: compact,
+//! keys in the order of their bytes, nothing else. What is written is read back as what was written.
+//! `docs/FORMATS.md` has the forms in words.
 #![tactic(auto)]
 
 mod calls;
@@ -10,17 +11,17 @@ pub mod fault;
 pub mod form;
 pub mod path;
 mod prices;
-pub mod read_script;
 mod replies;
-pub mod report;
 #[cfg(test)]
 mod report_rows;
 pub mod report_text;
+pub mod reports;
 pub mod row_forms;
 mod rows;
-pub mod script;
+pub mod script_forms;
 #[cfg(test)]
 mod script_rows;
+pub mod scripts;
 #[cfg(test)]
 mod tests;
 pub mod written;
@@ -31,6 +32,11 @@ ghost use Rattle.topo_script.specs.RowForms.{rows_of};
 ghost use Rattle.topo_script.specs.Pictures.{rows_text};
 
 use crate::written::Written;
+pub use fault::ScriptFault;
+pub use report_text::report;
+pub use row_forms::read_rows;
+pub use script_forms::{read_report, read_script};
+pub use scripts::{LimitRows, Script};
 use std::alloc::{AllocError, Global};
 use topo_core::rows::Rows;
 

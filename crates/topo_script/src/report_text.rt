@@ -13,8 +13,8 @@ ghost use Rattle.topo_script.specs.Scripts.{report_of};
 ghost use Rattle.topo_script.specs.ReportTexts.{limits_data, price_data, prices_data, has_null, version_of, way_data, dart_data, call_data, refusal_data, inserted_data, reply_data, entry_data, report_data, report_text};
 
 use crate::prices::kept_len;
-use crate::report::Report;
-use crate::script::LimitRows;
+use crate::reports::Report;
+use crate::scripts::LimitRows;
 use crate::written::{Written, write_after, write_list};
 use std::alloc::{AllocError, Global};
 use std::fmt::Write;

@@ -2,10 +2,10 @@
 
 use crate::fault::ScriptFault;
 use crate::picture_text;
-use crate::read_script::{MAX_SCRIPT_BYTES, read_report, read_script};
 use crate::report_rows::{REPORT, REPORT_ROWS};
 use crate::report_text::report;
 use crate::row_forms::read_rows;
+use crate::script_forms::{MAX_SCRIPT_BYTES, read_report, read_script};
 use crate::script_rows::{SCRIPT, SCRIPT_ROWS, SCRIPTS};
 use std::alloc::{AllocError, Global};
 use std::test::Fail;

@@ -1,7 +1,7 @@
 use Rattle.std.proofs.Common.{◌≡◌, Err, sym, rules, ◌∙◌}
 use Rattle.topo_script.specs.Scripts.{picture_form}
 use Rattle.topo_script.proofs.Steps.{went, gives_past, stops_at, told}
-use Rattle.topo_script.proofs.read_script.read_picture.Goals as goal
+use Rattle.topo_script.proofs.script_forms.read_picture.Goals as goal
 
 pub returns-in_err-rows : goal.returns-in_err-rows
 unfolding picture_form

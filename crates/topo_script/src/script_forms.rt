@@ -15,9 +15,9 @@ use crate::form::{
 };
 use crate::path::{Key, Path};
 use crate::prices::read_prices;
-use crate::report::Report;
+use crate::reports::Report;
 use crate::row_forms::MAX_PICTURE_BYTES;
-use crate::script::{LimitRows, Script};
+use crate::scripts::{LimitRows, Script};
 use serde_json::Value;
 use std::alloc::Global;
 use topo_core::calls::Command;

@@ -1,7 +1,7 @@
 use Rattle.std.proofs.Common.{◌≡◌, Err, sym, rules, ◌∙◌}
 use Rattle.topo_script.specs.Scripts.{limits_form}
 use Rattle.topo_script.proofs.Steps.{went, gives_past, stops_at, told}
-use Rattle.topo_script.proofs.read_script.LimitRowsForm.read.Goals as goal
+use Rattle.topo_script.proofs.script_forms.LimitRowsForm.read.Goals as goal
 
 pub returns-in_err-check_keys : goal.returns-in_err-check_keys
 unfolding limits_form

@@ -2,7 +2,7 @@ use Rattle.topo_script.specs.declared.path.Key.TheVariants.{Prices}
 use Rattle.topo_script.specs.Paths.{whole}
 use Rattle.topo_script.specs.Scripts.{prices_form}
 use Rattle.topo_script.proofs.Lookups.{member_there, member_missing}
-use Rattle.topo_script.proofs.read_script.read_price_member.Goals as goal
+use Rattle.topo_script.proofs.script_forms.read_price_member.Goals as goal
 
 pub returns-in-Some : goal.returns-in-Some
 returns-in-Some c = member_there (prices_form c.args.nulls) whole _ Prices _ _ c.name.result.now c.read_prices.result c.name.ensures c.member-path.ensures c.in-Some.ensures c.read_prices.ensures

@@ -2,7 +2,7 @@ use Rattle.topo_script.specs.declared.path.Key.TheVariants.{Workers}
 use Rattle.topo_script.specs.Paths.{whole}
 use Rattle.topo_script.specs.Scripts.{workers_form}
 use Rattle.topo_script.proofs.Lookups.{member_there, member_missing}
-use Rattle.topo_script.proofs.read_script.read_workers_member.Goals as goal
+use Rattle.topo_script.proofs.script_forms.read_workers_member.Goals as goal
 
 pub returns-in-Some : goal.returns-in-Some
 returns-in-Some c = member_there workers_form whole _ Workers _ _ c.name.result.now c.read_workers.result c.name.ensures c.member-path.ensures c.in-Some.ensures c.read_workers.ensures

@@ -1,6 +1,6 @@
 //! Reports.
 
-use crate::script::LimitRows;
+use crate::scripts::LimitRows;
 use topo_core::calls::Entry;
 use topo_core::listed::Listed;
 use topo_core::rows::Rows;

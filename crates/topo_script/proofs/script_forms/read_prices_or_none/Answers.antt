@@ -3,7 +3,7 @@ use Rattle.topo_script.specs.declared.path.Key.TheVariants.{Prices}
 use Rattle.topo_script.specs.Paths.{whole}
 use Rattle.topo_script.specs.Scripts.{prices_form}
 use Rattle.topo_script.proofs.Lookups.{member_or_there, member_or_missing}
-use Rattle.topo_script.proofs.read_script.read_prices_or_none.Goals as goal
+use Rattle.topo_script.proofs.script_forms.read_prices_or_none.Goals as goal
 
 pub returns-then-has_key : goal.returns-then-has_key
 returns-then-has_key c = member_or_there [] (prices_form c.args.nulls) whole Prices _ c.read_price_member.result c.if-has_key.ensures c.read_price_member.ensures

@@ -1,7 +1,7 @@
 use Rattle.std.proofs.Common.{◌≡◌, Err, sym, rules, ◌∙◌}
 use Rattle.topo_script.specs.Scripts.{script_form}
 use Rattle.topo_script.proofs.Steps.{went, gives_past, stops_at, told}
-use Rattle.topo_script.proofs.read_script.script_in.Goals as goal
+use Rattle.topo_script.proofs.script_forms.script_in.Goals as goal
 
 pub returns-in_err-nulls : goal.returns-in_err-nulls
 unfolding script_form

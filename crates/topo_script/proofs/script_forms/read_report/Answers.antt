@@ -1,12 +1,12 @@
 use Rattle.std.proofs.Common.{◌≡◌, Err, sym, rules, ◌∙◌}
-use Rattle.topo_script.specs.Scripts.{script_of}
+use Rattle.topo_script.specs.Scripts.{report_of}
 use Rattle.topo_script.proofs.Steps.{gives_past, gives_same, stops_at, told}
-use Rattle.topo_script.proofs.read_script.read_script.Goals as goal
+use Rattle.topo_script.proofs.script_forms.read_report.Goals as goal
 
 pub returns-in_err-value : goal.returns-in_err-value
-unfolding script_of
+unfolding report_of
 returns-in_err-value c = let same : c.from_residual.result ≡ Err c.in_err-value.field-0.0 = search rules in stops_at _ _ _ c.from_residual.result same c.in_err-value.ensures
 
 pub returns : goal.returns
-unfolding script_of
-returns c = gives_past _ _ _ c.script_in.result c.in_ok-value.ensures (c.script_in.ensures)
+unfolding report_of
+returns c = gives_past _ _ _ c.report_in.result c.in_ok-value.ensures (c.report_in.ensures)
