@@ -3,8 +3,7 @@
 use std::alloc::{AllocError, Global};
 use std::io;
 use std::time::{Clock, Instant};
-use topo_script::{read_report, read_script};
-use topo_script::report;
+use topo_script::{read_report, read_script, report};
 
 /// About how many bytes are read or written at each size, over all calls.
 const BYTES_IN_ALL: usize = 200_000_000;
