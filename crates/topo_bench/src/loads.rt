@@ -45,7 +45,11 @@ impl Grid {
     /// The edge to the right of a vertex.
     fn right(self, x: u32, y: u32) -> u32 {
         let row = y.wrapping_mul(self.side.wrapping_add(self.last()));
-        let before = if y == self.last() { x } else { x.wrapping_mul(2) };
+        let before = if y == self.last() {
+            x
+        } else {
+            x.wrapping_mul(2)
+        };
         row.wrapping_add(before)
     }
 
@@ -77,15 +81,33 @@ impl Grid {
         Ok(Listed::from_vec(list))
     }
 
-    fn push_edges(self, alloc: Global, edges: &mut Vec<EdgeRow>, x: u32, y: u32) -> Result<(), AllocError> {
+    fn push_edges(
+        self,
+        alloc: Global,
+        edges: &mut Vec<EdgeRow>,
+        x: u32,
+        y: u32,
+    ) -> Result<(), AllocError> {
         let a = self.vertex(x, y);
         if x < self.last() {
             let b = self.vertex(x.wrapping_add(1), y);
-            edges.push(EdgeRow { id: self.right(x, y), a, b, kind: 0, crossings: Listed::new(alloc) })?;
+            edges.push(EdgeRow {
+                id: self.right(x, y),
+                a,
+                b,
+                kind: 0,
+                crossings: Listed::new(alloc),
+            })?;
         }
         if y < self.last() {
             let b = self.vertex(x, y.wrapping_add(1));
-            edges.push(EdgeRow { id: self.down(x, y), a, b, kind: 0, crossings: Listed::new(alloc) })?;
+            edges.push(EdgeRow {
+                id: self.down(x, y),
+                a,
+                b,
+                kind: 0,
+                crossings: Listed::new(alloc),
+            })?;
         }
         Ok(())
     }
