@@ -108,7 +108,7 @@ module _ (rows : Rows) (paths : has_good_paths rows ≡ true) (k : ℕ) (row : E
       let b = begin in
       let same : 0 + s ≡ s = omega arith in
       let there : slice_get (darts rows) (b.before + 2 * s) ≡ Some (record { edge = row.id; seg = s; way = Forward }) =
-        b.listed (2 * s) (omega arith) ∙ forward_get row.id 0 (segment_count row) s h ∙ ap (λ s. Some (record { edge = row.id; seg = s; way = Forward })) same in
+      b.listed (2 * s) (omega arith) ∙ forward_get row.id 0 (segment_count row) s h ∙ ap (λ s. Some (record { edge = row.id; seg = s; way = Forward })) same in
       index_of_get rows paths (b.before + 2 * s) _ there ∙ omega (arith, b.here)
 
   pub number_back : (s : ℕ) → s < segment_count row → index_of rows (record { edge = row.id; seg = s; way = Back }) ≡ slice_index (begins_from 0 rows.edges) k + 2 * s + 1
@@ -117,7 +117,7 @@ module _ (rows : Rows) (paths : has_good_paths rows ≡ true) (k : ℕ) (row : E
       let same : 0 + s ≡ s = omega arith in
       let place : b.before + (2 * s + 1) ≡ b.before + 2 * s + 1 = omega arith in
       let there : slice_get (darts rows) (b.before + (2 * s + 1)) ≡ Some (record { edge = row.id; seg = s; way = Back }) =
-        b.listed (2 * s + 1) (omega arith) ∙ back_get row.id 0 (segment_count row) s h ∙ ap (λ s. Some (record { edge = row.id; seg = s; way = Back })) same in
+      b.listed (2 * s + 1) (omega arith) ∙ back_get row.id 0 (segment_count row) s h ∙ ap (λ s. Some (record { edge = row.id; seg = s; way = Back })) same in
       index_of_get rows paths (b.before + (2 * s + 1)) _ there ∙ omega (arith, b.here)
 
   -- the next edge begins behind the last dart of this one

@@ -110,10 +110,10 @@ module _ (rows : Rows) (good : IsWellFormed rows) where
   once d d_in =
       times_joined (ix d) (λ around. links (map ix around)) (system rows)
       ∙ sum_same (λ around. times (ix d) (links (map ix around))) (λ around. sum_by (λ c. one (ix c == ix d)) around) (system rows)
-        (λ around h. times_links (ix d) (slice_index_or (map ix around) 0 0) (map ix around) ∙ sum_of_map (λ y. one (y == ix d)) ix around)
+      (λ around h. times_links (ix d) (slice_index_or (map ix around) 0 0) (map ix around) ∙ sum_of_map (λ y. one (y == ix d)) ix around)
       ∙ sym (sum_joined (λ c. one (ix c == ix d)) (λ around. around) (system rows))
       ∙ sum_same (λ c. one (ix c == ix d)) (λ c. one (same_dart d c)) (darts_in (system rows))
-        (λ c h. same_number d d_in c (sym (system_test rows good.paths good.crossings good.rotations c) ∙ in_has c (darts_in (system rows)) h))
+      (λ c h. same_number d d_in c (sym (system_test rows good.paths good.crossings good.rotations c) ∙ in_has c (darts_in (system rows)) h))
       ∙ stands_once rows good.paths good.crossings good.rotations d
       ∙ ap one (sym (listed_test rows good.paths d) ∙ d_in)
 
@@ -122,16 +122,16 @@ module _ (rows : Rows) (good : IsWellFormed rows) where
   linked xs as_many = ext_get_or 0 (written xs (links_of ix (system rows))) (turn_images rows)
       (length_written xs (links_of ix (system rows)) ∙ as_many ∙ sym (images_length rows))
       (λ i h.
-        let inside : i < length (darts rows) = omega (arith, length_written xs (links_of ix (system rows))) in
-        let at = get_there (darts rows) i inside in
-        let d = at.0 in
-        let d_in = has_at (darts rows) i d at.1 in
-        let number : ix d ≡ i = index_of_get rows good.paths i d at.1 in
-        let left : slice_index (written xs (links_of ix (system rows))) (ix d) ≡ ix (turn (system rows) d) =
-          written_once (ix d) (ix (turn (system rows) d)) xs (links_of ix (system rows)) (omega arith) (once d d_in)
-          (turn_link ix d (system rows) (system_test rows good.paths good.crossings good.rotations d ∙ d_in)) in
-        let right : slice_index (turn_images rows) (ix d) ≡ ix (turn (system rows) d) = image_of rows good.paths d d_in in
-        sym (ap (slice_index (written xs (links_of ix (system rows)))) number) ∙ left ∙ sym right ∙ ap (slice_index (turn_images rows)) number)
+      let inside : i < length (darts rows) = omega (arith, length_written xs (links_of ix (system rows))) in
+      let at = get_there (darts rows) i inside in
+      let d = at.0 in
+      let d_in = has_at (darts rows) i d at.1 in
+      let number : ix d ≡ i = index_of_get rows good.paths i d at.1 in
+      let left : slice_index (written xs (links_of ix (system rows))) (ix d) ≡ ix (turn (system rows) d) =
+      written_once (ix d) (ix (turn (system rows) d)) xs (links_of ix (system rows)) (omega arith) (once d d_in)
+      (turn_link ix d (system rows) (system_test rows good.paths good.crossings good.rotations d ∙ d_in)) in
+      let right : slice_index (turn_images rows) (ix d) ≡ ix (turn (system rows) d) = image_of rows good.paths d d_in in
+      sym (ap (slice_index (written xs (links_of ix (system rows)))) number) ∙ left ∙ sym right ∙ ap (slice_index (turn_images rows)) number)
 
   joined_map : {X Y Z : Type 0} (f : Y → List Z) (g : X → Y) (xs : List X) → flat_map f (map g xs) ≡ flat_map (λ x. f (g x)) xs
   joined_map f g [] = refl
@@ -143,6 +143,6 @@ module _ (rows : Rows) (good : IsWellFormed rows) where
   linked_in_turn xs as_many =
       sym (written_append xs (flat_map (λ v. links (vertex_round rows v)) (vertices rows)) (flat_map (λ x. links (crossing_round rows x)) rows.crossings))
       ∙ ap (written xs) (sym (flat_map-append (λ around. links (map ix around)) (map (around_vertex rows) (vertices rows)) (map (around_crossing rows) rows.crossings)
-        ∙ ap (λ us. us ++ flat_map (λ around. links (map ix around)) (map (around_crossing rows) rows.crossings)) (joined_map (λ around. links (map ix around)) (around_vertex rows) (vertices rows))
-        ∙ ap (λ us. flat_map (λ v. links (vertex_round rows v)) (vertices rows) ++ us) (joined_map (λ around. links (map ix around)) (around_crossing rows) rows.crossings)))
+      ∙ ap (λ us. us ++ flat_map (λ around. links (map ix around)) (map (around_crossing rows) rows.crossings)) (joined_map (λ around. links (map ix around)) (around_vertex rows) (vertices rows))
+      ∙ ap (λ us. flat_map (λ v. links (vertex_round rows v)) (vertices rows) ++ us) (joined_map (λ around. links (map ix around)) (around_crossing rows) rows.crossings)))
       ∙ linked xs as_many

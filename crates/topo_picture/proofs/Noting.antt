@@ -85,8 +85,8 @@ noted_at_newcomer crossings ids e x place d are is within other =
     let as_many : length ids ≡ length crossings = ap length are ∙ length-map crossings (λ (c : CrossRow). c.id) in
     let read = note_place_read crossings ids e x place (get_or crossings place d) are is within (sym (get_or_default crossings place (get_or crossings place d) d (omega arith))) in
     let side : cond {A = ℕ} (e == (get_or crossings place d).crossed) 0 1 ≡ 1 = ap (λ (t : Bool). cond {A = ℕ} t 0 1) (differs e (get_or crossings place d).crossed other) in omega arith where
-  differs : (m n : ℕ) → m ≢ n → eqb m n ≡ false
-  differs m n h = grind (arith, nat_tests)
+      differs : (m n : ℕ) → m ≢ n → eqb m n ≡ false
+      differs m n h = grind (arith, nat_tests)
 
 -- ---- What is noted
 

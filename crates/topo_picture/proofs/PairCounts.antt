@@ -72,9 +72,9 @@ pub crossing_count : (limit : ℕ) (crossings : List CrossRow) → rises_below l
 crossing_count limit crossings rises e x h below =
     sum_joined (λ k. one (k == pair e x)) (λ c. pair c.crossed c.id ∷ pair c.newcomer c.id ∷ []) crossings
     ∙ sum_same (λ c. occurrences (pair e x) (pair c.crossed c.id ∷ pair c.newcomer c.id ∷ [])) (λ c. cond {A = ℕ} (c.id == x) (one (c.crossed == e) + one (c.newcomer == e)) 0) crossings (λ c k.
-      let first : one (pair c.crossed c.id == pair e x) ≡ cond {A = ℕ} (c.id == x) (one (c.crossed == e)) 0 = ap one (pair_same c.crossed c.id e x (below c k) h) ∙ one_of_swapped (c.crossed == e) (c.id == x) in
-      let second : one (pair c.newcomer c.id == pair e x) ≡ cond {A = ℕ} (c.id == x) (one (c.newcomer == e)) 0 = ap one (pair_same c.newcomer c.id e x (below c k) h) ∙ one_of_swapped (c.newcomer == e) (c.id == x) in
-      let both = two (c.id == x) (one (c.crossed == e)) (one (c.newcomer == e)) in omega arith)
+    let first : one (pair c.crossed c.id == pair e x) ≡ cond {A = ℕ} (c.id == x) (one (c.crossed == e)) 0 = ap one (pair_same c.crossed c.id e x (below c k) h) ∙ one_of_swapped (c.crossed == e) (c.id == x) in
+    let second : one (pair c.newcomer c.id == pair e x) ≡ cond {A = ℕ} (c.id == x) (one (c.newcomer == e)) 0 = ap one (pair_same c.newcomer c.id e x (below c k) h) ∙ one_of_swapped (c.newcomer == e) (c.id == x) in
+    let both = two (c.id == x) (one (c.crossed == e)) (one (c.newcomer == e)) in omega arith)
     ∙ sum_found (λ c. c.id) (λ c. one (c.crossed == e) + one (c.newcomer == e)) limit x crossings rises
 
 -- in the pairs of the ends
@@ -84,9 +84,9 @@ pub end_count : (limit : ℕ) (edges : List EdgeRow) → rises_below limit (map 
 end_count limit edges rises e v h below =
     sum_joined (λ k. one (k == pair e v)) (λ row. pair row.id row.a ∷ pair row.id row.b ∷ []) edges
     ∙ sum_same (λ row. occurrences (pair e v) (pair row.id row.a ∷ pair row.id row.b ∷ [])) (λ row. cond {A = ℕ} (row.id == e) (one (row.a == v) + one (row.b == v)) 0) edges (λ row k.
-      let first : one (pair row.id row.a == pair e v) ≡ cond {A = ℕ} (row.id == e) (one (row.a == v)) 0 = ap one (pair_same row.id row.a e v (below row k).0 h) ∙ one_of (row.id == e) (row.a == v) in
-      let second : one (pair row.id row.b == pair e v) ≡ cond {A = ℕ} (row.id == e) (one (row.b == v)) 0 = ap one (pair_same row.id row.b e v (below row k).1 h) ∙ one_of (row.id == e) (row.b == v) in
-      let both = two (row.id == e) (one (row.a == v)) (one (row.b == v)) in omega arith)
+    let first : one (pair row.id row.a == pair e v) ≡ cond {A = ℕ} (row.id == e) (one (row.a == v)) 0 = ap one (pair_same row.id row.a e v (below row k).0 h) ∙ one_of (row.id == e) (row.a == v) in
+    let second : one (pair row.id row.b == pair e v) ≡ cond {A = ℕ} (row.id == e) (one (row.b == v)) 0 = ap one (pair_same row.id row.b e v (below row k).1 h) ∙ one_of (row.id == e) (row.b == v) in
+    let both = two (row.id == e) (one (row.a == v)) (one (row.b == v)) in omega arith)
     ∙ sum_found (λ row. row.id) (λ row. one (row.a == v) + one (row.b == v)) limit e edges rises
 
 -- in the pairs of one vertex
@@ -132,5 +132,5 @@ rotation_pairs_more rotations v around item before after inside is at was put =
     let place : 0 + length (take v rotations) ≡ v = omega (arith, length-take v rotations) in
     put ∙ ap (λ xs. before ++ map (λ e. pair e v) xs) is ∙ ap (λ xs. xs ++ map (λ e. pair e v) item) was
     ∙ sym (ap (rotation_pairs 0) (take_more rotations v item inside ∙ ap (λ xs. take v rotations ++ xs ∷ []) (sym at))
-      ∙ rotation_pairs_push 0 (take v rotations) item
-      ∙ ap (λ n. rotation_pairs 0 (take v rotations) ++ map (λ e. pair e n) item) place)
+    ∙ rotation_pairs_push 0 (take v rotations) item
+    ∙ ap (λ n. rotation_pairs 0 (take v rotations) ++ map (λ e. pair e n) item) place)

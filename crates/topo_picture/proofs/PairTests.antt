@@ -34,8 +34,8 @@ find_item id limit x (y ∷ xs) rises (inl e) = ap (λ (b : Bool). cond b (Some 
 find_item id limit x (y ∷ xs) rises (inr h) =
     ap (λ (b : Bool). cond b (Some y) (find (λ y. id y == id x) xs)) (lower (id y) (id x) (ids_above limit (id y) (map id xs) rises (id x) (in_map id x xs h)))
     ∙ find_item id limit x xs (right_true _ (rises_below limit (map id xs)) rises) h where
-  lower : (m n : ℕ) → m < n → eqb m n ≡ false
-  lower m n h = grind (arith, nat_tests)
+      lower : (m n : ℕ) → m < n → eqb m n ≡ false
+      lower m n h = grind (arith, nat_tests)
 
 some_or_none : {X : Type 0} (o : Option X) → ((x : X) × (o ≡ Some x)) ⊎ (o ≡ None)
 some_or_none None = inr refl
@@ -44,6 +44,7 @@ some_or_none (Some x) = inl (x, refl)
 -- every number is a pair
 abbrev high : ℕ → ℕ
 high k = k / 4294967296
+
 abbrev low : ℕ → ℕ
 low k = k % 4294967296
 
@@ -117,19 +118,19 @@ module _ (rows : Rows) (paths : has_good_paths rows ≡ true) (small : rows.next
   good_from_same : Same → list_all (λ x. not (x.crossed == x.newcomer)) rows.crossings ≡ true → has_good_crossings rows ≡ true
   good_from_same same differ =
       ap (λ b. b && list_all (is_good_crossing rows) rows.crossings) rises ∙ all_from (is_good_crossing rows) rows.crossings (λ x h.
-        let apart_test : not (x.crossed == x.newcomer) ≡ true = test_of_each (λ x. not (x.crossed == x.newcomer)) x rows.crossings differ h in
-        let self : (n : ℕ) → one (n == n) ≡ 1 = λ n. ap one (eq-eqb n n refl) in
-        let crossed_there : is_some (edge_row rows x.crossed) ≡ true = edge_is_there same x h x.crossed (let s = self x.crossed in omega arith) in
-        let newcomer_there : is_some (edge_row rows x.newcomer) ≡ true = edge_is_there same x h x.newcomer (let s = self x.newcomer in omega arith) in
-        let all : list_all (λ row. occurrences x.id row.crossings == (if row.id == x.crossed || row.id == x.newcomer then 1 else 0)) rows.edges ≡ true =
-          all_from (λ row. occurrences x.id row.crossings == (if row.id == x.crossed || row.id == x.newcomer then 1 else 0)) rows.edges (λ row k. eq-eqb _ _ (counted_here same x h (not-true _ apart_test) row k)) in
-        and_four _ _ _ _ apart_test crossed_there newcomer_there all) where
-    and_four : (a b c d : Bool) → a ≡ true → b ≡ true → c ≡ true → d ≡ true → (a && b && c && d) ≡ true
-    and_four true true true true e f g h = refl
-    and_four false b c d e f g h = cc
-    and_four true false c d e f g h = cc
-    and_four true true false d e f g h = cc
-    and_four true true true false e f g h = cc
+      let apart_test : not (x.crossed == x.newcomer) ≡ true = test_of_each (λ x. not (x.crossed == x.newcomer)) x rows.crossings differ h in
+      let self : (n : ℕ) → one (n == n) ≡ 1 = λ n. ap one (eq-eqb n n refl) in
+      let crossed_there : is_some (edge_row rows x.crossed) ≡ true = edge_is_there same x h x.crossed (let s = self x.crossed in omega arith) in
+      let newcomer_there : is_some (edge_row rows x.newcomer) ≡ true = edge_is_there same x h x.newcomer (let s = self x.newcomer in omega arith) in
+      let all : list_all (λ row. occurrences x.id row.crossings == (if row.id == x.crossed || row.id == x.newcomer then 1 else 0)) rows.edges ≡ true =
+      all_from (λ row. occurrences x.id row.crossings == (if row.id == x.crossed || row.id == x.newcomer then 1 else 0)) rows.edges (λ row k. eq-eqb _ _ (counted_here same x h (not-true _ apart_test) row k)) in
+      and_four _ _ _ _ apart_test crossed_there newcomer_there all) where
+        and_four : (a b c d : Bool) → a ≡ true → b ≡ true → c ≡ true → d ≡ true → (a && b && c && d) ≡ true
+        and_four true true true true e f g h = refl
+        and_four false b c d e f g h = cc
+        and_four true false c d e f g h = cc
+        and_four true true false d e f g h = cc
+        and_four true true true false e f g h = cc
 
   same_from_good : has_good_crossings rows ≡ true → Same
   same_from_good good k = ap (λ n. occurrences n (path_pairs rows.edges)) (split k) ∙ stands (high k) (low k) (low_below k) ∙ by_row (high k) (low k) ∙ sym (due (high k) (low k) (low_below k)) ∙ ap (λ n. occurrences n (crossing_pairs rows.crossings)) (sym (split k)) where
@@ -256,8 +257,8 @@ module _ (rows : Rows) (paths : has_good_paths rows ≡ true) (small : length ro
   rotations_from_agree agree least = all_from (has_good_rotation rows) (vertices rows) (λ v h.
       let inside : v < length rows.rotations = omega (arith, range_below v 0 (length rows.rotations) h) in
       let counted : list_all (λ row. occurrences row.id (rotation rows v) == (if row.a == v || row.b == v then 1 else 0)) rows.edges ≡ true =
-        all_from (λ row. occurrences row.id (rotation rows v) == (if row.a == v || row.b == v then 1 else 0)) rows.edges (λ row k. eq-eqb _ _ (
-          sym (stand row.id v (omega arith)) ∙ agree (pair row.id v) ∙ want row.id v (omega arith) ∙ wanted row k row.id v (find_item (λ row. row.id) rows.next_edge row rows.edges edges_climb k))) in
+      all_from (λ row. occurrences row.id (rotation rows v) == (if row.a == v || row.b == v then 1 else 0)) rows.edges (λ row k. eq-eqb _ _ (
+      sym (stand row.id v (omega arith)) ∙ agree (pair row.id v) ∙ want row.id v (omega arith) ∙ wanted row k row.id v (find_item (λ row. row.id) rows.next_edge row rows.edges edges_climb k))) in
       let known : list_all (λ e. is_some (edge_row rows e)) (rotation rows v) ≡ true = all_from (λ e. is_some (edge_row rows e)) (rotation rows v) (λ e k. elim (some_or_none (edge_row rows e)) [
         | inl (row, at) ↦ ap is_some at
         | inr none ↦ absurd (

@@ -93,7 +93,7 @@ module _ (rows : Rows) (good : IsWellFormed rows) where
     behind_number =
         let inside = got_within p.row.crossings (place_on rows e x) x p.on in
         let number = ap (λ f. index_of rows (record { edge = f; seg = place_on rows e x; way = Back })) (sym (row_id rows e p.row p.there))
-          ∙ number_back rows good.paths p.place p.row p.at (place_on rows e x) (omega arith) in
+        ∙ number_back rows good.paths p.place p.row p.at (place_on rows e x) (omega arith) in
         let next = ahead_number in omega arith
 
   -- a crossing by its place among the crossings
@@ -101,8 +101,8 @@ module _ (rows : Rows) (good : IsWellFormed rows) where
   place_of_crossing q c at =
       sym (place_among (λ c. c.id) c.id rows.crossings)
       ∙ place_is (map (λ c. c.id) rows.crossings) q c.id (rises_strictly rows.next_crossing (map (λ c. c.id) rows.crossings) cross_ids_rise)
-        (let inside = got_within rows.crossings q c at in omega (arith, length-map rows.crossings (λ (c : CrossRow). c.id)))
-        (get_or-map (λ c. c.id) rows.crossings q c 0 (got_within rows.crossings q c at) ∙ ap (λ (c : CrossRow). c.id) (get_or_from_slice_get rows.crossings q c c at))
+      (let inside = got_within rows.crossings q c at in omega (arith, length-map rows.crossings (λ (c : CrossRow). c.id)))
+      (get_or-map (λ c. c.id) rows.crossings q c 0 (got_within rows.crossings q c at) ∙ ap (λ (c : CrossRow). c.id) (get_or_from_slice_get rows.crossings q c c at))
 
   crossed_of : (q : ℕ) (c : CrossRow) → slice_get rows.crossings q ≡ Some c → slice_index (map (λ c. c.crossed) rows.crossings) q ≡ c.crossed
   crossed_of q c at = get_or-map (λ c. c.crossed) rows.crossings q c 0 (got_within rows.crossings q c at) ∙ ap (λ (c : CrossRow). c.crossed) (get_or_from_slice_get rows.crossings q c c at)
@@ -148,9 +148,10 @@ module _ (rows : Rows) (good : IsWellFormed rows) where
   entry q c at row h y named = elim (cases_Bool (y == c.id)) [
     | inl same ↦
         let y_is : y ≡ c.id = eqb-true y c.id same in
-        let place : note_place rows.crossings row.id y ≡ 2 * q + cond {A = ℕ} (row.id == c.crossed) 0 1 = ap (note_place rows.crossings row.id) y_is ∙ note_place_of q c at row.id in
-        (ap (λ n. one (n == 2 * q)) place ∙ side_even (row.id == c.crossed) q ∙ sym (ap (λ (b : Bool). cond {A = ℕ} (row.id == c.crossed) (one b) 0) same ∙ as_one (row.id == c.crossed)),
-         ap (λ n. one (n == 2 * q + 1)) place ∙ side_odd (row.id == c.crossed) q ∙ sym (ap (λ (b : Bool). cond {A = ℕ} (not (row.id == c.crossed)) (one b) 0) same ∙ as_one (not (row.id == c.crossed))))
+        let place : note_place rows.crossings row.id y ≡ 2 * q + cond {A = ℕ} (row.id == c.crossed) 0 1 = ap (note_place rows.crossings row.id) y_is ∙ note_place_of q c at row.id in (
+          ap (λ n. one (n == 2 * q)) place ∙ side_even (row.id == c.crossed) q ∙ sym (ap (λ (b : Bool). cond {A = ℕ} (row.id == c.crossed) (one b) 0) same ∙ as_one (row.id == c.crossed)),
+          ap (λ n. one (n == 2 * q + 1)) place ∙ side_odd (row.id == c.crossed) q ∙ sym (ap (λ (b : Bool). cond {A = ℕ} (not (row.id == c.crossed)) (one b) 0) same ∙ as_one (not (row.id == c.crossed))),
+        )
     | inr apart ↦
         let d = some_of (cross_row rows y) (crossing_there rows good.paths row h y named) in
         let d_id : d.0.id ≡ y = eqb-true d.0.id y (found (λ c. c.id == y) d.0 rows.crossings d.1).1 in
@@ -164,12 +165,14 @@ module _ (rows : Rows) (good : IsWellFormed rows) where
         ] in
         let zero_side : 2 * q ≡ 2 * q + 0 = omega arith in
         let side = cond {A = ℕ} (row.id == slice_index (map (λ c. c.crossed) rows.crossings) (crossing_place rows.crossings y)) 0 1 in
-        let side_small : side ≤ 1 = at_most (row.id == slice_index (map (λ c. c.crossed) rows.crossings) (crossing_place rows.crossings y)) in
-        (ap (λ n. one (note_place rows.crossings row.id y == n)) zero_side ∙ ap one (other_place (crossing_place rows.crossings y) q side 0 side_small (omega arith) other) ∙ sym (ap (λ (b : Bool). cond {A = ℕ} (row.id == c.crossed) (one b) 0) apart ∙ as_zero (row.id == c.crossed)),
-         ap one (other_place (crossing_place rows.crossings y) q side 1 side_small (omega arith) other) ∙ sym (ap (λ (b : Bool). cond {A = ℕ} (not (row.id == c.crossed)) (one b) 0) apart ∙ as_zero (not (row.id == c.crossed))))
+        let side_small : side ≤ 1 = at_most (row.id == slice_index (map (λ c. c.crossed) rows.crossings) (crossing_place rows.crossings y)) in (
+          ap (λ n. one (note_place rows.crossings row.id y == n)) zero_side ∙ ap one (other_place (crossing_place rows.crossings y) q side 0 side_small (omega arith) other) ∙ sym (ap (λ (b : Bool). cond {A = ℕ} (row.id == c.crossed) (one b) 0) apart ∙ as_zero (row.id == c.crossed)),
+          ap one (other_place (crossing_place rows.crossings y) q side 1 side_small (omega arith) other) ∙ sym (ap (λ (b : Bool). cond {A = ℕ} (not (row.id == c.crossed)) (one b) 0) apart ∙ as_zero (not (row.id == c.crossed))),
+        )
   ] where
     as_one : (t : Bool) → cond {A = ℕ} t 1 0 ≡ one t
     as_one t = refl
+
     as_zero : (t : Bool) → cond {A = ℕ} t 0 0 ≡ 0
     as_zero true = refl
     as_zero false = refl
@@ -198,27 +201,27 @@ module _ (rows : Rows) (good : IsWellFormed rows) where
     are_ahead = record {
       as_many = length_written xs (notes_from rows.crossings 0 rows.edges) ∙ room;
       crossed = λ q c at.
-        let h = in_at q c rows.crossings at in
-        let says = good_crossing rows good.crossings c h in
-        let p = on_path c h c.crossed says.crossed (ap (λ b. b || eqb c.crossed c.newcomer) (eq-eqb c.crossed c.crossed refl)) in
-        let inside = got_within rows.crossings q c at in
-        at_side q c c.crossed at p (2 * q) (note_place_of q c at c.crossed ∙ ap (λ (t : Bool). 2 * q + cond {A = ℕ} t 0 1) (eq-eqb c.crossed c.crossed refl) ∙ omega arith) (omega arith)
-        (times_notes rows.crossings (2 * q) 0 rows.edges
+          let h = in_at q c rows.crossings at in
+          let says = good_crossing rows good.crossings c h in
+          let p = on_path c h c.crossed says.crossed (ap (λ b. b || eqb c.crossed c.newcomer) (eq-eqb c.crossed c.crossed refl)) in
+          let inside = got_within rows.crossings q c at in
+          at_side q c c.crossed at p (2 * q) (note_place_of q c at c.crossed ∙ ap (λ (t : Bool). 2 * q + cond {A = ℕ} t 0 1) (eq-eqb c.crossed c.crossed refl) ∙ omega arith) (omega arith)
+          (times_notes rows.crossings (2 * q) 0 rows.edges
           ∙ sum_same (λ row. count_by (λ y. note_place rows.crossings row.id y == 2 * q) row.crossings) (λ row. cond {A = ℕ} (row.id == c.crossed) (occurrences c.id row.crossings) 0) rows.edges (λ row k.
-            sum_same (λ y. one (note_place rows.crossings row.id y == 2 * q)) (λ y. cond {A = ℕ} (row.id == c.crossed) (one (y == c.id)) 0) row.crossings (λ y i. (entry q c at row k y i).0) ∙ sum_if (row.id == c.crossed) (λ y. one (y == c.id)) row.crossings)
+          sum_same (λ y. one (note_place rows.crossings row.id y == 2 * q)) (λ y. cond {A = ℕ} (row.id == c.crossed) (one (y == c.id)) 0) row.crossings (λ y i. (entry q c at row k y i).0) ∙ sum_if (row.id == c.crossed) (λ y. one (y == c.id)) row.crossings)
           ∙ once_found c.id c.crossed p.row p.there p.counted);
       newcomer = λ q c at.
-        let h = in_at q c rows.crossings at in
-        let says = good_crossing rows good.crossings c h in
-        let p = on_path c h c.newcomer says.newcomer (ap (λ b. eqb c.newcomer c.crossed || b) (eq-eqb c.newcomer c.newcomer refl) ∙ or_yes (eqb c.newcomer c.crossed)) in
-        let inside = got_within rows.crossings q c at in
-        let not_crossed : eqb c.newcomer c.crossed ≡ false = flip c.crossed c.newcomer says.apart in
-        at_side q c c.newcomer at p (2 * q + 1) (note_place_of q c at c.newcomer ∙ ap (λ (t : Bool). 2 * q + cond {A = ℕ} t 0 1) not_crossed) (omega arith)
-        (times_notes rows.crossings (2 * q + 1) 0 rows.edges
+          let h = in_at q c rows.crossings at in
+          let says = good_crossing rows good.crossings c h in
+          let p = on_path c h c.newcomer says.newcomer (ap (λ b. eqb c.newcomer c.crossed || b) (eq-eqb c.newcomer c.newcomer refl) ∙ or_yes (eqb c.newcomer c.crossed)) in
+          let inside = got_within rows.crossings q c at in
+          let not_crossed : eqb c.newcomer c.crossed ≡ false = flip c.crossed c.newcomer says.apart in
+          at_side q c c.newcomer at p (2 * q + 1) (note_place_of q c at c.newcomer ∙ ap (λ (t : Bool). 2 * q + cond {A = ℕ} t 0 1) not_crossed) (omega arith)
+          (times_notes rows.crossings (2 * q + 1) 0 rows.edges
           ∙ sum_same (λ row. count_by (λ y. note_place rows.crossings row.id y == 2 * q + 1) row.crossings) (λ row. cond {A = ℕ} (row.id == c.newcomer) (occurrences c.id row.crossings) 0) rows.edges (λ row k.
-            sum_same (λ y. one (note_place rows.crossings row.id y == 2 * q + 1)) (λ y. cond {A = ℕ} (not (row.id == c.crossed)) (one (y == c.id)) 0) row.crossings (λ y i. (entry q c at row k y i).1)
-            ∙ sum_if (not (row.id == c.crossed)) (λ y. one (y == c.id)) row.crossings
-            ∙ other_side (row.id == c.crossed) (row.id == c.newcomer) (occurrences c.id row.crossings) (says.counted row k) (never_both row.id c.crossed c.newcomer says.apart))
+          sum_same (λ y. one (note_place rows.crossings row.id y == 2 * q + 1)) (λ y. cond {A = ℕ} (not (row.id == c.crossed)) (one (y == c.id)) 0) row.crossings (λ y i. (entry q c at row k y i).1)
+          ∙ sum_if (not (row.id == c.crossed)) (λ y. one (y == c.id)) row.crossings
+          ∙ other_side (row.id == c.crossed) (row.id == c.newcomer) (occurrences c.id row.crossings) (says.counted row k) (never_both row.id c.crossed c.newcomer says.apart))
           ∙ once_found c.id c.newcomer p.row p.there p.counted);
     } where
       in_at : (q : ℕ) (c : CrossRow) (cs : List CrossRow) → slice_get cs q ≡ Some c → IsIn c cs
@@ -269,10 +272,10 @@ module _ (rows : Rows) (good : IsWellFormed rows) where
   edge_known v h around is i below =
       (good_rotation rows good.rotations v (in_range 0 (length rows.rotations) v (omega arith) (omega arith))).known (slice_index around i)
       (subst (IsIn (slice_index around i)) is (at_in around i below)) where
-    at_in : (xs : List ℕ) (i : ℕ) → i < length xs → IsIn (slice_index xs i) xs
-    at_in [] i h = absurd (omega arith)
-    at_in (x ∷ xs) zero h = inl refl
-    at_in (x ∷ xs) (suc i) h = inr (at_in xs i (omega arith))
+        at_in : (xs : List ℕ) (i : ℕ) → i < length xs → IsIn (slice_index xs i) xs
+        at_in [] i h = absurd (omega arith)
+        at_in (x ∷ xs) zero h = inl refl
+        at_in (x ∷ xs) (suc i) h = inr (at_in xs i (omega arith))
 
   -- ---- Round crossings
 
@@ -328,11 +331,11 @@ module _ (rows : Rows) (good : IsWellFormed rows) where
         crossed_within = omega arith;
         newcomer_within = omega arith;
         round = ap (λ k. round_ahead c.sign k (slice_index numbers (2 * q + 1))) crossed_is ∙ ap (λ k. round_ahead c.sign (index_of rows (ahead rows c.crossed c.id)) k) newcomer_is
-          ∙ round_of c.sign (ahead rows c.crossed c.id) (behind rows c.crossed c.id) (ahead rows c.newcomer c.id) (behind rows c.newcomer c.id) first second;
+            ∙ round_of c.sign (ahead rows c.crossed c.id) (behind rows c.crossed c.id) (ahead rows c.newcomer c.id) (behind rows c.newcomer c.id) first second;
       } where
-    yes : (b : Bool) → (b || true) ≡ true
-    yes true = refl
-    yes false = refl
+        yes : (b : Bool) → (b || true) ≡ true
+        yes true = refl
+        yes false = refl
 
   -- what a path names is known
   pub paths_known : (ids : List ℕ) → ids ≡ map (λ c. c.id) rows.crossings → list_all (λ row. list_all (λ x. list_any (λ y. y == x) ids) row.crossings) rows.edges ≡ true
@@ -368,7 +371,7 @@ pub round_more : (f : Dart → ℕ) (g : ℕ → Dart) (around : List ℕ) (i : 
 round_more f g around i first now next number inside was is step =
     step ∙ ap (λ ys. ys ++ number ∷ []) was ∙ append_assoc first (map f (map g (take i around))) (number ∷ [])
     ∙ ap (λ ys. first ++ ys) (ap (λ n. map f (map g (take i around)) ++ n ∷ []) is
-      ∙ sym (ap (λ ys. map f (map g ys)) (take_more around i 0 inside) ∙ ap (map f) (map-append g (take i around) (slice_index around i ∷ [])) ∙ map-append f (map g (take i around)) (g (slice_index around i) ∷ [])))
+    ∙ sym (ap (λ ys. map f (map g ys)) (take_more around i 0 inside) ∙ ap (map f) (map-append g (take i around) (slice_index around i ∷ [])) ∙ map-append f (map g (take i around)) (g (slice_index around i) ∷ [])))
 
 -- the last part of a list, from where an older one ended
 pub last_part : (old new all : List ℕ) (b : ℕ) → all ≡ old ++ new → b ≡ length old → take (length all - b) (drop b all) ≡ new

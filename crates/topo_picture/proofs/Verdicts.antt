@@ -127,9 +127,9 @@ bare_points rows =
     ∙ ap (λ b. list_any (λ around. length around == 0) (map (around_vertex rows) (vertices rows)) || b) (no_bare_crossing rows rows.crossings)
     ∙ or_no (list_any (λ around. length around == 0) (map (around_vertex rows) (vertices rows)))
     ∙ bare_vertices rows 0 rows.rotations (λ i. let place : i ≡ 0 + i = omega arith in ap (rotation rows) place) where
-  or_no : (b : Bool) → (b || false) ≡ b
-  or_no true = refl
-  or_no false = refl
+      or_no : (b : Bool) → (b || false) ≡ b
+      or_no true = refl
+      or_no false = refl
 
 -- a bare vertex parts the system
 pub not_whole : (rows : Rows) → list_any (λ around. length around == 0) rows.rotations ≡ true → (IsTrue false ↔ Connected (system rows))
@@ -137,6 +137,7 @@ not_whole rows bare = (λ h. absurd (false≢true h), λ connected. sym (connect
 
 -- and else the numbers tell whether it is connected
 pub whole_told : (rows : Rows) (images : List ℕ) (t : Bool) → IsWellFormed rows → images ≡ turn_images rows → list_any (λ around. length around == 0) rows.rotations ≡ false → (IsTrue t ↔ IsConnected images) → (IsTrue t ↔ Connected (system rows))
-whole_told rows images t good is full tells =
-    (λ h. record { no_bare_point = bare_points rows ∙ full; joined = darts_connected rows good.paths good.crossings good.rotations (subst IsConnected is (tells.0 h)) },
-     λ connected. tells.1 (subst IsConnected (sym is) (numbers_connected rows good.paths good.crossings good.rotations connected.joined)))
+whole_told rows images t good is full tells = (
+  λ h. record { no_bare_point = bare_points rows ∙ full; joined = darts_connected rows good.paths good.crossings good.rotations (subst IsConnected is (tells.0 h)) },
+  λ connected. tells.1 (subst IsConnected (sym is) (numbers_connected rows good.paths good.crossings good.rotations connected.joined)),
+)

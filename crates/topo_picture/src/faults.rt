@@ -135,11 +135,7 @@ fn rise_and_differ(alloc: Global, rows: &Rows) -> Result<bool, AllocError>
 }
 
 /// Whether the paths have just the crossings that the crossings want.
-fn paths_agree(
-    alloc: Global,
-    edges: &[EdgeRow],
-    crossings: &[CrossRow],
-) -> Result<bool, AllocError>
+fn paths_agree(alloc: Global, edges: &[EdgeRow], crossings: &[CrossRow]) -> Result<bool, AllocError>
     ensures same { IfOk result (λ yes. IsTrue yes ↔ ((k : ℕ) → occurrences k (path_pairs edges.now) ≡ occurrences k (crossing_pairs crossings.now))) }
     ensures as_many { IfOk result (λ yes. IsTrue yes → length (path_pairs edges.now) ≡ length (crossing_pairs crossings.now)) }
 {
@@ -178,7 +174,9 @@ fn begins_with_least(around: &[u32]) -> bool
 fn begin_with_least(rotations: &[Listed<u32>]) -> bool
     ensures { result ≡ list_all begins_with_least rotations.now }
 {
-    rotations.iter().all(|around| begins_with_least(around.as_slice()))
+    rotations
+        .iter()
+        .all(|around| begins_with_least(around.as_slice()))
 }
 
 /// Whether the lists of the vertices have just the edges that have an end there.

@@ -139,7 +139,11 @@ fn link_round(images: &mut [u32], round: &[u32])
     ensures { images.new ≡ written images.old (links round.now) }
 {
     for i in 0..round.len() {
-        let next = if i + 1 < round.len() { round[i + 1] } else { round[0] };
+        let next = if i + 1 < round.len() {
+            round[i + 1]
+        } else {
+            round[0]
+        };
         images[round[i] as usize] = next;
     }
 }

@@ -44,7 +44,13 @@ const SEED: Table = Table {
 
 /// A triangle between two apexes.
 const BIPYRAMID: Table = Table {
-    rotations: &[&[0, 3, 2, 6], &[0, 7, 1, 4], &[1, 8, 2, 5], &[3, 4, 5], &[6, 8, 7]],
+    rotations: &[
+        &[0, 3, 2, 6],
+        &[0, 7, 1, 4],
+        &[1, 8, 2, 5],
+        &[3, 4, 5],
+        &[6, 8, 7],
+    ],
     edges: &[
         (0, 0, 1, 1, &[]),
         (1, 1, 2, 2, &[]),
@@ -63,7 +69,13 @@ const BIPYRAMID: Table = Table {
 
 /// The same after an edge from apex to apex across edge 1.
 const JOINED: Table = Table {
-    rotations: &[&[0, 3, 2, 6], &[0, 7, 1, 4], &[1, 8, 2, 5], &[3, 4, 9, 5], &[6, 8, 9, 7]],
+    rotations: &[
+        &[0, 3, 2, 6],
+        &[0, 7, 1, 4],
+        &[1, 8, 2, 5],
+        &[3, 4, 9, 5],
+        &[6, 8, 9, 7],
+    ],
     edges: &[
         (0, 0, 1, 1, &[]),
         (1, 1, 2, 2, &[0]),
@@ -139,13 +151,7 @@ fn listed(alloc: Global, items: &[u32]) -> Result<Listed<u32>, AllocError> {
 
 fn rotation_of(around: &'static [u32], at: usize, edit: Edit) -> &'static [u32] {
     match edit {
-        Edit::Rotation(place, list) => {
-            if place == at {
-                list
-            } else {
-                around
-            }
-        }
+        Edit::Rotation(place, list) => { if place == at { list } else { around } }
         _ => around,
     }
 }
@@ -158,7 +164,12 @@ fn rotations(alloc: Global, table: &Table, edit: Edit) -> Result<Listed<Listed<u
     Ok(Listed::from_vec(lists))
 }
 
-fn row_of(alloc: Global, row: (u32, u32, u32, u32, &'static [u32]), at: usize, edit: Edit) -> Result<EdgeRow, AllocError> {
+fn row_of(
+    alloc: Global,
+    row: (u32, u32, u32, u32, &'static [u32]),
+    at: usize,
+    edit: Edit,
+) -> Result<EdgeRow, AllocError> {
     let (mut id, mut a, mut b, mut kind, mut path) = row;
     match edit {
         Edit::Id(place, x) if place == at => id = x,
@@ -168,7 +179,13 @@ fn row_of(alloc: Global, row: (u32, u32, u32, u32, &'static [u32]), at: usize, e
         Edit::Path(place, list) if place == at => path = list,
         _ => {}
     }
-    Ok(EdgeRow { id, a, b, kind, crossings: listed(alloc, path)? })
+    Ok(EdgeRow {
+        id,
+        a,
+        b,
+        kind,
+        crossings: listed(alloc, path)?,
+    })
 }
 
 fn edges(alloc: Global, table: &Table, edit: Edit) -> Result<Listed<EdgeRow>, AllocError> {
@@ -186,8 +203,17 @@ fn crossings(alloc: Global, table: &Table, edit: Edit) -> Result<Listed<CrossRow
             Edit::Cross(place, changed) if place == at => changed,
             _ => *row,
         };
-        let sign = if right { Sign::LeftToRight } else { Sign::RightToLeft };
-        rows.push(CrossRow { id, crossed, newcomer, sign })?;
+        let sign = if right {
+            Sign::LeftToRight
+        } else {
+            Sign::RightToLeft
+        };
+        rows.push(CrossRow {
+            id,
+            crossed,
+            newcomer,
+            sign,
+        })?;
     }
     Ok(Listed::from_vec(rows))
 }
@@ -231,7 +257,10 @@ fn lawful_rows_are_given_back(rt: HostRuntime) -> Result<(), Fail> {
         let picture = loaded(rt.alloc(), &rows)?;
         let back = picture.rows(rt.alloc())?;
         let given = format!(in rt.alloc(); "{rows:?}")?;
-        assert_eq!(rt; format!(in rt.alloc(); "{back:?}")?.as_str(), given.as_str());
+        assert_eq!(rt;
+            format!(in rt.alloc(); "{back:?}")?.as_str(),
+            given.as_str()
+        );
     }
     Ok(())
 }
@@ -274,38 +303,98 @@ const BROKEN: &[(Table, Edit, LoadFault)] = &[
     // on a third path
     (JOINED, Edit::Path(0, &[0]), LoadFault::BadCrossing),
     // an edge that crosses itself
-    (JOINED, Edit::Cross(0, (0, 1, 1, false)), LoadFault::BadCrossing),
-    (JOINED, Edit::Cross(0, (0, 9, 9, false)), LoadFault::BadCrossing),
+    (
+        JOINED,
+        Edit::Cross(0, (0, 1, 1, false)),
+        LoadFault::BadCrossing,
+    ),
+    (
+        JOINED,
+        Edit::Cross(0, (0, 9, 9, false)),
+        LoadFault::BadCrossing,
+    ),
     // an edge that is not there
-    (JOINED, Edit::Cross(0, (0, 1, 10, false)), LoadFault::BadCrossing),
-    (JOINED, Edit::Cross(0, (0, 99, 9, false)), LoadFault::BadCrossing),
+    (
+        JOINED,
+        Edit::Cross(0, (0, 1, 10, false)),
+        LoadFault::BadCrossing,
+    ),
+    (
+        JOINED,
+        Edit::Cross(0, (0, 99, 9, false)),
+        LoadFault::BadCrossing,
+    ),
     // an edge that does not have it
-    (JOINED, Edit::Cross(0, (0, 1, 8, false)), LoadFault::BadCrossing),
+    (
+        JOINED,
+        Edit::Cross(0, (0, 1, 8, false)),
+        LoadFault::BadCrossing,
+    ),
     // crossing 0 is not below 0
     (JOINED, Edit::NextCrossing(0), LoadFault::BadCrossing),
     (CROSS, Edit::NextCrossing(0), LoadFault::BadCrossing),
     // a list that does not begin with its least id
-    (JOINED, Edit::Rotation(3, &[4, 9, 5, 3]), LoadFault::BadRotation),
-    (BIPYRAMID, Edit::Rotation(0, &[3, 2, 6, 0]), LoadFault::BadRotation),
+    (
+        JOINED,
+        Edit::Rotation(3, &[4, 9, 5, 3]),
+        LoadFault::BadRotation,
+    ),
+    (
+        BIPYRAMID,
+        Edit::Rotation(0, &[3, 2, 6, 0]),
+        LoadFault::BadRotation,
+    ),
     // an end that is missing
-    (JOINED, Edit::Rotation(3, &[3, 4, 5]), LoadFault::BadRotation),
+    (
+        JOINED,
+        Edit::Rotation(3, &[3, 4, 5]),
+        LoadFault::BadRotation,
+    ),
     (SEED, Edit::Rotation(1, &[]), LoadFault::BadRotation),
     (BARRIER, Edit::Rotation(5, &[]), LoadFault::BadRotation),
     // an end that stands twice
-    (BIPYRAMID, Edit::Rotation(3, &[3, 4, 5, 5]), LoadFault::BadRotation),
+    (
+        BIPYRAMID,
+        Edit::Rotation(3, &[3, 4, 5, 5]),
+        LoadFault::BadRotation,
+    ),
     (SEED, Edit::Rotation(0, &[0, 0]), LoadFault::BadRotation),
     // an edge that has no end there, and one that is not there at all
-    (BIPYRAMID, Edit::Rotation(3, &[0, 3, 4, 5]), LoadFault::BadRotation),
-    (BIPYRAMID, Edit::Rotation(3, &[3, 4, 5, 9]), LoadFault::BadRotation),
+    (
+        BIPYRAMID,
+        Edit::Rotation(3, &[0, 3, 4, 5]),
+        LoadFault::BadRotation,
+    ),
+    (
+        BIPYRAMID,
+        Edit::Rotation(3, &[3, 4, 5, 9]),
+        LoadFault::BadRotation,
+    ),
     // edge 0 ends at 2 now, whose list does not have it
     (BIPYRAMID, Edit::B(0, 2), LoadFault::BadRotation),
     // the other way across: 6 - 12 + 6 = 0
-    (JOINED, Edit::Cross(0, (0, 1, 9, true)), LoadFault::NotPlanar),
-    (JOINED, Edit::Cross(0, (0, 9, 1, false)), LoadFault::NotPlanar),
+    (
+        JOINED,
+        Edit::Cross(0, (0, 1, 9, true)),
+        LoadFault::NotPlanar,
+    ),
+    (
+        JOINED,
+        Edit::Cross(0, (0, 9, 1, false)),
+        LoadFault::NotPlanar,
+    ),
     // 9 in another corner of 3: 6 - 12 + 6 = 0
-    (JOINED, Edit::Rotation(3, &[3, 4, 5, 9]), LoadFault::NotPlanar),
+    (
+        JOINED,
+        Edit::Rotation(3, &[3, 4, 5, 9]),
+        LoadFault::NotPlanar,
+    ),
     // two edges change places round 3: 5 - 9 + 4 = 0
-    (BIPYRAMID, Edit::Rotation(3, &[3, 5, 4]), LoadFault::NotPlanar),
+    (
+        BIPYRAMID,
+        Edit::Rotation(3, &[3, 5, 4]),
+        LoadFault::NotPlanar,
+    ),
     // 0 - 0 + 0 is not 2, and there is nothing to join
     (NOTHING, Edit::None, LoadFault::NotPlanar),
     // two points without a dart; two parts

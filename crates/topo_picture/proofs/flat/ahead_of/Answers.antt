@@ -24,5 +24,5 @@ returns c =
     c.note_paths.ensures ∙ ap (λ xs. written c.deref_mut.result.now (notes_from xs 0 c.as_slice-2.result.now)) c.as_slice-crossings.ensures
     ∙ ap (λ xs. written c.deref_mut.result.now (notes_from c.args.rows.now.crossings 0 xs)) c.as_slice-2.ensures in
     let room : length c.deref_mut.result.now ≡ 2 * length c.args.rows.now.crossings =
-      (let a = c.deref_mut.ensures.len in let b = c.in_ok-ahead.ensures.len in let d = ap length c.as_slice-crossings.ensures in omega arith) in
+    (let a = c.deref_mut.ensures.len in let b = c.in_ok-ahead.ensures.len in let d = ap length c.as_slice-crossings.ensures in omega arith) in
     subst (AreAhead c.args.rows.now) (sym (kept ∙ noted)) (are_ahead c.args.rows.now c.requires.well_formed c.deref_mut.result.now room)

@@ -12,7 +12,7 @@ pub link_round-requires : goal.link_round-requires
 link_round-requires c = λ k below.
     subst (λ n. slice_index (take (length c.as_slice-2.result.now - length c.as_slice-begin.result.now) (drop (length c.as_slice-begin.result.now) c.as_slice-2.result.now)) k < n) (sym c.requires.room)
     (round_within c.args.rows.now c.requires.well_formed c.args.v c.requires.vertex _
-      (last_part c.args.corners.now.items (vertex_round c.args.rows.now c.args.v) c.as_slice-2.result.now (length c.as_slice-begin.result.now) (c.as_slice-2.ensures.value ∙ c.in_ok-push_round.ensures) (ap length c.as_slice-begin.ensures.value)) k below)
+    (last_part c.args.corners.now.items (vertex_round c.args.rows.now c.args.v) c.as_slice-2.result.now (length c.as_slice-begin.result.now) (c.as_slice-2.ensures.value ∙ c.in_ok-push_round.ensures) (ap length c.as_slice-begin.ensures.value)) k below)
 
 pub returns-clause-images : goal.returns-clause-images
 returns-clause-images c =

@@ -16,13 +16,13 @@ note_path-requires-clause-known c =
 pub loop-row-preserved : goal.loop-row-preserved
 loop-row-preserved c = record {
   counted =
-    let more = sum_by_more segment_count c.args.edges.now c.loop-row.row-index c.row-item.result c.loop-row-test.true in
-    let here : segment_count c.row-item.result ≡ segment_count (get_or c.args.edges.now c.loop-row.row-index c.row-item.result) = ap segment_count c.row-item.is in
-    let path : length c.as_slice-path.result.now ≡ length c.row-item.result.crossings = ap length c.as_slice-path.ensures in
-    omega arith;
+      let more = sum_by_more segment_count c.args.edges.now c.loop-row.row-index c.row-item.result c.loop-row-test.true in
+      let here : segment_count c.row-item.result ≡ segment_count (get_or c.args.edges.now c.loop-row.row-index c.row-item.result) = ap segment_count c.row-item.is in
+      let path : length c.as_slice-path.result.now ≡ length c.row-item.result.crossings = ap length c.as_slice-path.ensures in
+      omega arith;
   noted =
-    ap (λ xs. written xs (notes_from c.args.crossings.now (c.loop-row.begin + 2 * (length c.as_slice-path.result.now + 1)) (drop (c.loop-row.row-index + 1) c.args.edges.now))) c.note_path.ensures
-    ∙ ap (λ path. written (written c.loop-row.ahead (path_notes c.args.crossings.now c.row-item.result.id c.loop-row.begin path)) (notes_from c.args.crossings.now (c.loop-row.begin + 2 * (length path + 1)) (drop (c.loop-row.row-index + 1) c.args.edges.now))) c.as_slice-path.ensures
-    ∙ sym (paths_step c.args.crossings.now c.loop-row.begin c.loop-row.row-index c.args.edges.now c.row-item.result c.loop-row.ahead c.loop-row-test.true c.row-item.is)
-    ∙ c.loop-row.invariant.noted;
+      ap (λ xs. written xs (notes_from c.args.crossings.now (c.loop-row.begin + 2 * (length c.as_slice-path.result.now + 1)) (drop (c.loop-row.row-index + 1) c.args.edges.now))) c.note_path.ensures
+      ∙ ap (λ path. written (written c.loop-row.ahead (path_notes c.args.crossings.now c.row-item.result.id c.loop-row.begin path)) (notes_from c.args.crossings.now (c.loop-row.begin + 2 * (length path + 1)) (drop (c.loop-row.row-index + 1) c.args.edges.now))) c.as_slice-path.ensures
+      ∙ sym (paths_step c.args.crossings.now c.loop-row.begin c.loop-row.row-index c.args.edges.now c.row-item.result c.loop-row.ahead c.loop-row-test.true c.row-item.is)
+      ∙ c.loop-row.invariant.noted;
 }
