@@ -87,8 +87,7 @@ fn mark_face<D: Dual>(dual: &D, last: u32, marks: &mut [bool])
 /// The first corner with a mark.
 fn marked_corner<D: Dual>(dual: &D, v: u32, marks: &[bool]) -> Option<u32>
     requires { length marks.now ≡ length (darts (D.shows dual.now)) }
-    ensures {
-        MatchOption result ((p : ℕ) → (c : Dart) → corner (D.shows dual.now) v p ≡ Some c → slice_index_or marks.now (index_of (D.shows dual.now) c) false ≡ false)
+    ensures { MatchOption result ((p : ℕ) → (c : Dart) → corner (D.shows dual.now) v p ≡ Some c → slice_index_or marks.now (index_of (D.shows dual.now) c) false ≡ false)
         (IsMarked (D.shows dual.now) v marks.now) }
 {
     for position in 0..dual.degree(v) {
@@ -106,8 +105,7 @@ fn corner_by_marks<D: Dual>(dual: &D, v: u32, last: u32, marks: &mut [bool]) -> 
     requires within { last < length (darts (D.shows dual.now)) }
     requires as_many { length marks.old ≡ length (darts (D.shows dual.now)) }
     requires none { (k : ℕ) → slice_index_or marks.old k false ≡ false }
-    ensures {
-        MatchOption result ((p : ℕ) → (c : Dart) → corner (D.shows dual.now) v p ≡ Some c → SameFace (system (D.shows dual.now)) (dart_of (D.shows dual.now) last) c → ⊥)
+    ensures { MatchOption result ((p : ℕ) → (c : Dart) → corner (D.shows dual.now) v p ≡ Some c → SameFace (system (D.shows dual.now)) (dart_of (D.shows dual.now) last) c → ⊥)
         (IsEnd (D.shows dual.now) v last) }
 {
     mark_face(dual, last, marks);
@@ -115,7 +113,12 @@ fn corner_by_marks<D: Dual>(dual: &D, v: u32, last: u32, marks: &mut [bool]) -> 
 }
 
 /// The first corner in the face of `last`.
-pub(crate) fn end_corner<D: Dual>(alloc: Global, dual: &D, v: u32, last: u32) -> Result<Option<u32>, AllocError>
+pub(crate) fn end_corner<D: Dual>(
+    alloc: Global,
+    dual: &D,
+    v: u32,
+    last: u32,
+) -> Result<Option<u32>, AllocError>
     requires { last < length (darts (D.shows dual.now)) }
     ensures { IfOk result (λ found.
         MatchOption found ((p : ℕ) → (c : Dart) → corner (D.shows dual.now) v p ≡ Some c → SameFace (system (D.shows dual.now)) (dart_of (D.shows dual.now) last) c → ⊥)
