@@ -10,3 +10,4 @@ pub mod Buckets
 pub mod Reaching
 pub mod Segments
 pub mod Descending
+pub mod Marking

@@ -1,19 +1,20 @@
 //! The route down the heights.
 
-ghost use Rattle.std.specs.Prelude.{◌≡◌, ◌≢◌, ◌<◌, ◌≤◌, ◌↔◌, ℕ, IsTrue, MatchOption, IfOk, Some, length};
+ghost use Rattle.std.specs.Prelude.{◌≡◌, ◌≢◌, ◌<◌, ◌≤◌, ◌↔◌, ℕ, IsTrue, MatchOption, IfOk, Some, true, false, length, slice_index_or};
 ghost use Rattle.topo_core.specs.declared.darts.Dart.{Dart};
-ghost use Rattle.topo_core.specs.Picture.{corner, darts, system};
+ghost use Rattle.topo_core.specs.Cycles.{SameCycle};
+ghost use Rattle.topo_core.specs.Picture.{corner, darts, index_of, system};
 ghost use Rattle.topo_core.specs.RouteLaws.{IsTight};
 ghost use Rattle.topo_core.specs.Routes.{unreached};
 ghost use Rattle.topo_core.specs.Systems.{SameFace};
 ghost use Rattle.topo_price.specs.Prices.{prices_of};
-ghost use Rattle.topo_route.specs.Descents.{HasNoStart, IsDescent, IsEnd, IsFirstOf, IsFirstTight, IsStart};
-ghost use Rattle.topo_route.specs.Numbers.{dart_of};
+ghost use Rattle.topo_route.specs.Descents.{HasNoStart, IsDescent, IsEnd, IsFirstOf, IsFirstTight, IsMarked, IsStart};
+ghost use Rattle.topo_route.specs.Numbers.{dart_of, next_of};
 ghost use Rattle.topo_route.specs.Plans.{AreHeights, HasFirstStart, HasOneEach, IsLeastHeight, height_in};
 ghost use Rattle.topo_route.specs.Settling.{ArePrices};
 
 use crate::dual::Dual;
-use crate::faces::{across, corner_at, next_along, same_face};
+use crate::faces::{across, corner_at, next_along};
 use crate::graph::Graph;
 use std::alloc::{AllocError, Global};
 use topo_core::darts::Dart;
@@ -65,20 +66,66 @@ pub(crate) fn start_corner<D: Dual>(dual: &D, u: u32, heights: &[u64]) -> Option
     corner_of_height(dual, u, heights, least)
 }
 
-/// The first corner in the face of `last`.
-pub(crate) fn end_corner<D: Dual>(dual: &D, v: u32, last: u32) -> Option<u32>
-    requires { last < length (darts (D.shows dual.now)) }
-    ensures { MatchOption result ((p : ℕ) → (c : Dart) → corner (D.shows dual.now) v p ≡ Some c → SameFace (system (D.shows dual.now)) (dart_of (D.shows dual.now) last) c → ⊥)
-        (IsEnd (D.shows dual.now) v last) }
+/// Marks the darts of the face of `last`.
+fn mark_face<D: Dual>(dual: &D, last: u32, marks: &mut [bool])
+    requires within { last < length (darts (D.shows dual.now)) }
+    requires as_many { length marks.old ≡ length (darts (D.shows dual.now)) }
+    requires none { (k : ℕ) → slice_index_or marks.old k false ≡ false }
+    ensures sound { (k : ℕ) → slice_index_or marks.new k false ≡ true → SameCycle (next_of (D.shows dual.now)) last k }
+    ensures complete { (k : ℕ) → SameCycle (next_of (D.shows dual.now)) last k → slice_index_or marks.new k false ≡ true }
+{
+    let mut at = last;
+    for _steps in 0..dual.len() {
+        marks[at as usize] = true;
+        at = next_along(dual, at);
+        if at == last {
+            return;
+        }
+    }
+}
+
+/// The first corner with a mark.
+fn marked_corner<D: Dual>(dual: &D, v: u32, marks: &[bool]) -> Option<u32>
+    requires { length marks.now ≡ length (darts (D.shows dual.now)) }
+    ensures { MatchOption result ((p : ℕ) → (c : Dart) → corner (D.shows dual.now) v p ≡ Some c → slice_index_or marks.now (index_of (D.shows dual.now) c) false ≡ false)
+        (IsMarked (D.shows dual.now) v marks.now) }
 {
     for position in 0..dual.degree(v) {
         if let Some(corner) = corner_at(dual, v, position) {
-            if same_face(dual, last, corner) {
+            if marks[corner as usize] {
                 return Some(position);
             }
         }
     }
     None
+}
+
+/// The first corner in the face of `last`, by marks that are all unset.
+fn corner_by_marks<D: Dual>(dual: &D, v: u32, last: u32, marks: &mut [bool]) -> Option<u32>
+    requires within { last < length (darts (D.shows dual.now)) }
+    requires as_many { length marks.old ≡ length (darts (D.shows dual.now)) }
+    requires none { (k : ℕ) → slice_index_or marks.old k false ≡ false }
+    ensures { MatchOption result ((p : ℕ) → (c : Dart) → corner (D.shows dual.now) v p ≡ Some c → SameFace (system (D.shows dual.now)) (dart_of (D.shows dual.now) last) c → ⊥)
+        (IsEnd (D.shows dual.now) v last) }
+{
+    mark_face(dual, last, marks);
+    marked_corner(dual, v, marks)
+}
+
+/// The first corner in the face of `last`.
+pub(crate) fn end_corner<D: Dual>(
+    alloc: Global,
+    dual: &D,
+    v: u32,
+    last: u32,
+) -> Result<Option<u32>, AllocError>
+    requires { last < length (darts (D.shows dual.now)) }
+    ensures { IfOk result (λ found.
+        MatchOption found ((p : ℕ) → (c : Dart) → corner (D.shows dual.now) v p ≡ Some c → SameFace (system (D.shows dual.now)) (dart_of (D.shows dual.now) last) c → ⊥)
+        (IsEnd (D.shows dual.now) v last)) }
+{
+    let mut marks = vec![in alloc; false; dual.len() as usize]?;
+    Ok(corner_by_marks(dual, v, last, marks.as_mut_slice()))
 }
 
 /// Whether crossing the dart costs just what its height is above that of its twin.

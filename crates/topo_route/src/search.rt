@@ -36,7 +36,8 @@ fn plan_by_heights<D: Dual, F: Asks>(
         Some((start, from)) => {
             let price = heights[from as usize];
             let (crossed, last) = descend(alloc, graph, heights.as_slice(), v, from)?;
-            match end_corner(graph.dual, v, last) {
+            let corner = end_corner(alloc, graph.dual, v, last)?;
+            match corner {
                 Some(end) => {
                     let route = Route {
                         start,

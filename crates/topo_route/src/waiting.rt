@@ -85,8 +85,7 @@ impl Waiting {
 /// A bucket that is not empty, from this one on and round.
 fn full_bucket(heads: &[usize], first: usize) -> Option<usize>
     requires { first ≤ length heads.now }
-    ensures {
-        MatchOption result ((i : ℕ) → i < length heads.now → slice_index heads.now i ≡ 0)
+    ensures { MatchOption result ((i : ℕ) → i < length heads.now → slice_index heads.now i ≡ 0)
         (λ bucket. (bucket < length heads.now) × (0 < slice_index heads.now bucket)) }
 {
     match full_between(heads, first, heads.len()) {
@@ -98,8 +97,7 @@ fn full_bucket(heads: &[usize], first: usize) -> Option<usize>
 /// The first bucket of a range that is not empty.
 fn full_between(heads: &[usize], from: usize, to: usize) -> Option<usize>
     requires { to ≤ length heads.now }
-    ensures {
-        MatchOption result ((i : ℕ) → from ≤ i → i < to → slice_index heads.now i ≡ 0)
+    ensures { MatchOption result ((i : ℕ) → from ≤ i → i < to → slice_index heads.now i ≡ 0)
         (λ bucket. (bucket < length heads.now) × (0 < slice_index heads.now bucket)) }
 {
     for bucket in from..to {

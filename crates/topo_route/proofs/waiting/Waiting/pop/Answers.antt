@@ -1,8 +1,7 @@
-use Rattle.std.proofs.Common.{◌≡◌, ◌<◌, ◌+◌, ◌-◌, ◌∙◌, ◌∷◌, ◌==◌, ◌||◌, [], ℕ, suc, arith, ap, subst, sym, length, get_or}
+use Rattle.std.proofs.Common.{◌≡◌, ◌<◌, ◌-◌, ◌∙◌, arith, ap, sym, length}
 use Rattle.std.proofs.lemmas.List.{get_or_default}
 use Rattle.std.specs.Prelude.{slice_index, slice_index_or}
-use Rattle.topo_route.specs.Chains.{all_chained, chained, no_entry}
-use Rattle.topo_route.specs.Settling.{is_waiting}
+use Rattle.topo_route.specs.Chains.{no_entry}
 use Rattle.topo_route.proofs.Buckets.{all_empty, popped_length, popped_waits}
 use Rattle.topo_route.proofs.waiting.Waiting.pop.Goals as goal
 

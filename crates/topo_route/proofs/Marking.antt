@@ -1,0 +1,69 @@
+-- Marks along a cycle.
+use Rattle.std.proofs.Common.{◌≡◌, ℕ, suc, ◌+◌, ◌<◌, ◌≤◌, Bool, true, false, List, length, Some, inl, inr, sym, ap, subst, ◌∙◌, arith, get_or-set_same, get_or-set_other}
+use Rattle.std.specs.Prelude.{MatchOption, Option, None, slice_index_or}
+use Rattle.std.proofs.Math.ListN.{set}
+use Rattle.std.proofs.lemmas.Bool.{cases_eq, false≢true}
+use Rattle.topo_core.specs.declared.darts.Dart.{Dart}
+use Rattle.topo_core.specs.declared.rows.Rows.{Rows}
+use Rattle.topo_core.specs.Cycles.{IsPermutation, SameCycle, after}
+use Rattle.topo_core.specs.Lawful.{Lawful}
+use Rattle.topo_core.specs.Picture.{corner, darts, index_of, system}
+use Rattle.topo_core.specs.Systems.{SameFace}
+use Rattle.topo_route.specs.Descents.{IsEnd, IsMarked}
+use Rattle.topo_route.specs.Numbers.{dart_of, next_of}
+use Rattle.topo_route.proofs.Numbers.{corner_below, dart_of_number, face_of_numbers, number_below, numbers_of_face}
+use Rattle.topo_route.proofs.Orbits.{round_all, round_home}
+
+-- just darts of the cycle have marks, and the first ones do
+pub record MarksSoFar (f : ℕ → ℕ) (last i : ℕ) (marks : List Bool) : Type 0 where
+  pub sound : (k : ℕ) → slice_index_or marks k false ≡ true → SameCycle f last k
+  pub met : (j : ℕ) → j < i → slice_index_or marks (after f j last) false ≡ true
+
+module _ (f : ℕ → ℕ) (last i : ℕ) (marks : List Bool) (so_far : MarksSoFar f last i marks) where
+  pub marked_more : (at : ℕ) → at ≡ after f i last → at < length marks → MarksSoFar f last (i + 1) (set marks at true)
+  marked_more at place within = record {
+    sound = λ k marked. elim (cases_eq k at) [
+      | inl e ↦ record { steps = i; leads = sym place ∙ sym e }
+      | inr ne ↦ so_far.sound k (sym (get_or-set_other marks at k true false ne) ∙ marked)
+    ];
+    met = λ j l. elim (cases_eq (after f j last) at) [
+      | inl e ↦ ap (λ k. slice_index_or (set marks at true) k false) e ∙ get_or-set_same marks at true false within
+      | inr ne ↦ elim (cases_eq j i) [
+        | inl same ↦ absurd (ne (ap (λ k. after f k last) same ∙ sym place))
+        | inr other ↦ get_or-set_other marks at (after f j last) true false ne ∙ so_far.met j (omega arith)
+      ]
+    ];
+  }
+
+  pub marked_all : (n : ℕ) → IsPermutation f n → last < n → n ≤ i → (k : ℕ) → SameCycle f last k → slice_index_or marks k false ≡ true
+  marked_all n permutes within enough = round_all f (λ k. slice_index_or marks k false ≡ true) last n permutes within (λ j l. so_far.met j (omega arith))
+
+pub marked_home : (f : ℕ → ℕ) (last i : ℕ) (marks : List Bool) → MarksSoFar f last (i + 1) marks → f (after f i last) ≡ last → (k : ℕ) → SameCycle f last k → slice_index_or marks k false ≡ true
+marked_home f last i marks so_far home = round_home f (λ k. slice_index_or marks k false ≡ true) last (suc i) (omega arith) home (λ j l. so_far.met j (omega arith))
+
+-- the first marked corner lies in the face
+pub marked_end : (rows : Rows) → Lawful rows → (v last : ℕ) (marks : List Bool) (found : Option ℕ) → last < length (darts rows)
+    → ((k : ℕ) → slice_index_or marks k false ≡ true → SameCycle (next_of rows) last k) → ((k : ℕ) → SameCycle (next_of rows) last k → slice_index_or marks k false ≡ true)
+    → MatchOption found ((p : ℕ) (c : Dart) → corner rows v p ≡ Some c → slice_index_or marks (index_of rows c) false ≡ false) (IsMarked rows v marks)
+    → MatchOption found ((p : ℕ) (c : Dart) → corner rows v p ≡ Some c → SameFace (system rows) (dart_of rows last) c → ⊥) (IsEnd rows v last)
+marked_end rows lawful v last marks (Some position) within sound complete marked =
+    let c_in = corner_below rows lawful v position marked.to marked.there in
+    let l = number_below rows lawful marked.to c_in in
+    record {
+      to = marked.to;
+      there = marked.there;
+      face = subst (SameFace (system rows) (dart_of rows last)) (dart_of_number rows lawful marked.to c_in) (face_of_numbers rows lawful last (index_of rows marked.to) within l (sound (index_of rows marked.to) marked.marked));
+      first = λ p d less at same. false≢true (sym (marked.first p d less at) ∙ complete (index_of rows d) (numbers_of_face rows lawful last d within same));
+    }
+marked_end rows lawful v last marks None within sound complete none =
+    λ p d at same. false≢true (sym (none p d at) ∙ complete (index_of rows d) (numbers_of_face rows lawful last d within same))
+
+-- what a search for the end says of its answer
+abbrev EndsAt : Rows → ℕ → ℕ → Option ℕ → Type 0
+EndsAt rows v last found = MatchOption found ((p : ℕ) (c : Dart) → corner rows v p ≡ Some c → SameFace (system rows) (dart_of rows last) c → ⊥) (IsEnd rows v last)
+
+pub end_none : (rows : Rows) (v last : ℕ) (found : Option ℕ) → found ≡ None → EndsAt rows v last found → (p : ℕ) (c : Dart) → corner rows v p ≡ Some c → SameFace (system rows) (dart_of rows last) c → ⊥
+end_none rows v last found is ends = subst (EndsAt rows v last) is ends
+
+pub end_some : (rows : Rows) (v last : ℕ) (found : Option ℕ) (position : ℕ) → found ≡ Some position → EndsAt rows v last found → IsEnd rows v last position
+end_some rows v last found position is ends = subst (EndsAt rows v last) is ends
