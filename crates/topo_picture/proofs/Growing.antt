@@ -1,13 +1,12 @@
 -- What a growth that is not refused makes of a picture is a picture.
-use Rattle.std.proofs.Common.{◌≡◌, ℕ, ◌+◌, ◌<◌, ◌≤◌, nat_lt, Bool, true, false, cond, not, ◌&&◌, List, [], ◌∷◌, ◌++◌, length, Option, Some, None, ◌⊎◌, inl, inr, refl, sym, ap, arith, rules, length-append, length-set, subst, Result, Ok, Err, OnOk, OnErr}
+use Rattle.std.proofs.Common.{◌≡◌, ℕ, ◌<◌, nat_lt, Bool, true, false, cond, not, ◌&&◌, length, Some, None, refl, sym, arith, length-append, length-set, subst, Result, Ok, Err, OnOk, OnErr}
 use Rattle.std.proofs.lemmas.Bool.{ltb-true}
 use Rattle.topo_core.specs.declared.rows.Rows.{Rows}
 use Rattle.topo_core.specs.declared.limits.Limits.{Limits}
-use Rattle.topo_core.specs.declared.calls.Refusal.{Refusal}
 use Rattle.topo_core.specs.declared.calls.Refusal.TheVariants.{NoVertex, NoPosition, BadKind, Full}
 use Rattle.topo_core.specs.Picture.{rotation}
 use Rattle.topo_core.specs.Pictures.{seed}
-use Rattle.topo_core.specs.Changes.{grown, with_end}
+use Rattle.topo_core.specs.Changes.{grown}
 use Rattle.topo_core.specs.Steps.{grow_refusal, has_vertex}
 use Rattle.topo_picture.specs.Shown.{IsPicture}
 use Rattle.topo_core.proofs.Connection.{seed_is_embedding}

@@ -1,4 +1,4 @@
-use Rattle.std.proofs.Common.{◌≡◌, ◌∷◌, ◌++◌, [], List, ℕ, ap, ◌∙◌, set, get_or, length, ◌<◌, rules}
+use Rattle.std.proofs.Common.{◌≡◌, ◌∷◌, ◌++◌, [], List, ℕ, ap, ◌∙◌, get_or, rules}
 use Rattle.std.proofs.lemmas.List.{set-append_left, get_or_append_left, get_or_default}
 use Rattle.topo_core.specs.Changes.{put_in}
 use Rattle.topo_picture.proofs.growth.grow_rotations.Goals as goal
