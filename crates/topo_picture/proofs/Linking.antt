@@ -1,15 +1,12 @@
 -- The links round all points, written into a list, are the images of the turn.
-use Rattle.std.proofs.Common.{◌≡◌, ◌+◌, ◌<◌, ◌||◌, ap, arith, Bool, cond, eqb, false, inl, inr, length, List, refl, Some, subst, suc, sym, true, zero, ℕ, [], ◌++◌, ◌∙◌, ◌∷◌}
-use Rattle.std.specs.Prelude.{count_by, flat_map, map, slice_get, slice_index, slice_index_or, sum_by, ◌==◌}
-use Rattle.std.proofs.lemmas.Bool.Decides.{nat_tests}
+use Rattle.std.proofs.Common.{◌≡◌, ◌<◌, ◌||◌, ap, arith, Bool, cond, false, inl, inr, length, List, refl, subst, sym, true, ℕ, [], ◌++◌, ◌∙◌, ◌∷◌}
+use Rattle.std.specs.Prelude.{flat_map, map, slice_index, slice_index_or, sum_by, ◌==◌}
 use Rattle.std.proofs.lemmas.Bool.{cases_Bool, eq-eqb, eqb-true, false≢true}
 use Rattle.std.proofs.lemmas.List.{ext_get_or}
 use Rattle.std.proofs.lemmas.List.Sums.{sum_by-cons}
 use Rattle.std.proofs.lemmas.List.Concat.{flat_map-append}
 use Rattle.topo_core.specs.declared.darts.Dart.{Dart}
 use Rattle.topo_core.specs.declared.rows.Rows.{Rows}
-use Rattle.topo_core.specs.declared.rows.CrossRow.{CrossRow}
-use Rattle.topo_core.specs.Cycles.{map_of}
 use Rattle.topo_core.specs.Darts.{same_dart}
 use Rattle.topo_core.specs.Items.{IsIn, occurrences}
 use Rattle.topo_core.specs.Lawful.{IsWellFormed}
@@ -18,8 +15,8 @@ use Rattle.topo_core.specs.Systems.{darts_in, follower, has_dart, System, turn}
 use Rattle.topo_core.proofs.Counting.{one, sum_joined, sum_same, sum_of_map}
 use Rattle.topo_core.proofs.DartLaws.{same_dart_self, same_dart_true}
 use Rattle.topo_core.proofs.Members.{in_left, in_right, or_second}
-use Rattle.topo_core.proofs.Numbering.{get_index, has_at, image_of, images_length, index_apart, index_less, index_of_get}
-use Rattle.topo_core.proofs.Standing.{is_of_rows, listed_test, stands_once, system_test}
+use Rattle.topo_core.proofs.Numbering.{has_at, image_of, images_length, index_apart, index_of_get}
+use Rattle.topo_core.proofs.Standing.{listed_test, stands_once, system_test}
 use Rattle.topo_core.proofs.SystemDarts.{get_there}
 use Rattle.topo_picture.specs.Flats.{crossing_round, links, links_to, vertex_round, written}
 use Rattle.topo_picture.proofs.Written.{length_written, times, times_joined, written_append, written_once}

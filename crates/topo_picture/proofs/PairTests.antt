@@ -1,7 +1,7 @@
 -- The pairs as they stand are those that should stand just when the tests of the rows hold.
-use Rattle.std.proofs.Common.{◌≡◌, ◌⊎◌, ◌&&◌, ◌||◌, ◌+◌, ◌*◌, ◌/◌, ◌%◌, ◌<◌, ◌≤◌, ap, arith, Bool, cond, eqb, false, inl, inr, length, List, None, not, refl, Some, subst, suc, sym, true, zero, ℕ, [], ◌++◌, ◌∙◌, ◌∷◌}
+use Rattle.std.proofs.Common.{◌≡◌, ◌⊎◌, ◌&&◌, ◌||◌, ◌+◌, ◌*◌, ◌/◌, ◌%◌, ◌<◌, ◌≤◌, ap, arith, Bool, cond, eqb, false, inl, inr, length, List, None, not, refl, Some, subst, suc, sym, true, zero, ℕ, [], ◌∙◌, ◌∷◌}
 use Rattle.std.specs.Bool.{IsTrue}
-use Rattle.std.specs.Prelude.{find, if◌then◌else◌, is_some, map, nat_le, nat_lt, Option, option_map, slice_index_or, unwrap_or, ◌==◌, ◌↔◌}
+use Rattle.std.specs.Prelude.{find, if◌then◌else◌, is_some, map, nat_lt, Option, option_map, slice_index_or, unwrap_or, ◌==◌, ◌↔◌}
 use Rattle.std.specs.List.{list_all, list_any}
 use Rattle.std.specs.List.Sorted.{IsPermutation}
 use Rattle.std.proofs.lemmas.Bool.Decides.{nat_tests}
@@ -13,9 +13,9 @@ use Rattle.topo_core.specs.declared.rows.Rows.{Rows}
 use Rattle.topo_core.specs.Items.{IsIn, occurrences, rises_below}
 use Rattle.topo_core.specs.Lawful.{has_good_crossings, has_good_path, has_good_paths, has_good_rotation, has_good_rotations, is_good_crossing}
 use Rattle.topo_core.specs.Picture.{cross_row, edge_row, rotation, vertices}
-use Rattle.topo_core.proofs.Counting.{eqb_symm, ids_above, lt_of_test, one}
+use Rattle.topo_core.proofs.Counting.{eqb_symm, ids_above, one}
 use Rattle.topo_core.proofs.Members.{found, in_map, in_range, left_true, range_below, right_true, test_of_each}
-use Rattle.topo_core.proofs.Standing.{GoodCrossing, good_crossing, GoodRotation, good_rotation}
+use Rattle.topo_core.proofs.Standing.{good_crossing, GoodRotation, good_rotation}
 use Rattle.topo_core.proofs.SystemDarts.{crossing_there, path_facts, row_id, row_in, some_of}
 use Rattle.topo_picture.specs.Pairs.{begins_with_least, crossing_pairs, end_pairs, is_path_over, pair, path_pairs, rotation_pairs}
 use Rattle.topo_picture.proofs.PairCounts.{crossing_count, end_count, path_count, rotation_count}

@@ -1,5 +1,5 @@
 -- The numbers of the darts at crossings and vertices, as the code finds them.
-use Rattle.std.proofs.Common.{append-nil, append_assoc, length-append, drop, take, ◌≡◌, ◌&&◌, ◌||◌, ◌+◌, ◌-◌, ◌*◌, ◌<◌, ◌≤◌, ap, arith, Bool, cond, eqb, false, get_or, inl, inr, length, List, None, not, refl, Some, subst, suc, sym, true, zero, ℕ, [], ◌++◌, ◌∙◌, ◌∷◌}
+use Rattle.std.proofs.Common.{append-nil, append_assoc, length-append, drop, take, ◌≡◌, ◌&&◌, ◌||◌, ◌+◌, ◌-◌, ◌*◌, ◌<◌, ◌≤◌, ap, arith, Bool, cond, eqb, false, get_or, inl, inr, length, List, not, refl, Some, subst, suc, sym, true, zero, ℕ, [], ◌++◌, ◌∙◌, ◌∷◌}
 use Rattle.std.specs.Prelude.{count_by, find, is_some, map, Option, flat_map, option_map, slice_get, slice_index, sum_by, unwrap_or, ◌==◌}
 use Rattle.std.specs.List.{list_all, list_any, position_or_len, range_with_len}
 use Rattle.std.specs.List.Sorted.{IsStrictlyIncreasing}
@@ -18,12 +18,12 @@ use Rattle.topo_core.specs.declared.rows.EdgeRow.{EdgeRow}
 use Rattle.topo_core.specs.declared.rows.Rows.{Rows}
 use Rattle.topo_core.specs.Items.{IsIn, occurrences, rises_below}
 use Rattle.topo_core.specs.Lawful.{has_good_path, is_good_crossing, IsWellFormed}
-use Rattle.topo_core.specs.Picture.{ahead, around_crossing, around_vertex, behind, clockwise, cross_row, darts, edge_row, index_of, place_on, rotation, segment_count, system, vertices}
+use Rattle.topo_core.specs.Picture.{ahead, around_crossing, around_vertex, behind, clockwise, cross_row, darts, edge_row, index_of, place_on, rotation, system, vertices}
 use Rattle.topo_core.specs.Systems.{darts_in}
-use Rattle.topo_core.proofs.Counting.{one, sum_found, sum_if, sum_same, weigh_no, weigh_yes}
+use Rattle.topo_core.proofs.Counting.{one, sum_found, sum_if, sum_same}
 use Rattle.topo_core.proofs.Members.{found, in_joined, in_map, in_range, in_right, left_true}
 use Rattle.topo_core.proofs.Numbering.{place_less}
-use Rattle.topo_core.proofs.Standing.{GoodCrossing, good_crossing, good_rotation, system_test}
+use Rattle.topo_core.proofs.Standing.{good_crossing, good_rotation, system_test}
 use Rattle.topo_core.proofs.SystemDarts.{at_vertex_in, crossing_there, edge_at_row, row_id, row_in, some_of}
 use Rattle.topo_picture.specs.Flats.{AreAhead, begins_from, crossing_place, crossing_round, links, note_place, notes_from, round_ahead, vertex_round, written}
 use Rattle.topo_picture.proofs.Begins.{found_at, number_back, number_forward}

@@ -1,10 +1,10 @@
 -- What the last tests of rows rest on: few darts, and Euler's formula on their numbers.
-use Rattle.std.proofs.Common.{◌≡◌, ◌&&◌, ◌||◌, ◌+◌, ◌*◌, ◌/◌, ◌%◌, ◌<◌, ◌≤◌, ap, arith, Bool, eqb, false, inl, inr, length, List, refl, subst, suc, sym, true, ℕ, [], ◌++◌, ◌∙◌, ◌∷◌}
+use Rattle.std.proofs.Common.{◌≡◌, ◌&&◌, ◌||◌, ◌+◌, ◌*◌, ◌/◌, ◌<◌, ◌≤◌, ap, arith, Bool, eqb, false, length, List, refl, subst, suc, sym, true, ℕ, [], ◌∙◌, ◌∷◌}
 use Rattle.std.specs.Bool.{IsTrue}
 use Rattle.std.specs.Prelude.{flat_map, map, nat_le, slice_index_or, sum_by, ◌==◌, ◌↔◌}
 use Rattle.std.specs.List.{list_all, list_any, range_with_len}
 use Rattle.std.proofs.lemmas.Bool.Decides.{nat_tests}
-use Rattle.std.proofs.lemmas.Bool.{eq-eqb, eqb-true, false≢true, cases_Bool}
+use Rattle.std.proofs.lemmas.Bool.{eq-eqb, eqb-true, false≢true}
 use Rattle.std.proofs.lemmas.List.{length-append, length-map}
 use Rattle.std.proofs.lemmas.List.Folds.{list_any-append}
 use Rattle.std.proofs.lemmas.List.Sums.{sum_by-cons}
@@ -15,13 +15,12 @@ use Rattle.topo_core.specs.declared.limits.Limits.{Limits}
 use Rattle.topo_core.specs.declared.rows.CrossRow.{CrossRow}
 use Rattle.topo_core.specs.declared.rows.EdgeRow.{EdgeRow}
 use Rattle.topo_core.specs.declared.rows.Rows.{Rows}
-use Rattle.topo_core.specs.Cycles.{cycle_count, is_first, is_met, map_of}
-use Rattle.topo_core.specs.Items.{IsIn}
+use Rattle.topo_core.specs.Cycles.{is_first, is_met, map_of}
 use Rattle.topo_core.specs.Lawful.{has_good_crossings, has_good_path, has_good_paths, HasGenusZero, is_good_crossing, IsWellFormed}
-use Rattle.topo_core.specs.Picture.{around_crossing, around_vertex, clockwise, darts, darts_of, end_dart, rotation, segment_count, system, turn_images, vertices}
+use Rattle.topo_core.specs.Picture.{around_crossing, around_vertex, clockwise, darts_of, end_dart, rotation, segment_count, system, turn_images, vertices}
 use Rattle.topo_core.specs.Rotations.{face_next, faces_of, IsConnected}
 use Rattle.topo_core.specs.Systems.{Connected}
-use Rattle.topo_core.proofs.Members.{left_true, range_below}
+use Rattle.topo_core.proofs.Members.{left_true}
 use Rattle.topo_core.proofs.Numbering.{images_length}
 use Rattle.topo_core.proofs.Renumbering.{darts_connected, numbers_connected}
 use Rattle.topo_perm.proofs.Lists.{count_below-le}

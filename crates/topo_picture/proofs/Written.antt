@@ -1,6 +1,6 @@
 -- Numbers written one after another: what stands at a place that is written once.
-use Rattle.std.proofs.Common.{◌≡◌, ◌≢◌, ◌+◌, ◌<◌, ap, arith, Bool, cond, eqb, false, inl, inr, length, List, refl, suc, sym, true, zero, ℕ, [], ◌++◌, ◌∙◌, ◌∷◌, set, get_or}
-use Rattle.std.specs.Prelude.{count_by, flat_map, map, slice_index, sum_by, ◌==◌}
+use Rattle.std.proofs.Common.{◌≡◌, ◌≢◌, ◌<◌, ap, arith, eqb, false, inl, inr, length, List, refl, sym, true, ℕ, [], ◌++◌, ◌∙◌, ◌∷◌, set}
+use Rattle.std.specs.Prelude.{count_by, flat_map, slice_index, sum_by, ◌==◌}
 use Rattle.std.proofs.lemmas.Bool.Decides.{nat_tests}
 use Rattle.std.proofs.lemmas.Bool.{cases_Bool, eqb-true}
 use Rattle.std.proofs.lemmas.List.{length-set, get_or-set_same, get_or-set_other}

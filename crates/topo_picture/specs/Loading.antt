@@ -1,5 +1,5 @@
 -- What `load` answers.
-use Rattle.std.specs.Prelude.{◌≡◌, ◌≤◌, Bool, true, false, ◌&&◌, nat_le, length}
+use Rattle.std.specs.Prelude.{◌≡◌, Bool, true, false, ◌&&◌, nat_le, length}
 use Rattle.topo_core.specs.declared.rows.Rows.{Rows}
 use Rattle.topo_core.specs.declared.limits.Limits.{Limits}
 use Rattle.topo_core.specs.Lawful.{has_good_paths, has_good_crossings, has_good_rotations, IsWellFormed, IsEmbedding, HasGenusZero}

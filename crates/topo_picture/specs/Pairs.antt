@@ -1,5 +1,5 @@
 -- Which edges meet which crossings and vertices, as pairs: once as the lists have them, and once as they should.
-use Rattle.std.specs.Prelude.{ℕ, ◌+◌, ◌*◌, ◌==◌, ◌≢◌, Bool, not, List, [], ◌∷◌, ◌++◌, map, flat_map, ◌&&◌, nat_lt, nat_le, slice_index_or, length}
+use Rattle.std.specs.Prelude.{ℕ, ◌+◌, ◌*◌, ◌==◌, Bool, not, List, [], ◌∷◌, ◌++◌, map, flat_map, ◌&&◌, nat_lt, nat_le, slice_index_or}
 use Rattle.std.specs.List.{list_all, list_any}
 use Rattle.topo_core.specs.declared.rows.EdgeRow.{EdgeRow}
 use Rattle.topo_core.specs.declared.rows.CrossRow.{CrossRow}

@@ -1,4 +1,4 @@
-use Rattle.std.proofs.Common.{◌≡◌, ap, sym, true, ◌∙◌}
+use Rattle.std.proofs.Common.{ap, sym, ◌∙◌}
 use Rattle.std.specs.List.{list_all}
 use Rattle.topo_picture.specs.Pairs.{begins_with_least, end_pairs, rotation_pairs}
 use Rattle.topo_picture.proofs.PairTests.{rotations_decided, rotations_refused}

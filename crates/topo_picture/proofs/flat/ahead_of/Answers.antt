@@ -1,4 +1,4 @@
-use Rattle.std.proofs.Common.{◌≡◌, ◌*◌, ap, arith, length, List, map, rules, subst, sym, take, drop, ◌++◌, ◌∙◌}
+use Rattle.std.proofs.Common.{◌≡◌, ◌*◌, ap, arith, length, List, map, subst, sym, take, drop, ◌++◌, ◌∙◌}
 use Rattle.std.specs.Prelude.{◌==◌}
 use Rattle.std.specs.List.{list_all, list_any}
 use Rattle.topo_core.specs.declared.rows.CrossRow.{CrossRow}

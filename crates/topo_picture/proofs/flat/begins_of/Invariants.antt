@@ -1,4 +1,4 @@
-use Rattle.std.proofs.Common.{◌≡◌, ◌+◌, ◌*◌, ◌++◌, drop, take, sum_by}
+use Rattle.std.proofs.Common.{◌≡◌, ◌*◌, ◌++◌, drop, take, sum_by}
 use Rattle.topo_core.specs.Picture.{segment_count}
 use Rattle.topo_picture.specs.Flats.{begins_from}
 use Rattle.topo_picture.proofs.flat.begins_of.Given as goal

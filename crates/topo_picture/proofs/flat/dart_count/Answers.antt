@@ -1,4 +1,4 @@
-use Rattle.std.proofs.Common.{◌≡◌, ap, arith, length, ◌∙◌}
+use Rattle.std.proofs.Common.{ap, arith, length, ◌∙◌}
 use Rattle.std.specs.Prelude.{slice_index}
 use Rattle.topo_picture.specs.Flats.{begins_from}
 use Rattle.topo_picture.proofs.Begins.{begins_last, begins_length}

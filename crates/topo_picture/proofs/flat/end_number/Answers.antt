@@ -1,12 +1,9 @@
-use Rattle.std.proofs.Common.{◌≡◌, ◌+◌, ap, arith, eqb, false, length, sym, true, ℕ, List, ◌∙◌}
-use Rattle.std.specs.Prelude.{map, slice_index}
-use Rattle.std.specs.List.Sorted.{IsStrictlyIncreasing}
+use Rattle.std.proofs.Common.{◌≡◌, ◌+◌, ap, arith, eqb, false, length, ℕ, ◌∙◌}
+use Rattle.std.specs.Prelude.{slice_index}
 use Rattle.std.proofs.lemmas.Bool.{eq-eqb}
 use Rattle.std.proofs.lemmas.Bool.Decides.{nat_tests}
 use Rattle.std.proofs.lemmas.List.{length-map}
 use Rattle.topo_core.specs.declared.rows.EdgeRow.{EdgeRow}
-use Rattle.topo_core.specs.Picture.{end_dart, index_of}
-use Rattle.topo_picture.specs.Flats.{begins_from}
 use Rattle.topo_picture.proofs.Begins.{at_place, begins_length, edge_ids_climb, first_number, id_there, last_number}
 use Rattle.topo_picture.proofs.flat.end_number.Goals as goal
 

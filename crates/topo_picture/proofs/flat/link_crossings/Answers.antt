@@ -1,4 +1,4 @@
-use Rattle.std.proofs.Common.{◌≡◌, ◌+◌, ◌*◌, ◌∙◌, arith, get_or, sym}
+use Rattle.std.proofs.Common.{◌+◌, ◌*◌, arith, get_or, sym}
 use Rattle.std.specs.Prelude.{slice_index}
 use Rattle.std.proofs.lemmas.List.{get_or_default}
 use Rattle.topo_core.specs.declared.darts.Sign.TheVariants.{LeftToRight}

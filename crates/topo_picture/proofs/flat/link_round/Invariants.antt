@@ -1,4 +1,4 @@
-use Rattle.std.proofs.Common.{◌≡◌, drop, length}
+use Rattle.std.proofs.Common.{◌≡◌, drop}
 use Rattle.std.specs.Prelude.{slice_index_or}
 use Rattle.topo_picture.specs.Flats.{links, links_to, written}
 use Rattle.topo_picture.proofs.flat.link_round.Given as goal

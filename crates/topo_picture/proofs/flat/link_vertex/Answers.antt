@@ -1,4 +1,4 @@
-use Rattle.std.proofs.Common.{◌≡◌, ◌-◌, ◌<◌, ap, drop, length, subst, sym, take, ◌∙◌, ℕ, List}
+use Rattle.std.proofs.Common.{◌-◌, ◌<◌, ap, drop, length, subst, sym, take, ◌∙◌}
 use Rattle.std.specs.Prelude.{slice_index}
 use Rattle.topo_picture.specs.Flats.{links, vertex_round, written}
 use Rattle.topo_picture.proofs.Rounds.{last_part, rotation_read, round_within}

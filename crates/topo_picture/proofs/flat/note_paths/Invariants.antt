@@ -1,4 +1,4 @@
-use Rattle.std.proofs.Common.{◌≡◌, ◌+◌, ◌*◌, drop, take, length, sum_by}
+use Rattle.std.proofs.Common.{◌≡◌, ◌*◌, drop, take, sum_by}
 use Rattle.topo_core.specs.Picture.{segment_count}
 use Rattle.topo_picture.specs.Flats.{notes_from, written}
 use Rattle.topo_picture.proofs.flat.note_paths.Given as goal

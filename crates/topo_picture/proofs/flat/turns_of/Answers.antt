@@ -1,4 +1,4 @@
-use Rattle.std.proofs.Common.{arith, length}
+use Rattle.std.proofs.Common.{arith}
 use Rattle.topo_picture.proofs.flat.turns_of.Goals as goal
 
 pub write_turns-requires-clause-room : goal.write_turns-requires-clause-room

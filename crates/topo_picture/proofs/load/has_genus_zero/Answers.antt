@@ -1,7 +1,5 @@
-use Rattle.std.proofs.Common.{◌≡◌, ◌%◌, ◌≤◌, ap, arith, length, subst, sym, ◌∙◌, ℕ, List}
+use Rattle.std.proofs.Common.{◌%◌, ap, arith, length, subst, sym, ◌∙◌, ℕ, List}
 use Rattle.topo_core.specs.Cycles.{IsPermutationList}
-use Rattle.topo_core.specs.Picture.{turn_images}
-use Rattle.topo_core.specs.Rotations.{faces_of}
 use Rattle.topo_core.proofs.Numbering.{even_images, turn_permutes}
 use Rattle.topo_picture.proofs.Verdicts.{faces_at_most, genus_told, images_total}
 use Rattle.topo_picture.proofs.load.has_genus_zero.Goals as goal

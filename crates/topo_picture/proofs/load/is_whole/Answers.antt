@@ -1,4 +1,4 @@
-use Rattle.std.proofs.Common.{◌≡◌, ◌%◌, ap, length, List, subst, sym, ◌∙◌, ℕ}
+use Rattle.std.proofs.Common.{◌%◌, ap, length, List, subst, sym, ◌∙◌, ℕ}
 use Rattle.std.specs.Prelude.{◌==◌}
 use Rattle.std.specs.List.{list_any}
 use Rattle.topo_core.specs.Cycles.{IsPermutationList}
