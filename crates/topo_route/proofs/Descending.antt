@@ -24,7 +24,7 @@ use Rattle.topo_route.specs.Numbers.{HasTightBefore, dart_of, next_of}
 use Rattle.topo_route.specs.Plans.{AreHeights, IsPlan, height_in}
 use Rattle.topo_route.proofs.Numbers.{corner_below, dart_in, dart_of_number, face_of_numbers, face_stays, next_permutes, number_below, number_of, numbers_of_face, twin_below, twin_dart}
 use Rattle.topo_route.proofs.Walking.{first_holds, none_before}
-use Rattle.topo_route.proofs.Orbits.{round_all}
+use Rattle.topo_route.proofs.Rounds.{round_all}
 
 module _ (price : Pricing) (rows : Rows) (lawful : Lawful rows) (v : ℕ) (heights : List ℕ) (are : AreHeights price rows v heights) where
   abbrev height : Dart → ℕ

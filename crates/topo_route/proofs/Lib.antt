@@ -1,5 +1,5 @@
 pub mod Numbers
-pub mod Orbits
+pub mod Rounds
 pub mod Order
 pub mod Prices
 pub mod Tests

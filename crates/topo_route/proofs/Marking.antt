@@ -12,7 +12,7 @@ use Rattle.topo_core.specs.Systems.{SameFace}
 use Rattle.topo_route.specs.Descents.{IsEnd, IsMarked}
 use Rattle.topo_route.specs.Numbers.{dart_of, next_of}
 use Rattle.topo_route.proofs.Numbers.{corner_below, dart_of_number, face_of_numbers, number_below, numbers_of_face}
-use Rattle.topo_route.proofs.Orbits.{round_all, round_home}
+use Rattle.topo_route.proofs.Rounds.{round_all, round_home}
 
 -- just darts of the cycle have marks, and the first ones do
 pub record MarksSoFar (f : ℕ → ℕ) (last i : ℕ) (marks : List Bool) : Type 0 where

@@ -19,7 +19,7 @@ use Rattle.topo_route.specs.Numbers.{dart_of, next_of}
 use Rattle.topo_route.specs.Plans.{AreHeights, MeetsTarget, height_in}
 use Rattle.topo_route.specs.Settling.{AreCosts, IsSettled, reached}
 use Rattle.topo_route.proofs.Numbers.{dart_of_number, face_of_numbers, face_stays, next_below, next_permutes, number_below, twin_below, twin_dart, twin_twin}
-use Rattle.topo_route.proofs.Orbits.{SameCycle-sym, after-within}
+use Rattle.topo_core.proofs.Orbits.{SameCycle-sym, after-within}
 use Rattle.topo_route.proofs.Settled.{counts}
 use Rattle.topo_route.proofs.Tests.{even_darts, gentle_darts}
 

@@ -19,7 +19,7 @@ use Rattle.topo_core.proofs.DartOrder.{dart_cmp_self}
 use Rattle.topo_route.specs.Numbers.{CannotCross, Crossing, HasTightBefore, Payment, Walks, dart_of, next_of}
 use Rattle.topo_route.specs.Plans.{height_in}
 use Rattle.topo_route.proofs.Numbers.{dart_in, dart_of_number, face_of_numbers, face_stays, number_below, number_of, numbers_of_face, twin_dart}
-use Rattle.topo_route.proofs.Orbits.{round_home}
+use Rattle.topo_route.proofs.Rounds.{round_home}
 use Rattle.topo_route.proofs.Order.{number_order}
 use Rattle.topo_route.proofs.Tests.{height_at, height_twin}
 

@@ -1,7 +1,7 @@
 -- Reading what is found in a value.
 use Rattle.std.proofs.Common.{◌≡◌, ℕ, List, Option, Some, None, Ok, Err, refl, ap, sym, ◌∙◌, subst, ◌<◌, nat_lt, Bool, true, false, if◌then◌else◌}
 use borrow.Author.Tests.{ltb-true}
-use Rattle.serde_json.specs.Data.{Num, unsigned, negative, float, Data, null, boolean, number, string, array, object, Items}
+use Rattle.serde_json.specs.Data.{unsigned, negative, float, Data, null, boolean, number, string, array, object, Items}
 use Rattle.serde_json.specs.Find.{get, at, as_array}
 use Rattle.topo_script.specs.declared.path.Key.{Key}
 use Rattle.topo_script.specs.declared.path.Path.{Path}

@@ -1,9 +1,9 @@
 -- The value of a report is read as that report.
-use Rattle.std.proofs.Common.{◌≡◌, ℕ, suc, ◌+◌, ◌^◌, ◌<◌, ◌≤◌, nat_lt, nat_le, Bool, true, false, List, [], ◌∷◌, map, length, codes, Option, Some, None, Ok, refl, sym, ap, ◌∙◌, arith, IsUtf8, lt-ltb, le-leb, lit<, if◌then◌else◌}
+use Rattle.std.proofs.Common.{◌≡◌, ℕ, suc, ◌^◌, ◌<◌, ◌≤◌, nat_le, Bool, true, false, List, [], ◌∷◌, map, length, Option, Some, None, Ok, refl, ap, ◌∙◌, lt-ltb, le-leb, lit<, if◌then◌else◌}
 use Rattle.std.specs.List.{AllByRecursion}
-use Rattle.serde_json.specs.Data.{Data, Items, no_items, item, Members, no_members, member, array, object}
+use Rattle.serde_json.specs.Data.{Data}
 use Rattle.serde_json.specs.Events.{items_len}
-use Rattle.serde_json.specs.Find.{get, at}
+use Rattle.serde_json.specs.Find.{at}
 use Rattle.serde_json.specs.View.{items_of}
 use Rattle.topo_core.specs.declared.calls.Call.{Call}
 use Rattle.topo_core.specs.declared.calls.Call.TheVariants.{Grow, Insert, Delete}
@@ -21,16 +21,16 @@ use Rattle.topo_script.specs.declared.path.Path.{Path}
 use Rattle.topo_script.specs.declared.scripts.LimitRows.{LimitRows}
 use Rattle.topo_script.specs.declared.reports.Report.{Report}
 use Rattle.topo_script.specs.declared.fault.ScriptFault.TheVariants.{BadShape}
-use Rattle.topo_script.specs.Paths.{whole, element_of, member_of}
-use Rattle.topo_script.specs.Pictures.{number_data, list_data, rows_data}
-use Rattle.topo_script.specs.Prices.{is_one, all_ones, without_ones}
+use Rattle.topo_script.specs.Paths.{whole, element_of}
+use Rattle.topo_script.specs.Pictures.{number_data, list_data}
+use Rattle.topo_script.specs.Prices.{without_ones}
 use Rattle.topo_script.specs.Ranges.{LimitsFit, PriceFits, CallFits, DartFits, InsertedFits, RefusalFits, ReplyFits, EntryFits, ReportFits}
-use Rattle.topo_script.specs.Reads.{Read, and_then, passes, element_count, number_below, number_form, long_form, list_form, has_keys, member_form, element}
-use Rattle.topo_script.specs.ReportTexts.{limits_data, price_data, prices_data, has_null, version_of, way_data, dart_data, call_data, refusal_data, inserted_data, reply_data, entry_data, report_data, report_text}
+use Rattle.topo_script.specs.Reads.{Read, and_then, passes, element_count, number_below, number_form, long_form, list_form, has_keys, element}
+use Rattle.topo_script.specs.ReportTexts.{limits_data, price_data, prices_data, has_null, version_of, way_data, dart_data, call_data, refusal_data, inserted_data, reply_data, entry_data, report_data}
 use Rattle.topo_script.specs.RowForms.{rows_form}
 use Rattle.topo_script.specs.CallForms.{call_form, grow_form, insert_form, delete_form}
 use Rattle.topo_script.specs.ReplyForms.{way_form, dart_form, plain_refusal, cut_form, refusal_form, deleted_form, refused_form, grown_form, inserted_form, reply_form, entry_form}
-use Rattle.topo_script.specs.Scripts.{limits_form, nulls_of, nulls_in, some_price, price_form, prices_form, report_form, report_of}
+use Rattle.topo_script.specs.Scripts.{limits_form, nulls_of, nulls_in, some_price, price_form, prices_form, report_form}
 use Rattle.topo_script.proofs.Steps.{went}
 use Rattle.topo_script.proofs.RowsBack.{short_back, list_back, member_back, all_map, rows_back}
 

@@ -1,8 +1,7 @@
 -- The text of a report is read as that report.
-use Rattle.std.proofs.Common.{◌≡◌, ℕ, suc, ◌+◌, ◌^◌, ◌<◌, ◌≤◌, Bool, true, false, List, [], ◌∷◌, map, length, Option, Some, None, Ok, refl, sym, ap, ◌∙◌, arith, IsUtf8, lit<, if◌then◌else◌, subst}
+use Rattle.std.proofs.Common.{◌≡◌, ℕ, ◌^◌, ◌<◌, ◌≤◌, Bool, true, false, List, length, Option, Some, None, Ok, refl, sym, ap, ◌∙◌, arith, IsUtf8, lit<, if◌then◌else◌, subst}
 use Rattle.std.specs.List.{AllByRecursion}
-use Rattle.serde_json.specs.Data.{Data, Items, no_items, item, array, object}
-use Rattle.serde_json.specs.Written.{compact_text}
+use Rattle.serde_json.specs.Data.{Data, no_items, item}
 use Rattle.topo_core.specs.declared.calls.Call.{Call}
 use Rattle.topo_core.specs.declared.calls.Call.TheVariants.{Grow, Insert, Delete}
 use Rattle.topo_core.specs.declared.calls.Entry.{Entry}
@@ -16,7 +15,7 @@ use Rattle.topo_core.specs.declared.darts.Way.TheVariants.{Forward, Back}
 use Rattle.topo_core.specs.declared.routes.Inserted.{Inserted as Made}
 use Rattle.topo_script.specs.declared.scripts.LimitRows.{LimitRows}
 use Rattle.topo_script.specs.declared.reports.Report.{Report}
-use Rattle.topo_script.specs.Pictures.{number_data, list_data, rows_data}
+use Rattle.topo_script.specs.Pictures.{list_data}
 use Rattle.topo_script.specs.Prices.{without_ones}
 use Rattle.topo_script.specs.Ranges.{LimitsFit, PriceFits, CallFits, DartFits, InsertedFits, RefusalFits, ReplyFits, EntryFits, ReportFits}
 use Rattle.topo_script.specs.ReportTexts.{limits_data, price_data, prices_data, has_null, version_of, way_data, dart_data, call_data, pair_data, refusal_data, inserted_data, reply_data, entry_data, report_data, report_text}

@@ -1,5 +1,5 @@
 -- A chain of steps, each of which may find a fault.
-use Rattle.std.proofs.Common.{◌≡◌, ℕ, ◌+◌, List, [], ◌∷◌, ◌++◌, length, get_or, drop, Result, Ok, Err, refl, ap, sym, ◌∙◌, subst, append_assoc, add-one, arith, drop-cons, lt-ltb, Option, Some, None, IsUtf8, true, false, Bool, nat_lt, ◌<◌, ◌≤◌}
+use Rattle.std.proofs.Common.{◌≡◌, Ok, Err, sym, subst}
 use Rattle.topo_script.specs.declared.fault.ScriptFault.{ScriptFault}
 use Rattle.topo_script.specs.declared.fault.ScriptFault.TheVariants.{Memory, NotJson, TooLong, BadShape, BadVersion, BadNumber}
 use Rattle.topo_script.specs.Reads.{Read, and_then, IsFirstFault, Gives}

@@ -1,5 +1,5 @@
 -- Places in a text, and the names of keys.
-use Rattle.std.specs.Prelude.{ℕ, List, codes, Option, Some, None, is_none, if◌then◌else◌}
+use Rattle.std.specs.Prelude.{ℕ, List, codes, Some, None, is_none, if◌then◌else◌}
 use Rattle.topo_script.specs.declared.path.Key.{Key}
 use Rattle.topo_script.specs.declared.path.Key.TheVariants.{A, B, Call, Caller, Crossed, Crossings, Deleted, Edge, Edges, End, History, Id, Kind, Limits, Newcomer, NextCrossing, NextEdge, Picture, Price, Prices, Refused, Reply, Rotations, Sign, Start, Version, Vertex, Vertices, Workers}
 use Rattle.topo_script.specs.declared.path.Step.{Step}

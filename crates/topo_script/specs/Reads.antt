@@ -1,8 +1,8 @@
 -- What a value is read as, or its first fault. The tests stand in the order in which faults are told.
-use Rattle.std.specs.Prelude.{◌≡◌, ◌⊎◌, ℕ, ◌+◌, ◌^◌, ◌==◌, nat_lt, Bool, true, false, not, ◌&&◌, ◌||◌, if◌then◌else◌, List, [], ◌∷◌, ◌++◌, length, codes, bytes_eq, Option, Some, None, is_some, option_and_then, option_map, unwrap_or, Result, Ok, Err, ⊤}
+use Rattle.std.specs.Prelude.{◌≡◌, ℕ, ◌+◌, ◌^◌, nat_lt, Bool, true, false, not, ◌&&◌, ◌||◌, if◌then◌else◌, List, [], ◌∷◌, length, bytes_eq, Option, Some, None, is_some, option_map, unwrap_or, Result, Ok, Err, ⊤}
 use Rattle.std.specs.Str.{is_utf8}
 use Rattle.std.specs.List.{list_any}
-use Rattle.serde_json.specs.Data.{Num, Data, Items, no_items, item, Members, no_members, member}
+use Rattle.serde_json.specs.Data.{Data, Items, no_items, item, Members, no_members, member}
 use Rattle.serde_json.specs.Find.{get, at, as_number, as_u64, as_str, as_array, as_object}
 use Rattle.serde_json.specs.Events.{items_len}
 use Rattle.serde_json.specs.Read.{read}

@@ -1,5 +1,5 @@
 -- The forms of replies and of the entries of a history.
-use Rattle.std.specs.Prelude.{ℕ, ◌==◌, ◌&&◌, not, Bool, false, List, [], ◌∷◌, codes, Option, option_map, option_and_then, unwrap_or, if◌then◌else◌, Ok, Err}
+use Rattle.std.specs.Prelude.{ℕ, ◌==◌, ◌&&◌, Bool, false, List, [], ◌∷◌, codes, Option, option_map, option_and_then, unwrap_or, if◌then◌else◌, Ok, Err}
 use Rattle.serde_json.specs.Data.{Data}
 use Rattle.serde_json.specs.Find.{at, as_number, as_u64}
 use Rattle.topo_core.specs.declared.darts.Dart.{Dart}

@@ -1,7 +1,6 @@
 -- The JSON value of a report, and its text.
-use Rattle.std.specs.Prelude.{ℕ, ◌||◌, Bool, true, false, List, [], ◌∷◌, map, codes, Option, Some, None, if◌then◌else◌}
-use Rattle.serde_json.specs.Data.{Data, null, number, unsigned, string, array, object, Items, no_items, item, Members, no_members, member}
-use Rattle.serde_json.specs.View.{items_of}
+use Rattle.std.specs.Prelude.{ℕ, Bool, true, false, List, [], ◌∷◌, codes, Option, Some, None, if◌then◌else◌}
+use Rattle.serde_json.specs.Data.{Data, null, string, array, object, no_items, item, no_members, member}
 use Rattle.serde_json.specs.Written.{compact_text}
 use Rattle.topo_core.specs.declared.darts.Dart.{Dart}
 use Rattle.topo_core.specs.declared.darts.Way.{Way}

@@ -1,5 +1,5 @@
 -- The forms of scripts and reports.
-use Rattle.std.specs.Prelude.{ℕ, ◌==◌, ◌&&◌, nat_lt, nat_le, Bool, true, false, List, [], ◌∷◌, length, codes, Option, Some, None, is_some, if◌then◌else◌, Ok, Err}
+use Rattle.std.specs.Prelude.{ℕ, ◌==◌, ◌&&◌, nat_lt, nat_le, Bool, true, false, List, [], ◌∷◌, codes, Option, Some, None, is_some, if◌then◌else◌, Ok, Err}
 use Rattle.serde_json.specs.Data.{Data}
 use Rattle.serde_json.specs.Find.{as_object, as_null}
 use Rattle.topo_core.specs.declared.calls.Command.{Command}

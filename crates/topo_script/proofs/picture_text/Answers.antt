@@ -1,4 +1,4 @@
-use Rattle.std.proofs.Common.{◌≡◌, string_bytes, rules}
+use Rattle.std.proofs.Common.{string_bytes, rules}
 use Rattle.std.proofs.lemmas.Str.{IsUtf8-string_bytes}
 use Rattle.topo_script.specs.Pictures.{rows_text}
 use Rattle.topo_script.proofs.RowsBack.{rows_text_read_back}

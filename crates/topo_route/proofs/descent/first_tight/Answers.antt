@@ -3,7 +3,7 @@ use Rattle.topo_core.specs.Cycles.{after}
 use Rattle.topo_price.specs.Prices.{prices_of}
 use Rattle.topo_route.specs.Numbers.{next_of}
 use Rattle.topo_route.proofs.Descending.{FirstSoFar, first_all, first_home, first_step, has_tight, none_so_far}
-use Rattle.topo_route.proofs.Orbits.{after-one}
+use Rattle.topo_route.proofs.Rounds.{after-one}
 use Rattle.topo_route.proofs.descent.first_tight.Goals as goal
 
 pub loop-steps-init : goal.loop-steps-init

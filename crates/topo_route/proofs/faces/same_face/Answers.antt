@@ -4,7 +4,7 @@ use Rattle.topo_core.specs.Cycles.{after}
 use Rattle.topo_core.specs.Picture.{darts}
 use Rattle.topo_route.specs.Numbers.{next_of}
 use Rattle.topo_route.proofs.Numbers.{next_permutes}
-use Rattle.topo_route.proofs.Orbits.{unmet_home, unmet_all}
+use Rattle.topo_route.proofs.Rounds.{unmet_home, unmet_all}
 use Rattle.topo_route.proofs.faces.same_face.Goals as goal
 
 -- back at a, and b was not on the way

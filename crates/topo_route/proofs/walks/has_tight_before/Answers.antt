@@ -7,7 +7,7 @@ use Rattle.topo_price.specs.Prices.{prices_of}
 use Rattle.topo_route.specs.Numbers.{dart_of, next_of}
 use Rattle.topo_route.specs.Plans.{height_in}
 use Rattle.topo_route.proofs.Numbers.{next_permutes}
-use Rattle.topo_route.proofs.Orbits.{round_all}
+use Rattle.topo_route.proofs.Rounds.{round_all}
 use Rattle.topo_route.proofs.Walking.{none_before}
 use Rattle.topo_route.proofs.walks.has_tight_before.Goals as goal
 use Rattle.topo_route.proofs.walks.has_tight_before.Goals.{else-dart-number-via-then-dart-number+else-is_tight, else-dart-number-via-else-dart-number}

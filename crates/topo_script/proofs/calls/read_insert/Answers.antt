@@ -1,6 +1,6 @@
-use Rattle.std.proofs.Common.{◌≡◌, Err, sym, rules, ◌∙◌}
+use Rattle.std.proofs.Common.{◌≡◌, Err, rules, ◌∙◌}
 use Rattle.topo_script.specs.CallForms.{insert_form}
-use Rattle.topo_script.proofs.Steps.{went, gives_past, stops_at, told}
+use Rattle.topo_script.proofs.Steps.{went, gives_past, stops_at}
 use Rattle.topo_script.proofs.calls.read_insert.Goals as goal
 
 pub returns-in_err-u : goal.returns-in_err-u

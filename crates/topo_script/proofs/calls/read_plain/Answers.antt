@@ -1,6 +1,6 @@
-use Rattle.std.proofs.Common.{◌≡◌, Err, sym, rules, ◌∙◌}
+use Rattle.std.proofs.Common.{◌≡◌, Err, rules}
 use Rattle.topo_script.specs.CallForms.{plain_form}
-use Rattle.topo_script.proofs.Steps.{went, gives_past, stops_at, told}
+use Rattle.topo_script.proofs.Steps.{went, stops_at}
 use Rattle.topo_script.proofs.calls.read_plain.Goals as goal
 
 pub returns-in_err-call : goal.returns-in_err-call

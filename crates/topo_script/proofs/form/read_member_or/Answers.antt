@@ -1,4 +1,3 @@
-use Rattle.std.proofs.Common.{sym}
 use Rattle.topo_script.proofs.Lookups.{member_or_there, member_or_missing}
 use Rattle.topo_script.proofs.form.read_member_or.Goals as goal
 

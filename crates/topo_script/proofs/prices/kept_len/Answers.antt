@@ -1,5 +1,4 @@
-use Rattle.std.proofs.Common.{◌≡◌, ◌+◌, ◌≤◌, true, false, sym, ◌∙◌, rules, arith, take}
-use Rattle.topo_script.specs.Prices.{without_ones}
+use Rattle.std.proofs.Common.{◌≡◌, true, false, sym, ◌∙◌, rules, arith}
 use Rattle.topo_script.proofs.PriceLists.{one_more_kept, all_kept}
 use Rattle.topo_script.proofs.prices.kept_len.Goals as goal
 use Rattle.topo_script.proofs.prices.kept_len.Goals.{then-not-is_one, else-not-is_one}

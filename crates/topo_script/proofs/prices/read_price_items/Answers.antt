@@ -1,6 +1,5 @@
-use Rattle.std.proofs.Common.{◌≡◌, ◌++◌, ◌∷◌, [], ℕ, Option, Ok, Err, List, sym, ap, ◌∙◌, subst, rules}
-use Rattle.serde_json.specs.View.{view, items_view}
-use Rattle.topo_script.specs.Reads.{and_then, items_from, IsFirstFault}
+use Rattle.std.proofs.Common.{◌≡◌, ◌++◌, ◌∷◌, [], ℕ, Option, Ok, List, sym, ap, ◌∙◌, subst, rules}
+use Rattle.topo_script.specs.Reads.{IsFirstFault}
 use Rattle.topo_script.specs.Scripts.{price_form}
 use Rattle.topo_script.proofs.Items.{one_more, item_refused, all_found, none_yet, placed, placed_fault}
 use Rattle.topo_script.proofs.prices.read_price_items.Goals as goal

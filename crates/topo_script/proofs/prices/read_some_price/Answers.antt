@@ -1,6 +1,6 @@
-use Rattle.std.proofs.Common.{◌≡◌, Err, sym, rules, ◌∙◌}
+use Rattle.std.proofs.Common.{◌≡◌, Err, rules}
 use Rattle.topo_script.specs.Scripts.{some_price}
-use Rattle.topo_script.proofs.Steps.{went, gives_past, stops_at, told}
+use Rattle.topo_script.proofs.Steps.{went, stops_at}
 use Rattle.topo_script.proofs.prices.read_some_price.Goals as goal
 
 pub returns-in_err-price : goal.returns-in_err-price

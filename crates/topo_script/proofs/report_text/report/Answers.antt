@@ -1,4 +1,4 @@
-use Rattle.std.proofs.Common.{◌≡◌, string_bytes, rules}
+use Rattle.std.proofs.Common.{string_bytes, rules}
 use Rattle.std.proofs.lemmas.Str.{IsUtf8-string_bytes}
 use Rattle.topo_script.specs.ReportTexts.{report_text}
 use Rattle.topo_script.proofs.ReportTextBack.{report_text_read_back}

@@ -1,4 +1,4 @@
-use Rattle.std.proofs.Common.{◌≡◌, Err, sym, rules, ◌∙◌}
+use Rattle.std.proofs.Common.{◌≡◌, Err, sym, rules}
 use Rattle.topo_script.specs.Scripts.{nulls_in}
 use Rattle.topo_script.proofs.Steps.{gives_past, gives_same, stops_at, told}
 use Rattle.topo_script.proofs.script_forms.read_nulls.Goals as goal

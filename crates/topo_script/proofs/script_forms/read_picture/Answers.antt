@@ -1,6 +1,6 @@
-use Rattle.std.proofs.Common.{◌≡◌, Err, sym, rules, ◌∙◌}
+use Rattle.std.proofs.Common.{◌≡◌, Err, rules}
 use Rattle.topo_script.specs.Scripts.{picture_form}
-use Rattle.topo_script.proofs.Steps.{went, gives_past, stops_at, told}
+use Rattle.topo_script.proofs.Steps.{went, stops_at}
 use Rattle.topo_script.proofs.script_forms.read_picture.Goals as goal
 
 pub returns-in_err-rows : goal.returns-in_err-rows

@@ -1,6 +1,6 @@
-use Rattle.std.proofs.Common.{◌≡◌, Err, sym, rules, ◌∙◌}
+use Rattle.std.proofs.Common.{◌≡◌, Err, rules}
 use Rattle.topo_script.specs.Scripts.{script_of}
-use Rattle.topo_script.proofs.Steps.{gives_past, gives_same, stops_at, told}
+use Rattle.topo_script.proofs.Steps.{gives_past, stops_at}
 use Rattle.topo_script.proofs.script_forms.read_script.Goals as goal
 
 pub returns-in_err-value : goal.returns-in_err-value
