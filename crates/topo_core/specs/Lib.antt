@@ -4,6 +4,7 @@ pub mod Darts
 pub mod Edits
 pub mod Evidence
 pub mod History
+pub mod Insertions
 pub mod Items
 pub mod Lawful
 pub mod Laws
