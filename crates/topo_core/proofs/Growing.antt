@@ -64,7 +64,7 @@ none_counted x (y ∷ xs) below =
     let first : cond {A = ℕ} (y == x) 1 0 ≡ 0 = ap (λ (t : Bool). cond {A = ℕ} t 1 0) (eqb_less y x (below y (inl refl))) in
     let rest = none_counted x xs (λ z h. below z (inr h)) in omega arith
 
-in_append : {X : Type 0} (x : X) (xs ys : List X) → IsIn x (xs ++ ys) → IsIn x xs ⊎ IsIn x ys
+pub in_append : {X : Type 0} (x : X) (xs ys : List X) → IsIn x (xs ++ ys) → IsIn x xs ⊎ IsIn x ys
 in_append x [] ys h = inr h
 in_append x (y ∷ xs) ys (inl e) = inl (inl e)
 in_append x (y ∷ xs) ys (inr h) = elim (in_append x xs ys h) [ inl k ↦ inl (inr k) | inr k ↦ inr k ]

@@ -11,8 +11,10 @@ pub mod Members
 pub mod NewDarts
 pub mod Numbering
 pub mod Orbits
+pub mod Points
 pub mod Renumbering
 pub mod RouteDarts
 pub mod Standing
 pub mod SystemDarts
 pub mod Turning
+pub mod WovenPaths
