@@ -14,6 +14,7 @@ pub mod Orbits
 pub mod Points
 pub mod Renumbering
 pub mod RouteDarts
+pub mod ShownPlaces
 pub mod ShownRows
 pub mod Standing
 pub mod SystemDarts
