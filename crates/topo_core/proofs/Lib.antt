@@ -15,6 +15,7 @@ pub mod Points
 pub mod Renumbering
 pub mod RouteDarts
 pub mod ShownPlaces
+pub mod ShownPoints
 pub mod ShownRows
 pub mod Standing
 pub mod SystemDarts
