@@ -17,6 +17,7 @@ pub mod RouteDarts
 pub mod ShownPlaces
 pub mod ShownPoints
 pub mod ShownRows
+pub mod ShownTurns
 pub mod Standing
 pub mod SystemDarts
 pub mod Turning
