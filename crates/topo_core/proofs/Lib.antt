@@ -17,3 +17,4 @@ pub mod ShownRows
 pub mod Standing
 pub mod SystemDarts
 pub mod Turning
+pub mod Weaving
