@@ -13,6 +13,7 @@ pub mod Numbering
 pub mod Orbits
 pub mod Renumbering
 pub mod RouteDarts
+pub mod ShownForm
 pub mod ShownRows
 pub mod Standing
 pub mod SystemDarts
