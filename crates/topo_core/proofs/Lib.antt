@@ -15,6 +15,7 @@ pub mod Renumbering
 pub mod RouteDarts
 pub mod ShownForm
 pub mod ShownRows
+pub mod SimpleRoutes
 pub mod Standing
 pub mod SystemDarts
 pub mod Turning
