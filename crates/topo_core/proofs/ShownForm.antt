@@ -1,6 +1,6 @@
 -- A picture that shows a new edge along a route is well formed.
-use Rattle.std.proofs.Common.{◌≡◌, ◌≢◌, ℕ, zero, suc, ◌+◌, ◌<◌, ◌≤◌, Bool, true, false, cond, not, ◌&&◌, ◌||◌, List, [], ◌∷◌, ◌++◌, length, get_or, eqb, refl, sym, ap, subst, ◌∙◌, arith, inl, inr}
-use Rattle.std.specs.Prelude.{◌⊎◌, ◌==◌, nat_lt, nat_le, Some, None, map, is_some, Option, sum_by, if◌then◌else◌}
+use Rattle.std.proofs.Common.{◌≡◌, ◌≢◌, ℕ, suc, ◌+◌, ◌<◌, Bool, true, false, cond, not, ◌&&◌, ◌||◌, List, [], ◌∷◌, ◌++◌, length, get_or, eqb, refl, sym, ap, subst, ◌∙◌, arith, inl, inr}
+use Rattle.std.specs.Prelude.{◌⊎◌, ◌==◌, nat_lt, nat_le, Some, map, is_some, sum_by, if◌then◌else◌}
 use Rattle.std.specs.List.{AllByRecursion, list_all, range_with_len}
 use Rattle.std.proofs.lemmas.List.{map-append}
 use Rattle.std.proofs.lemmas.Bool.Decides.{nat_tests}
@@ -16,12 +16,12 @@ use Rattle.topo_core.specs.Systems.{has_dart}
 use Rattle.topo_core.specs.Lawful.{has_good_crossings, has_good_path, has_good_paths, has_good_rotation, has_good_rotations, is_good_crossing, IsWellFormed}
 use Rattle.topo_core.specs.Changes.{crossed_row, new_crossing, new_on, numbered, put_in, shown, woven}
 use Rattle.topo_core.specs.Insertions.{IsInsertable}
-use Rattle.topo_core.proofs.Counting.{eqb_less, eqb_more, eqb_symm, in_first, lt_of_test, lt_test, one, sum_if, sum_nothing, sum_same}
-use Rattle.topo_core.proofs.Growing.{all_from, all_range, first_below, first_put_in, in_append, in_put_in, le_test, ne_from, neither, none_counted, occurrences-put_in, rises_push, some_found_last}
-use Rattle.topo_core.proofs.Members.{in_range, left_true, range_below, right_true, test_of_each}
-use Rattle.topo_core.proofs.ShownRows.{crossing_below, edge_below, in_images, known_crossing_below, known_edge_below, new_id_above, newcomer_row, number_of, numbered_in, rises_on, row_found, shown_crossings, shown_new_crossing, shown_new_row, shown_old_crossing_there, shown_old_there, shown_rotation_end, shown_rotation_other, shown_rotation_start, shown_rows, shown_vertices}
-use Rattle.topo_core.proofs.Standing.{good_crossing, good_rotation, is_of_rows, listed_test, of_rows_is_dart}
-use Rattle.topo_core.proofs.SystemDarts.{crossing_there, eqb_self, path_facts}
+use Rattle.topo_core.proofs.Counting.{eqb_less, eqb_more, eqb_symm, in_first, lt_test, one, sum_if, sum_nothing, sum_same}
+use Rattle.topo_core.proofs.Growing.{all_from, all_range, first_below, first_put_in, in_put_in, le_test, ne_from, neither, none_counted, occurrences-put_in, rises_push}
+use Rattle.topo_core.proofs.Members.{in_range, left_true, right_true, test_of_each}
+use Rattle.topo_core.proofs.ShownRows.{crossing_below, edge_below, in_images, known_crossing_below, known_edge_below, new_id_above, newcomer_row, numbered_in, rises_on, row_found, shown_crossings, shown_new_crossing, shown_new_row, shown_old_crossing_there, shown_old_there, shown_rotation_end, shown_rotation_other, shown_rotation_start, shown_rows, shown_vertices}
+use Rattle.topo_core.proofs.Standing.{good_crossing, good_rotation, listed_test, of_rows_is_dart}
+use Rattle.topo_core.proofs.SystemDarts.{crossing_there, eqb_self}
 use Rattle.topo_core.proofs.Weaving.{below_never, below_not_counted, in_filter, in_woven, number_counted, number_once, occurrences-woven}
 
 -- ---- Tests and numbers

@@ -1,5 +1,5 @@
 -- A route that meets no face twice crosses no segment twice, so its edge can be shown.
-use Rattle.std.proofs.Common.{◌≡◌, ◌≢◌, ℕ, zero, suc, ◌<◌, Bool, true, false, ◌&&◌, List, [], ◌∷◌, length, Some, refl, sym, ap, subst, ◌∙◌, arith, inl, inr}
+use Rattle.std.proofs.Common.{◌≡◌, ◌≢◌, ℕ, zero, suc, ◌<◌, true, false, List, [], ◌∷◌, length, Some, refl, sym, subst, inl, inr}
 use Rattle.std.specs.Prelude.{◌⊎◌, ◌==◌}
 use Rattle.std.specs.List.{AllByRecursion}
 use Rattle.std.proofs.lemmas.Bool.{cases_Bool, eqb-true}
@@ -16,7 +16,7 @@ use Rattle.topo_core.specs.Systems.{face_step, has_dart, SameFace}
 use Rattle.topo_core.specs.Picture.{around_vertex, corner, darts, end_dart, index_of, rotation, system, turn_images}
 use Rattle.topo_core.specs.Rotations.{face_next}
 use Rattle.topo_core.specs.Lawful.{IsWellFormed}
-use Rattle.topo_core.specs.Routes.{Crosses, IsRoute, IsSimpleRoute, MeetsFacesOnce}
+use Rattle.topo_core.specs.Routes.{Crosses, IsSimpleRoute, MeetsFacesOnce}
 use Rattle.topo_core.specs.Insertions.{CrossesOnce, IsInsertable, same_segment}
 use Rattle.topo_core.proofs.Members.{left_true, right_true}
 use Rattle.topo_core.proofs.Numbering.{index_less, turn_stays, twin_in}

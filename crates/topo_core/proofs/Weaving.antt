@@ -1,9 +1,9 @@
 -- Paths with new crossings woven in: what stands in them, and how often.
-use Rattle.std.proofs.Common.{◌≡◌, ℕ, zero, suc, ◌+◌, ◌<◌, ◌≤◌, Bool, true, false, cond, List, [], ◌∷◌, ◌++◌, length, refl, sym, ap, subst, ◌∙◌, arith, inl, inr}
-use Rattle.std.specs.Prelude.{◌⊎◌, ◌==◌, nat_lt, Some, None, map, filter, find, Option, option_map, unwrap_or, sum_by, count_by}
+use Rattle.std.proofs.Common.{◌≡◌, ℕ, suc, ◌+◌, ◌<◌, Bool, true, false, cond, List, [], ◌∷◌, length, refl, ap, ◌∙◌, arith, inl, inr}
+use Rattle.std.specs.Prelude.{◌⊎◌, ◌==◌, map, filter, option_map, unwrap_or, sum_by}
 use Rattle.std.specs.List.{enumerate_from, range_with_len}
 use Rattle.std.proofs.lemmas.List.Sums.{sum_by-append, sum_by-cons}
-use Rattle.topo_core.specs.Items.{IsIn, occurrences, rises_below}
+use Rattle.topo_core.specs.Items.{IsIn, occurrences}
 use Rattle.topo_core.specs.Changes.{woven}
 use Rattle.topo_core.proofs.Counting.{eqb_more, one, sum_found, sum_nothing, sum_of_map}
 use Rattle.topo_core.proofs.Growing.{in_append}
