@@ -3,6 +3,7 @@ use Rattle.std.proofs.Common.{◌≡◌, ◌≢◌, ℕ, suc, ◌+◌, ◌<◌, 
 use Rattle.std.specs.Prelude.{◌⊎◌, ◌==◌, nat_lt, nat_le, Some, map, is_some, sum_by, if◌then◌else◌}
 use Rattle.std.specs.List.{AllByRecursion, list_all, range_with_len}
 use Rattle.std.proofs.lemmas.List.{map-append}
+use Rattle.std.proofs.lemmas.Simd.{map-map}
 use Rattle.std.proofs.lemmas.Bool.Decides.{nat_tests}
 use Rattle.std.proofs.lemmas.Bool.{and_from, cases_Bool, eq-eqb, eqb-true, or_left, or_right}
 use Rattle.topo_core.specs.declared.darts.Dart.{Dart}
@@ -20,7 +21,7 @@ use Rattle.topo_core.proofs.Counting.{eqb_less, eqb_more, eqb_symm, in_first, lt
 use Rattle.topo_core.proofs.Growing.{all_from, all_range, first_below, first_put_in, in_put_in, le_test, ne_from, neither, none_counted, occurrences-put_in, rises_push}
 use Rattle.topo_core.proofs.Members.{in_range, left_true, right_true, test_of_each}
 use Rattle.topo_core.proofs.ShownRows.{crossing_below, edge_below, in_images, known_crossing_below, known_edge_below, new_id_above, newcomer_row, numbered_in, rises_on, row_found, shown_crossings, shown_new_crossing, shown_new_row, shown_old_crossing_there, shown_old_there, shown_rotation_end, shown_rotation_other, shown_rotation_start, shown_rows, shown_vertices}
-use Rattle.topo_core.proofs.Standing.{good_crossing, good_rotation, listed_test, of_rows_is_dart}
+use Rattle.topo_core.proofs.Standing.{good_crossing, good_rotation, one_of_both, listed_test, of_rows_is_dart}
 use Rattle.topo_core.proofs.SystemDarts.{crossing_there, eqb_self}
 use Rattle.topo_core.proofs.Weaving.{below_never, below_not_counted, in_filter, in_woven, number_counted, number_once, occurrences-woven}
 
@@ -31,10 +32,6 @@ pub each_of : {X : Type 0} (P : X → Type 0) (xs : List X) → AllByRecursion P
 each_of P [] all x h = absurd h
 each_of P (y ∷ xs) all x (inl e) = subst P (sym e) all.0
 each_of P (y ∷ xs) all x (inr h) = each_of P xs all.1 x h
-
-one_of_both : (t w : Bool) → one (t && w) ≡ cond {A = ℕ} t (one w) 0
-one_of_both true w = refl
-one_of_both false w = refl
 
 -- a test that holds wherever another does
 weighed : (t w : Bool) → (t ≡ true → w ≡ true) → cond {A = ℕ} t (one w) 0 ≡ one t
@@ -54,11 +51,6 @@ new_ends u v n kind u_in v_in apart known = grind (arith, nat_tests)
 
 neither_end : (u v w : ℕ) → u ≢ w → v ≢ w → (eqb u w || eqb v w) ≡ false
 neither_end u v w not_u not_v = grind (arith, nat_tests)
-
--- images of images
-map_twice : {X Y Z : Type 0} (f : X → Y) (g : Y → Z) (xs : List X) → map g (map f xs) ≡ map (λ x. g (f x)) xs
-map_twice f g [] = refl
-map_twice f g (x ∷ xs) = ap (λ ys. g (f x) ∷ ys) (map_twice f g xs)
 
 -- ---- The new crossings on the paths
 
@@ -146,7 +138,7 @@ module _ (rows : Rows) (u v kind : ℕ) (r : Route) (good : IsWellFormed rows) (
   -- the crossings of the picture are good
   pub shown_good_crossings : has_good_crossings after ≡ true
   shown_good_crossings = and_from (rises_below after.next_crossing (map (λ x. x.id) after.crossings)) (list_all (is_good_crossing after) after.crossings)
-      (ap (rises_below after.next_crossing) (map-append (λ x. x.id) rows.crossings (map (new_crossing rows.next_edge) (numbered rows r)) ∙ ap (λ ids. map (λ x. x.id) rows.crossings ++ ids) (map_twice (new_crossing rows.next_edge) (λ x. x.id) (numbered rows r)))
+      (ap (rises_below after.next_crossing) (map-append (λ x. x.id) rows.crossings (map (new_crossing rows.next_edge) (numbered rows r)) ∙ ap (λ ids. map (λ x. x.id) rows.crossings ++ ids) (map-map (λ x. x.id) (new_crossing rows.next_edge) (numbered rows r)))
       ∙ rises_on (map (λ x. x.id) rows.crossings) rows.next_crossing r.crossed (left_true _ (list_all (is_good_crossing rows) rows.crossings) good.crossings))
       (all_from (is_good_crossing after) after.crossings (λ x h. elim (shown_crossings rows u v kind r x h) [
         | inl old ↦ old_crossing_good x old
@@ -185,7 +177,7 @@ module _ (rows : Rows) (u v kind : ℕ) (r : Route) (good : IsWellFormed rows) (
   pub shown_good_paths : has_good_paths after ≡ true
   shown_good_paths = and_from (rises_below (rows.next_edge + 1) (map (λ row. row.id) after.edges)) (list_all (has_good_path after) after.edges)
       (ap (rises_below (rows.next_edge + 1)) (map-append (λ row. row.id) (map (crossed_row rows r) rows.edges) (newcomer_row rows u v kind r ∷ [])
-      ∙ ap (λ ids. ids ++ rows.next_edge ∷ []) (map_twice (crossed_row rows r) (λ row. row.id) rows.edges))
+      ∙ ap (λ ids. ids ++ rows.next_edge ∷ []) (map-map (λ row. row.id) (crossed_row rows r) rows.edges))
       ∙ rises_push rows.next_edge (map (λ row. row.id) rows.edges) (left_true _ (list_all (has_good_path rows) rows.edges) good.paths))
       (all_from (has_good_path after) after.edges (λ row h. elim (shown_rows rows u v kind r row h) [
         | inl (old, k, is) ↦ ap (has_good_path after) is ∙ old_path_good old k
