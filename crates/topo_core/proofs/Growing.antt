@@ -205,7 +205,8 @@ one_vertex_more a b n c d e h = grind (arith, nat_tests)
 one_edge_more : (u n kind : ℕ) → u < n → kind < 64 → (nat_lt u (n + 1) && nat_lt n (n + 1) && not (eqb u n) && nat_lt kind 64 && true) ≡ true
 one_edge_more u n kind h k = grind (arith, nat_tests)
 
-neither : (f a b : ℕ) → a < f → b < f → cond {A = ℕ} (eqb f a || eqb f b) 1 0 ≡ 0
+-- a new id is neither of two old ones
+pub neither : (f a b : ℕ) → a < f → b < f → cond {A = ℕ} (eqb f a || eqb f b) 1 0 ≡ 0
 neither f a b h k = grind (arith, nat_tests)
 
 -- the first of a list whose items are below f

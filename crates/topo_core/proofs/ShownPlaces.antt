@@ -23,18 +23,13 @@ use Rattle.topo_core.specs.Pictures.{back, forward}
 use Rattle.topo_core.specs.Systems.{has_dart}
 use Rattle.topo_core.proofs.Counting.{at_most_one, eqb_less, eqb_more, eqb_symm, one, path_place_here, path_place_later}
 use Rattle.topo_core.proofs.Members.{found, left_true, right_true}
+use Rattle.topo_core.proofs.ShownForm.{each_of}
 use Rattle.topo_core.proofs.ShownRows.{known_edge_below, newcomer_row, number_from, numbered_in, shown_new_edge, shown_new_row, shown_old_edge, shown_old_row}
 use Rattle.topo_core.proofs.Standing.{good_crossing, is_dart_of_rows, listed_test, of_rows_is_dart}
 use Rattle.topo_core.proofs.SystemDarts.{crossing_there, edge_at_row, eqb_self, row_id, row_in, some_of}
 use Rattle.topo_core.proofs.WovenPaths.{first_part, first_part_is, IsParted, last_part, last_part_is, place_of, place_of_new, woven_parts}
 
 -- ---- The new crossings on one segment
-
--- what holds of all holds of each
-pub all_in : {X : Type 0} (P : X → Type 0) (x : X) (xs : List X) → AllByRecursion P xs → IsIn x xs → P x
-all_in P x [] all h = absurd h
-all_in P x (y ∷ xs) all (inl e) = subst P (sym e) all.0
-all_in P x (y ∷ xs) all (inr h) = all_in P x xs all.1 h
 
 same_segment_symm : (c d : Dart) → same_segment c d ≡ same_segment d c
 same_segment_symm c d = ap (λ t. t && c.seg == d.seg) (eqb_symm c.edge d.edge) ∙ ap (λ t. d.edge == c.edge && t) (eqb_symm c.seg d.seg)
@@ -62,10 +57,10 @@ one_on n x d (c ∷ ds) once (inl e) =
     let number : x ≡ n = ap (λ p. p.0) e in
     let dart : d ≡ c = ap (λ p. p.1) e in
     taken d (n, c) (enumerate_from (n + 1) ds) (ap (same_segment c) dart ∙ same_segment_self c)
-    ∙ ap (λ list. n ∷ list) (none_on d (n + 1) ds (λ b h. same_segment_symm b d ∙ ap (λ y. same_segment y b) dart ∙ all_in (λ b. same_segment c b ≡ false) b ds once.0 h))
+    ∙ ap (λ list. n ∷ list) (none_on d (n + 1) ds (λ b h. same_segment_symm b d ∙ ap (λ y. same_segment y b) dart ∙ each_of (λ b. same_segment c b ≡ false) ds once.0 b h))
     ∙ ap (λ m. m ∷ []) (sym number)
 one_on n x d (c ∷ ds) once (inr h) =
-    skipped d (n, c) (enumerate_from (n + 1) ds) (all_in (λ b. same_segment c b ≡ false) d ds once.0 (numbered_in (n + 1) x d ds h))
+    skipped d (n, c) (enumerate_from (n + 1) ds) (each_of (λ b. same_segment c b ≡ false) ds once.0 d (numbered_in (n + 1) x d ds h))
     ∙ one_on (n + 1) x d ds once.1 h
 
 -- the place of a new crossing on the path of the new edge
@@ -234,7 +229,7 @@ module _ (rows : Rows) (u v kind : ℕ) (r : Route) (good : IsWellFormed rows) (
   pub uncrossed_twins : (d : Dart) → has_dart (darts rows) d ≡ true → AllByRecursion (λ c. same_segment c d ≡ false) r.crossed → lifted rows after (dart_twin d) ≡ dart_twin (lifted rows after d)
   uncrossed_twins d h apart =
       let parts = segment_parts d h in
-      let none : new_on rows r d.edge d.seg ≡ [] = none_on d rows.next_crossing r.crossed (λ c k. all_in (λ c. same_segment c d ≡ false) c r.crossed apart k) in
+      let none : new_on rows r d.edge d.seg ≡ [] = none_on d rows.next_crossing r.crossed (λ c k. each_of (λ c. same_segment c d ≡ false) r.crossed apart c k) in
       let same : parts.first + length (new_on rows r d.edge d.seg) ≡ parts.first = let zero_length = ap (λ (list : List ℕ). length list) none in omega arith in
       let leads_back = parts.lifts_back ∙ ap (back d.edge) same in
       elim d.way as (λ w. lifted rows after (dart_twin (record { edge = d.edge; seg = d.seg; way = w })) ≡ dart_twin (lifted rows after (record { edge = d.edge; seg = d.seg; way = w }))) [

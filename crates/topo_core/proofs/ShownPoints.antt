@@ -26,7 +26,8 @@ use Rattle.topo_core.proofs.Members.{in_left, in_map, in_range, in_right}
 use Rattle.topo_core.proofs.Numbering.{distinct_system}
 use Rattle.topo_core.proofs.Points.{at_point_in, distinct_passing, image_points, passing_points}
 use Rattle.topo_core.proofs.RouteDarts.{has_item}
-use Rattle.topo_core.proofs.ShownPlaces.{all_in, lifted_ahead, lifted_behind, lifted_edge, lifted_end, newcomer_end, on_path_of}
+use Rattle.topo_core.proofs.ShownForm.{each_of}
+use Rattle.topo_core.proofs.ShownPlaces.{lifted_ahead, lifted_behind, lifted_edge, lifted_end, newcomer_end, on_path_of}
 use Rattle.topo_core.proofs.ShownRows.{in_images, known_edge_below, numbered_in, shown_rotation_end, shown_rotation_other, shown_rotation_start, shown_vertices}
 use Rattle.topo_core.proofs.Standing.{good_crossing, good_rotation, listed_test, of_rows_is_dart, system_test}
 use Rattle.topo_core.proofs.SystemDarts.{eqb_self}
@@ -205,7 +206,7 @@ module _ (rows : Rows) (u v kind : ℕ) (r : Route) (good : IsWellFormed rows) (
   crossed_pair x = ahead after x.1.edge x.0 ∷ behind after x.1.edge x.0 ∷ []
 
   pub crossed_there : (x : ℕ) (d : Dart) → IsIn (x, d) (numbered rows r) → has_dart (darts rows) d ≡ true
-  crossed_there x d h = all_in (λ d. has_dart (darts rows) d ≡ true) d r.crossed ask.crossed (numbered_in rows.next_crossing x d r.crossed h)
+  crossed_there x d h = each_of (λ d. has_dart (darts rows) d ≡ true) r.crossed ask.crossed d (numbered_in rows.next_crossing x d r.crossed h)
 
   pair_kept : (x : ℕ × Dart) → IsIn x (numbered rows r) → filter is_kept (around_crossing after (new_crossing rows.next_edge x)) ≡ crossed_pair x
   pair_kept x h =
