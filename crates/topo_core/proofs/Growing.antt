@@ -4,8 +4,9 @@ use Rattle.std.specs.Prelude.{◌⊎◌, ◌==◌, nat_lt, nat_le, Some, None, c
 use Rattle.std.specs.Option.{option_or}
 use Rattle.std.specs.List.{list_all, position_or_len, range_with_len}
 use Rattle.std.proofs.lemmas.Bool.Decides.{nat_tests}
-use Rattle.std.proofs.lemmas.List.{get_or_append_left, get_or-set_same, get_or-set_other, get_or_at, length-set, length-append, map-append, take-append-drop}
+use Rattle.std.proofs.lemmas.List.{get_or-drop, get_or_append_left, get_or-set_same, get_or-set_other, get_or_at, length-set, length-append, map-append, take-append-drop}
 use Rattle.std.proofs.lemmas.List.Folds.{find-append}
+use Rattle.std.proofs.lemmas.Option.{slice_get-get_or}
 use Rattle.std.proofs.lemmas.List.FromFn.{map-range_with_len_more}
 use Rattle.std.proofs.lemmas.List.Sums.{sum_by-cons, sum_by_push, sum_by-insert}
 use Rattle.std.proofs.lemmas.Bool.{and_from, cases_Bool, eq-eqb, eqb-true, or_left, or_right}
@@ -102,12 +103,14 @@ pub record IsPutIn (p f : ℕ) (around : List ℕ) : Type 0 where
   pub back : List ℕ
   pub was : around ≡ head ∷ front ++ back
   pub now : put_in p f around ≡ head ∷ front ++ f ∷ back
+  -- it stands before what stood at that place
   pub corner : slice_get around p ≡ Some (slice_index_or back 0 head)
 
+-- what stands at a place is the first of the rest
 first_dropped : (p e : ℕ) (around : List ℕ) → p < length around → slice_get around p ≡ Some (slice_index_or (drop p around) 0 e)
-first_dropped p e [] h = absurd (omega arith)
-first_dropped zero e (x ∷ around) h = refl
-first_dropped (suc p) e (x ∷ around) h = first_dropped p e around (omega arith)
+first_dropped p e around h =
+    let same : p + 0 ≡ p = omega arith in
+    slice_get-get_or around p e h ∙ ap (λ k. Some (get_or around k e)) (sym same) ∙ ap Some (sym (get_or-drop p around 0 e))
 
 -- where it stands
 pub is_put_in : (p f : ℕ) (around : List ℕ) → p < length around → IsPutIn p f around

@@ -1,19 +1,20 @@
 -- The turn round one point of a system, and lists of darts under maps and tests.
-use Rattle.std.proofs.Common.{◌≡◌, ◌≢◌, ℕ, ◌+◌, ◌≤◌, ◌||◌, ◌&&◌, ap, arith, Bool, cond, false, inl, inr, List, not, refl, subst, sym, true, [], ◌++◌, ◌∙◌, ◌∷◌}
-use Rattle.std.specs.Prelude.{◌⊎◌, count_by, filter, flat_map, map, slice_index_or}
+use Rattle.std.proofs.Common.{◌≡◌, ◌≤◌, ◌||◌, ap, arith, Bool, cond, false, inl, inr, List, refl, subst, sym, true, [], ◌++◌, ◌∙◌, ◌∷◌}
+use Rattle.std.specs.Prelude.{count_by, filter, map, slice_index_or}
 use Rattle.std.proofs.lemmas.List.{map-append}
+use Rattle.std.proofs.Math.ListN.{get_or-map}
 use Rattle.std.proofs.lemmas.List.Elements.{filter-append}
-use Rattle.std.proofs.lemmas.List.Sums.{sum_by-append, sum_by-cons}
-use Rattle.std.proofs.lemmas.Bool.{cases_Bool, false≢true, or_cases, or_left, or_right}
+use Rattle.std.proofs.lemmas.List.Sums.{sum_by-cons}
+use Rattle.std.proofs.lemmas.Bool.{cases_Bool, or_cases, or_left, or_right}
 use Rattle.topo_core.specs.declared.darts.Dart.{Dart}
 use Rattle.topo_core.specs.Darts.{same_dart}
 use Rattle.topo_core.specs.Items.{IsIn}
-use Rattle.topo_core.specs.Systems.{bypassed, darts_in, follower, has_dart, System, turn}
-use Rattle.topo_core.proofs.Counting.{any_counted, one}
+use Rattle.topo_core.specs.Systems.{darts_in, follower, has_dart, System, turn}
+use Rattle.topo_core.proofs.Counting.{one}
 use Rattle.topo_core.proofs.DartLaws.{same_dart_self, same_dart_true}
 use Rattle.topo_core.proofs.Members.{in_map, or_second}
 use Rattle.topo_core.proofs.NewDarts.{has_dart-append, stands_in, turn_at, turn_past}
-use Rattle.topo_core.proofs.Turning.{distinct_left, distinct_right, distinct_tail, IsDistinct, next_around, not_in_both}
+use Rattle.topo_core.proofs.Turning.{distinct_right, distinct_tail, IsDistinct, next_around, not_in_both}
 
 -- ---- The point of a dart
 
@@ -66,9 +67,9 @@ pub images_apart : (g : Dart → Dart) (ds : List Dart) → IsDistinct (map g ds
 images_apart g [] distinct c d c_in d_in e = cc
 images_apart g (b ∷ ds) distinct c d c_in d_in e =
     let twice : (y z : Dart) → same_dart y b ≡ true → has_dart ds z ≡ true → g y ≡ g z → ⊥ = λ y z is there same.
-        not_in_both (g b ∷ []) (map g ds) (g z) distinct
-        (or_left (same_dart (g z) (g b)) false (ap (λ a. same_dart a (g b)) (sym same ∙ ap g (same_dart_true y b is)) ∙ same_dart_self (g b)))
-        (has_image g ds z there) in
+    not_in_both (g b ∷ []) (map g ds) (g z) distinct
+    (or_left (same_dart (g z) (g b)) false (ap (λ a. same_dart a (g b)) (sym same ∙ ap g (same_dart_true y b is)) ∙ same_dart_self (g b)))
+    (has_image g ds z there) in
     elim (cases_Bool (same_dart c b)) [
       | inl c_is ↦ elim (cases_Bool (same_dart d b)) [
         | inl d_is ↦ same_dart_true c b c_is ∙ sym (same_dart_true d b d_is)
@@ -80,11 +81,6 @@ images_apart g (b ∷ ds) distinct c d c_in d_in e =
       ]
     ]
 
--- the head of the images
-pub image_of_head : (g : Dart → Dart) (first : Dart) (ds : List Dart) → slice_index_or (map g ds) 0 (g first) ≡ g (slice_index_or ds 0 first)
-image_of_head g first [] = refl
-image_of_head g first (c ∷ ds) = refl
-
 -- a map that keeps the test of darts keeps what follows
 pub follower_of_image : (g : Dart → Dart) (first d : Dart) (ds : List Dart) → ((c : Dart) → has_dart ds c ≡ true → same_dart (g d) (g c) ≡ same_dart d c) → follower (g first) (map g ds) (g d) ≡ g (follower first ds d)
 follower_of_image g first d [] same = refl
@@ -92,16 +88,16 @@ follower_of_image g first d (c ∷ ds) same =
     let rest = follower_of_image g first d ds (λ b h. same b (or_right (same_dart b c) (has_dart ds b) h)) in
     let here = same c (or_left (same_dart c c) (has_dart ds c) (same_dart_self c)) in
     ap (λ (t : Bool). cond t (slice_index_or (map g ds) 0 (g first)) (follower (g first) (map g ds) (g d))) here
-    ∙ ap (λ (y : Dart). cond (same_dart d c) y (follower (g first) (map g ds) (g d))) (image_of_head g first ds)
+    ∙ ap (λ (y : Dart). cond (same_dart d c) y (follower (g first) (map g ds) (g d))) (get_or-map g ds 0 first)
     ∙ ap (λ (y : Dart). cond (same_dart d c) (g (slice_index_or ds 0 first)) y) rest
     ∙ by_test (same_dart d c) where
-  by_test : (t : Bool) → cond t (g (slice_index_or ds 0 first)) (g (follower first ds d)) ≡ g (cond t (slice_index_or ds 0 first) (follower first ds d))
-  by_test true = refl
-  by_test false = refl
+      by_test : (t : Bool) → cond t (g (slice_index_or ds 0 first)) (g (follower first ds d)) ≡ g (cond t (slice_index_or ds 0 first) (follower first ds d))
+      by_test true = refl
+      by_test false = refl
 
 -- and what comes next round a point
 pub next_of_image : (g : Dart → Dart) (d : Dart) (ds : List Dart) → ((c : Dart) → has_dart ds c ≡ true → same_dart (g d) (g c) ≡ same_dart d c) → next_around (map g ds) (g d) ≡ g (next_around ds d)
-next_of_image g d ds same = ap (λ first. follower first (map g ds) (g d)) (image_of_head g d ds) ∙ follower_of_image g (slice_index_or ds 0 d) d ds same
+next_of_image g d ds same = ap (λ first. follower first (map g ds) (g d)) (get_or-map g ds 0 d) ∙ follower_of_image g (slice_index_or ds 0 d) d ds same
 
 -- ---- Darts that pass a test
 
@@ -116,6 +112,7 @@ has_passing keep (c ∷ ds) d h = by_test (has_passing keep ds d) (keep c) h whe
   ]
   by_test rest false k = or_right (same_dart d c) (has_dart ds d) (rest k)
 
+-- and each that passes is one of them
 pub passing_has : (keep : Dart → Bool) (ds : List Dart) (d : Dart) → keep d ≡ true → has_dart ds d ≡ true → has_dart (filter keep ds) d ≡ true
 passing_has keep [] d passes h = cc
 passing_has keep (c ∷ ds) d passes h = elim (cases_Bool (same_dart d c)) [

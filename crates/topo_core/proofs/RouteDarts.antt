@@ -17,11 +17,12 @@ use Rattle.topo_core.proofs.Numbering.{turn_stays, twin_in}
 use Rattle.topo_core.proofs.Standing.{system_test}
 use Rattle.topo_core.proofs.SystemDarts.{at_vertex_in}
 
-pub item_at : {X : Type 0} (x : X) (xs : List X) (i : ℕ) → slice_get xs i ≡ Some x → IsIn x xs
+item_at : {X : Type 0} (x : X) (xs : List X) (i : ℕ) → slice_get xs i ≡ Some x → IsIn x xs
 item_at x [] i e = cc
 item_at x (y ∷ xs) zero e = let same : y ≡ x = cc in inl (sym same)
 item_at x (y ∷ xs) (suc i) e = inr (item_at x xs i e)
 
+-- an item of a list passes the test
 pub has_item : (d : Dart) (ds : List Dart) → IsIn d ds → has_dart ds d ≡ true
 has_item d [] h = absurd h
 has_item d (c ∷ ds) (inl e) = ap (λ x. same_dart d x || has_dart ds d) (sym e) ∙ ap (λ b. b || has_dart ds d) (same_dart_self d)

@@ -1,11 +1,11 @@
 -- Where the darts of a picture stand on their edges once it shows a new edge along a route.
-use Rattle.std.proofs.Common.{◌≡◌, ◌≢◌, ℕ, zero, suc, ◌+◌, ◌-◌, ◌<◌, ◌≤◌, Bool, true, false, cond, ◌&&◌, ◌||◌, List, [], ◌∷◌, length, eqb, refl, sym, ap, subst, ◌∙◌, arith, inl, inr}
-use Rattle.std.specs.Prelude.{◌==◌, ◌⊎◌, Some, None, filter, is_some, map, slice_index_or}
+use Rattle.std.proofs.Common.{◌≡◌, ℕ, suc, ◌+◌, ◌-◌, ◌<◌, ◌≤◌, Bool, true, false, cond, ◌&&◌, ◌||◌, List, [], ◌∷◌, length, eqb, refl, sym, ap, subst, ◌∙◌, arith, inl, inr}
+use Rattle.std.specs.Prelude.{◌==◌, ◌⊎◌, Some, filter, is_some, map, slice_index_or}
 use Rattle.std.specs.List.{AllByRecursion, enumerate_from}
 use Rattle.std.proofs.lemmas.List.{length-map}
 use Rattle.std.proofs.lemmas.List.FromFn.{length-enumerate_from}
 use Rattle.std.proofs.lemmas.List.Sums.{sum_by-cons}
-use Rattle.std.proofs.lemmas.Bool.{and_from, cases_Bool, eq-eqb, eqb-true, false≢true, or_left, or_right}
+use Rattle.std.proofs.lemmas.Bool.{and_from, cases_Bool, eq-eqb, eqb-true, false≢true}
 use Rattle.topo_core.specs.declared.darts.Dart.{Dart}
 use Rattle.topo_core.specs.declared.darts.Way.{Way}
 use Rattle.topo_core.specs.declared.darts.Way.TheVariants.{Forward, Back}
@@ -15,16 +15,16 @@ use Rattle.topo_core.specs.declared.rows.Rows.{Rows}
 use Rattle.topo_core.specs.declared.routes.Route.{Route}
 use Rattle.topo_core.specs.Changes.{crossed_row, new_on, numbered, shown, woven}
 use Rattle.topo_core.specs.Darts.{dart_twin}
-use Rattle.topo_core.specs.Insertions.{backward, CrossesOnce, IsInsertable, lifted, onward, same_segment}
+use Rattle.topo_core.specs.Insertions.{backward, CrossesOnce, lifted, onward, same_segment}
 use Rattle.topo_core.specs.Items.{IsIn, occurrences}
 use Rattle.topo_core.specs.Lawful.{IsWellFormed}
-use Rattle.topo_core.specs.Picture.{ahead, behind, cross_row, darts, edge_at, edge_row, end_dart, IsDart, place_on}
+use Rattle.topo_core.specs.Picture.{ahead, behind, cross_row, darts, edge_at, edge_row, end_dart, place_on}
 use Rattle.topo_core.specs.Pictures.{back, forward}
 use Rattle.topo_core.specs.Systems.{has_dart}
 use Rattle.topo_core.proofs.Counting.{at_most_one, eqb_less, eqb_more, eqb_symm, one, path_place_here, path_place_later}
-use Rattle.topo_core.proofs.Members.{found, left_true, right_true}
+use Rattle.topo_core.proofs.Members.{found}
 use Rattle.topo_core.proofs.ShownForm.{each_of}
-use Rattle.topo_core.proofs.ShownRows.{known_edge_below, newcomer_row, number_from, numbered_in, shown_new_edge, shown_new_row, shown_old_edge, shown_old_row}
+use Rattle.topo_core.proofs.ShownRows.{newcomer_row, number_from, numbered_in, shown_new_edge, shown_new_row, shown_old_edge, shown_old_row}
 use Rattle.topo_core.proofs.Standing.{good_crossing, is_dart_of_rows, listed_test, of_rows_is_dart}
 use Rattle.topo_core.proofs.SystemDarts.{crossing_there, edge_at_row, eqb_self, row_id, row_in, some_of}
 use Rattle.topo_core.proofs.WovenPaths.{first_part, first_part_is, IsParted, last_part, last_part_is, place_of, place_of_new, woven_parts}
@@ -129,6 +129,7 @@ pub record SegmentParts (rows after : Rows) (r : Route) (e s : ℕ) : Type 0 whe
   pub crossing : (x : ℕ) → new_on rows r e s ≡ x ∷ [] → place_on after e x ≡ first
 
 module _ (rows after : Rows) where
+  -- where the lifted darts stand, by the two paths
   pub lifted_forward : (e s : ℕ) → lifted rows after (forward e s) ≡ forward e (first_part (edge_at rows e).crossings (edge_at after e).crossings s)
   lifted_forward e s = by_test (s == 0) (place_on after e (slice_index_or (edge_at rows e).crossings (s - 1) 0) + 1) where
     by_test : (t : Bool) (k : ℕ) → cond {A = Dart} t (forward e 0) (forward e k) ≡ forward e (cond t 0 k)
@@ -155,9 +156,9 @@ module _ (rows after : Rows) where
       let at = (at_its_place x (edge_at rows e).crossings h).1 in
       let same : place + 1 - 1 ≡ place = omega arith in
       sym (
-        ap (λ (t : Bool). cond {A = Dart} t (forward e 0) (ahead after e (slice_index_or (edge_at rows e).crossings (place + 1 - 1) 0))) (eqb_more (place + 1) 0 (omega arith))
-        ∙ ap (λ k. ahead after e (slice_index_or (edge_at rows e).crossings k 0)) same
-        ∙ ap (ahead after e) at
+      ap (λ (t : Bool). cond {A = Dart} t (forward e 0) (ahead after e (slice_index_or (edge_at rows e).crossings (place + 1 - 1) 0))) (eqb_more (place + 1) 0 (omega arith))
+      ∙ ap (λ k. ahead after e (slice_index_or (edge_at rows e).crossings k 0)) same
+      ∙ ap (ahead after e) at
       )
 
   -- and so is the one that goes back
@@ -166,8 +167,8 @@ module _ (rows after : Rows) where
       let place = place_on rows e x in
       let at = at_its_place x (edge_at rows e).crossings h in
       sym (
-        ap (λ (t : Bool). cond {A = Dart} t (back e (length (edge_at after e).crossings)) (behind after e (slice_index_or (edge_at rows e).crossings place 0))) (eqb_less place (length (edge_at rows e).crossings) at.0)
-        ∙ ap (behind after e) at.1
+      ap (λ (t : Bool). cond {A = Dart} t (back e (length (edge_at after e).crossings)) (behind after e (slice_index_or (edge_at rows e).crossings place 0))) (eqb_less place (length (edge_at rows e).crossings) at.0)
+      ∙ ap (behind after e) at.1
       )
 
 -- ---- In the picture that shows the new edge
@@ -182,9 +183,9 @@ module _ (rows : Rows) (u v kind : ℕ) (r : Route) (good : IsWellFormed rows) (
       let pick = some_of (edge_row rows e) known in
       let same : (edge_at after e).a ≡ (edge_at rows e).a = ap (λ (row : EdgeRow). row.a) (shown_old_edge rows u v kind r e pick.0 pick.1) ∙ sym (ap (λ (row : EdgeRow). row.a) (edge_at_row rows e pick.0 pick.1)) in
       ap (λ a. cond {A = Dart} (a == w) (forward e 0) (back e (length (edge_at after e).crossings))) same ∙ by_test ((edge_at rows e).a == w) where
-    by_test : (t : Bool) → cond {A = Dart} t (forward e 0) (back e (length (edge_at after e).crossings)) ≡ lifted rows after (cond {A = Dart} t (forward e 0) (back e (length (edge_at rows e).crossings)))
-    by_test true = refl
-    by_test false = sym (ap (λ (t : Bool). cond {A = Dart} t (back e (length (edge_at after e).crossings)) (behind after e (slice_index_or (edge_at rows e).crossings (length (edge_at rows e).crossings) 0))) (eqb_self (length (edge_at rows e).crossings)))
+        by_test : (t : Bool) → cond {A = Dart} t (forward e 0) (back e (length (edge_at after e).crossings)) ≡ lifted rows after (cond {A = Dart} t (forward e 0) (back e (length (edge_at rows e).crossings)))
+        by_test true = refl
+        by_test false = sym (ap (λ (t : Bool). cond {A = Dart} t (back e (length (edge_at after e).crossings)) (behind after e (slice_index_or (edge_at rows e).crossings (length (edge_at rows e).crossings) 0))) (eqb_self (length (edge_at rows e).crossings)))
 
   parted : (e : ℕ) (row : EdgeRow) → edge_row rows e ≡ Some row → (s : ℕ) → s ≤ length row.crossings → IsParted (new_on rows r e s) s row.crossings (edge_at after e).crossings
   parted e row there s h =
@@ -242,6 +243,7 @@ module _ (rows : Rows) (u v kind : ℕ) (r : Route) (good : IsWellFormed rows) (
     pub before : dart_twin (lifted rows after d) ≡ backward after x d
     pub behind_it : lifted rows after (dart_twin d) ≡ dart_twin (onward after x d)
 
+  -- so it is at each crossed dart
   pub crossed_twins : (x : ℕ) (d : Dart) → IsIn (x, d) (numbered rows r) → has_dart (darts rows) d ≡ true → CrossedTwins x d
   crossed_twins x d at h =
       let parts = segment_parts d h in
@@ -262,19 +264,22 @@ module _ (rows : Rows) (u v kind : ℕ) (r : Route) (good : IsWellFormed rows) (
 
   -- ---- The new edge
 
+  -- its crossings stand in order
   pub place_on_newcomer : (x : ℕ) (d : Dart) → IsIn (x, d) (numbered rows r) → place_on after rows.next_edge x ≡ x - rows.next_crossing
   place_on_newcomer x d at = ap (λ (row : EdgeRow). place_of row.crossings x) (shown_new_edge rows u v kind r good.paths) ∙ place_of_number rows.next_crossing x d r.crossed at
 
+  -- as many as the route crosses darts
   pub newcomer_length : length (map (λ x. x.0) (numbered rows r)) ≡ length r.crossed
   newcomer_length = length-map (numbered rows r) (λ x. x.0) ∙ length-enumerate_from rows.next_crossing r.crossed
 
-  -- a dart is one of the new edge just when its segment is
+  -- its darts
   pub newcomer_dart : (i : ℕ) (way : Way) → i ≤ length r.crossed → has_dart (darts after) (record { edge = rows.next_edge; seg = i; way = way }) ≡ true
   newcomer_dart i way h =
       let many = newcomer_length in
       listed_test after now.paths (record { edge = rows.next_edge; seg = i; way = way })
       ∙ is_dart_of_rows after (record { edge = rows.next_edge; seg = i; way = way }) (newcomer_row rows u v kind r, shown_new_row rows u v kind r good.paths, omega arith)
 
+  -- and their segments
   pub newcomer_segment : (d : Dart) → has_dart (darts after) d ≡ true → d.edge ≡ rows.next_edge → d.seg ≤ length r.crossed
   newcomer_segment d h e =
       let is_dart = of_rows_is_dart after d (sym (listed_test after now.paths d) ∙ h) in

@@ -1,12 +1,14 @@
 -- The points of a picture once it shows a new edge along a route: the old ones have their darts, lifted, and those of the new edge.
-use Rattle.std.proofs.Common.{◌≡◌, ◌≢◌, ℕ, ◌+◌, ◌<◌, Bool, true, false, cond, List, [], ◌∷◌, ◌++◌, length, eqb, not, refl, sym, ap, ap₂, append_assoc, subst, suc, zero, ◌∙◌, arith, inl, inr}
-use Rattle.std.specs.Prelude.{◌==◌, ◌⊎◌, Some, filter, is_some, map, slice_get, slice_index_or}
+use Rattle.std.proofs.Common.{◌≡◌, ◌≢◌, ℕ, ◌<◌, Bool, true, false, cond, List, [], ◌∷◌, ◌++◌, length, not, refl, sym, ap, ap₂, append_assoc, subst, ◌∙◌, arith, inl, inr}
+use Rattle.std.specs.Prelude.{◌==◌, Some, filter, is_some, map, option_map, slice_get, slice_index_or}
 use Rattle.std.specs.List.{range_with_len}
 use Rattle.std.proofs.lemmas.List.{map-append}
+use Rattle.std.proofs.Math.ListN.{get_or-map}
+use Rattle.std.proofs.lemmas.Option.{slice_get-map}
 use Rattle.std.proofs.lemmas.List.Concat.{flat_map-append}
 use Rattle.std.proofs.lemmas.List.Elements.{filter-append}
 use Rattle.std.proofs.lemmas.Simd.{map-map}
-use Rattle.std.proofs.lemmas.Bool.{cases_Bool, eq-eqb, eqb-true, false≢true, or_left, or_right}
+use Rattle.std.proofs.lemmas.Bool.{cases_Bool, eq-eqb, eqb-true, false≢true, ne_eqb, or_left, or_right}
 use Rattle.topo_core.specs.declared.darts.Dart.{Dart}
 use Rattle.topo_core.specs.declared.darts.Sign.{Sign}
 use Rattle.topo_core.specs.declared.darts.Sign.TheVariants.{LeftToRight, RightToLeft}
@@ -19,9 +21,9 @@ use Rattle.topo_core.specs.Items.{IsIn}
 use Rattle.topo_core.specs.Lawful.{IsWellFormed}
 use Rattle.topo_core.specs.Picture.{ahead, around_crossing, around_vertex, behind, clockwise, darts, edge_row, end_dart, rotation, system, vertices}
 use Rattle.topo_core.specs.Pictures.{back, forward}
-use Rattle.topo_core.specs.Systems.{bypassed, darts_in, has_dart, System}
-use Rattle.topo_core.proofs.Counting.{eqb_less, eqb_more}
-use Rattle.topo_core.proofs.Growing.{is_put_in, IsPutIn, map_same}
+use Rattle.topo_core.specs.Systems.{bypassed, darts_in, has_dart}
+use Rattle.topo_core.proofs.Counting.{eqb_less}
+use Rattle.topo_core.proofs.Growing.{is_put_in, map_same}
 use Rattle.topo_core.proofs.Members.{in_left, in_map, in_range, in_right}
 use Rattle.topo_core.proofs.Numbering.{distinct_system}
 use Rattle.topo_core.proofs.Points.{at_point_in, distinct_passing, image_points, passing_points}
@@ -66,15 +68,6 @@ pub record IsEndPoint (rows after : Rows) (w p : ℕ) (new : Dart) : Type 0 wher
   pub now : around_vertex after w ≡ map (lifted rows after) (head ∷ front) ++ new ∷ map (lifted rows after) back
   pub corner : slice_get (around_vertex rows w) p ≡ Some (slice_index_or back 0 head)
 
-head_of_map : (h : ℕ → Dart) (e : ℕ) (es : List ℕ) → slice_index_or (map h es) 0 (h e) ≡ h (slice_index_or es 0 e)
-head_of_map h e [] = refl
-head_of_map h e (f ∷ es) = refl
-
-get_of_map : {X Y : Type 0} (h : X → Y) (xs : List X) (i : ℕ) (x : X) → slice_get xs i ≡ Some x → slice_get (map h xs) i ≡ Some (h x)
-get_of_map h [] i x e = cc
-get_of_map h (y ∷ xs) zero x e = let same : y ≡ x = cc in ap (λ z. Some (h z)) same
-get_of_map h (y ∷ xs) (suc i) x e = get_of_map h xs i x e
-
 -- ---- In the picture that shows the new edge
 
 module _ (rows : Rows) (u v kind : ℕ) (r : Route) (good : IsWellFormed rows) (ask : IsInsertable rows u v kind r) (now : IsWellFormed (shown rows u v kind r)) where
@@ -88,11 +81,13 @@ module _ (rows : Rows) (u v kind : ℕ) (r : Route) (good : IsWellFormed rows) (
   abbrev pub is_kept : Dart → Bool
   is_kept d = not (d.edge == rows.next_edge)
 
+  -- the edges of the old darts have lower ids
   pub old_edge_below : (d : Dart) → has_dart (darts rows) d ≡ true → d.edge < rows.next_edge
   old_edge_below d h =
       let is_dart = of_rows_is_dart rows d (sym (listed_test rows good.paths d) ∙ h) in
       known_edge_below rows good.paths d.edge (ap is_some is_dart.1)
 
+  -- so their darts are kept
   pub old_is_kept : (d : Dart) → has_dart (darts rows) d ≡ true → is_kept (lift d) ≡ true
   old_is_kept d h = ap (λ e. not (e == rows.next_edge)) (lifted_edge rows after d) ∙ ap not (eqb_less d.edge rows.next_edge (old_edge_below d h))
 
@@ -106,6 +101,7 @@ module _ (rows : Rows) (u v kind : ℕ) (r : Route) (good : IsWellFormed rows) (
       let image = in_images lift d around h in
       ap is_kept image.2 ∙ old_is_kept image.0 (at_point_there around at image.0 (has_item image.0 around image.1)))
 
+  -- the points of the rows
   pub vertex_in : (w : ℕ) → w < length rows.rotations → IsIn w (vertices rows)
   vertex_in w h = in_range 0 (length rows.rotations) w (omega arith) (omega arith)
 
@@ -117,6 +113,7 @@ module _ (rows : Rows) (u v kind : ℕ) (r : Route) (good : IsWellFormed rows) (
 
   -- ---- Round the old crossings
 
+  -- the old darts, lifted
   pub around_old_crossing : (x : CrossRow) → IsIn x rows.crossings → around_crossing after x ≡ map lift (around_crossing rows x)
   around_old_crossing x h =
       let facts = good_crossing rows good.crossings x h in
@@ -135,11 +132,13 @@ module _ (rows : Rows) (u v kind : ℕ) (r : Route) (good : IsWellFormed rows) (
       map_same (end_dart after w) (λ e. lift (end_dart rows w e)) es (λ e h. lifted_end rows u v kind r good ask.once now w e (known e h))
       ∙ sym (map-map lift (end_dart rows w) es)
 
+  -- round a vertex that is no end of the new edge: the old darts, lifted
   pub around_other : (w : ℕ) → IsIn w (vertices rows) → w ≢ u → w ≢ v → around_vertex after w ≡ map lift (around_vertex rows w)
   around_other w h not_u not_v =
       ap (map (end_dart after w)) (shown_rotation_other rows u v kind r w not_u not_v)
       ∙ lifted_ends w (rotation rows w) (good_rotation rows good.rotations w h).known
 
+  -- round one that is
   around_end : (w p : ℕ) (new : Dart) → IsIn w (vertices rows) → p < length (rotation rows w) → rotation after w ≡ put_in p rows.next_edge (rotation rows w) → end_dart after w rows.next_edge ≡ new → IsEndPoint rows after w p new
   around_end w p new h inside list end =
       let parts = is_put_in p rows.next_edge (rotation rows w) inside in
@@ -156,8 +155,9 @@ module _ (rows : Rows) (u v kind : ℕ) (r : Route) (good : IsWellFormed rows) (
             ∙ ap (λ d. map lift (map (end_dart rows w) (parts.head ∷ parts.front)) ++ d ∷ map (end_dart after w) parts.back) end
             ∙ ap (λ ds. map lift (map (end_dart rows w) (parts.head ∷ parts.front)) ++ new ∷ ds) (lifted_ends w parts.back (λ e k. known e (in_right e (parts.head ∷ parts.front) parts.back k)));
         corner =
-            get_of_map (end_dart rows w) (rotation rows w) p (slice_index_or parts.back 0 parts.head) parts.corner
-            ∙ ap Some (sym (head_of_map (end_dart rows w) parts.head parts.back));
+            slice_get-map (end_dart rows w) (rotation rows w) p
+            ∙ ap (option_map (end_dart rows w)) parts.corner
+            ∙ ap Some (sym (get_or-map (end_dart rows w) parts.back 0 parts.head));
       }
 
   abbrev pub first_dart : Dart
@@ -173,9 +173,7 @@ module _ (rows : Rows) (u v kind : ℕ) (r : Route) (good : IsWellFormed rows) (
 
   pub around_finish : IsEndPoint rows after v r.end last_dart
   around_finish = around_end v r.end last_dart (vertex_in v ask.v_there) ask.end (shown_rotation_end rows u v kind r ask.v_there ask.ends_apart)
-      (newcomer_end rows u v kind r good ask.once now v ∙ ap (λ (t : Bool). cond {A = Dart} t first_dart last_dart) (apart_test u v ask.ends_apart)) where
-    apart_test : (m n : ℕ) → m ≢ n → eqb m n ≡ false
-    apart_test m n apart = elim (cases_Bool (eqb m n)) [ inl e ↦ absurd (apart (eqb-true m n e)) | inr e ↦ e ]
+      (newcomer_end rows u v kind r good ask.once now v ∙ ap (λ (t : Bool). cond {A = Dart} t first_dart last_dart) (ne_eqb u v ask.ends_apart))
 
   new_not_kept : (d : Dart) → d.edge ≡ rows.next_edge → is_kept d ≡ false
   new_not_kept d e = ap (λ n. not (n == rows.next_edge)) e ∙ ap not (eqb_self rows.next_edge)
@@ -205,6 +203,7 @@ module _ (rows : Rows) (u v kind : ℕ) (r : Route) (good : IsWellFormed rows) (
   abbrev pub crossed_pair : ℕ × Dart → List Dart
   crossed_pair x = ahead after x.1.edge x.0 ∷ behind after x.1.edge x.0 ∷ []
 
+  -- a crossed dart is one of the rows
   pub crossed_there : (x : ℕ) (d : Dart) → IsIn (x, d) (numbered rows r) → has_dart (darts rows) d ≡ true
   crossed_there x d h = each_of (λ d. has_dart (darts rows) d ≡ true) r.crossed ask.crossed d (numbered_in rows.next_crossing x d r.crossed h)
 

@@ -1,8 +1,9 @@
 -- How the darts of a picture turn once it shows a new edge along a route.
-use Rattle.std.proofs.Common.{◌≡◌, ◌≢◌, ℕ, ◌+◌, ◌-◌, ◌<◌, ◌≤◌, Bool, true, false, cond, List, [], ◌∷◌, ◌++◌, length, eqb, not, ◌||◌, refl, sym, ap, subst, ◌∙◌, arith, inl, inr}
-use Rattle.std.specs.Prelude.{◌==◌, ◌⊎◌, Some, map, slice_get, slice_index_or}
+use Rattle.std.proofs.Common.{◌≡◌, ◌≢◌, ℕ, ◌+◌, ◌≤◌, Bool, true, false, List, [], ◌∷◌, ◌++◌, length, not, ◌||◌, refl, sym, ap, subst, ◌∙◌, arith, inl, inr}
+use Rattle.std.specs.Prelude.{◌==◌, ◌⊎◌, Some, map, slice_index_or}
 use Rattle.std.specs.List.{range_with_len}
 use Rattle.std.proofs.lemmas.List.{map-append}
+use Rattle.std.proofs.Math.ListN.{get_or-map}
 use Rattle.std.proofs.lemmas.Bool.{cases_Bool, eq-eqb, eqb-true, false≢true, or_cases, or_left, or_right}
 use Rattle.topo_core.specs.declared.darts.Dart.{Dart}
 use Rattle.topo_core.specs.declared.darts.Way.{Way}
@@ -11,24 +12,23 @@ use Rattle.topo_core.specs.declared.rows.CrossRow.{CrossRow}
 use Rattle.topo_core.specs.declared.rows.Rows.{Rows}
 use Rattle.topo_core.specs.declared.routes.Route.{Route}
 use Rattle.topo_core.specs.Changes.{new_crossing, numbered, shown}
-use Rattle.topo_core.specs.Darts.{dart_twin, reversed, same_dart}
+use Rattle.topo_core.specs.Darts.{reversed, same_dart}
 use Rattle.topo_core.specs.Insertions.{backward, FollowsBut, IsInsertable, lifted, onward, onward_by, ShowsTurns}
 use Rattle.topo_core.specs.Items.{IsIn}
 use Rattle.topo_core.specs.Lawful.{IsWellFormed}
 use Rattle.topo_core.specs.Picture.{ahead, around_crossing, around_vertex, behind, corner, darts, system, vertices}
 use Rattle.topo_core.specs.Pictures.{back, forward}
 use Rattle.topo_core.specs.Systems.{darts_in, follower, has_dart, turn}
-use Rattle.topo_core.proofs.Counting.{eqb_less, eqb_more}
 use Rattle.topo_core.proofs.DartLaws.{same_dart_self, same_dart_true}
 use Rattle.topo_core.proofs.Growing.{in_append}
 use Rattle.topo_core.proofs.Members.{in_left, in_map, in_right}
 use Rattle.topo_core.proofs.NewDarts.{follower_new, follower_old, has_dart-append, stands_in}
-use Rattle.topo_core.proofs.Numbering.{distinct_system}
-use Rattle.topo_core.proofs.Points.{at_point_in, follower_of_image, has_image, has_passing, image_of_dart, image_of_head, images_apart, next_of_image, passing_has, point_of, points_apart, turn_at_point}
+use Rattle.topo_core.proofs.Numbering.{distinct_system, not_same}
+use Rattle.topo_core.proofs.Points.{at_point_in, follower_of_image, has_image, has_passing, image_of_dart, images_apart, next_of_image, passing_has, point_of, points_apart, turn_at_point}
 use Rattle.topo_core.proofs.ShownPlaces.{crossed_twins, lifted_edge, newcomer_dart, newcomer_segment, place_on_newcomer, uncrossed_twins}
-use Rattle.topo_core.proofs.ShownPoints.{around_finish, around_old_crossing, around_other, around_start, at_point_there, crossed_pair, crossed_there, crossing_point, darts_without_new, distinct_without_new, first_dart, is_kept, IsEndPoint, last_dart, old_edge_below, vertex_in, vertex_point}
+use Rattle.topo_core.proofs.ShownPoints.{around_finish, around_old_crossing, around_other, around_start, at_point_there, crossed_pair, crossed_there, crossing_point, darts_without_new, distinct_without_new, is_kept, IsEndPoint, old_edge_below, vertex_in, vertex_point}
 use Rattle.topo_core.proofs.ShownRows.{in_images, shown_vertices}
-use Rattle.topo_core.proofs.Standing.{back_forward, forward_back, system_test}
+use Rattle.topo_core.proofs.Standing.{system_test}
 use Rattle.topo_core.proofs.Turning.{distinct_left, distinct_right, IsDistinct, next_around, not_in_both}
 
 -- ---- Round four darts
@@ -36,9 +36,6 @@ use Rattle.topo_core.proofs.Turning.{distinct_left, distinct_right, IsDistinct, 
 -- four darts, each apart from those before it, follow one another
 abbrev four : Dart → Dart → Dart → Dart → List Dart
 four a b c d = a ∷ b ∷ c ∷ d ∷ []
-
-apart_test : (c d : Dart) → c ≢ d → same_dart c d ≡ false
-apart_test c d apart = elim (cases_Bool (same_dart c d)) [ inl e ↦ absurd (apart (same_dart_true c d e)) | inr e ↦ e ]
 
 first_of_four : (a b c d : Dart) → next_around (four a b c d) a ≡ b
 first_of_four a b c d = rw (same_dart_self a)
@@ -97,12 +94,15 @@ module _ (rows : Rows) (u v kind : ℕ) (r : Route) (good : IsWellFormed rows) (
       ∙ has_passing (is_kept rows u v kind r good ask now) (darts_in (system after)) d
       (ap (λ ds. has_dart ds d) (darts_without_new rows u v kind r good ask now) ∙ h)
 
+  -- an old dart is lifted to a dart of the picture
   pub lifts : (d : Dart) → has_dart (darts rows) d ≡ true → has_dart (darts after) (lift d) ≡ true
   lifts d h = in_kept (lift d) (has_dart-append (map lift (darts_in (system rows))) pairs (lift d) ∙ or_left (has_dart (map lift (darts_in (system rows))) (lift d)) (has_dart pairs (lift d)) (lift_stands d h))
 
+  -- no two of them to the same
   pub lifts_apart : (c d : Dart) → has_dart (darts rows) c ≡ true → has_dart (darts rows) d ≡ true → lift c ≡ lift d → c ≡ d
   lifts_apart c d h k e = images_apart lift (darts_in (system rows)) (distinct_left (map lift (darts_in (system rows))) pairs apart_parts) c d (stands_before c h) (stands_before d k) e
 
+  -- and none is of the new edge
   pub old_apart : (d : Dart) → has_dart (darts rows) d ≡ true → d.edge ≢ rows.next_edge
   old_apart d h e = let less = old_edge_below rows u v kind r good ask now d h in absurd (omega arith)
 
@@ -135,6 +135,7 @@ module _ (rows : Rows) (u v kind : ℕ) (r : Route) (good : IsWellFormed rows) (
   one_pair : (x y : ℕ) (c d b : Dart) → IsIn (x, c) (numbered rows r) → IsIn (y, d) (numbered rows r) → has_dart (pair (x, c)) b ≡ true → has_dart (pair (y, d)) b ≡ true → ◌≡◌ {A = ℕ × Dart} (x, c) (y, d)
   one_pair x y c d b at there h k = points_apart pair (numbered rows r) (distinct_right (map lift (darts_in (system rows))) pairs apart_parts) (x, c) (y, d) b at there h k
 
+  -- the darts at different crossings are different
   pub onwards_apart : (x y : ℕ) (c d : Dart) → IsIn (x, c) (numbered rows r) → IsIn (y, d) (numbered rows r) → onward after x c ≡ onward after y d → x ≡ y
   onwards_apart x y c d at there e = ap (λ p. p.0) (one_pair x y c d (onward after x c) at there (onward_in_pair x c) (ap (has_dart (pair (y, d))) e ∙ onward_in_pair y d))
 
@@ -169,6 +170,7 @@ module _ (rows : Rows) (u v kind : ℕ) (r : Route) (good : IsWellFormed rows) (
       let image = in_images pair point.0 (numbered rows r) point.1 in
       (image.0.0, image.0.1, image.1, pair_is image.0.0 image.0.1 d (ap (λ ds. has_dart ds d) (sym image.2) ∙ point.2))
 
+  -- a dart is of the new edge, or lifted, or stands at a new crossing
   pub one_of : (d : Dart) → has_dart (darts after) d ≡ true → IsOneOf d
   one_of d h = elim (cases_Bool (d.edge == rows.next_edge)) [
     | inl e ↦ let is_new = eqb-true d.edge rows.next_edge e in inl (is_new, newcomer_segment rows u v kind r good ask.once now d h is_new)
@@ -188,7 +190,7 @@ module _ (rows : Rows) (u v kind : ℕ) (r : Route) (good : IsWellFormed rows) (
   same_lift : (c d : Dart) → has_dart (darts rows) c ≡ true → has_dart (darts rows) d ≡ true → same_dart (lift d) (lift c) ≡ same_dart d c
   same_lift c d h k = elim (cases_Bool (same_dart d c)) [
     | inl e ↦ ap (λ y. same_dart (lift d) (lift y)) (sym (same_dart_true d c e)) ∙ same_dart_self (lift d) ∙ sym e
-    | inr e ↦ apart_test (lift d) (lift c) (λ same. false≢true (sym e ∙ ap (same_dart d) (sym (lifts_apart d c k h same)) ∙ same_dart_self d)) ∙ sym e
+    | inr e ↦ not_same (lift d) (lift c) (λ same. false≢true (sym e ∙ ap (same_dart d) (sym (lifts_apart d c k h same)) ∙ same_dart_self d)) ∙ sym e
   ]
 
   point_after : (around : List Dart) (d : Dart) → IsIn around (system after) → has_dart around d ≡ true → turn (system after) d ≡ next_around around d
@@ -231,13 +233,15 @@ module _ (rows : Rows) (u v kind : ℕ) (r : Route) (good : IsWellFormed rows) (
         ∙ or_right (has_dart (map lift (point.head ∷ point.front)) new) (has_dart (new ∷ map lift point.back) new) (has_first new (map lift point.back)))
         ∙ ap (λ ds. next_around ds new) point.now
         ∙ follower_new (lift point.head) new (map lift (point.head ∷ point.front)) (map lift point.back) (not_lifted (point.head ∷ point.front) front_old)
-        ∙ image_of_head lift point.head point.back
+        ∙ get_or-map lift point.back 0 point.head
 
+    -- as the corner names it
     pub turn_of_corner : (c : Dart) → corner rows w p ≡ Some c → turn (system after) new ≡ lift c
     turn_of_corner c at =
         let held : Some (slice_index_or point.back 0 point.head) ≡ Some c = sym point.corner ∙ at in
         let same : slice_index_or point.back 0 point.head ≡ c = cc in turn_of_end ∙ ap lift same
 
+    -- an old dart is followed as before, straight or after the new edge
     pub turn_at_end : (d : Dart) → has_dart (around_vertex rows w) d ≡ true → FollowsBut after rows.next_edge (lift d) (lift (turn (system rows) d))
     turn_at_end d h =
         let whole = point.head ∷ point.front ++ point.back in
@@ -255,19 +259,19 @@ module _ (rows : Rows) (u v kind : ℕ) (r : Route) (good : IsWellFormed rows) (
         ∙ either_part (has_dart (map lift (point.head ∷ point.front)) (lift d)) (same_dart (lift d) new) (has_dart (map lift point.back) (lift d))
         (sym (has_dart-append (map lift (point.head ∷ point.front)) (map lift point.back) (lift d)) ∙ ap (λ ds. has_dart ds (lift d)) (sym (map-append lift (point.head ∷ point.front) point.back)) ∙ has_image lift whole d there) in
         let turned = point_after (around_vertex after w) (lift d) list_there (ap (λ ds. has_dart ds (lift d)) point.now ∙ lift_there) ∙ ap (λ ds. next_around ds (lift d)) point.now in
-        let not_new : same_dart (lift d) new ≡ false = apart_test (lift d) new (λ e. old_apart d d_in (sym (lifted_edge rows after d) ∙ ap (λ (y : Dart). y.edge) e ∙ is_new)) in
+        let not_new : same_dart (lift d) new ≡ false = not_same (lift d) new (λ e. old_apart d d_in (sym (lifted_edge rows after d) ∙ ap (λ (y : Dart). y.edge) e ∙ is_new)) in
         elim (follower_old (lift point.head) new (lift d) (map lift (point.head ∷ point.front)) (map lift point.back) not_new (not_lifted (point.head ∷ point.front) front_old)) [
           | inl same ↦ inl (turned ∙ same ∙ lifted_next)
           | inr between ↦
               let by_new = turned ∙ between.0 in
               inr (
                 ap (λ (y : Dart). y.edge) by_new ∙ is_new,
-                ap (turn (system after)) by_new ∙ turn_of_end ∙ sym (image_of_head lift point.head point.back) ∙ between.1 ∙ lifted_next,
+                ap (turn (system after)) by_new ∙ turn_of_end ∙ sym (get_or-map lift point.back 0 point.head) ∙ between.1 ∙ lifted_next,
               )
         ] where
-      either_part : (a b c : Bool) → (a || c) ≡ true → (a || (b || c)) ≡ true
-      either_part true b c h = refl
-      either_part false b c h = or_right b c h
+          either_part : (a b c : Bool) → (a || c) ≡ true → (a || (b || c)) ≡ true
+          either_part true b c h = refl
+          either_part false b c h = or_right b c h
 
   -- each old dart is followed as before, but for the new edge
   pub turns_as_before : (d : Dart) → has_dart (darts rows) d ≡ true → FollowsBut after rows.next_edge (lift d) (lift (turn (system rows) d))
@@ -277,22 +281,22 @@ module _ (rows : Rows) (u v kind : ℕ) (r : Route) (good : IsWellFormed rows) (
         | inl at_vertex ↦ let image = in_images (around_vertex rows) point.0 (vertices rows) at_vertex in by_vertex image.0 image.1 (ap (λ ds. has_dart ds d) (sym image.2) ∙ point.2)
         | inr at_crossing ↦ let image = in_images (around_crossing rows) point.0 rows.crossings at_crossing in by_crossing image.0 image.1 (ap (λ ds. has_dart ds d) (sym image.2) ∙ point.2)
       ] where
-    by_crossing : (x : CrossRow) → IsIn x rows.crossings → has_dart (around_crossing rows x) d ≡ true → FollowsBut after rows.next_edge (lift d) (lift (turn (system rows) d))
-    by_crossing x at k = inl (turn_kept (around_crossing rows x) (around_crossing after x) d (crossing_point rows u v kind r good ask now x at)
-        (in_right (around_crossing after x) (map (around_vertex after) (vertices after)) (map (around_crossing after) after.crossings) (in_map (around_crossing after) x after.crossings (in_left x rows.crossings (map (new_crossing rows.next_edge) (numbered rows r)) at)))
-        (around_old_crossing rows u v kind r good ask now x at) k)
+        by_crossing : (x : CrossRow) → IsIn x rows.crossings → has_dart (around_crossing rows x) d ≡ true → FollowsBut after rows.next_edge (lift d) (lift (turn (system rows) d))
+        by_crossing x at k = inl (turn_kept (around_crossing rows x) (around_crossing after x) d (crossing_point rows u v kind r good ask now x at)
+            (in_right (around_crossing after x) (map (around_vertex after) (vertices after)) (map (around_crossing after) after.crossings) (in_map (around_crossing after) x after.crossings (in_left x rows.crossings (map (new_crossing rows.next_edge) (numbered rows r)) at)))
+            (around_old_crossing rows u v kind r good ask now x at) k)
 
-    by_vertex : (w : ℕ) → IsIn w (vertices rows) → has_dart (around_vertex rows w) d ≡ true → FollowsBut after rows.next_edge (lift d) (lift (turn (system rows) d))
-    by_vertex w at k = elim (cases_Bool (w == u)) [
-      | inl e ↦ turn_at_end u r.start (forward rows.next_edge 0) (vertex_in rows u v kind r good ask now u ask.u_there) refl (around_start rows u v kind r good ask now) d (ap (λ n. has_dart (around_vertex rows n) d) (sym (eqb-true w u e)) ∙ k)
-      | inr not_u ↦ elim (cases_Bool (w == v)) [
-        | inl e ↦ turn_at_end v r.end (back rows.next_edge (length r.crossed)) (vertex_in rows u v kind r good ask now v ask.v_there) refl (around_finish rows u v kind r good ask now) d (ap (λ n. has_dart (around_vertex rows n) d) (sym (eqb-true w v e)) ∙ k)
-        | inr not_v ↦ inl (turn_kept (around_vertex rows w) (around_vertex after w) d (vertex_point rows u v kind r good ask now w at)
-            (in_left (around_vertex after w) (map (around_vertex after) (vertices after)) (map (around_crossing after) after.crossings)
-            (in_map (around_vertex after) w (vertices after) (subst (λ n. IsIn w (range_with_len 0 n)) (sym (shown_vertices rows u v kind r)) at)))
-            (around_other rows u v kind r good ask now w at (λ e. false≢true (sym not_u ∙ eq-eqb w u e)) (λ e. false≢true (sym not_v ∙ eq-eqb w v e))) k)
-      ]
-    ]
+        by_vertex : (w : ℕ) → IsIn w (vertices rows) → has_dart (around_vertex rows w) d ≡ true → FollowsBut after rows.next_edge (lift d) (lift (turn (system rows) d))
+        by_vertex w at k = elim (cases_Bool (w == u)) [
+          | inl e ↦ turn_at_end u r.start (forward rows.next_edge 0) (vertex_in rows u v kind r good ask now u ask.u_there) refl (around_start rows u v kind r good ask now) d (ap (λ n. has_dart (around_vertex rows n) d) (sym (eqb-true w u e)) ∙ k)
+          | inr not_u ↦ elim (cases_Bool (w == v)) [
+            | inl e ↦ turn_at_end v r.end (back rows.next_edge (length r.crossed)) (vertex_in rows u v kind r good ask now v ask.v_there) refl (around_finish rows u v kind r good ask now) d (ap (λ n. has_dart (around_vertex rows n) d) (sym (eqb-true w v e)) ∙ k)
+            | inr not_v ↦ inl (turn_kept (around_vertex rows w) (around_vertex after w) d (vertex_point rows u v kind r good ask now w at)
+                (in_left (around_vertex after w) (map (around_vertex after) (vertices after)) (map (around_crossing after) after.crossings)
+                (in_map (around_vertex after) w (vertices after) (subst (λ n. IsIn w (range_with_len 0 n)) (sym (shown_vertices rows u v kind r)) at)))
+                (around_other rows u v kind r good ask now w at (λ e. false≢true (sym not_u ∙ eq-eqb w u e)) (λ e. false≢true (sym not_v ∙ eq-eqb w v e))) k)
+          ]
+        ]
 
   -- ---- Turns round a new crossing
 
@@ -309,52 +313,54 @@ module _ (rows : Rows) (u v kind : ℕ) (r : Route) (good : IsWellFormed rows) (
     pub behind_next : turn (system after) (behind after rows.next_edge x) ≡ onward after x d
 
   edges_apart : (c d : Dart) → c.edge ≢ d.edge → same_dart c d ≡ false
-  edges_apart c d apart = apart_test c d (λ e. apart (ap (λ (y : Dart). y.edge) e))
+  edges_apart c d apart = not_same c d (λ e. apart (ap (λ (y : Dart). y.edge) e))
 
+  -- as the crossing's sign says
   pub round_crossing : (x : ℕ) (d : Dart) → IsIn (x, d) (numbered rows r) → RoundCrossing x d
   round_crossing x d at =
       let old = old_apart d (crossed_there rows u v kind r good ask now x d at) in
       by_way d.way old (λ y h. point_after (around_crossing after (new_crossing rows.next_edge (x, d))) y (new_point x d at) h) where
-    by_way : (w : Way) → d.edge ≢ rows.next_edge
-        → ((y : Dart) → has_dart (around_crossing after (new_crossing rows.next_edge (x, record { edge = d.edge; seg = d.seg; way = w }))) y ≡ true → turn (system after) y ≡ next_around (around_crossing after (new_crossing rows.next_edge (x, record { edge = d.edge; seg = d.seg; way = w }))) y)
-        → RoundCrossing x (record { edge = d.edge; seg = d.seg; way = w })
-    by_way Forward old turned =
-        let a = ahead after d.edge x in
-        let b = ahead after rows.next_edge x in
-        let c = behind after d.edge x in
-        let e = behind after rows.next_edge x in
-        let b_not_a = edges_apart b a (λ k. old (sym k)) in
-        let c_not_a = apart_test c a (λ k. ways_apart _ _ _ _ (sym k)) in
-        let c_not_b = edges_apart c b old in
-        let e_not_a = edges_apart e a (λ k. old (sym k)) in
-        let e_not_b = apart_test e b (λ k. ways_apart _ _ _ _ (sym k)) in
-        let e_not_c = edges_apart e c (λ k. old (sym k)) in
-        record {
-          onward_next = turned a (has_first a (b ∷ c ∷ e ∷ [])) ∙ first_of_four a b c e;
-          ahead_next = turned b (has_second a b (c ∷ e ∷ [])) ∙ second_of_four a b c e b_not_a;
-          backward_next = turned c (or_right (same_dart c a) (has_dart (b ∷ c ∷ e ∷ []) c) (has_second b c (e ∷ []))) ∙ third_of_four a b c e c_not_a c_not_b;
-          behind_next = turned e (or_right (same_dart e a) (has_dart (b ∷ c ∷ e ∷ []) e) (or_right (same_dart e b) (has_dart (c ∷ e ∷ []) e) (has_second c e []))) ∙ last_of_four a b c e e_not_a e_not_b e_not_c;
-        }
-    by_way Back old turned =
-        let a = ahead after d.edge x in
-        let b = behind after rows.next_edge x in
-        let c = behind after d.edge x in
-        let e = ahead after rows.next_edge x in
-        let b_not_a = edges_apart b a (λ k. old (sym k)) in
-        let c_not_a = apart_test c a (λ k. ways_apart _ _ _ _ (sym k)) in
-        let c_not_b = edges_apart c b old in
-        let e_not_a = edges_apart e a (λ k. old (sym k)) in
-        let e_not_b = apart_test e b (λ k. ways_apart _ _ _ _ k) in
-        let e_not_c = edges_apart e c (λ k. old (sym k)) in
-        record {
-          onward_next = turned c (or_right (same_dart c a) (has_dart (b ∷ c ∷ e ∷ []) c) (has_second b c (e ∷ []))) ∙ third_of_four a b c e c_not_a c_not_b;
-          ahead_next = turned e (or_right (same_dart e a) (has_dart (b ∷ c ∷ e ∷ []) e) (or_right (same_dart e b) (has_dart (c ∷ e ∷ []) e) (has_second c e []))) ∙ last_of_four a b c e e_not_a e_not_b e_not_c;
-          backward_next = turned a (has_first a (b ∷ c ∷ e ∷ [])) ∙ first_of_four a b c e;
-          behind_next = turned b (has_second a b (c ∷ e ∷ [])) ∙ second_of_four a b c e b_not_a;
-        }
+        by_way : (w : Way) → d.edge ≢ rows.next_edge
+            → ((y : Dart) → has_dart (around_crossing after (new_crossing rows.next_edge (x, record { edge = d.edge; seg = d.seg; way = w }))) y ≡ true → turn (system after) y ≡ next_around (around_crossing after (new_crossing rows.next_edge (x, record { edge = d.edge; seg = d.seg; way = w }))) y)
+            → RoundCrossing x (record { edge = d.edge; seg = d.seg; way = w })
+        by_way Forward old turned =
+            let a = ahead after d.edge x in
+            let b = ahead after rows.next_edge x in
+            let c = behind after d.edge x in
+            let e = behind after rows.next_edge x in
+            let b_not_a = edges_apart b a (λ k. old (sym k)) in
+            let c_not_a = not_same c a (λ k. ways_apart _ _ _ _ (sym k)) in
+            let c_not_b = edges_apart c b old in
+            let e_not_a = edges_apart e a (λ k. old (sym k)) in
+            let e_not_b = not_same e b (λ k. ways_apart _ _ _ _ (sym k)) in
+            let e_not_c = edges_apart e c (λ k. old (sym k)) in
+            record {
+              onward_next = turned a (has_first a (b ∷ c ∷ e ∷ [])) ∙ first_of_four a b c e;
+              ahead_next = turned b (has_second a b (c ∷ e ∷ [])) ∙ second_of_four a b c e b_not_a;
+              backward_next = turned c (or_right (same_dart c a) (has_dart (b ∷ c ∷ e ∷ []) c) (has_second b c (e ∷ []))) ∙ third_of_four a b c e c_not_a c_not_b;
+              behind_next = turned e (or_right (same_dart e a) (has_dart (b ∷ c ∷ e ∷ []) e) (or_right (same_dart e b) (has_dart (c ∷ e ∷ []) e) (has_second c e []))) ∙ last_of_four a b c e e_not_a e_not_b e_not_c;
+            }
+        by_way Back old turned =
+            let a = ahead after d.edge x in
+            let b = behind after rows.next_edge x in
+            let c = behind after d.edge x in
+            let e = ahead after rows.next_edge x in
+            let b_not_a = edges_apart b a (λ k. old (sym k)) in
+            let c_not_a = not_same c a (λ k. ways_apart _ _ _ _ (sym k)) in
+            let c_not_b = edges_apart c b old in
+            let e_not_a = edges_apart e a (λ k. old (sym k)) in
+            let e_not_b = not_same e b (λ k. ways_apart _ _ _ _ k) in
+            let e_not_c = edges_apart e c (λ k. old (sym k)) in
+            record {
+              onward_next = turned c (or_right (same_dart c a) (has_dart (b ∷ c ∷ e ∷ []) c) (has_second b c (e ∷ []))) ∙ third_of_four a b c e c_not_a c_not_b;
+              ahead_next = turned e (or_right (same_dart e a) (has_dart (b ∷ c ∷ e ∷ []) e) (or_right (same_dart e b) (has_dart (c ∷ e ∷ []) e) (has_second c e []))) ∙ last_of_four a b c e e_not_a e_not_b e_not_c;
+              backward_next = turned a (has_first a (b ∷ c ∷ e ∷ [])) ∙ first_of_four a b c e;
+              behind_next = turned b (has_second a b (c ∷ e ∷ [])) ∙ second_of_four a b c e b_not_a;
+            }
 
   -- ---- The insertion
 
+  -- all of it
   pub turns_shown : ShowsTurns rows rows.next_edge u v r after
   turns_shown = record {
     lifts = lifts;

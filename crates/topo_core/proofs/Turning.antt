@@ -15,6 +15,7 @@ use Rattle.topo_core.proofs.NewDarts.{has_dart-append, or_right_false, stands_in
 pub record IsDistinct (ds : List Dart) : Type 0 where
   pub once : (d : Dart) → count_by (same_dart d) ds ≤ 1
 
+-- the parts of a list in which no dart stands twice
 pub distinct_right : (xs ys : List Dart) → IsDistinct (xs ++ ys) → IsDistinct ys
 distinct_right xs ys distinct = record { once = λ d. let sum = sum_by-append (λ c. one (same_dart d c)) xs ys in let most = distinct.once d in omega arith }
 

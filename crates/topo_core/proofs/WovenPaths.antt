@@ -1,5 +1,5 @@
 -- Where the crossings of an edge stand on its path once new crossings are woven in.
-use Rattle.std.proofs.Common.{◌≡◌, ℕ, zero, suc, ◌+◌, ◌-◌, ◌<◌, ◌≤◌, append_assoc, append-nil, Bool, true, false, cond, List, [], ◌∷◌, ◌++◌, length, eqb, refl, sym, ap, subst, ◌∙◌, arith, inl, inr}
+use Rattle.std.proofs.Common.{◌≡◌, ℕ, zero, suc, ◌+◌, ◌-◌, ◌<◌, ◌≤◌, append_assoc, append-nil, Bool, false, cond, List, [], ◌∷◌, ◌++◌, length, eqb, refl, sym, ap, subst, ◌∙◌, arith, inl, inr}
 use Rattle.std.specs.Prelude.{◌==◌, nat_lt, slice_index_or}
 use Rattle.std.specs.List.{position_or_len}
 use Rattle.std.proofs.lemmas.List.{length-append}
@@ -7,8 +7,8 @@ use Rattle.std.proofs.lemmas.List.Sums.{sum_by-cons}
 use Rattle.std.proofs.lemmas.Bool.{cases_Bool, eq-eqb, eqb-true}
 use Rattle.topo_core.specs.Items.{IsIn, occurrences}
 use Rattle.topo_core.specs.Changes.{woven}
-use Rattle.topo_core.proofs.Counting.{eqb_less, eqb_more, one, path_place_here, path_place_later}
-use Rattle.topo_core.proofs.Members.{in_left, in_right}
+use Rattle.topo_core.proofs.Counting.{eqb_more, one, path_place_here, path_place_later}
+use Rattle.topo_core.proofs.Members.{in_right}
 use Rattle.topo_core.proofs.SystemDarts.{eqb_self}
 
 -- ---- Places on a path
