@@ -275,15 +275,15 @@ pub record Straightened (b : ℕ → ℕ) (n : ℕ) (f : ℕ → ℕ) (m : ℕ) 
   pub back : (a c : ℕ) → IsWithin n ks a → IsWithin n ks c → SameCycle (face_next b) a c → SameCycle (face_next bottom) a c
   pub sides : AllByRecursion (λ k. SameCycle (face_next b) (name k.dart) k.beyond × SameCycle (face_next b) (twin k.beyond) (twin (name k.dart))) ks
 
-all_both : {X : Type 0} (P Q R : X → Type 0) → ((x : X) → P x → Q x → R x) → (xs : List X) → AllByRecursion P xs → AllByRecursion Q xs → AllByRecursion R xs
+pub all_both : {X : Type 0} (P Q R : X → Type 0) → ((x : X) → P x → Q x → R x) → (xs : List X) → AllByRecursion P xs → AllByRecursion Q xs → AllByRecursion R xs
 all_both P Q R f [] h g = h
 all_both P Q R f (x ∷ xs) h g = (f x h.0 g.0, all_both P Q R f xs h.1 g.1)
 
-all_bends : (b : ℕ → ℕ) (n m : ℕ) (name : ℕ → ℕ) (ks : List Bend) → AreBends b n m name ks → AllByRecursion (IsBend b n m name) ks
+pub all_bends : (b : ℕ → ℕ) (n m : ℕ) (name : ℕ → ℕ) (ks : List Bend) → AreBends b n m name ks → AllByRecursion (IsBend b n m name) ks
 all_bends b n m name [] h = h
 all_bends b n m name (k ∷ ks) h = (h.0, all_bends b n m name ks h.2)
 
-dead_bends : (live : ℕ → Bool) (n : ℕ) (ks : List Bend) (a : ℕ) → live a ≡ false → IsWithin n ks a → with_bends live ks a ≡ false
+pub dead_bends : (live : ℕ → Bool) (n : ℕ) (ks : List Bend) (a : ℕ) → live a ≡ false → IsWithin n ks a → with_bends live ks a ≡ false
 dead_bends live n [] a dead u = dead
 dead_bends live n (k ∷ ks) a dead u = with_other (with_bends live ks) k.beyond a u.0.not_self u.0.not_twin ∙ dead_bends live n ks a dead u.1
 

@@ -20,3 +20,5 @@ pub mod FacesKept
 pub mod Possible
 pub mod Links
 pub mod Bends
+pub mod Passages
+pub mod Passing

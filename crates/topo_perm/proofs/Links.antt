@@ -140,7 +140,7 @@ link_stays g n k l even u i = record {
   arrives = without_link-other g n k (twin l.half) l.to (apart_twin n l.half k.half even u.half) u.to_back i.arrives;
 }
 
-links_stay : (g : ℕ → ℕ) (n : ℕ) (k : Link) (ks : List Link) → n % 2 ≡ 0 → AllByRecursion (AreUnlinked n k) ks → AreLinks g n ks → AreLinks (without_link g k) n ks
+pub links_stay : (g : ℕ → ℕ) (n : ℕ) (k : Link) (ks : List Link) → n % 2 ≡ 0 → AllByRecursion (AreUnlinked n k) ks → AreLinks g n ks → AreLinks (without_link g k) n ks
 links_stay g n k [] even u h = h
 links_stay g n k (l ∷ ls) even u h = (link_stays g n k l even u.0 h.0, h.1, links_stay g n k ls even u.1 h.2)
 
@@ -214,10 +214,10 @@ pub live_links : (live : ℕ → Bool) (ks : List Link) (a : ℕ) → live a ≡
 live_links live [] a l = l
 live_links live (k ∷ ks) a l = with_old (with_links live ks) k.half a (live_links live ks a l)
 
-half_unlinked : (n : ℕ) (k : Link) (ks : List Link) → k.half < n → AllByRecursion (AreUnlinked n k) ks → IsUnlinked n ks k.half
+pub half_unlinked : (n : ℕ) (k : Link) (ks : List Link) → k.half < n → AllByRecursion (AreUnlinked n k) ks → IsUnlinked n ks k.half
 half_unlinked n k ks lh u = all_map (AreUnlinked n k) (λ l. IsApart n k.half l.half) (λ l w. apart_back n k.half l.half lh w.half) ks u
 
-twin_unlinked : (n : ℕ) (ks : List Link) (a : ℕ) → n % 2 ≡ 0 → IsUnlinked n ks a → IsUnlinked n ks (twin a)
+pub twin_unlinked : (n : ℕ) (ks : List Link) (a : ℕ) → n % 2 ≡ 0 → IsUnlinked n ks a → IsUnlinked n ks (twin a)
 twin_unlinked n ks a even u = all_map (λ k. IsApart n a k.half) (λ k. IsApart n (twin a) k.half) (λ k w. apart_twin n a k.half even w) ks u
 
 pub draw : (live : ℕ → Bool) (g : ℕ → ℕ) (n : ℕ) (ks : List Link) → IsPermutation g n → n % 2 ≡ 0 → AreLinks g n ks → AreReady live ks → AreInFaces (without_links g ks) ks → IsSlab live (without_links g ks) n → Drawn live (without_links g ks) g n ks
