@@ -64,7 +64,8 @@ none_counted x (y ∷ xs) below =
     let first : cond {A = ℕ} (y == x) 1 0 ≡ 0 = ap (λ (t : Bool). cond {A = ℕ} t 1 0) (eqb_less y x (below y (inl refl))) in
     let rest = none_counted x xs (λ z h. below z (inr h)) in omega arith
 
-in_append : {X : Type 0} (x : X) (xs ys : List X) → IsIn x (xs ++ ys) → IsIn x xs ⊎ IsIn x ys
+-- an item of two lists together is an item of one of them
+pub in_append : {X : Type 0} (x : X) (xs ys : List X) → IsIn x (xs ++ ys) → IsIn x xs ⊎ IsIn x ys
 in_append x [] ys h = inr h
 in_append x (y ∷ xs) ys (inl e) = inl (inl e)
 in_append x (y ∷ xs) ys (inr h) = elim (in_append x xs ys h) [ inl k ↦ inl (inr k) | inr k ↦ inr k ]
@@ -126,10 +127,11 @@ range_split a (suc u) m (suc n) k total at = ap (λ list. a ∷ list) (range_spl
 
 -- ---- What is found in a longer list
 
-found_more : {X : Type 0} (q : X → Bool) (xs ys : List X) (x : X) → find q xs ≡ Some x → find q (xs ++ ys) ≡ Some x
+pub found_more : {X : Type 0} (q : X → Bool) (xs ys : List X) (x : X) → find q xs ≡ Some x → find q (xs ++ ys) ≡ Some x
 found_more q xs ys x e = find-append q xs ys ∙ ap (λ o. option_or o (find q ys)) e
 
-none_found : {X : Type 0} (q : X → Bool) (xs : List X) → ((x : X) → IsIn x xs → q x ≡ false) → find q xs ≡ None
+-- where no item passes none is found
+pub none_found : {X : Type 0} (q : X → Bool) (xs : List X) → ((x : X) → IsIn x xs → q x ≡ false) → find q xs ≡ None
 none_found q [] none = refl
 none_found q (x ∷ xs) none = ap (λ (b : Bool). cond b (Some x) (find q xs)) (none x (inl refl)) ∙ none_found q xs (λ y h. none y (inr h))
 
@@ -143,17 +145,20 @@ rises_push limit (x ∷ y ∷ xs) h = and_from (nat_lt x y) _ (left_true (nat_lt
 
 -- ---- The rotations of a grown picture
 
-le_test : (m n : ℕ) → m ≤ n → nat_le m n ≡ true
+-- the test of an order that holds
+pub le_test : (m n : ℕ) → m ≤ n → nat_le m n ≡ true
 le_test m n h = grind (arith, nat_tests)
 
-some_found_more : {X : Type 0} (q : X → Bool) (xs ys : List X) → is_some (find q xs) ≡ true → is_some (find q (xs ++ ys)) ≡ true
+-- what is found is found in a longer list
+pub some_found_more : {X : Type 0} (q : X → Bool) (xs ys : List X) → is_some (find q xs) ≡ true → is_some (find q (xs ++ ys)) ≡ true
 some_found_more q [] ys h = cc
 some_found_more q (x ∷ xs) ys h = by_test (q x) (some_found_more q xs ys) h where
   by_test : (b : Bool) → (is_some (find q xs) ≡ true → is_some (find q (xs ++ ys)) ≡ true) → is_some (cond b (Some x) (find q xs)) ≡ true → is_some (cond b (Some x) (find q (xs ++ ys))) ≡ true
   by_test true more h = refl
   by_test false more h = more h
 
-some_found_last : {X : Type 0} (q : X → Bool) (xs : List X) (y : X) → q y ≡ true → is_some (find q (xs ++ y ∷ [])) ≡ true
+-- with a last item that passes something is found
+pub some_found_last : {X : Type 0} (q : X → Bool) (xs : List X) (y : X) → q y ≡ true → is_some (find q (xs ++ y ∷ [])) ≡ true
 some_found_last q [] y h = ap (λ (b : Bool). is_some (cond b (Some y) None)) h
 some_found_last q (x ∷ xs) y h = by_test (q x) (some_found_last q xs y h) where
   by_test : (b : Bool) → is_some (find q (xs ++ y ∷ [])) ≡ true → is_some (cond b (Some x) (find q (xs ++ y ∷ []))) ≡ true
@@ -181,7 +186,8 @@ one_here f = ap (λ (t : Bool). 0 + cond {A = ℕ} t 1 0) (eqb_self f)
 same_le : (f e : ℕ) → e ≡ f → f ≤ e
 same_le f e h = omega arith
 
-ne_from : (v u : ℕ) → eqb v u ≡ false → v ≢ u
+-- numbers that fail the test are different
+pub ne_from : (v u : ℕ) → eqb v u ≡ false → v ≢ u
 ne_from v u h e = grind (arith, nat_tests)
 
 last_vertex : (v n : ℕ) → nat_lt v n ≡ false → v < n + 1 → n ≡ v
@@ -193,10 +199,12 @@ one_vertex_more a b n c d e h = grind (arith, nat_tests)
 one_edge_more : (u n kind : ℕ) → u < n → kind < 64 → (nat_lt u (n + 1) && nat_lt n (n + 1) && not (eqb u n) && nat_lt kind 64 && true) ≡ true
 one_edge_more u n kind h k = grind (arith, nat_tests)
 
-neither : (f a b : ℕ) → a < f → b < f → cond {A = ℕ} (eqb f a || eqb f b) 1 0 ≡ 0
+-- a new id is neither of two old ones
+pub neither : (f a b : ℕ) → a < f → b < f → cond {A = ℕ} (eqb f a || eqb f b) 1 0 ≡ 0
 neither f a b h k = grind (arith, nat_tests)
 
-first_below : {f p : ℕ} (around : List ℕ) → ((e : ℕ) → IsIn e around → e < f) → p < length around → get_or around 0 0 ≤ f
+-- the first of a list whose items are below f
+pub first_below : {f p : ℕ} (around : List ℕ) → ((e : ℕ) → IsIn e around → e < f) → p < length around → get_or around 0 0 ≤ f
 first_below [] below h = absurd (omega arith)
 first_below (x ∷ around) below h = let one = below x (inl refl) in omega arith
 

@@ -13,6 +13,10 @@ pub mod Numbering
 pub mod Orbits
 pub mod Renumbering
 pub mod RouteDarts
+pub mod ShownForm
+pub mod ShownRows
+pub mod SimpleRoutes
 pub mod Standing
 pub mod SystemDarts
 pub mod Turning
+pub mod Weaving

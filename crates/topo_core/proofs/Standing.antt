@@ -386,7 +386,8 @@ both_ways_count d e s = elim d.way as (λ w. count_by (same_dart (record { edge 
       let second : one (same_dart (back d.edge d.seg) (back e s)) ≡ one (d.edge == e && d.seg == s) = ap one (back_back d.edge d.seg e s) in omega arith
 ]
 
-one_of_both : (t u : Bool) → one (t && u) ≡ cond {A = ℕ} t (one u) 0
+-- the test of both, as a weight under the first
+pub one_of_both : (t u : Bool) → one (t && u) ≡ cond {A = ℕ} t (one u) 0
 one_of_both true u = refl
 one_of_both false u = refl
 

@@ -1,5 +1,6 @@
 //! Laws of the definitions. The functions do nothing: their contracts are the laws.
 
+ghost use Rattle.topo_core.specs.Insertions.{InsertionKeepsForm, SimpleRoutesAreInsertable};
 ghost use Rattle.topo_core.specs.Laws.{DartsAreNumbered, DartsStandOnce, GrowthKeepsEmbedding, GrowthKeepsFaces, GrowthKeepsGenus, NumbersKeepConnection, NumbersKeepFaces, TurnIsAPermutation};
 
 /// A growth in a corner of a vertex makes a connected embedding of a connected embedding.
@@ -41,4 +42,14 @@ pub fn numbers_keep_connection()
 /// Two darts have one face on their left just when their numbers lie on one cycle of the face map.
 pub fn numbers_keep_faces()
     ensures { NumbersKeepFaces }
+{}
+
+/// The picture that shows a new edge along a route whose corners and crossed darts are there is well formed.
+pub fn insertion_keeps_form()
+    ensures { InsertionKeepsForm }
+{}
+
+/// An edge can be shown along a route that meets no face twice: such a route crosses no segment twice.
+pub fn simple_routes_are_insertable()
+    ensures { SimpleRoutesAreInsertable }
 {}

@@ -1,0 +1,5 @@
+use Rattle.topo_core.proofs.ShownForm.{shown_well_formed}
+use Rattle.topo_core.proofs.laws.insertion_keeps_form.Goals as goal
+
+pub returns : goal.returns
+returns c = shown_well_formed
