@@ -1,9 +1,12 @@
 pub mod Begins
+pub mod Counts
 pub mod Growing
 pub mod Linking
+pub mod Lookups
 pub mod Noting
 pub mod PairCounts
 pub mod PairTests
+pub mod Places
 pub mod Rounds
 pub mod Sorting
 pub mod Verdicts

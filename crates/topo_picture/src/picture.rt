@@ -1,6 +1,7 @@
 //! A picture, with its limits.
 
 use crate::copies::copy_rows;
+use crate::frozen::Frozen;
 use crate::growth::grow_rows;
 use crate::load::{LoadFault, first_fault};
 use std::alloc::{AllocError, Global};
@@ -77,6 +78,14 @@ impl Picture {
         ensures lawful { IsPicture self.now.limits self.now.rows }
     {
         copy_rows(alloc, &self.rows)
+    }
+
+    /// The frozen picture of its rows, as they are now.
+    pub fn freeze(&self, alloc: Global) -> Result<Frozen, AllocError>
+        ensures { IfOk result (λ f. f.rows ≡ self.now.rows) }
+    {
+        let rows = copy_rows(alloc, &self.rows)?;
+        Frozen::new(alloc, rows)
     }
 
     /// Puts a new vertex on a new edge of the given kind into the corner at `position` of vertex
