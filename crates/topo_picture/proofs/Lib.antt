@@ -6,5 +6,6 @@ pub mod PairCounts
 pub mod PairTests
 pub mod Rounds
 pub mod Sorting
+pub mod Totals
 pub mod Verdicts
 pub mod Written

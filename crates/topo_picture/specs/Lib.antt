@@ -2,3 +2,4 @@ pub mod Flats
 pub mod Loading
 pub mod Pairs
 pub mod Shown
+pub mod Totals

@@ -10,6 +10,7 @@
 #![tactic(auto)]
 
 mod copies;
+pub mod counts;
 mod faults;
 pub mod flat;
 mod growth;
@@ -17,6 +18,7 @@ pub mod load;
 mod pairs;
 pub mod picture;
 
+pub use counts::Counts;
 pub use flat::Flat;
 pub use load::LoadFault;
 pub use picture::Picture;
