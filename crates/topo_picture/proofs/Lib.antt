@@ -9,5 +9,6 @@ pub mod PairTests
 pub mod Places
 pub mod Rounds
 pub mod Sorting
+pub mod Totals
 pub mod Verdicts
 pub mod Written

@@ -132,6 +132,7 @@ module _ (rows : Rows) (paths : has_good_paths rows ≡ true) (small : rows.next
         and_four true true false d e f g h = cc
         and_four true true true false e f g h = cc
 
+  -- good crossings stand on the paths just as they want
   pub same_from_good : has_good_crossings rows ≡ true → Same
   same_from_good good k = ap (λ n. occurrences n (path_pairs rows.edges)) (split k) ∙ stands (high k) (low k) (low_below k) ∙ by_row (high k) (low k) ∙ sym (due (high k) (low k) (low_below k)) ∙ ap (λ n. occurrences n (crossing_pairs rows.crossings)) (sym (split k)) where
     by_row : (e x : ℕ) → unwrap_or (option_map (λ row. occurrences x row.crossings) (edge_row rows e)) 0 ≡ unwrap_or (option_map (λ c. one (c.crossed == e) + one (c.newcomer == e)) (cross_row rows x)) 0

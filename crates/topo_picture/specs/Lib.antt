@@ -3,3 +3,4 @@ pub mod Loading
 pub mod Pairs
 pub mod Recovering
 pub mod Shown
+pub mod Totals

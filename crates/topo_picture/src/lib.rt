@@ -10,6 +10,7 @@
 #![tactic(auto)]
 
 mod copies;
+pub mod counts;
 mod faults;
 mod flat;
 pub mod frozen;
@@ -19,6 +20,7 @@ mod numbers;
 mod pairs;
 pub mod picture;
 
+pub use counts::Counts;
 pub use frozen::Frozen;
 pub use load::LoadFault;
 pub use picture::Picture;

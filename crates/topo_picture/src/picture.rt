@@ -1,6 +1,7 @@
 //! A picture, with its limits.
 
 use crate::copies::copy_rows;
+use crate::counts::Counts;
 use crate::frozen::Frozen;
 use crate::growth::grow_rows;
 use crate::load::{LoadFault, first_fault};
@@ -36,6 +37,7 @@ impl Picture {
     ghost use Rattle.topo_core.specs.Steps.{grow_refusal};
     ghost use Rattle.topo_picture.specs.Loading.{FailsFirst};
     ghost use Rattle.topo_picture.specs.Shown.{IsPicture};
+    ghost use Rattle.topo_picture.specs.Totals.{AreCountsOf};
 
     /// The picture of two vertices, 0 and 1, and edge 0 of kind 0 from the one to the other.
     pub fn seed(alloc: Global, limits: Limits) -> Result<Self, AllocError>
@@ -70,6 +72,24 @@ impl Picture {
         ensures { result ≡ self.now.limits }
     {
         self.limits
+    }
+
+    /// How large it is. Each crossing stands on two paths, so it makes two segments more, and the
+    /// faces follow by Euler's formula.
+    pub fn counts(&self) -> Counts
+        ensures { AreCountsOf self.now.rows result }
+    {
+        let vertices = self.rows.rotations.as_slice().len() as u32;
+        let crossings = self.rows.crossings.as_slice().len() as u32;
+        let edges = self.rows.edges.as_slice().len() as u32;
+        let segments = edges + 2 * crossings;
+        Counts {
+            vertices,
+            crossings,
+            edges,
+            segments,
+            faces: segments + 2 - (vertices + crossings),
+        }
     }
 
     /// A copy of its rows.
