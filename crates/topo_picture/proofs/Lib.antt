@@ -1,5 +1,5 @@
 pub mod Begins
-pub mod Counts
+pub mod RowCounts
 pub mod Growing
 pub mod Linking
 pub mod Lookups

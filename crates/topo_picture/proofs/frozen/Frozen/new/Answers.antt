@@ -1,6 +1,6 @@
 use Rattle.std.proofs.Common.{ap, arith, length, List, rules}
 use Rattle.topo_core.specs.declared.rows.EdgeRow.{EdgeRow}
-use Rattle.topo_picture.proofs.Counts.{segments_most}
+use Rattle.topo_picture.proofs.RowCounts.{segments_most}
 use Rattle.topo_picture.proofs.Verdicts.{images_total}
 use Rattle.topo_picture.proofs.frozen.Frozen.new.Goals as goal
 

@@ -1,6 +1,6 @@
 use Rattle.std.proofs.Common.{arith}
 use Rattle.topo_picture.specs.Recovering.{well_formed_again}
-use Rattle.topo_picture.proofs.Counts.{degree_most}
+use Rattle.topo_picture.proofs.RowCounts.{degree_most}
 use Rattle.topo_picture.proofs.Verdicts.{images_total}
 use Rattle.topo_picture.proofs.frozen.FrozenDual.degree.Goals as goal
 
