@@ -34,7 +34,7 @@ impl Picture {
     ghost use Rattle.std.specs.Prelude.{◌≡◌, ◌⊎◌, IfOk, IfErr, OnErr, length, Some, None};
     ghost use Rattle.topo_core.specs.Pictures.{seed};
     ghost use Rattle.topo_core.specs.Changes.{grown};
-    ghost use Rattle.topo_core.specs.Steps.{grow_refusal};
+    ghost use Rattle.topo_core.specs.Steps.{grow_refusal, insert_refusal};
     ghost use Rattle.topo_picture.specs.Loading.{FailsFirst};
     ghost use Rattle.topo_picture.specs.Shown.{IsPicture};
     ghost use Rattle.topo_picture.specs.Totals.{AreCountsOf};
@@ -108,6 +108,31 @@ impl Picture {
         Frozen::new(alloc, rows)
     }
 
+    /// An equal picture: the same rows and limits.
+    pub fn copy(&self, alloc: Global) -> Result<Self, AllocError>
+        ensures { IfOk result (λ p. p ≡ self.now) }
+    {
+        let rows = copy_rows(alloc, &self.rows)?;
+        Ok(Picture {
+            limits: self.limits,
+            rows,
+        })
+    }
+
+    /// Whether an edge of this kind may be inserted from `u` to `v`, before a route is looked for.
+    /// It is refused as NoVertex where one of them is no vertex, as SameEnds where they are one, as
+    /// BadKind where the kind is above 63, and as Full where no edge id is left: the first of these
+    /// that holds.
+    pub fn admit(&self, u: u32, v: u32, kind: u32) -> Result<(), Refusal>
+        ensures admitted { IfOk result (λ _. insert_refusal self.now.limits self.now.rows u v kind ≡ None) }
+        ensures refused { IfErr result (λ why. insert_refusal self.now.limits self.now.rows u v kind ≡ Some why) }
+    {
+        match insert_fault(&self.limits, &self.rows, u, v, kind) {
+            Some(why) => Err(why),
+            None => Ok(()),
+        }
+    }
+
     /// Puts a new vertex on a new edge of the given kind into the corner at `position` of vertex
     /// `u`, and answers their numbers. It is refused as NoVertex where `u` is no vertex, as
     /// NoPosition where `u` has fewer corners, as BadKind where the kind is above 63, and as Full
@@ -147,7 +172,7 @@ impl Picture {
 
 ghost use Rattle.std.specs.Prelude.{◌≡◌, IfOk, [], ◌∷◌};
 ghost use Rattle.topo_core.specs.Pictures.{seed};
-ghost use Rattle.topo_core.specs.Steps.{grow_refusal};
+ghost use Rattle.topo_core.specs.Steps.{grow_refusal, insert_refusal};
 
 /// The rows of two vertices and the edge between them.
 fn seed_rows(alloc: Global) -> Result<Rows, AllocError>
@@ -194,6 +219,24 @@ fn grow_fault(limits: &Limits, rows: &Rows, u: u32, position: u32, kind: u32) ->
     } else if kind >= 64 {
         Some(Refusal::BadKind)
     } else if vertices >= limits.vertices as usize || rows.next_edge >= limits.edges {
+        Some(Refusal::Full)
+    } else {
+        None
+    }
+}
+
+/// The first reason to refuse an insertion before a route is looked for.
+fn insert_fault(limits: &Limits, rows: &Rows, u: u32, v: u32, kind: u32) -> Option<Refusal>
+    ensures { result ≡ insert_refusal limits.now rows.now u v kind }
+{
+    let vertices = rows.rotations.as_slice().len();
+    if u as usize >= vertices || v as usize >= vertices {
+        Some(Refusal::NoVertex)
+    } else if u == v {
+        Some(Refusal::SameEnds)
+    } else if kind >= 64 {
+        Some(Refusal::BadKind)
+    } else if rows.next_edge >= limits.edges {
         Some(Refusal::Full)
     } else {
         None
