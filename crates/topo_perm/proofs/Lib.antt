@@ -18,3 +18,7 @@ pub mod Slabs
 pub mod SlabEdits
 pub mod FacesKept
 pub mod Possible
+pub mod Links
+pub mod Bends
+pub mod Passages
+pub mod Passing

@@ -39,7 +39,7 @@ both_length e a (suc n) = let rest = both_length e (a + 1) n in omega arith
 pub darts_length : (row : EdgeRow) → length (darts_of row) ≡ 2 * segment_count row
 darts_length row = both_length row.id 0 (segment_count row)
 
-forward_get : (e a n s : ℕ) → s < n → slice_get (flat_map (both_ways e) (range_with_len a n)) (2 * s) ≡ Some (record { edge = e; seg = a + s; way = Forward })
+pub forward_get : (e a n s : ℕ) → s < n → slice_get (flat_map (both_ways e) (range_with_len a n)) (2 * s) ≡ Some (record { edge = e; seg = a + s; way = Forward })
 forward_get e a zero s h = absurd (omega arith)
 forward_get e a (suc n) zero h = let same : a ≡ a + 0 = omega arith in ap (λ s. Some (record { edge = e; seg = s; way = Forward })) same
 forward_get e a (suc n) (suc s) h =
@@ -47,7 +47,7 @@ forward_get e a (suc n) (suc s) h =
     let same : (a + 1) + s ≡ a + suc s = omega arith in
     ap (slice_get (flat_map (both_ways e) (range_with_len a (suc n)))) place ∙ forward_get e (a + 1) n s (omega arith) ∙ ap (λ s. Some (record { edge = e; seg = s; way = Forward })) same
 
-back_get : (e a n s : ℕ) → s < n → slice_get (flat_map (both_ways e) (range_with_len a n)) (2 * s + 1) ≡ Some (record { edge = e; seg = a + s; way = Back })
+pub back_get : (e a n s : ℕ) → s < n → slice_get (flat_map (both_ways e) (range_with_len a n)) (2 * s + 1) ≡ Some (record { edge = e; seg = a + s; way = Back })
 back_get e a zero s h = absurd (omega arith)
 back_get e a (suc n) zero h = let same : a ≡ a + 0 = omega arith in ap (λ s. Some (record { edge = e; seg = s; way = Back })) same
 back_get e a (suc n) (suc s) h =

@@ -1,10 +1,14 @@
 pub mod Begins
+pub mod RowCounts
 pub mod Growing
 pub mod Linking
+pub mod Lookups
 pub mod Noting
 pub mod PairCounts
 pub mod PairTests
+pub mod Places
 pub mod Rounds
 pub mod Sorting
+pub mod Totals
 pub mod Verdicts
 pub mod Written

@@ -132,7 +132,8 @@ module _ (rows : Rows) (paths : has_good_paths rows ≡ true) (small : rows.next
         and_four true true false d e f g h = cc
         and_four true true true false e f g h = cc
 
-  same_from_good : has_good_crossings rows ≡ true → Same
+  -- good crossings stand on the paths just as they want
+  pub same_from_good : has_good_crossings rows ≡ true → Same
   same_from_good good k = ap (λ n. occurrences n (path_pairs rows.edges)) (split k) ∙ stands (high k) (low k) (low_below k) ∙ by_row (high k) (low k) ∙ sym (due (high k) (low k) (low_below k)) ∙ ap (λ n. occurrences n (crossing_pairs rows.crossings)) (sym (split k)) where
     by_row : (e x : ℕ) → unwrap_or (option_map (λ row. occurrences x row.crossings) (edge_row rows e)) 0 ≡ unwrap_or (option_map (λ c. one (c.crossed == e) + one (c.newcomer == e)) (cross_row rows x)) 0
     by_row e x = elim (some_or_none (cross_row rows x)) [
@@ -271,7 +272,7 @@ module _ (rows : Rows) (paths : has_good_paths rows ≡ true) (small : length ro
       ap (λ b. b && list_all (λ e. is_some (edge_row rows e)) (rotation rows v) && begins_with_least (rotation rows v)) counted
       ∙ ap (λ b. b && begins_with_least (rotation rows v)) known ∙ begins)
 
-  agree_from_rotations : has_good_rotations rows ≡ true → Agree
+  pub agree_from_rotations : has_good_rotations rows ≡ true → Agree
   agree_from_rotations good k = ap (λ n. occurrences n (rotation_pairs 0 rows.rotations)) (split k) ∙ stand (high k) (low k) (low_below k) ∙ by_vertex (high k) (low k) ∙ sym (want (high k) (low k) (low_below k)) ∙ ap (λ n. occurrences n (end_pairs rows.edges)) (sym (split k)) where
     by_vertex : (e v : ℕ) → occurrences e (rotation rows v) ≡ unwrap_or (option_map (λ row. one (row.a == v) + one (row.b == v)) (edge_row rows e)) 0
     by_vertex e v = elim (cases_lt v (length rows.rotations)) [

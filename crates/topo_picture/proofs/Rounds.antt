@@ -46,7 +46,7 @@ place_got x (y ∷ path) h =
           ap (λ (b : Bool). slice_get (y ∷ path) (cond {A = ℕ} (not b) (1 + position_or_len (λ y. y == x) path) 0)) e ∙ ap (slice_get (y ∷ path)) next ∙ place_got x path (omega arith)
     ]
 
-got_within : {X : Type 0} (xs : List X) (i : ℕ) (x : X) → slice_get xs i ≡ Some x → i < length xs
+pub got_within : {X : Type 0} (xs : List X) (i : ℕ) (x : X) → slice_get xs i ≡ Some x → i < length xs
 got_within [] i x e = cc
 got_within (y ∷ ys) zero x e = omega arith
 got_within (y ∷ ys) (suc i) x e = let rest = got_within ys i x e in omega arith

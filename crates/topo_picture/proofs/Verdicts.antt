@@ -40,7 +40,7 @@ darts_total (row ∷ edges) =
 pub images_total : (rows : Rows) (images : List ℕ) → images ≡ turn_images rows → length images ≡ 2 * sum_by segment_count rows.edges
 images_total rows images is = ap length is ∙ images_length rows ∙ darts_total rows.edges
 
-segments_by_pairs : (edges : List EdgeRow) → sum_by segment_count edges ≡ length (path_pairs edges) + length edges
+pub segments_by_pairs : (edges : List EdgeRow) → sum_by segment_count edges ≡ length (path_pairs edges) + length edges
 segments_by_pairs [] = refl
 segments_by_pairs (row ∷ edges) =
     let step = sum_by-cons segment_count row edges in

@@ -1,18 +1,23 @@
 -- The flat lists of rows: numbers of darts by edges, by crossings and round points, and what is written where.
-use Rattle.std.specs.Prelude.{◌≡◌, ℕ, ◌+◌, ◌-◌, ◌*◌, ◌<◌, ◌==◌, cond, List, [], ◌∷◌, ◌++◌, map, length, Some, slice_get, slice_index, slice_index_or, slice_set}
+use Rattle.std.specs.Prelude.{◌≡◌, ℕ, ◌+◌, ◌-◌, ◌*◌, ◌<◌, ◌==◌, cond, List, [], ◌∷◌, ◌++◌, map, length, replicate, Some, slice_get, slice_index, slice_index_or, slice_set}
 use Rattle.std.specs.List.{position_or_len}
 use Rattle.topo_core.specs.declared.darts.Sign.{Sign}
 use Rattle.topo_core.specs.declared.darts.Sign.TheVariants.{LeftToRight, RightToLeft}
 use Rattle.topo_core.specs.declared.rows.Rows.{Rows}
 use Rattle.topo_core.specs.declared.rows.EdgeRow.{EdgeRow}
 use Rattle.topo_core.specs.declared.rows.CrossRow.{CrossRow}
-use Rattle.topo_core.specs.Lawful.{IsWellFormed}
+use Rattle.topo_core.specs.Lawful.{Lawful}
 use Rattle.topo_core.specs.Picture.{segment_count, index_of, ahead, around_vertex, around_crossing, turn_images}
 
 -- for each edge the number of its first dart, where n darts come before, and last the number of all
 abbrev pub begins_from : ℕ → List EdgeRow → List ℕ
 begins_from n [] = n ∷ []
 begins_from n (row ∷ rest) = n ∷ begins_from (n + 2 * segment_count row) rest
+
+-- for each segment the place of its edge among the edges, where k edges come before
+abbrev pub places_from : ℕ → List EdgeRow → List ℕ
+places_from k [] = []
+places_from k (row ∷ rest) = replicate (segment_count row) k ++ places_from (k + 1) rest
 
 -- the list with these numbers written at their places, one after another
 abbrev pub written : List ℕ → List (ℕ × ℕ) → List ℕ
@@ -64,8 +69,17 @@ pub record AreAhead (rows : Rows) (numbers : List ℕ) : Type 0 where
   pub crossed : (p : ℕ) (x : CrossRow) → slice_get rows.crossings p ≡ Some x → slice_index numbers (2 * p) ≡ index_of rows (ahead rows x.crossed x.id)
   pub newcomer : (p : ℕ) (x : CrossRow) → slice_get rows.crossings p ≡ Some x → slice_index numbers (2 * p + 1) ≡ index_of rows (ahead rows x.newcomer x.id)
 
--- the lists hold what they should of the rows
-pub record AreListsOf (rows : Rows) (turns : List ℕ) : Type 0 where
-  pub well_formed : IsWellFormed rows
+-- rows of which it is known that they are lawful
+pub record LawfulRows : Type 0 where
+  pub rows : Rows
+  pub lawful : ∥ Lawful rows ∥₁
+
+-- the lists hold what they should of the rows: the ids of the edges, where the darts of each edge begin, for each segment the
+-- place of its edge, and the images of the turn
+pub record AreListsOf (rows : Rows) (ids begins places turns : List ℕ) : Type 0 where
+  pub edge_ids : ids ≡ map (λ row. row.id) rows.edges
+  pub edge_begins : begins ≡ begins_from 0 rows.edges
+  pub edge_places : places ≡ places_from 0 rows.edges
   pub images : turns ≡ turn_images rows
-  pub few : length turns < 4294967296
+  pub few_darts : length turns < 4294967296
+  pub few_vertices : length rows.rotations < 4294967296

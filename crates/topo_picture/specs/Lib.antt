@@ -1,4 +1,6 @@
 pub mod Flats
 pub mod Loading
 pub mod Pairs
+pub mod Recovering
 pub mod Shown
+pub mod Totals

@@ -1,112 +1,19 @@
 //! The flat lists of a well-formed picture: its darts as numbers in canonical order.
 
-ghost use Rattle.std.specs.Prelude.{◌≡◌, ◌+◌, ◌*◌, ◌<◌, ◌≤◌, ◌^◌, ◌++◌, ◌==◌, ℕ, true, IfOk, OnOk, IsTrue, ◌↔◌, length, map, flat_map, sum_by, is_some, slice_index};
+ghost use Rattle.std.specs.Prelude.{◌≡◌, ◌+◌, ◌*◌, ◌<◌, ◌≤◌, ◌^◌, ◌++◌, ◌==◌, ℕ, true, IfOk, OnOk, IsTrue, ◌↔◌, length, map, flat_map, replicate, sum_by, is_some, slice_index};
 ghost use Rattle.std.specs.List.{list_all, list_any, position_or_len};
 ghost use Rattle.std.specs.List.Sorted.{IsStrictlyIncreasing};
 ghost use Rattle.topo_core.specs.Lawful.{IsWellFormed, has_good_paths};
 ghost use Rattle.topo_core.specs.Picture.{segment_count, index_of, end_dart, edge_row, darts, rotation, vertices, turn_images};
-ghost use Rattle.topo_picture.specs.Flats.{begins_from, written, links, note_place, path_notes, notes_from, vertex_round, crossing_round, round_ahead, AreAhead};
+ghost use Rattle.topo_picture.specs.Flats.{begins_from, places_from, written, links, note_place, path_notes, notes_from, vertex_round, crossing_round, round_ahead, AreAhead};
 
 use crate::faults::{crossing_ids, edge_ids};
 use std::alloc::{AllocError, Global};
-use std::marker::Model;
 use topo_core::darts::Sign;
 use topo_core::rows::{CrossRow, EdgeRow, Rows};
 
-/// Well-formed rows with their darts as numbers in canonical order: 2i and 2i + 1 are the two of one
-/// segment. A number that is handed in is below `len`.
-#[derive(Drop)]
-pub struct Flat {
-    rows: Rows,
-    turns: Vec<u32>,
-}
-
-impl Model for Flat {
-    ghost use Rattle.topo_core.specs.declared.rows.Rows.{Rows};
-    ghost use Rattle.topo_picture.specs.Flats.{AreListsOf};
-
-    ghost Value = { Rows };
-
-    ghost view = { λ f. f.rows };
-
-    ghost invariant = { λ f. AreListsOf f.rows f.turns.items };
-}
-
-impl Flat {
-    ghost use Rattle.std.specs.Prelude.{◌≡◌, ◌*◌, ◌<◌, ◌^◌, IfOk, length, sum_by};
-    ghost use Rattle.topo_core.specs.Cycles.{map_of};
-    ghost use Rattle.topo_core.specs.Lawful.{IsWellFormed};
-    ghost use Rattle.topo_core.specs.Picture.{darts, segment_count, turn_images};
-    ghost use Rattle.topo_core.specs.Rotations.{face_next, twin};
-
-    /// The lists of these rows.
-    pub fn new(alloc: Global, rows: Rows) -> Result<Self, AllocError>
-        requires well_formed { IsWellFormed rows }
-        requires few { 2 * sum_by segment_count rows.edges < 2 ^ 32 }
-        requires vertices { length rows.rotations < 2 ^ 32 }
-        requires crossings { length rows.crossings < 2 ^ 32 }
-        ensures { IfOk result (λ f. f ≡ rows) }
-    {
-        let turns = turns_of(alloc, &rows)?;
-        Ok(Flat { rows, turns })
-    }
-
-    /// The rows.
-    pub fn rows(&self) -> &Rows
-        ensures { result.now ≡ self.now }
-    {
-        &self.rows
-    }
-
-    /// How many darts there are.
-    pub fn len(&self) -> u32
-        ensures { result ≡ length (darts self.now) }
-    {
-        self.turns.as_slice().len() as u32
-    }
-
-    /// The same segment, the other way.
-    pub fn twin(&self, dart: u32) -> u32
-        requires { dart < length (darts self.now) }
-        ensures { result ≡ twin dart }
-    {
-        twin_of(dart)
-    }
-
-    /// The next dart along the face on the left.
-    pub fn next(&self, dart: u32) -> u32
-        requires { dart < length (darts self.now) }
-        ensures { result ≡ face_next (map_of (turn_images self.now)) dart }
-    {
-        let turns = self.turns.as_slice();
-        next_along(turns, dart)
-    }
-}
-
-ghost use Rattle.std.specs.Prelude.{◌%◌};
-ghost use Rattle.topo_core.specs.Cycles.{map_of};
-ghost use Rattle.topo_core.specs.Rotations.{face_next, twin};
-
-/// The other dart of the segment.
-fn twin_of(dart: u32) -> u32
-    ensures { result ≡ twin dart }
-{
-    if dart % 2 == 0 { dart + 1 } else { dart - 1 }
-}
-
-/// The turn of the other dart of the segment.
-fn next_along(turns: &[u32], dart: u32) -> u32
-    requires within { dart < length turns.now }
-    requires even { length turns.now % 2 ≡ 0 }
-    ensures { result ≡ face_next (map_of turns.now) dart }
-{
-    let at = dart as usize;
-    let other = if at % 2 == 0 { at + 1 } else { at - 1 };
-    turns[other]
-}
-
 /// For each edge the number of its first dart, and last the number of all darts.
-fn begins_of(alloc: Global, edges: &[EdgeRow]) -> Result<Vec<u32>, AllocError>
+pub(crate) fn begins_of(alloc: Global, edges: &[EdgeRow]) -> Result<Vec<u32>, AllocError>
     requires { 2 * sum_by segment_count edges.now < 2 ^ 32 }
     ensures { IfOk result (λ begins. begins.items ≡ begins_from 0 edges.now) }
 {
@@ -118,6 +25,29 @@ fn begins_of(alloc: Global, edges: &[EdgeRow]) -> Result<Vec<u32>, AllocError>
     }
     begins.push(next)?;
     Ok(begins)
+}
+
+/// Puts a number so many times at the end.
+fn push_times(list: &mut Vec<u32>, number: u32, times: usize) -> Result<(), AllocError>
+    ensures { OnOk result (list.new.items ≡ list.old.items ++ replicate times number) }
+{
+    for _ in 0..times {
+        list.push(number)?;
+    }
+    Ok(())
+}
+
+/// For each segment the place of its edge among the edges.
+pub(crate) fn places_of(alloc: Global, edges: &[EdgeRow]) -> Result<Vec<u32>, AllocError>
+    requires { length edges.now < 2 ^ 32 }
+    ensures { IfOk result (λ places. places.items ≡ places_from 0 edges.now) }
+{
+    let mut places = Vec::new(alloc);
+    for place in 0..edges.len() {
+        let segments = edges[place].crossings.as_slice().len() + 1;
+        push_times(&mut places, place as u32, segments)?;
+    }
+    Ok(places)
 }
 
 /// The place of a number that is there, in a list that rises.
@@ -222,7 +152,7 @@ fn ahead_of(alloc: Global, rows: &Rows) -> Result<Vec<u32>, AllocError>
 }
 
 /// The number of the dart of edge `e` that starts at its end `v`.
-fn end_number(rows: &Rows, ids: &[u32], begins: &[u32], v: u32, e: u32) -> u32
+pub(crate) fn end_number(rows: &Rows, ids: &[u32], begins: &[u32], v: u32, e: u32) -> u32
     requires paths { has_good_paths rows.now ≡ true }
     requires ids { ids.now ≡ map (λ row. row.id) rows.now.edges }
     requires begins { begins.now ≡ begins_from 0 rows.now.edges }
@@ -365,6 +295,21 @@ fn dart_count(rows: &Rows, begins: &[u32]) -> usize
     begins[last] as usize
 }
 
+/// The images of the turn in canonical numbers, where the darts of the edges begin as said.
+pub(crate) fn turns_from(alloc: Global, rows: &Rows, begins: &[u32]) -> Result<Vec<u32>, AllocError>
+    requires well_formed { IsWellFormed rows.now }
+    requires begins { begins.now ≡ begins_from 0 rows.now.edges }
+    requires few { 2 * sum_by segment_count rows.now.edges < 2 ^ 32 }
+    requires vertices { length rows.now.rotations < 2 ^ 32 }
+    requires crossings { length rows.now.crossings < 2 ^ 32 }
+    ensures { IfOk result (λ images. images.items ≡ turn_images rows.now) }
+{
+    let count = dart_count(rows, begins);
+    let mut images = vec![in alloc; 0; count]?;
+    write_turns(alloc, &mut images, rows, begins)?;
+    Ok(images)
+}
+
 /// The images of the turn in canonical numbers.
 pub(crate) fn turns_of(alloc: Global, rows: &Rows) -> Result<Vec<u32>, AllocError>
     requires well_formed { IsWellFormed rows.now }
@@ -374,8 +319,5 @@ pub(crate) fn turns_of(alloc: Global, rows: &Rows) -> Result<Vec<u32>, AllocErro
     ensures { IfOk result (λ images. images.items ≡ turn_images rows.now) }
 {
     let begins = begins_of(alloc, rows.edges.as_slice())?;
-    let count = dart_count(rows, begins.as_slice());
-    let mut images = vec![in alloc; 0; count]?;
-    write_turns(alloc, &mut images, rows, begins.as_slice())?;
-    Ok(images)
+    turns_from(alloc, rows, begins.as_slice())
 }

@@ -1,6 +1,8 @@
 //! A picture, with its limits.
 
 use crate::copies::copy_rows;
+use crate::counts::Counts;
+use crate::frozen::Frozen;
 use crate::growth::grow_rows;
 use crate::load::{LoadFault, first_fault};
 use std::alloc::{AllocError, Global};
@@ -32,9 +34,10 @@ impl Picture {
     ghost use Rattle.std.specs.Prelude.{◌≡◌, ◌⊎◌, IfOk, IfErr, OnErr, length, Some, None};
     ghost use Rattle.topo_core.specs.Pictures.{seed};
     ghost use Rattle.topo_core.specs.Changes.{grown};
-    ghost use Rattle.topo_core.specs.Steps.{grow_refusal};
+    ghost use Rattle.topo_core.specs.Steps.{grow_refusal, insert_refusal};
     ghost use Rattle.topo_picture.specs.Loading.{FailsFirst};
     ghost use Rattle.topo_picture.specs.Shown.{IsPicture};
+    ghost use Rattle.topo_picture.specs.Totals.{AreCountsOf};
 
     /// The picture of two vertices, 0 and 1, and edge 0 of kind 0 from the one to the other.
     pub fn seed(alloc: Global, limits: Limits) -> Result<Self, AllocError>
@@ -71,12 +74,63 @@ impl Picture {
         self.limits
     }
 
+    /// How large it is. Each crossing stands on two paths, so it makes two segments more, and the
+    /// faces follow by Euler's formula.
+    pub fn counts(&self) -> Counts
+        ensures { AreCountsOf self.now.rows result }
+    {
+        let vertices = self.rows.rotations.as_slice().len() as u32;
+        let crossings = self.rows.crossings.as_slice().len() as u32;
+        let edges = self.rows.edges.as_slice().len() as u32;
+        let segments = edges + 2 * crossings;
+        Counts {
+            vertices,
+            crossings,
+            edges,
+            segments,
+            faces: segments + 2 - (vertices + crossings),
+        }
+    }
+
     /// A copy of its rows.
     pub fn rows(&self, alloc: Global) -> Result<Rows, AllocError>
         ensures rows { IfOk result (λ r. r ≡ self.now.rows) }
         ensures lawful { IsPicture self.now.limits self.now.rows }
     {
         copy_rows(alloc, &self.rows)
+    }
+
+    /// The frozen picture of its rows, as they are now.
+    pub fn freeze(&self, alloc: Global) -> Result<Frozen, AllocError>
+        ensures { IfOk result (λ f. f.rows ≡ self.now.rows) }
+    {
+        let rows = copy_rows(alloc, &self.rows)?;
+        Frozen::new(alloc, rows)
+    }
+
+    /// An equal picture: the same rows and limits.
+    pub fn copy(&self, alloc: Global) -> Result<Self, AllocError>
+        ensures { IfOk result (λ p. p ≡ self.now) }
+    {
+        let rows = copy_rows(alloc, &self.rows)?;
+        Ok(Picture {
+            limits: self.limits,
+            rows,
+        })
+    }
+
+    /// Whether an edge of this kind may be inserted from `u` to `v`, before a route is looked for.
+    /// It is refused as NoVertex where one of them is no vertex, as SameEnds where they are one, as
+    /// BadKind where the kind is above 63, and as Full where no edge id is left: the first of these
+    /// that holds.
+    pub fn admit(&self, u: u32, v: u32, kind: u32) -> Result<(), Refusal>
+        ensures admitted { IfOk result (λ _. insert_refusal self.now.limits self.now.rows u v kind ≡ None) }
+        ensures refused { IfErr result (λ why. insert_refusal self.now.limits self.now.rows u v kind ≡ Some why) }
+    {
+        match insert_fault(&self.limits, &self.rows, u, v, kind) {
+            Some(why) => Err(why),
+            None => Ok(()),
+        }
     }
 
     /// Puts a new vertex on a new edge of the given kind into the corner at `position` of vertex
@@ -118,7 +172,7 @@ impl Picture {
 
 ghost use Rattle.std.specs.Prelude.{◌≡◌, IfOk, [], ◌∷◌};
 ghost use Rattle.topo_core.specs.Pictures.{seed};
-ghost use Rattle.topo_core.specs.Steps.{grow_refusal};
+ghost use Rattle.topo_core.specs.Steps.{grow_refusal, insert_refusal};
 
 /// The rows of two vertices and the edge between them.
 fn seed_rows(alloc: Global) -> Result<Rows, AllocError>
@@ -165,6 +219,24 @@ fn grow_fault(limits: &Limits, rows: &Rows, u: u32, position: u32, kind: u32) ->
     } else if kind >= 64 {
         Some(Refusal::BadKind)
     } else if vertices >= limits.vertices as usize || rows.next_edge >= limits.edges {
+        Some(Refusal::Full)
+    } else {
+        None
+    }
+}
+
+/// The first reason to refuse an insertion before a route is looked for.
+fn insert_fault(limits: &Limits, rows: &Rows, u: u32, v: u32, kind: u32) -> Option<Refusal>
+    ensures { result ≡ insert_refusal limits.now rows.now u v kind }
+{
+    let vertices = rows.rotations.as_slice().len();
+    if u as usize >= vertices || v as usize >= vertices {
+        Some(Refusal::NoVertex)
+    } else if u == v {
+        Some(Refusal::SameEnds)
+    } else if kind >= 64 {
+        Some(Refusal::BadKind)
+    } else if rows.next_edge >= limits.edges {
         Some(Refusal::Full)
     } else {
         None

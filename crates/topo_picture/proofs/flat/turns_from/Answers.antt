@@ -1,5 +1,5 @@
 use Rattle.std.proofs.Common.{arith}
-use Rattle.topo_picture.proofs.flat.turns_of.Goals as goal
+use Rattle.topo_picture.proofs.flat.turns_from.Goals as goal
 
 pub write_turns-requires-clause-room : goal.write_turns-requires-clause-room
 write_turns-requires-clause-room c =

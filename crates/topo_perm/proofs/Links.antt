@@ -1,0 +1,252 @@
+-- Chords in different faces, drawn one after another: each parts its face, and no other is parted.
+use Rattle.std.proofs.Common.{◌≡◌, ◌≢◌, ℕ, suc, ◌+◌, ◌%◌, ◌<◌, ◌==◌, Bool, true, false, ◌||◌, List, [], ◌∷◌, length, ◌⊎◌, inl, inr, refl, sym, ◌∙◌, ap, subst, arith}
+use Rattle.std.specs.List.{AllByRecursion}
+use Rattle.std.proofs.lemmas.Bool.{cases_eq, eq-eqb, ne_eqb}
+use Rattle.topo_core.specs.Cycles.{IsPermutation, IsBypass, SameCycle}
+use Rattle.topo_core.specs.Rotations.{twin, face_next}
+use Rattle.topo_core.specs.Edits.{IsIsolated}
+use Rattle.topo_core.proofs.Orbits.{SameCycle-sym}
+use Rattle.topo_perm.specs.Edits.{IsApart, AreTurns, IsAllowedChord, IsAllowedUnchord}
+use Rattle.topo_perm.specs.Joins.{AddsSegment, IsConnectedAmong}
+use Rattle.topo_perm.specs.Live.{IsSlab, live_cycle_count}
+use Rattle.topo_perm.specs.LiveEdits.{GrowsSlab}
+use Rattle.topo_perm.proofs.Walks.{twin-within, face_next-permutation}
+use Rattle.topo_perm.proofs.Faces.{twin-twin, twin-apart, twin-other}
+use Rattle.topo_perm.proofs.Splitting.{without, without-self, without-elsewhere, without-bypass, bypassed-permutation}
+use Rattle.topo_perm.proofs.FacesKept.{chord_keeps_faces, chord_sides, unchord_keeps_faces}
+use Rattle.topo_perm.proofs.Connecting.{chord_connects}
+use Rattle.topo_perm.proofs.SlabEdits.{chord_keeps_slab, chord_live_faces}
+
+-- ---- A segment more
+
+-- the live darts and those of the segment of y
+abbrev pub with_segment : (ℕ → Bool) → ℕ → ℕ → Bool
+with_segment live y a = (a == y || a == twin y) || live a
+
+pub with_self : (live : ℕ → Bool) (y : ℕ) → with_segment live y y ≡ true
+with_self live y = ap (λ (b : Bool). (b || y == twin y) || live y) (eq-eqb y y refl)
+
+pub with_twin : (live : ℕ → Bool) (y : ℕ) → with_segment live y (twin y) ≡ true
+with_twin live y = elim (cases_eq (twin y) y) [
+  | inl e ↦ ap (λ (b : Bool). (b || twin y == twin y) || live (twin y)) (eq-eqb (twin y) y e)
+  | inr ne ↦ ap (λ (b : Bool). (b || twin y == twin y) || live (twin y)) (ne_eqb (twin y) y ne) ∙ ap (λ (b : Bool). b || live (twin y)) (eq-eqb (twin y) (twin y) refl)
+]
+
+pub with_other : (live : ℕ → Bool) (y a : ℕ) → a ≢ y → a ≢ twin y → with_segment live y a ≡ live a
+with_other live y a ny nt = ap (λ (b : Bool). (b || a == twin y) || live a) (ne_eqb a y ny) ∙ ap (λ (b : Bool). b || live a) (ne_eqb a (twin y) nt)
+
+pub with_old : (live : ℕ → Bool) (y a : ℕ) → live a ≡ true → with_segment live y a ≡ true
+with_old live y a l = elim (cases_eq a y) [
+  | inl e ↦ subst (λ (z : ℕ). with_segment live y z ≡ true) (sym e) (with_self live y)
+  | inr ny ↦ elim (cases_eq a (twin y)) [
+    | inl e ↦ subst (λ (z : ℕ). with_segment live y z ≡ true) (sym e) (with_twin live y)
+    | inr nt ↦ with_other live y a ny nt ∙ l
+  ]
+]
+
+pub adds_segment : (live : ℕ → Bool) (n y : ℕ) → live y ≡ false → live (twin y) ≡ false → AddsSegment live (with_segment live y) n y
+adds_segment live n y dead dead_twin = record {
+  new = dead;
+  new_twin = dead_twin;
+  here = with_self live y;
+  here_twin = with_twin live y;
+  others = λ a la ny nt. with_other live y a ny nt;
+}
+
+-- ---- Links
+
+-- a chord to be drawn from one corner to another, with its first half
+pub record Link : Type 0 where
+  pub from : ℕ
+  pub to : ℕ
+  pub half : ℕ
+
+abbrev pub without_link : (ℕ → ℕ) → Link → ℕ → ℕ
+without_link g k = without (without g (twin k.half)) k.half
+
+-- the turn before the links were drawn, the first of the list last
+abbrev pub without_links : (ℕ → ℕ) → List Link → ℕ → ℕ
+without_links g [] = g
+without_links g (k ∷ ks) = without_links (without_link g k) ks
+
+-- the live darts and those of the links
+abbrev pub with_links : (ℕ → Bool) → List Link → ℕ → Bool
+with_links live [] = live
+with_links live (k ∷ ks) = with_segment (with_links live ks) k.half
+
+-- g turns from the two halves of the link to its corners
+pub record IsLink (g : ℕ → ℕ) (n : ℕ) (k : Link) : Type 0 where
+  pub there : k.half < n
+  pub from_apart : IsApart n k.from k.half
+  pub to_apart : IsApart n k.to k.half
+  pub ends_apart : k.from ≢ k.to
+  pub leaves : g k.half ≡ k.from
+  pub arrives : g (twin k.half) ≡ k.to
+
+-- the halves of the two links are of different segments, and no corner of the one is a half of the other
+pub record AreUnlinked (n : ℕ) (k l : Link) : Type 0 where
+  pub half : IsApart n l.half k.half
+  pub from : IsApart n k.from l.half
+  pub to : IsApart n k.to l.half
+  pub from_back : IsApart n l.from k.half
+  pub to_back : IsApart n l.to k.half
+
+abbrev pub AreLinks : (ℕ → ℕ) → ℕ → List Link → Type 0
+AreLinks g n [] = Unit {0}
+AreLinks g n (k ∷ ks) = IsLink g n k × AllByRecursion (AreUnlinked n k) ks × AreLinks g n ks
+
+-- a is no half of a link
+abbrev pub IsUnlinked : ℕ → List Link → ℕ → Type 0
+IsUnlinked n ks a = AllByRecursion (λ k. IsApart n a k.half) ks
+
+-- each link leads from a corner of a face to another one of that face, and no two are in one face
+abbrev pub AreInFaces : (ℕ → ℕ) → List Link → Type 0
+AreInFaces b [] = Unit {0}
+AreInFaces b (k ∷ ks) = SameCycle (face_next b) k.from k.to × AllByRecursion (λ l. SameCycle (face_next b) k.from l.from → ⊥) ks × AreInFaces b ks
+
+-- the darts of the links are not live, and their corners are
+abbrev pub AreReady : (ℕ → Bool) → List Link → Type 0
+AreReady live [] = Unit {0}
+AreReady live (k ∷ ks) = ((live k.half ≡ false) × (live (twin k.half) ≡ false) × (live k.from ≡ true) × (live k.to ≡ true)) × AreReady live ks
+
+-- ---- A link taken out
+
+without_link-other : (g : ℕ → ℕ) (n : ℕ) (k : Link) (a c : ℕ) → IsApart n a k.half → IsApart n c k.half → g a ≡ c → without_link g k a ≡ c
+without_link-other g n k a c pa pc e =
+    let at : without g (twin k.half) a ≡ c = without-elsewhere g (twin k.half) a pa.not_twin (λ w. pc.not_twin (sym e ∙ w)) ∙ e in
+    without-elsewhere (without g (twin k.half)) k.half a pa.not_self (λ w. pc.not_self (sym at ∙ w)) ∙ at
+
+apart_twin : (n a y : ℕ) → n % 2 ≡ 0 → IsApart n a y → IsApart n (twin a) y
+apart_twin n a y even p = record {
+  within = twin-within n a even p.within;
+  not_self = λ e. p.not_twin (sym (twin-twin a) ∙ ap twin e);
+  not_twin = λ e. p.not_self (twin-apart a y e);
+}
+
+apart_of_twin : (n a y : ℕ) → IsApart n a y → IsApart n a (twin y)
+apart_of_twin n a y p = record {
+  within = p.within;
+  not_self = p.not_twin;
+  not_twin = λ e. p.not_self (e ∙ twin-twin y);
+}
+
+link_stays : (g : ℕ → ℕ) (n : ℕ) (k l : Link) → n % 2 ≡ 0 → AreUnlinked n k l → IsLink g n l → IsLink (without_link g k) n l
+link_stays g n k l even u i = record {
+  there = i.there;
+  from_apart = i.from_apart;
+  to_apart = i.to_apart;
+  ends_apart = i.ends_apart;
+  leaves = without_link-other g n k l.half l.from u.half u.from_back i.leaves;
+  arrives = without_link-other g n k (twin l.half) l.to (apart_twin n l.half k.half even u.half) u.to_back i.arrives;
+}
+
+pub links_stay : (g : ℕ → ℕ) (n : ℕ) (k : Link) (ks : List Link) → n % 2 ≡ 0 → AllByRecursion (AreUnlinked n k) ks → AreLinks g n ks → AreLinks (without_link g k) n ks
+links_stay g n k [] even u h = h
+links_stay g n k (l ∷ ls) even u h = (link_stays g n k l even u.0 h.0, h.1, links_stay g n k ls even u.1 h.2)
+
+link_permutation : (g : ℕ → ℕ) (n : ℕ) (k : Link) → IsPermutation g n → n % 2 ≡ 0 → k.half < n → IsPermutation (without_link g k) n
+link_permutation g n k p even lh =
+    let half : ℕ → ℕ = without g (twin k.half) in
+    let ph : IsPermutation half n = bypassed-permutation g half n (twin k.half) p (twin-within n k.half even lh) (without-bypass g n (twin k.half)) in
+    bypassed-permutation half (without half k.half) n k.half ph lh (without-bypass half n k.half)
+
+-- ---- One link drawn
+
+-- f is the turn without the link, and g the turn with it
+allowed_link : (g : ℕ → ℕ) (n : ℕ) (k : Link) → IsPermutation g n → n % 2 ≡ 0 → IsLink g n k → SameCycle (face_next (without_link g k)) k.from k.to → IsAllowedChord (without_link g k) g n k.from k.to k.half
+allowed_link g n k p even i one =
+    let y : ℕ = k.half in
+    let half : ℕ → ℕ = without g (twin y) in
+    let at_twin : half (twin y) ≡ twin y = without-self g (twin y) (twin y) refl in
+    let at : half y ≡ k.from = without-elsewhere g (twin y) y (λ e. twin-other y (sym e)) (λ w. i.from_apart.not_twin (sym i.leaves ∙ w)) ∙ i.leaves in
+    record {
+      turns = record { before = link_permutation g n k p even i.there; after = p; even = even; within = i.there };
+      corner = i.from_apart;
+      one_face = one;
+      edit = record {
+        room = record { this = without-self half y y refl; other = without-elsewhere half y (twin y) (twin-other y) (λ w. twin-other y (sym at_twin ∙ w)) ∙ at_twin };
+        half = half;
+        start = record { turns = at; without = without-bypass half n y };
+        end = record { turns = i.arrives; without = without-bypass g n (twin y) };
+      };
+    }
+
+-- and the link may be taken out again
+allowed_unlink : (g : ℕ → ℕ) (n : ℕ) (k : Link) → IsPermutation g n → n % 2 ≡ 0 → IsLink g n k → SameCycle (face_next (without_link g k)) k.from k.to → IsAllowedUnchord g (without_link g k) n (twin k.half)
+allowed_unlink g n k p even i one =
+    let y : ℕ = k.half in
+    let lt : twin y < n = twin-within n y even i.there in
+    let half : ℕ → ℕ = without g (twin y) in
+    let sides : SameCycle (face_next g) y (twin y) → ⊥ = (chord_sides (without_link g k) g n k.from k.to y (allowed_link g n k p even i one) i.ends_apart).2 in
+    record {
+      turns = record { before = p; after = link_permutation g n k p even i.there; even = even; within = lt };
+      two_faces = λ s. sides (SameCycle-sym (face_next g) n (face_next-permutation g n p even) (twin y) y lt (subst (λ (z : ℕ). SameCycle (face_next g) (twin y) z) (twin-twin y) s));
+      not_alone = λ e w. i.to_apart.not_self (sym i.arrives ∙ e ∙ twin-twin y);
+      edit = record { half = half; first = without-bypass g n (twin y); second = subst (λ (z : ℕ). IsBypass half (without_link g k) n z) (sym (twin-twin y)) (without-bypass half n y) };
+    }
+
+-- ---- All of them
+
+-- g has all links, b none. Each link makes one face more, what hung together does so, and other faces stay
+pub record Drawn (live : ℕ → Bool) (b g : ℕ → ℕ) (n : ℕ) (ks : List Link) : Type 0 where
+  pub slab : IsSlab (with_links live ks) g n
+  pub faces : live_cycle_count (with_links live ks) (face_next g) n ≡ live_cycle_count live (face_next b) n + length ks
+  pub connected : IsConnectedAmong live b n → IsConnectedAmong (with_links live ks) g n
+  pub kept : (a c : ℕ) → a < n → IsUnlinked n ks a → AllByRecursion (λ k. SameCycle (face_next b) a k.from → ⊥) ks → SameCycle (face_next b) a c → SameCycle (face_next g) a c
+  pub back : (a c : ℕ) → IsUnlinked n ks a → IsUnlinked n ks c → SameCycle (face_next g) a c → SameCycle (face_next b) a c
+
+pub all_map : {X : Type 0} (P Q : X → Type 0) → ((x : X) → P x → Q x) → (xs : List X) → AllByRecursion P xs → AllByRecursion Q xs
+all_map P Q f [] h = h
+all_map P Q f (x ∷ xs) h = (f x h.0, all_map P Q f xs h.1)
+
+apart_back : (n k l : ℕ) → k < n → IsApart n l k → IsApart n k l
+apart_back n k l lk p = record {
+  within = lk;
+  not_self = λ e. p.not_self (sym e);
+  not_twin = λ e. p.not_twin (sym (twin-twin l) ∙ ap twin (sym e));
+}
+
+dead_links : (live : ℕ → Bool) (n : ℕ) (ks : List Link) (a : ℕ) → live a ≡ false → IsUnlinked n ks a → with_links live ks a ≡ false
+dead_links live n [] a dead u = dead
+dead_links live n (k ∷ ks) a dead u = with_other (with_links live ks) k.half a u.0.not_self u.0.not_twin ∙ dead_links live n ks a dead u.1
+
+pub live_links : (live : ℕ → Bool) (ks : List Link) (a : ℕ) → live a ≡ true → with_links live ks a ≡ true
+live_links live [] a l = l
+live_links live (k ∷ ks) a l = with_old (with_links live ks) k.half a (live_links live ks a l)
+
+pub half_unlinked : (n : ℕ) (k : Link) (ks : List Link) → k.half < n → AllByRecursion (AreUnlinked n k) ks → IsUnlinked n ks k.half
+half_unlinked n k ks lh u = all_map (AreUnlinked n k) (λ l. IsApart n k.half l.half) (λ l w. apart_back n k.half l.half lh w.half) ks u
+
+pub twin_unlinked : (n : ℕ) (ks : List Link) (a : ℕ) → n % 2 ≡ 0 → IsUnlinked n ks a → IsUnlinked n ks (twin a)
+twin_unlinked n ks a even u = all_map (λ k. IsApart n a k.half) (λ k. IsApart n (twin a) k.half) (λ k w. apart_twin n a k.half even w) ks u
+
+pub draw : (live : ℕ → Bool) (g : ℕ → ℕ) (n : ℕ) (ks : List Link) → IsPermutation g n → n % 2 ≡ 0 → AreLinks g n ks → AreReady live ks → AreInFaces (without_links g ks) ks → IsSlab live (without_links g ks) n → Drawn live (without_links g ks) g n ks
+draw live g n [] p even h ready faces slab = record {
+  slab = slab;
+  faces = omega arith;
+  connected = λ c. c;
+  kept = λ a c la u out s. s;
+  back = λ a c u w s. s;
+}
+draw live g n (k ∷ ks) p even h ready faces slab =
+    let f : ℕ → ℕ = without_link g k in
+    let b : ℕ → ℕ = without_links f ks in
+    let i : IsLink g n k = h.0 in
+    let below : Drawn live b f n ks = draw live f n ks (link_permutation g n k p even i.there) even (links_stay g n k ks even h.1 h.2) ready.1 faces.2 slab in
+    let from_unlinked : IsUnlinked n ks k.from = all_map (AreUnlinked n k) (λ l. IsApart n k.from l.half) (λ l w. w.from) ks h.1 in
+    let one : SameCycle (face_next f) k.from k.to = below.kept k.from k.to i.from_apart.within from_unlinked faces.1 faces.0 in
+    let allowed : IsAllowedChord f g n k.from k.to k.half = allowed_link g n k p even i one in
+    let old : ℕ → Bool = with_links live ks in
+    let new : ℕ → Bool = with_segment old k.half in
+    let hu : IsUnlinked n ks k.half = half_unlinked n k ks i.there h.1 in
+    let adds : AddsSegment old new n k.half = adds_segment old n k.half (dead_links live n ks k.half ready.0.0 hu) (dead_links live n ks (twin k.half) ready.0.1 (twin_unlinked n ks k.half even hu)) in
+    let alive : old k.from ≡ true = live_links live ks k.from ready.0.2 in
+    let after : IsSlab new g n = chord_keeps_slab old new f g n k.from k.to k.half below.slab adds alive (live_links live ks k.to ready.0.3) allowed in
+    let grows : GrowsSlab old new f g n k.half = record { before = below.slab; after = after; within = i.there; adds = adds } in
+    record {
+      slab = after;
+      faces = omega (arith, chord_live_faces old new f g n k.from k.to k.half grows allowed, below.faces);
+      connected = λ c. chord_connects f g old new n k.from k.to k.half allowed adds alive (below.connected c);
+      kept = λ a c la u out s. chord_keeps_faces f g n k.from k.to k.half a c allowed u.0 (λ w. out.0 (below.back a k.from u.1 from_unlinked w)) (below.kept a c la u.1 out.1 s);
+      back = λ a c u w s. below.back a c u.1 w.1 (unchord_keeps_faces g f n (twin k.half) a c (allowed_unlink g n k p even i one) (apart_of_twin n a k.half u.0) (apart_of_twin n c k.half w.0) s);
+    }

@@ -1,0 +1,136 @@
+-- A path of chords across bends: a new edge drawn through the faces of a rotation system, from corner to corner.
+use Rattle.std.proofs.Common.{◌≡◌, ◌≢◌, ℕ, suc, zero, ◌+◌, ◌%◌, ◌<◌, ◌==◌, Bool, true, false, cond, ◌||◌, List, [], ◌∷◌, length, ◌⊎◌, ◌↔◌, inl, inr, refl, sym, ◌∙◌, ap, subst, arith}
+use Rattle.std.specs.List.{AllByRecursion}
+use Rattle.std.proofs.lemmas.Bool.{cases_Bool, cases_eq, cond-true, cond-false, eq-eqb, ne_eqb, eqb-true, false≢true}
+use Rattle.topo_core.specs.Cycles.{IsPermutation, SameCycle, cycle_count, some_below}
+use Rattle.topo_core.specs.Rotations.{Joined, twin, face_next}
+use Rattle.topo_core.specs.Items.{IsIn}
+use Rattle.topo_core.proofs.Orbits.{SameCycle-refl, SameCycle-sym, SameCycle-trans, some_below-true, some_below-false}
+use Rattle.topo_perm.specs.Edits.{IsApart}
+use Rattle.topo_perm.specs.Joins.{IsConnectedAmong}
+use Rattle.topo_perm.specs.Live.{IsSlab, live_cycle_count}
+use Rattle.topo_perm.specs.Renumbering.{IsRenumbering, IsCarried, Renumbers, RenumbersTurn}
+use Rattle.topo_perm.proofs.Walks.{twin-within, face_next-permutation}
+use Rattle.topo_perm.proofs.Faces.{twin-twin, twin-apart, twin-other}
+use Rattle.topo_perm.proofs.Splitting.{without, without-self, without-elsewhere}
+use Rattle.topo_perm.proofs.Renumbered.{renumbered_same_cycle, renumbered_cycles, renumbered_faces, renumbered_connected}
+use Rattle.topo_perm.proofs.Links.{Link, IsLink, AreLinks, AreReady, AreInFaces, AreUnlinked, IsUnlinked, half_unlinked, twin_unlinked, links_stay, without_link, Drawn, draw, without_links, with_links, live_links, with_segment, all_map}
+use Rattle.topo_perm.proofs.Bends.{dead_bends, Bend, IsBend, AreBends, AreBendable, AreOnOthers, Bent, IsNamed, IsStraight, IsUnbent, IsWithin, Straightened, straighten, with_bends, live_bends, all_bends, all_both}
+
+-- ---- Numbers that are names
+
+-- some number below m that passes, if there is one
+pub find_below : (ℕ → Bool) → ℕ → ℕ
+find_below p zero = zero
+find_below p (suc n) = cond (p n) n (find_below p n)
+
+pub found_below : (p : ℕ → Bool) (n : ℕ) → some_below p n ≡ true → (find_below p n < n) × (p (find_below p n) ≡ true)
+unfolding find_below
+found_below p zero h = absurd (false≢true h)
+found_below p (suc n) h = elim (cases_Bool (p n)) [
+  | inl t ↦ (subst (λ (v : ℕ). v < suc n) (sym (cond-true _ _ _ t)) (omega arith), ap p (cond-true _ _ _ t) ∙ t)
+  | inr u ↦
+      let below : some_below p n ≡ true = sym (ap (λ (b : Bool). b || some_below p n) u) ∙ h in
+      let (less, passes) = found_below p n below in
+      (subst (λ (v : ℕ). v < suc n) (sym (cond-false _ _ _ u)) (omega (arith, less)), ap p (cond-false _ _ _ u) ∙ passes)
+]
+
+-- whether a number is the name of some dart below m
+abbrev pub is_named : (ℕ → ℕ) → ℕ → ℕ → Bool
+is_named name m a = some_below (λ d. name d == a) m
+
+pub named_by : (name : ℕ → ℕ) (m a : ℕ) → is_named name m a ≡ true → (d : ℕ) × (d < m) × (name d ≡ a)
+named_by name m a h = let (less, passes) = found_below (λ d. name d == a) m h in (find_below (λ d. name d == a) m, less, eqb-true (name (find_below (λ d. name d == a) m)) a passes)
+
+pub is_named-of : (name : ℕ → ℕ) (m d : ℕ) → d < m → is_named name m (name d) ≡ true
+is_named-of name m d ld = some_below-true (λ e. name e == name d) m d ld (eq-eqb (name d) (name d) refl)
+
+-- ---- Items
+
+pub all_at : {X : Type 0} (P : X → Type 0) (x : X) (xs : List X) → AllByRecursion P xs → IsIn x xs → P x
+all_at P x [] h i = elim i [ ]
+all_at P x (y ∷ ys) h i = elim i [ | inl e ↦ subst P (sym e) h.0 | inr j ↦ all_at P x ys h.1 j ]
+
+-- a dart is on no bend's segment, or it is a bend's dart or the twin of one
+abbrev pub BentOrNot : ℕ → List Bend → ℕ → Type 0
+BentOrNot m ks d = IsUnbent m ks d ⊎ ((k : Bend) × IsIn k ks × ((d ≡ k.dart) ⊎ (d ≡ twin k.dart)))
+
+pub bent_or_not : (m : ℕ) (ks : List Bend) (d : ℕ) → d < m → BentOrNot m ks d
+bent_or_not m [] d ld = inl tt
+bent_or_not m (k ∷ ks) d ld = elim (cases_eq d k.dart) [
+  | inl e ↦ inr (k, inl refl, inl e)
+  | inr na ↦ elim (cases_eq d (twin k.dart)) [
+    | inl e ↦ inr (k, inl refl, inr e)
+    | inr nt ↦ elim (bent_or_not m ks d ld) [
+      | inl u ↦ inl (record { within = ld; not_self = na; not_twin = nt }, u)
+      | inr w ↦ inr (w.0, inr w.1, w.2)
+    ]
+  ]
+]
+
+-- ---- Passages
+
+-- the links lead from corner z over the bends to the corner of e
+abbrev pub AreAlong : (ℕ → ℕ) → ℕ → List Bend → ℕ → List Link → Type 0
+AreAlong name z [] e [] = ⊥
+AreAlong name z [] e (l ∷ []) = (l.from ≡ z) × (l.to ≡ name e)
+AreAlong name z [] e (l ∷ (j ∷ ls)) = ⊥
+AreAlong name z (k ∷ ks) e [] = ⊥
+AreAlong name z (k ∷ ks) e (l ∷ ls) = (l.from ≡ z) × (l.to ≡ k.beyond) × AreAlong name (twin (name k.dart)) ks e ls
+
+-- crossing the segments of the bends leads from the face of c to the face of e
+abbrev pub Walks : (ℕ → ℕ) → ℕ → List Bend → ℕ → Type 0
+Walks f c [] e = SameCycle (face_next f) c e
+Walks f c (k ∷ ks) e = SameCycle (face_next f) c k.dart × Walks f (twin k.dart) ks e
+
+abbrev pub MeetsOnce : (ℕ → ℕ) → ℕ → List Bend → Type 0
+MeetsOnce f c [] = Unit {0}
+MeetsOnce f c (k ∷ ks) = AllByRecursion (λ j. SameCycle (face_next f) c (twin j.dart) → ⊥) (k ∷ ks) × MeetsOnce f (twin k.dart) ks
+
+-- what the darts of a bend and of a link have to do with each other: nothing
+pub record AreStrange (n : ℕ) (name : ℕ → ℕ) (l : Link) (k : Bend) : Type 0 where
+  pub beyond : IsApart n l.half k.beyond
+  pub back : IsApart n l.half (twin (name k.dart))
+
+-- a number stands for a dart of f, for a dart at a bend, or for half a link
+abbrev pub IsPlaced : ℕ → (ℕ → ℕ) → List Bend → List Link → ℕ → Type 0
+IsPlaced m name ks ls a = ((d : ℕ) × (d < m) × (a ≡ name d))
+    ⊎ (((k : Bend) × IsIn k ks × ((a ≡ k.beyond) ⊎ (a ≡ twin (name k.dart))))
+    ⊎ ((l : Link) × IsIn l ls × ((a ≡ l.half) ⊎ (a ≡ twin l.half))))
+
+-- g on n numbers is f on m numbers, named so, with a path of links from the corner of c over the bends to the corner of e
+pub record IsPassage (g : ℕ → ℕ) (n : ℕ) (f : ℕ → ℕ) (m : ℕ) (name : ℕ → ℕ) (c : ℕ) (ks : List Bend) (e : ℕ) (ls : List Link) : Type 0 where
+  pub permutation : IsPermutation g n
+  pub named : IsNamed (without_links g ls) n f m name
+  pub bends : AreBends (without_links g ls) n m name ks
+  pub straight : IsStraight m name ks
+  pub links : AreLinks g n ls
+  pub along : AreAlong name (name c) ks e ls
+  pub from_there : c < m
+  pub to_there : e < m
+  pub walk : Walks f c ks e
+  pub once : MeetsOnce f c ks
+  pub new : AllByRecursion (λ l. (d : ℕ) → d < m → IsApart n (name d) l.half) ls
+  pub strange : AllByRecursion (λ l. AllByRecursion (AreStrange n name l) ks) ls
+  pub placed : (a : ℕ) → a < n → IsPlaced m name ks ls a
+
+-- ---- What the links leave alone
+
+pub fixed_stays : (g : ℕ → ℕ) (n : ℕ) (ks : List Link) (a : ℕ) → g a ≡ a → IsUnlinked n ks a → without_links g ks a ≡ a
+fixed_stays g n [] a e u = e
+fixed_stays g n (k ∷ ks) a e u =
+    let half : without g (twin k.half) a ≡ a = without-elsewhere g (twin k.half) a u.0.not_twin (λ w. u.0.not_twin (sym e ∙ w)) ∙ e in
+    fixed_stays (without_link g k) n ks a (without-elsewhere (without g (twin k.half)) k.half a u.0.not_self (λ w. u.0.not_self (sym half ∙ w)) ∙ half) u.1
+
+pub links_alone : (g : ℕ → ℕ) (n : ℕ) (ks : List Link) (l : Link) → n % 2 ≡ 0 → AreLinks g n ks → IsIn l ks → (without_links g ks l.half ≡ l.half) × (without_links g ks (twin l.half) ≡ twin l.half)
+links_alone g n [] l even h i = elim i [ ]
+links_alone g n (k ∷ ks) l even h i = elim i [
+  | inl e ↦
+      let half : ℕ → ℕ = without g (twin k.half) in
+      let u : IsUnlinked n ks k.half = half_unlinked n k ks h.0.there h.1 in
+      let at_twin : half (twin k.half) ≡ twin k.half = without-self g (twin k.half) (twin k.half) refl in
+      subst (λ (v : Link). (without_links g (k ∷ ks) v.half ≡ v.half) × (without_links g (k ∷ ks) (twin v.half) ≡ twin v.half)) (sym e)
+      (fixed_stays (without_link g k) n ks k.half (without-self half k.half k.half refl) u,
+        fixed_stays (without_link g k) n ks (twin k.half) (without-elsewhere half k.half (twin k.half) (twin-other k.half) (λ w. twin-other k.half (sym at_twin ∙ w)) ∙ at_twin) (twin_unlinked n ks k.half even u))
+  | inr j ↦ links_alone (without_link g k) n ks l even (links_stay g n k ks even h.1 h.2) j
+]

@@ -1,0 +1,115 @@
+-- What a picture's size rests on: each crossing stands on two paths, and Euler's formula.
+use Rattle.std.proofs.Common.{◌≡◌, ◌+◌, ◌-◌, ◌*◌, ◌≤◌, ap, arith, Bool, cond, inl, inr, length, List, refl, sym, true, ℕ, [], ◌∙◌, ◌∷◌}
+use Rattle.std.specs.Prelude.{map, sum_by, ◌==◌}
+use Rattle.std.specs.List.{list_all}
+use Rattle.std.proofs.lemmas.Bool.{cases_Bool, eq-eqb, eqb-true}
+use Rattle.std.proofs.lemmas.List.{length-map}
+use Rattle.std.proofs.lemmas.List.Sums.{sum_by-cons}
+use Rattle.topo_core.specs.declared.limits.Limits.{Limits}
+use Rattle.topo_core.specs.declared.rows.CrossRow.{CrossRow}
+use Rattle.topo_core.specs.declared.rows.EdgeRow.{EdgeRow}
+use Rattle.topo_core.specs.declared.rows.Rows.{Rows}
+use Rattle.topo_core.specs.Items.{IsIn, occurrences, rises_below}
+use Rattle.topo_core.specs.Lawful.{has_good_path, is_good_crossing}
+use Rattle.topo_core.specs.Picture.{face_count, segment_count}
+use Rattle.topo_core.proofs.Counting.{one}
+use Rattle.topo_core.proofs.Members.{left_true}
+use Rattle.topo_picture.specs.Pairs.{crossing_pairs, path_pairs}
+use Rattle.topo_picture.specs.Shown.{IsPicture}
+use Rattle.topo_picture.specs.Totals.{AreCountsOf}
+use Rattle.topo_picture.proofs.PairTests.{same_from_good, two_pairs_each}
+use Rattle.topo_picture.proofs.Sorting.{counted_in, few_rise, in_counted}
+use Rattle.topo_picture.proofs.Verdicts.{segments_by_pairs}
+
+-- ---- Lists that hold each number equally often are equally long
+
+-- the list without the first x
+abbrev less_one : ℕ → List ℕ → List ℕ
+less_one x [] = []
+less_one x (y ∷ ys) = cond (y == x) ys (y ∷ less_one x ys)
+
+less_one-length : (x : ℕ) (ys : List ℕ) → IsIn x ys → length ys ≡ length (less_one x ys) + 1
+less_one-length x [] h = absurd h
+less_one-length x (y ∷ ys) h = elim (cases_Bool (y == x)) [
+  | inl e ↦ let step : length (less_one x (y ∷ ys)) ≡ length ys = ap (λ (b : Bool). length (cond b ys (y ∷ less_one x ys))) e in omega arith
+  | inr e ↦ elim h [
+    | inl same ↦ absurd (let no : true ≡ (y == x) = sym (eq-eqb y x (sym same)) in let bad = no ∙ e in cc)
+    | inr later ↦
+        let step : length (less_one x (y ∷ ys)) ≡ length (y ∷ less_one x ys) = ap (λ (b : Bool). length (cond b ys (y ∷ less_one x ys))) e in
+        let rest = less_one-length x ys later in omega arith
+  ]
+]
+
+less_one-count : (x k : ℕ) (ys : List ℕ) → IsIn x ys → occurrences k ys ≡ occurrences k (less_one x ys) + one (x == k)
+less_one-count x k [] h = absurd h
+less_one-count x k (y ∷ ys) h =
+    let step = sum_by-cons (λ z. one (z == k)) y ys in
+    elim (cases_Bool (y == x)) [
+      | inl e ↦
+          let first : occurrences k (less_one x (y ∷ ys)) ≡ occurrences k ys = ap (λ (b : Bool). occurrences k (cond b ys (y ∷ less_one x ys))) e in
+          let same : one (y == k) ≡ one (x == k) = ap (λ n. one (n == k)) (eqb-true y x e) in omega arith
+      | inr e ↦ elim h [
+        | inl same ↦ absurd (let no : true ≡ (y == x) = sym (eq-eqb y x (sym same)) in let bad = no ∙ e in cc)
+        | inr later ↦
+            let first : occurrences k (less_one x (y ∷ ys)) ≡ occurrences k (y ∷ less_one x ys) = ap (λ (b : Bool). occurrences k (cond b ys (y ∷ less_one x ys))) e in
+            let more = sum_by-cons (λ z. one (z == k)) y (less_one x ys) in
+            let rest = less_one-count x k ys later in omega arith
+      ]
+    ]
+
+equally_long : (xs ys : List ℕ) → ((k : ℕ) → occurrences k xs ≡ occurrences k ys) → length xs ≡ length ys
+equally_long [] [] same = refl
+equally_long [] (y ∷ ys) same = absurd (let h = in_counted y (y ∷ ys) (inl refl) in let e = same y in omega arith)
+equally_long (x ∷ xs) ys same =
+    let there : IsIn x ys = counted_in x ys (let h = in_counted x (x ∷ xs) (inl refl) in let e = same x in omega arith) in
+    let rest = equally_long xs (less_one x ys) (λ k.
+    let step = sum_by-cons (λ z. one (z == k)) x xs in
+    let e = same k in
+    let less = less_one-count x k ys there in omega arith) in
+    let long = less_one-length x ys there in omega arith
+
+-- ---- Segments
+
+-- the sizes of a picture, and how they hang together
+pub record IsCounted (rows : Rows) : Type 0 where
+  pub segments : sum_by segment_count rows.edges ≡ length rows.edges + 2 * length rows.crossings
+  pub euler : length rows.rotations + length rows.crossings + face_count rows ≡ sum_by segment_count rows.edges + 2
+  pub vertices : length rows.rotations ≤ 65536
+  pub edges : length rows.edges ≤ 65536
+  pub crossings : length rows.crossings ≤ 1048576
+
+pub counted : (limits : Limits) (rows : Rows) → IsPicture limits rows → IsCounted rows
+counted limits rows is =
+    let good = is.lawful.embedding.well_formed in
+    let paths = good.paths in
+    let crossings = good.crossings in
+    let v_most = limits.vertices_in_range in
+    let e_most = limits.edges_in_range in
+    let x_most = limits.crossings_in_range in
+    let v_in = is.vertices in
+    let e_in = is.edges in
+    let x_in = is.crossings in
+    let rise : rises_below rows.next_crossing (map (λ x. x.id) rows.crossings) ≡ true = left_true _ (list_all (is_good_crossing rows) rows.crossings) crossings in
+    let few_edges : length rows.edges ≤ rows.next_edge = (let f = few_rise rows.next_edge (map (λ row. row.id) rows.edges) (left_true _ (list_all (has_good_path rows) rows.edges) paths) in omega (arith, length-map rows.edges (λ (row : EdgeRow). row.id))) in
+    let few_crossings : length rows.crossings ≤ rows.next_crossing = (let f = few_rise rows.next_crossing (map (λ x. x.id) rows.crossings) rise in omega (arith, length-map rows.crossings (λ (x : CrossRow). x.id))) in
+    let pairs : length (path_pairs rows.edges) ≡ length (crossing_pairs rows.crossings) = equally_long (path_pairs rows.edges) (crossing_pairs rows.crossings) (same_from_good rows paths (omega arith) rise crossings) in
+    let two = two_pairs_each rows.crossings in
+    let segments = segments_by_pairs rows.edges in
+    record {
+      segments = omega arith;
+      euler = is.lawful.genus_zero;
+      vertices = omega arith;
+      edges = omega arith;
+      crossings = omega arith;
+    }
+
+-- the counts that follow from those of vertices, crossings and edges
+pub counts_are : (rows : Rows) (vertices crossings edges : ℕ) → IsCounted rows → vertices ≡ length rows.rotations → crossings ≡ length rows.crossings → edges ≡ length rows.edges
+    → AreCountsOf rows (record { vertices = vertices; crossings = crossings; edges = edges; segments = edges + 2 * crossings; faces = edges + 2 * crossings + 2 - (vertices + crossings) })
+counts_are rows vertices crossings edges size v x e = record {
+  vertices = v;
+  crossings = x;
+  edges = e;
+  segments = (let law = size.segments in omega arith);
+  faces = (let law = size.segments in let euler = size.euler in omega arith);
+}
