@@ -199,7 +199,7 @@ pub all_map : {X : Type 0} (P Q : X → Type 0) → ((x : X) → P x → Q x) �
 all_map P Q f [] h = h
 all_map P Q f (x ∷ xs) h = (f x h.0, all_map P Q f xs h.1)
 
-apart_back : (n k l : ℕ) → k < n → IsApart n l k → IsApart n k l
+pub apart_back : (n k l : ℕ) → k < n → IsApart n l k → IsApart n k l
 apart_back n k l lk p = record {
   within = lk;
   not_self = λ e. p.not_self (sym e);

@@ -51,6 +51,11 @@ pub all_at : {X : Type 0} (P : X → Type 0) (x : X) (xs : List X) → AllByRecu
 all_at P x [] h i = elim i [ ]
 all_at P x (y ∷ ys) h i = elim i [ | inl e ↦ subst P (sym e) h.0 | inr j ↦ all_at P x ys h.1 j ]
 
+-- every item of a list
+pub all_of : {X : Type 0} (P : X → Type 0) (xs : List X) → ((x : X) → IsIn x xs → P x) → AllByRecursion P xs
+all_of P [] f = tt
+all_of P (x ∷ xs) f = (f x (inl refl), all_of P xs (λ y i. f y (inr i)))
+
 -- a dart is on no bend's segment, or it is a bend's dart or the twin of one
 abbrev pub BentOrNot : ℕ → List Bend → ℕ → Type 0
 BentOrNot m ks d = IsUnbent m ks d ⊎ ((k : Bend) × IsIn k ks × ((d ≡ k.dart) ⊎ (d ≡ twin k.dart)))

@@ -15,7 +15,7 @@ use Rattle.topo_perm.proofs.Faces.{twin-twin, twin-apart}
 use Rattle.topo_perm.proofs.Renumbered.{renumbered_same_cycle, renumbered_cycles, renumbered_faces, renumbered_connected}
 use Rattle.topo_perm.proofs.Links.{Link, IsLink, AreLinks, AreReady, AreInFaces, Drawn, draw, without_links, with_links, live_links, with_self, with_twin, with_old, with_segment, all_map}
 use Rattle.topo_perm.proofs.Bends.{Bend, IsBend, AreBends, AreBendable, Bent, IsNamed, IsUnbent, IsWithin, Straightened, straighten, with_bends, live_bends, dead_bends, all_bends, all_both}
-use Rattle.topo_perm.proofs.Passages.{find_below, found_below, is_named, named_by, is_named-of, all_at, bent_or_not, AreAlong, Walks, MeetsOnce, AreStrange, IsPlaced, IsPassage, links_alone}
+use Rattle.topo_perm.proofs.Passages.{find_below, found_below, is_named, named_by, is_named-of, all_at, bent_or_not, AreAlong, Walks, MeetsOnce, AreStrange, IsPlaced, IsPassage, all_of, links_alone}
 
 -- ---- The system below is f under other numbers
 
@@ -114,11 +114,6 @@ record OnGround (g : ℕ → ℕ) (n : ℕ) (f : ℕ → ℕ) (m : ℕ) (name : 
   p : IsPassage g n f m name c ks e ls
   s : Straightened (without_links g ls) n f m name ks
   i : AllByRecursion (IsBend (without_links g ls) n m name) ks
-
--- every item of a list
-all_of : {X : Type 0} (P : X → Type 0) (xs : List X) → ((x : X) → IsIn x xs → P x) → AllByRecursion P xs
-all_of P [] f = tt
-all_of P (x ∷ xs) f = (f x (inl refl), all_of P xs (λ y i. f y (inr i)))
 
 bendable_of : (live : ℕ → Bool) (name : ℕ → ℕ) (ks : List Bend) → AllByRecursion (λ k. (live k.beyond ≡ false) × (live (twin k.beyond) ≡ false) × (live (name k.dart) ≡ true)) ks → AreBendable live name ks
 bendable_of live name [] h = tt

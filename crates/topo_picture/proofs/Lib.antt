@@ -12,3 +12,5 @@ pub mod Sorting
 pub mod Totals
 pub mod Verdicts
 pub mod Written
+pub mod InsertedNumbers
+pub mod InsertedPassage
