@@ -39,36 +39,36 @@ one_segment : (c d : Dart) → c.edge ≡ d.edge → c.seg ≡ d.seg → same_se
 one_segment c d e g w = false≢true (sym w ∙ ap (λ (b : Bool). b && c.seg == d.seg) (eq-eqb c.edge d.edge e) ∙ eq-eqb c.seg d.seg g)
 
 module _ (p q : Rows) (f u v : ℕ) (r : Route) (hp : IsWellFormed p) (hq : IsWellFormed q) (s : ShowsTurns p f u v r q) where
-  abbrev Was : Dart → Type 0
+  abbrev pub Was : Dart → Type 0
   Was d = has_dart (darts p) d ≡ true
 
-  abbrev Is : Dart → Type 0
+  abbrev pub Is : Dart → Type 0
   Is d = has_dart (darts q) d ≡ true
 
-  abbrev num : Dart → ℕ
+  abbrev pub num : Dart → ℕ
   num = index_of q
 
-  abbrev g : ℕ → ℕ
+  abbrev pub g : ℕ → ℕ
   g = map_of (turn_images q)
 
-  abbrev n : ℕ
+  abbrev pub n : ℕ
   n = length (turn_images q)
 
-  abbrev old : ℕ → ℕ
+  abbrev pub old : ℕ → ℕ
   old = map_of (turn_images p)
 
-  abbrev m : ℕ
+  abbrev pub m : ℕ
   m = length (turn_images p)
 
   -- the number in q of the dart with this number in p
-  abbrev name : ℕ → ℕ
+  abbrev pub name : ℕ → ℕ
   name a = num (lifted p q (dart_of p hp a))
 
   name_of : (d : Dart) → Was d → name (index_of p d) ≡ num (lifted p q d)
   name_of d w = ap (λ (c : Dart). num (lifted p q c)) (dart_of_number p hp d w)
 
   -- the darts of the new edge
-  abbrev newcomer : ℕ → Way → Dart
+  abbrev pub newcomer : ℕ → Way → Dart
   newcomer i way = record { edge = f; seg = i; way = way }
 
   newcomer_in : (i : ℕ) (way : Way) → i ≤ length r.crossed → Is (newcomer i way)
@@ -95,27 +95,27 @@ module _ (p q : Rows) (f u v : ℕ) (r : Route) (hp : IsWellFormed p) (hq : IsWe
 
   -- ---- The bends and the links
 
-  abbrev bend_of : ℕ → Dart → Bend
+  abbrev pub bend_of : ℕ → Dart → Bend
   bend_of x d = record { dart = index_of p d; beyond = num (onward q x d) }
 
-  abbrev bends_of : ℕ → List Dart → List Bend
+  abbrev pub bends_of : ℕ → List Dart → List Bend
   bends_of x [] = []
   bends_of x (d ∷ ds) = bend_of x d ∷ bends_of (x + 1) ds
 
-  abbrev link_of : ℕ → ℕ → ℕ → Link
+  abbrev pub link_of : ℕ → ℕ → ℕ → Link
   link_of x z e = record { from = z; to = e; half = num (newcomer (x - p.next_crossing) Forward) }
 
-  abbrev links_of : ℕ → ℕ → List Dart → ℕ → List Link
+  abbrev pub links_of : ℕ → ℕ → List Dart → ℕ → List Link
   links_of x z [] e = link_of x z e ∷ []
   links_of x z (d ∷ ds) e = link_of x z (num (onward q x d)) ∷ links_of (x + 1) (num (backward q x d)) ds e
 
   -- the crossings from x on are those of the darts ds, the last of the route
-  record IsRest (x : ℕ) (ds : List Dart) : Type 0 where
-    from : p.next_crossing ≤ x
-    size : x + length ds ≡ p.next_crossing + length r.crossed
-    sub : (y : ℕ) (d : Dart) → IsIn (y, d) (enumerate_from x ds) → IsIn (y, d) (numbered p r)
-    was : AllByRecursion (λ d. has_dart (darts p) d ≡ true) ds
-    once : CrossesOnce ds
+  pub record IsRest (x : ℕ) (ds : List Dart) : Type 0 where
+    pub from : p.next_crossing ≤ x
+    pub size : x + length ds ≡ p.next_crossing + length r.crossed
+    pub sub : (y : ℕ) (d : Dart) → IsIn (y, d) (enumerate_from x ds) → IsIn (y, d) (numbered p r)
+    pub was : AllByRecursion (λ d. has_dart (darts p) d ≡ true) ds
+    pub once : CrossesOnce ds
 
   rest_of : (x : ℕ) (d : Dart) (ds : List Dart) → IsRest x (d ∷ ds) → IsRest (x + 1) ds
   rest_of x d ds h = record {
@@ -141,16 +141,16 @@ module _ (p q : Rows) (f u v : ℕ) (r : Route) (hp : IsWellFormed p) (hq : IsWe
   -- ---- The links
 
   -- corner z, where the next link starts: it is none of the darts onward, nor where the new edge ends
-  record IsStart (x : ℕ) (z e : Dart) : Type 0 where
-    z_in : Is z
-    z_other : z.edge ≢ f
-    e_in : Is e
-    e_other : e.edge ≢ f
-    leaves : turn (system q) (newcomer (x - p.next_crossing) Forward) ≡ z
-    arrives : turn (system q) (newcomer (length r.crossed) Back) ≡ e
-    not_end : z ≢ e
-    not_onward : (y : ℕ) (d : Dart) → IsIn (y, d) (numbered p r) → z ≢ onward q y d
-    end_new : (y : ℕ) (d : Dart) → IsIn (y, d) (numbered p r) → backward q y d ≢ e
+  pub record IsStart (x : ℕ) (z e : Dart) : Type 0 where
+    pub z_in : Is z
+    pub z_other : z.edge ≢ f
+    pub e_in : Is e
+    pub e_other : e.edge ≢ f
+    pub leaves : turn (system q) (newcomer (x - p.next_crossing) Forward) ≡ z
+    pub arrives : turn (system q) (newcomer (length r.crossed) Back) ≡ e
+    pub not_end : z ≢ e
+    pub not_onward : (y : ℕ) (d : Dart) → IsIn (y, d) (numbered p r) → z ≢ onward q y d
+    pub end_new : (y : ℕ) (d : Dart) → IsIn (y, d) (numbered p r) → backward q y d ≢ e
 
   next_start : (x : ℕ) (z e d : Dart) (ds : List Dart) → IsRest x (d ∷ ds) → IsStart x z e → IsStart (x + 1) (backward q x d) e
   next_start x z e d ds h t =
@@ -264,14 +264,31 @@ module _ (p q : Rows) (f u v : ℕ) (r : Route) (hp : IsWellFormed p) (hq : IsWe
   ]
 
   -- the path of the whole route, from the corner of z to that of e
-  record IsPath (z e : Dart) : Type 0 where
-    rest : IsRest p.next_crossing r.crossed
-    start : IsStart p.next_crossing z e
+  pub record IsPath (z e : Dart) : Type 0 where
+    pub rest : IsRest p.next_crossing r.crossed
+    pub start : IsStart p.next_crossing z e
 
-  abbrev path_links : Dart → Dart → List Link
+  -- the path from the corner of `from` to the corner of `to`
+  pub path_of : (from to : Dart) → corner p u r.start ≡ Some from → corner p v r.end ≡ Some to → Was from → Was to → from ≢ to → AllByRecursion (λ d. has_dart (darts p) d ≡ true) r.crossed → CrossesOnce r.crossed → IsPath (lifted p q from) (lifted p q to)
+  path_of from to from_at to_at from_was to_was apart was once = record {
+    rest = record { from = omega arith; size = refl; sub = λ y d i. i; was = was; once = once };
+    start = record {
+      z_in = lifted_there from from_was;
+      z_other = lifted_other from from_was;
+      e_in = lifted_there to to_was;
+      e_other = lifted_other to to_was;
+      leaves = ap (λ (j : ℕ). turn (system q) (newcomer j Forward)) (let k : p.next_crossing - p.next_crossing ≡ 0 = omega arith in k) ∙ s.starts from from_at;
+      arrives = s.ends to to_at;
+      not_end = λ w. apart (s.lifts_apart from to from_was to_was w);
+      not_onward = λ y d i. (s.new_points y d from i from_was).0;
+      end_new = λ y d i w. (s.new_points y d to i to_was).1 (sym w);
+    };
+  }
+
+  abbrev pub path_links : Dart → Dart → List Link
   path_links z e = links_of p.next_crossing (num z) r.crossed (num e)
 
-  abbrev below : Dart → Dart → ℕ → ℕ
+  abbrev pub below : Dart → Dart → ℕ → ℕ
   below z e = without_links g (path_links z e)
 
   off_path : (z e : Dart) → IsPath z e → (a : Dart) → Is a → a.edge ≢ f → IsUnlinked n (path_links z e) (num a)
@@ -433,7 +450,7 @@ module _ (p q : Rows) (f u v : ℕ) (r : Route) (hp : IsWellFormed p) (hq : IsWe
       ])
     ], unbent_segments a la (x + 1) cs was.1 u.1)
 
-    abbrev path_bends : List Bend
+    abbrev pub path_bends : List Bend
     path_bends = bends_of p.next_crossing r.crossed
 
     straight : IsStraight m name path_bends
@@ -497,3 +514,41 @@ module _ (p q : Rows) (f u v : ℕ) (r : Route) (hp : IsWellFormed p) (hq : IsWe
       half_or_twin : (i : ℕ) (way : Way) → i ≤ length r.crossed → (l : Link) → l.half ≡ num (newcomer i Forward) → (a : ℕ) → a ≡ num (newcomer i way) → (a ≡ l.half) ⊎ (a ≡ twin l.half)
       half_or_twin i Forward hi l half a at = inl (at ∙ sym half)
       half_or_twin i Back hi l half a at = inr (at ∙ sym (twin_half i hi) ∙ ap twin (sym half))
+
+    pub is_passage : (from to : Dart) → Was from → Was to → num z ≡ num (lifted p q from) → num e ≡ num (lifted p q to) → Crosses (system p) from r.crossed to → MeetsFacesOnce (system p) from r.crossed
+        → IsPassage g n old m name (index_of p from) path_bends (index_of p to) (path_links z e)
+    is_passage from to from_was to_was z_is e_is walk once =
+        let links : AreLinks g n (path_links z e) = path_are_links z e h in
+        record {
+          permutation = turn_permutes q hq.paths hq.crossings hq.rotations;
+          named = named;
+          bends = are_bends p.next_crossing r.crossed h.rest;
+          straight = straight;
+          links = links;
+          along = subst (λ (w : ℕ). AreAlong name w path_bends (index_of p to) (path_links z e)) (z_is ∙ sym (name_of from from_was)) (along to to_was e_is p.next_crossing (num z) r.crossed h.rest);
+          from_there = number_less p hp from from_was;
+          to_there = number_less p hp to to_was;
+          walk = walks to from from_was p.next_crossing r.crossed h.rest walk;
+          once = meets_once from from_was p.next_crossing r.crossed h.rest once;
+          new = all_of (λ l. (d : ℕ) → d < m → IsApart n (name d) l.half) (path_links z e) (λ l i d ld.
+              let was : Was (dart_of p hp d) = dart_here p hp d ld in
+              all_at (λ k. IsApart n (name d) k.half) l (path_links z e) (off_path z e h (lifted p q (dart_of p hp d)) (lifted_there (dart_of p hp d) was) (lifted_other (dart_of p hp d) was)) i);
+          strange = all_of (λ l. AllByRecursion (AreStrange n name l) path_bends) (path_links z e) (λ l i. strange_bends l i (link_there (path_links z e) l links i) p.next_crossing r.crossed h.rest);
+          placed = placed;
+        } where
+      link_there : (ls : List Link) (l : Link) → AreLinks g n ls → IsIn l ls → l.half < n
+      link_there [] l k i = elim i [ ]
+      link_there (j ∷ js) l k i = elim i [
+        | inl same ↦ subst (λ (w : Link). w.half < n) (sym same) k.0.there
+        | inr later ↦ link_there js l k.2 later
+      ]
+      strange_bends : (l : Link) → IsIn l (path_links z e) → l.half < n → (x : ℕ) (ds : List Dart) → IsRest x ds → AllByRecursion (AreStrange n name l) (bends_of x ds)
+      strange_bends l i there x [] k = tt
+      strange_bends l i there x (d ∷ ds) k =
+          let c : IsCrossed x d = crossed_at x d ds k in
+          let on : IsApart n (num (onward q x d)) l.half = all_at (λ j. IsApart n (num (onward q x d)) j.half) l (path_links z e) (off_path z e h (onward q x d) (s.crossed_there x d c.at).0 (onward_other x d c.was)) i in
+          let back : IsApart n (num (backward q x d)) l.half = all_at (λ j. IsApart n (num (backward q x d)) j.half) l (path_links z e) (off_path z e h (backward q x d) (s.crossed_there x d c.at).1 (backward_other x d c.was)) i in
+          (record {
+            beyond = apart_back n l.half (num (onward q x d)) there on;
+            back = subst (λ (w : ℕ). IsApart n l.half w) (sym (back_number x d c)) (apart_back n l.half (num (backward q x d)) there back);
+          }, strange_bends l i there (x + 1) ds (rest_of x d ds k))

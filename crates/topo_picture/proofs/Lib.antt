@@ -14,3 +14,4 @@ pub mod Verdicts
 pub mod Written
 pub mod InsertedNumbers
 pub mod InsertedPassage
+pub mod InsertedLawful
