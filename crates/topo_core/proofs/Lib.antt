@@ -24,4 +24,5 @@ pub mod Standing
 pub mod SystemDarts
 pub mod Turning
 pub mod Weaving
+pub mod WithoutRows
 pub mod WovenPaths
