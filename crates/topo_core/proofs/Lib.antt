@@ -24,5 +24,6 @@ pub mod Standing
 pub mod SystemDarts
 pub mod Turning
 pub mod Weaving
+pub mod WithoutForm
 pub mod WithoutRows
 pub mod WovenPaths
