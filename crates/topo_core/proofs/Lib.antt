@@ -5,6 +5,7 @@ pub mod Counting
 pub mod DartLaws
 pub mod DartOrder
 pub mod Growing
+pub mod GonePaths
 pub mod GrownFaces
 pub mod Lengthening
 pub mod Members
