@@ -26,5 +26,6 @@ pub mod SystemDarts
 pub mod Turning
 pub mod Weaving
 pub mod WithoutForm
+pub mod WithoutPlaces
 pub mod WithoutRows
 pub mod WovenPaths
