@@ -14,6 +14,7 @@ pub mod Numbering
 pub mod Orbits
 pub mod Points
 pub mod Renumbering
+pub mod RoundPoints
 pub mod RouteDarts
 pub mod ShownForm
 pub mod ShownPlaces
