@@ -29,4 +29,5 @@ pub mod Weaving
 pub mod WithoutForm
 pub mod WithoutPlaces
 pub mod WithoutRows
+pub mod WithoutTurns
 pub mod WovenPaths
