@@ -5,6 +5,7 @@ pub mod Counting
 pub mod DartLaws
 pub mod DartOrder
 pub mod Growing
+pub mod GonePaths
 pub mod GrownFaces
 pub mod Lengthening
 pub mod Members
@@ -13,6 +14,7 @@ pub mod Numbering
 pub mod Orbits
 pub mod Points
 pub mod Renumbering
+pub mod RoundPoints
 pub mod RouteDarts
 pub mod ShownForm
 pub mod ShownPlaces
@@ -24,4 +26,8 @@ pub mod Standing
 pub mod SystemDarts
 pub mod Turning
 pub mod Weaving
+pub mod WithoutForm
+pub mod WithoutPlaces
+pub mod WithoutRows
+pub mod WithoutTurns
 pub mod WovenPaths
