@@ -294,7 +294,7 @@ all_live g n f m name c ks e ls p i s a la =
       ]
     ]
 
-whole_count : (h : ℕ → ℕ) (n : ℕ) (live : ℕ → Bool) → IsPermutation h n → ((a : ℕ) → a < n → live a ≡ true) → cycle_count h n ≡ live_cycle_count live h n
+pub whole_count : (h : ℕ → ℕ) (n : ℕ) (live : ℕ → Bool) → IsPermutation h n → ((a : ℕ) → a < n → live a ≡ true) → cycle_count h n ≡ live_cycle_count live h n
 whole_count h n live p all = renumbered_cycles (λ a. a) (λ a. a) h h n live n (record {
   before = p;
   after = p;
