@@ -1,5 +1,5 @@
 -- How the darts of a picture without an edge turned before.
-use Rattle.std.proofs.Common.{◌≡◌, ◌≢◌, ℕ, ◌+◌, ◌<◌, ◌≤◌, append_assoc, Bool, true, false, cond, not, ◌||◌, List, [], ◌∷◌, ◌++◌, length, get_or, refl, sym, ap, subst, ◌∙◌, arith, inl, inr}
+use Rattle.std.proofs.Common.{◌≡◌, ℕ, ◌+◌, ◌<◌, ◌≤◌, Bool, true, false, cond, not, ◌||◌, List, [], ◌∷◌, ◌++◌, length, refl, sym, ap, subst, ◌∙◌, arith, inl, inr}
 use Rattle.std.specs.Prelude.{◌==◌, ◌⊎◌, filter, is_some, map, slice_index_or}
 use Rattle.std.specs.List.{range_with_len}
 use Rattle.std.proofs.lemmas.List.{map-append}
@@ -9,13 +9,12 @@ use Rattle.topo_core.specs.declared.darts.Dart.{Dart}
 use Rattle.topo_core.specs.declared.darts.Sign.{Sign}
 use Rattle.topo_core.specs.declared.darts.Sign.TheVariants.{LeftToRight, RightToLeft}
 use Rattle.topo_core.specs.declared.darts.Way.{Way}
-use Rattle.topo_core.specs.declared.darts.Way.TheVariants.{Forward, Back}
 use Rattle.topo_core.specs.declared.rows.CrossRow.{CrossRow}
 use Rattle.topo_core.specs.declared.rows.EdgeRow.{EdgeRow}
 use Rattle.topo_core.specs.declared.rows.Rows.{Rows}
 use Rattle.topo_core.specs.Changes.{without}
 use Rattle.topo_core.specs.Darts.{reversed, same_dart}
-use Rattle.topo_core.specs.Deletions.{HidesTurns, IsCrossingOf, left_dart, newcomer_rightward, right_dart, rightward}
+use Rattle.topo_core.specs.Deletions.{HidesTurns, IsCrossingOf, newcomer_rightward, rightward}
 use Rattle.topo_core.specs.Insertions.{FollowsBut, lifted, onward_by}
 use Rattle.topo_core.specs.Items.{IsIn, occurrences}
 use Rattle.topo_core.specs.Lawful.{IsWellFormed}
@@ -206,9 +205,9 @@ module _ (rows : Rows) (e : ℕ) (good : IsWellFormed rows) (known : is_some (ed
       | inr same ↦
           let all : kept ≡ around_vertex rows w = ap (map (end_dart rows w)) same in
           inl (
-            turn_before (around_vertex rows w) (lift d) point_before (ap (λ ds. has_dart ds (lift d)) (sym all) ∙ kept_has d h)
-            ∙ ap (λ ds. next_around ds (lift d)) (sym all)
-            ∙ next_kept (subst IsDistinct (sym all) around_distinct) d h)
+          turn_before (around_vertex rows w) (lift d) point_before (ap (λ ds. has_dart ds (lift d)) (sym all) ∙ kept_has d h)
+          ∙ ap (λ ds. next_around ds (lift d)) (sym all)
+          ∙ next_kept (subst IsDistinct (sym all) around_distinct) d h)
     ] where
       less_distinct : (front back : List Dart) (x : Dart) → IsDistinct (front ++ x ∷ back) → IsDistinct (front ++ back)
       less_distinct front back x distinct = distinct_exchanged back front (distinct_right (x ∷ []) (back ++ front) (distinct_exchanged front (x ∷ back) distinct))
