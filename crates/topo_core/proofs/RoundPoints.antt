@@ -1,6 +1,6 @@
 -- What comes next round a point: the list may begin anywhere, and one dart may be taken out.
-use Rattle.std.proofs.Common.{◌≡◌, ◌≤◌, ◌||◌, ap, append-nil, append_assoc, arith, Bool, cond, false, inl, inr, List, refl, subst, sym, true, ℕ, zero, suc, [], ◌++◌, ◌∙◌, ◌∷◌}
-use Rattle.std.specs.Prelude.{count_by, filter, not, slice_index_or, ◌==◌, ◌⊎◌}
+use Rattle.std.proofs.Common.{◌≡◌, ◌≤◌, ◌||◌, ap, append-nil, append_assoc, arith, Bool, cond, false, inl, inr, List, refl, subst, sym, true, ℕ, [], ◌++◌, ◌∙◌, ◌∷◌}
+use Rattle.std.specs.Prelude.{filter, not, slice_index_or, ◌==◌, ◌⊎◌}
 use Rattle.std.proofs.lemmas.List.Sums.{sum_by-append, sum_by-cons}
 use Rattle.std.proofs.lemmas.Bool.{cases_Bool, eqb-true, or_left, or_right}
 use Rattle.topo_core.specs.declared.darts.Dart.{Dart}
@@ -84,8 +84,8 @@ next_rotated (x ∷ front) back d distinct h =
     next_turned x (front ++ back) d distinct h
     ∙ ap (λ ds. next_around ds d) moved
     ∙ next_rotated front (back ++ x ∷ []) d
-      (subst IsDistinct moved (distinct_exchanged (x ∷ []) (front ++ back) distinct))
-      (sym (ap (λ ds. has_dart ds d) moved) ∙ has_exchanged (front ++ back) (x ∷ []) d ∙ h)
+    (subst IsDistinct moved (distinct_exchanged (x ∷ []) (front ++ back) distinct))
+    (sym (ap (λ ds. has_dart ds d) moved) ∙ has_exchanged (front ++ back) (x ∷ []) d ∙ h)
     ∙ ap (λ ds. next_around ds d) (append_assoc back (x ∷ []) front)
 
 -- ---- A dart taken out
@@ -111,7 +111,6 @@ follower_by first other d (z ∷ y ∷ zs) = elim (cases_Bool (same_dart d z)) [
 -- the first of a list is followed by the next
 pub next_of_first : (x : Dart) (zs : List Dart) → next_around (x ∷ zs) x ≡ slice_index_or zs 0 x
 next_of_first x zs = ap (λ (t : Bool). cond t (slice_index_or zs 0 x) (follower x zs x)) (same_dart_self x)
-
 
 next_but_first : (x d : Dart) (zs : List Dart) → same_dart d x ≡ false → has_dart zs d ≡ true
     → (next_around (x ∷ zs) d ≡ next_around zs d) ⊎ ((next_around (x ∷ zs) d ≡ x) × (next_around (x ∷ zs) x ≡ next_around zs d))
@@ -205,11 +204,11 @@ taken_out e (x ∷ xs) once =
           let kept = ap (λ (t : Bool). cond (not t) (x ∷ filter (λ f. not (f == e)) xs) (filter (λ f. not (f == e)) xs)) k in
           elim (taken_out e xs (omega arith)) [
             | inl rest ↦ inl (record {
-                front = x ∷ rest.front;
-                back = rest.back;
-                was = ap (λ list. x ∷ list) rest.was;
-                now = kept ∙ ap (λ list. x ∷ list) rest.now;
-              })
+              front = x ∷ rest.front;
+              back = rest.back;
+              was = ap (λ list. x ∷ list) rest.was;
+              now = kept ∙ ap (λ list. x ∷ list) rest.now;
+            })
             | inr same ↦ inr (kept ∙ ap (λ list. x ∷ list) same)
           ]
     ]

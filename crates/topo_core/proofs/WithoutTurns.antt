@@ -1,5 +1,5 @@
 -- How the darts of a picture without an edge turned before.
-use Rattle.std.proofs.Common.{◌≡◌, ◌≢◌, ℕ, ◌+◌, ◌<◌, ◌≤◌, append_assoc, Bool, true, false, cond, not, ◌||◌, List, [], ◌∷◌, ◌++◌, length, get_or, refl, sym, ap, subst, ◌∙◌, arith, inl, inr}
+use Rattle.std.proofs.Common.{◌≡◌, ℕ, ◌+◌, ◌<◌, ◌≤◌, Bool, true, false, cond, not, ◌||◌, List, [], ◌∷◌, ◌++◌, length, refl, sym, ap, subst, ◌∙◌, arith, inl, inr}
 use Rattle.std.specs.Prelude.{◌==◌, ◌⊎◌, filter, is_some, map, slice_index_or}
 use Rattle.std.specs.List.{range_with_len}
 use Rattle.std.proofs.lemmas.List.{map-append}
@@ -15,7 +15,7 @@ use Rattle.topo_core.specs.declared.rows.EdgeRow.{EdgeRow}
 use Rattle.topo_core.specs.declared.rows.Rows.{Rows}
 use Rattle.topo_core.specs.Changes.{without}
 use Rattle.topo_core.specs.Darts.{reversed, same_dart}
-use Rattle.topo_core.specs.Deletions.{HidesTurns, IsCrossingOf, left_dart, newcomer_rightward, right_dart, rightward}
+use Rattle.topo_core.specs.Deletions.{HidesTurns, IsCrossingOf, newcomer_rightward, rightward}
 use Rattle.topo_core.specs.Insertions.{FollowsBut, lifted, onward_by}
 use Rattle.topo_core.specs.Items.{IsIn, occurrences}
 use Rattle.topo_core.specs.Lawful.{IsWellFormed}
@@ -206,9 +206,9 @@ module _ (rows : Rows) (e : ℕ) (good : IsWellFormed rows) (known : is_some (ed
       | inr same ↦
           let all : kept ≡ around_vertex rows w = ap (map (end_dart rows w)) same in
           inl (
-            turn_before (around_vertex rows w) (lift d) point_before (ap (λ ds. has_dart ds (lift d)) (sym all) ∙ kept_has d h)
-            ∙ ap (λ ds. next_around ds (lift d)) (sym all)
-            ∙ next_kept (subst IsDistinct (sym all) around_distinct) d h)
+          turn_before (around_vertex rows w) (lift d) point_before (ap (λ ds. has_dart ds (lift d)) (sym all) ∙ kept_has d h)
+          ∙ ap (λ ds. next_around ds (lift d)) (sym all)
+          ∙ next_kept (subst IsDistinct (sym all) around_distinct) d h)
     ] where
       less_distinct : (front back : List Dart) (x : Dart) → IsDistinct (front ++ x ∷ back) → IsDistinct (front ++ back)
       less_distinct front back x distinct = distinct_exchanged back front (distinct_right (x ∷ []) (back ++ front) (distinct_exchanged front (x ∷ back) distinct))
@@ -397,3 +397,24 @@ module _ (rows : Rows) (e : ℕ) (good : IsWellFormed rows) (known : is_some (ed
 -- the picture without an edge turns along the edge as it should, and elsewhere as before
 pub hides_turns : (rows : Rows) (e : ℕ) → IsWellFormed rows → is_some (edge_row rows e) ≡ true → HidesTurns rows e (without rows e)
 hides_turns = turns_hidden
+
+-- ---- The two orders round a crossing
+
+-- round a crossing of e and c: c ahead, one dart of e, c back, the other dart of e
+pub record GoesRound (q : Rows) (c n : ℕ) (first second : Dart) : Type 0 where
+  pub from_ahead : turn (system q) (ahead q c n) ≡ first
+  pub from_first : turn (system q) first ≡ behind q c n
+  pub from_behind : turn (system q) (behind q c n) ≡ second
+  pub from_second : turn (system q) second ≡ ahead q c n
+
+-- e ahead is the first of its two, or the second
+pub two_orders : (q : Rows) (e : ℕ) (p : Rows) → HidesTurns q e p → (c : ℕ) (x : CrossRow) → IsCrossingOf q e c x
+    → GoesRound q c x.id (ahead q e x.id) (behind q e x.id) ⊎ GoesRound q c x.id (behind q e x.id) (ahead q e x.id)
+two_orders q e p hides c x is =
+    let right = hides.round_ahead c x is in
+    let left = hides.round_behind c x is in
+    by_way (rightward x e) (record { from_ahead = right.0; from_first = right.1; from_behind = left.0; from_second = left.1 }) where
+      by_way : (w : Way) → GoesRound q c x.id (onward_by q x.id e w) (onward_by q x.id e (reversed w))
+          → GoesRound q c x.id (ahead q e x.id) (behind q e x.id) ⊎ GoesRound q c x.id (behind q e x.id) (ahead q e x.id)
+      by_way Forward round = inl round
+      by_way Back round = inr round
