@@ -1,6 +1,7 @@
 //! Laws of the definitions. The functions do nothing: their contracts are the laws.
 
 ghost use Rattle.topo_core.specs.Insertions.{InsertionKeepsForm, InsertionShowsTurns, SimpleRoutesAreInsertable};
+ghost use Rattle.topo_core.specs.Openings.{OpeningUnchords};
 ghost use Rattle.topo_core.specs.Laws.{DartsAreNumbered, DartsStandOnce, GrowthKeepsEmbedding, GrowthKeepsFaces, GrowthKeepsGenus, NumbersKeepConnection, NumbersKeepFaces, TurnIsAPermutation};
 
 /// A growth in a corner of a vertex makes a connected embedding of a connected embedding.
@@ -58,4 +59,9 @@ pub fn insertion_shows_turns()
 /// An edge can be shown along a route that meets no face twice: such a route crosses no segment twice.
 pub fn simple_routes_are_insertable()
     ensures { SimpleRoutesAreInsertable }
+{}
+
+/// Opening an edge takes out one segment after the other: on the numbers of the darts each is one chord less.
+pub fn opening_unchords()
+    ensures { OpeningUnchords }
 {}
