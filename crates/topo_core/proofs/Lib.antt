@@ -11,6 +11,7 @@ pub mod Lengthening
 pub mod Members
 pub mod NewDarts
 pub mod Numbering
+pub mod OpenedDarts
 pub mod Openings
 pub mod Orbits
 pub mod Points

@@ -1,7 +1,7 @@
 //! Laws of the definitions. The functions do nothing: their contracts are the laws.
 
 ghost use Rattle.topo_core.specs.Insertions.{InsertionKeepsForm, InsertionShowsTurns, SimpleRoutesAreInsertable};
-ghost use Rattle.topo_core.specs.Openings.{OpeningUnchords};
+ghost use Rattle.topo_core.specs.Openings.{OpeningUnchords, OpeningsKeepConnection, OpeningsKeepFaces};
 ghost use Rattle.topo_core.specs.Laws.{DartsAreNumbered, DartsStandOnce, GrowthKeepsEmbedding, GrowthKeepsFaces, GrowthKeepsGenus, NumbersKeepConnection, NumbersKeepFaces, TurnIsAPermutation};
 
 /// A growth in a corner of a vertex makes a connected embedding of a connected embedding.
@@ -64,4 +64,14 @@ pub fn simple_routes_are_insertable()
 /// Opening an edge takes out one segment after the other: on the numbers of the darts each is one chord less.
 pub fn opening_unchords()
     ensures { OpeningUnchords }
+{}
+
+/// Two darts that are left have one face of the opened system on their left just when their numbers lie on one cycle of the face map.
+pub fn openings_keep_faces()
+    ensures { OpeningsKeepFaces }
+{}
+
+/// The darts of an opened system are those that are not out, and two of them are joined just when their numbers are.
+pub fn openings_keep_connection()
+    ensures { OpeningsKeepConnection }
 {}
