@@ -1,3 +1,4 @@
+pub mod BarePoints
 pub mod Bypassing
 pub mod Certificates
 pub mod Computed

@@ -1,7 +1,7 @@
 //! Laws of the definitions. The functions do nothing: their contracts are the laws.
 
 ghost use Rattle.topo_core.specs.Insertions.{InsertionKeepsForm, InsertionShowsTurns, SimpleRoutesAreInsertable};
-ghost use Rattle.topo_core.specs.Openings.{OpeningUnchords, OpeningsKeepConnection, OpeningsKeepFaces};
+ghost use Rattle.topo_core.specs.Openings.{OpeningBares, OpeningUnchords, OpeningsKeepConnection, OpeningsKeepFaces};
 ghost use Rattle.topo_core.specs.Laws.{DartsAreNumbered, DartsStandOnce, GrowthKeepsEmbedding, GrowthKeepsFaces, GrowthKeepsGenus, NumbersKeepConnection, NumbersKeepFaces, TurnIsAPermutation};
 
 /// A growth in a corner of a vertex makes a connected embedding of a connected embedding.
@@ -74,4 +74,9 @@ pub fn openings_keep_faces()
 /// The darts of an opened system are those that are not out, and two of them are joined just when their numbers are.
 pub fn openings_keep_connection()
     ensures { OpeningsKeepConnection }
+{}
+
+/// An opened edge leaves no crossing bare, and a vertex just where it is the only edge there and its dart at the vertex is out.
+pub fn opening_bares()
+    ensures { OpeningBares }
 {}
