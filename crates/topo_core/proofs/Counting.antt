@@ -173,11 +173,11 @@ weigh_yes t n e = ap (λ (b : Bool). cond {A = ℕ} b n 0) e
 pub weigh_no : (t : Bool) (n : ℕ) → t ≡ false → cond {A = ℕ} t n 0 ≡ 0
 weigh_no t n e = ap (λ (b : Bool). cond {A = ℕ} b n 0) e
 
-place_here : (x y : ℕ) (path : List ℕ) → eqb y x ≡ true → position_or_len (λ y. y == x) (y ∷ path) ≡ 0
-place_here x y path e = ap (λ (t : Bool). cond {A = ℕ} (not t) (1 + position_or_len (λ y. y == x) path) 0) e
+pub path_place_here : (x y : ℕ) (path : List ℕ) → eqb y x ≡ true → position_or_len (λ y. y == x) (y ∷ path) ≡ 0
+path_place_here x y path e = ap (λ (t : Bool). cond {A = ℕ} (not t) (1 + position_or_len (λ y. y == x) path) 0) e
 
-place_later : (x y : ℕ) (path : List ℕ) → eqb y x ≡ false → position_or_len (λ y. y == x) (y ∷ path) ≡ 1 + position_or_len (λ y. y == x) path
-place_later x y path e = ap (λ (t : Bool). cond {A = ℕ} (not t) (1 + position_or_len (λ y. y == x) path) 0) e
+pub path_place_later : (x y : ℕ) (path : List ℕ) → eqb y x ≡ false → position_or_len (λ y. y == x) (y ∷ path) ≡ 1 + position_or_len (λ y. y == x) path
+path_place_later x y path e = ap (λ (t : Bool). cond {A = ℕ} (not t) (1 + position_or_len (λ y. y == x) path) 0) e
 
 -- where x stands at most once, x is counted at its place: so it is counted at place i where z stands just when it is z
 pub place_test : (path : List ℕ) (i z x : ℕ) → slice_get path i ≡ Some z → occurrences x path ≤ 1 → cond {A = ℕ} (i == position_or_len (λ y. y == x) path) (occurrences x path) 0 ≡ one (x == z)
@@ -188,12 +188,12 @@ place_test (y ∷ path) zero z x at once =
     elim (cases_Bool (y == x)) [
       | inl e ↦
           let e_is = eqb-true y x e in
-          let at_place : eqb 0 (position_or_len (λ y. y == x) (y ∷ path)) ≡ true = eq-eqb 0 _ (sym (place_here x y path e)) in
+          let at_place : eqb 0 (position_or_len (λ y. y == x) (y ∷ path)) ≡ true = eq-eqb 0 _ (sym (path_place_here x y path e)) in
           let here = weigh_yes _ (occurrences x (y ∷ path)) at_place in
           let counted : one (y == x) ≡ 1 = ap one e in
           let wanted : one (x == z) ≡ 1 = ap one (eq-eqb x z (sym e_is ∙ same)) in omega arith
       | inr e ↦
-          let off : eqb 0 (position_or_len (λ y. y == x) (y ∷ path)) ≡ false = eqb_less 0 _ (let p = place_later x y path e in omega arith) in
+          let off : eqb 0 (position_or_len (λ y. y == x) (y ∷ path)) ≡ false = eqb_less 0 _ (let p = path_place_later x y path e in omega arith) in
           let here = weigh_no _ (occurrences x (y ∷ path)) off in
           let wanted : one (x == z) ≡ 0 = ap one (sym (ap (λ v. eqb x v) same) ∙ eqb_symm x y ∙ e) in omega arith
     ]
@@ -201,7 +201,7 @@ place_test (y ∷ path) (suc i) z x at once =
     let step = sum_by-cons (λ y. one (y == x)) y path in
     elim (cases_Bool (y == x)) [
       | inl e ↦
-          let off : eqb (suc i) (position_or_len (λ y. y == x) (y ∷ path)) ≡ false = eqb_more (suc i) _ (let p = place_here x y path e in omega arith) in
+          let off : eqb (suc i) (position_or_len (λ y. y == x) (y ∷ path)) ≡ false = eqb_more (suc i) _ (let p = path_place_here x y path e in omega arith) in
           let here = weigh_no _ (occurrences x (y ∷ path)) off in
           let counted : one (y == x) ≡ 1 = ap one e in
           let wanted : one (x == z) ≡ 0 = elim (cases_Bool (x == z)) [
@@ -211,7 +211,7 @@ place_test (y ∷ path) (suc i) z x at once =
       | inr e ↦
           let counted : one (y == x) ≡ 0 = ap one e in
           let all : occurrences x (y ∷ path) ≡ occurrences x path = omega arith in
-          let shift : eqb (suc i) (position_or_len (λ y. y == x) (y ∷ path)) ≡ eqb i (position_or_len (λ y. y == x) path) = ap (eqb (suc i)) (place_later x y path e) ∙ eqb_suc i (position_or_len (λ y. y == x) path) in
+          let shift : eqb (suc i) (position_or_len (λ y. y == x) (y ∷ path)) ≡ eqb i (position_or_len (λ y. y == x) path) = ap (eqb (suc i)) (path_place_later x y path e) ∙ eqb_suc i (position_or_len (λ y. y == x) path) in
           let rest = place_test path i z x at (omega arith) in
           ap (λ (t : Bool). cond {A = ℕ} t (occurrences x (y ∷ path)) 0) shift ∙ ap (λ (n : ℕ). cond {A = ℕ} (eqb i (position_or_len (λ y. y == x) path)) n 0) all ∙ rest
     ]
@@ -223,11 +223,11 @@ place_past (y ∷ path) zero x past = absurd (omega arith)
 place_past (y ∷ path) (suc i) x past =
     let step = sum_by-cons (λ y. one (y == x)) y path in
     elim (cases_Bool (y == x)) [
-      | inl e ↦ weigh_no _ (occurrences x (y ∷ path)) (eqb_more (suc i) _ (let p = place_here x y path e in omega arith))
+      | inl e ↦ weigh_no _ (occurrences x (y ∷ path)) (eqb_more (suc i) _ (let p = path_place_here x y path e in omega arith))
       | inr e ↦
           let counted : one (y == x) ≡ 0 = ap one e in
           let all : occurrences x (y ∷ path) ≡ occurrences x path = omega arith in
-          let shift : eqb (suc i) (position_or_len (λ y. y == x) (y ∷ path)) ≡ eqb i (position_or_len (λ y. y == x) path) = ap (eqb (suc i)) (place_later x y path e) ∙ eqb_suc i (position_or_len (λ y. y == x) path) in
+          let shift : eqb (suc i) (position_or_len (λ y. y == x) (y ∷ path)) ≡ eqb i (position_or_len (λ y. y == x) path) = ap (eqb (suc i)) (path_place_later x y path e) ∙ eqb_suc i (position_or_len (λ y. y == x) path) in
           let rest = place_past path i x (omega arith) in
           ap (λ (t : Bool). cond {A = ℕ} t (occurrences x (y ∷ path)) 0) shift ∙ ap (λ (n : ℕ). cond {A = ℕ} (eqb i (position_or_len (λ y. y == x) path)) n 0) all ∙ rest
     ]

@@ -1,11 +1,12 @@
 -- A growth keeps a connected embedding one.
 use Rattle.std.proofs.Common.{◌≡◌, ◌≢◌, ℕ, zero, suc, ◌+◌, ◌<◌, ◌≤◌, append_assoc, append-nil, Bool, true, false, cond, not, ◌&&◌, ◌||◌, List, [], ◌∷◌, ◌++◌, length, take, drop, get_or, eqb, refl, sym, ap, subst, ◌∙◌, arith, inl, inr}
-use Rattle.std.specs.Prelude.{◌⊎◌, ◌==◌, nat_lt, nat_le, Some, None, count_by, map, find, is_some, Option, ◌-◌, if◌then◌else◌}
+use Rattle.std.specs.Prelude.{◌⊎◌, ◌==◌, nat_lt, nat_le, Some, None, count_by, map, find, is_some, Option, ◌-◌, if◌then◌else◌, slice_get, slice_index_or}
 use Rattle.std.specs.Option.{option_or}
 use Rattle.std.specs.List.{list_all, position_or_len, range_with_len}
 use Rattle.std.proofs.lemmas.Bool.Decides.{nat_tests}
-use Rattle.std.proofs.lemmas.List.{get_or_append_left, get_or-set_same, get_or-set_other, get_or_at, length-set, length-append, map-append, take-append-drop}
+use Rattle.std.proofs.lemmas.List.{get_or-drop, get_or_append_left, get_or-set_same, get_or-set_other, get_or_at, length-set, length-append, map-append, take-append-drop}
 use Rattle.std.proofs.lemmas.List.Folds.{find-append}
+use Rattle.std.proofs.lemmas.Option.{slice_get-get_or}
 use Rattle.std.proofs.lemmas.List.FromFn.{map-range_with_len_more}
 use Rattle.std.proofs.lemmas.List.Sums.{sum_by-cons, sum_by_push, sum_by-insert}
 use Rattle.std.proofs.lemmas.Bool.{and_from, cases_Bool, eq-eqb, eqb-true, or_left, or_right}
@@ -102,12 +103,20 @@ pub record IsPutIn (p f : ℕ) (around : List ℕ) : Type 0 where
   pub back : List ℕ
   pub was : around ≡ head ∷ front ++ back
   pub now : put_in p f around ≡ head ∷ front ++ f ∷ back
+  -- it stands before what stood at that place
+  pub corner : slice_get around p ≡ Some (slice_index_or back 0 head)
+
+-- what stands at a place is the first of the rest
+first_dropped : (p e : ℕ) (around : List ℕ) → p < length around → slice_get around p ≡ Some (slice_index_or (drop p around) 0 e)
+first_dropped p e around h =
+    let same : p + 0 ≡ p = omega arith in
+    slice_get-get_or around p e h ∙ ap (λ k. Some (get_or around k e)) (sym same) ∙ ap Some (sym (get_or-drop p around 0 e))
 
 -- where it stands
 pub is_put_in : (p f : ℕ) (around : List ℕ) → p < length around → IsPutIn p f around
 is_put_in p f [] h = absurd (omega arith)
-is_put_in zero f (e ∷ around) h = record { head = e; front = around; back = []; was = ap (λ list. e ∷ list) (sym (append-nil around)); now = refl }
-is_put_in (suc p) f (e ∷ around) h = record { head = e; front = take p around; back = drop p around; was = ap (λ list. e ∷ list) (sym (take-append-drop p around)); now = refl }
+is_put_in zero f (e ∷ around) h = record { head = e; front = around; back = []; was = ap (λ list. e ∷ list) (sym (append-nil around)); now = refl; corner = refl }
+is_put_in (suc p) f (e ∷ around) h = record { head = e; front = take p around; back = drop p around; was = ap (λ list. e ∷ list) (sym (take-append-drop p around)); now = refl; corner = first_dropped p e around (omega arith) }
 
 -- ---- Lists made from equal functions, and ranges in parts
 

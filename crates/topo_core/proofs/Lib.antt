@@ -11,12 +11,17 @@ pub mod Members
 pub mod NewDarts
 pub mod Numbering
 pub mod Orbits
+pub mod Points
 pub mod Renumbering
 pub mod RouteDarts
 pub mod ShownForm
+pub mod ShownPlaces
+pub mod ShownPoints
 pub mod ShownRows
+pub mod ShownTurns
 pub mod SimpleRoutes
 pub mod Standing
 pub mod SystemDarts
 pub mod Turning
 pub mod Weaving
+pub mod WovenPaths

@@ -81,14 +81,14 @@ turn_past around t d h = ap (λ (b : Bool). cond b (follower (slice_index_or aro
 -- ---- One dart more in a list
 
 -- what follows the new dart x
-follower_new : (first x : Dart) (xs ys : List Dart) → has_dart xs x ≡ false → follower first (xs ++ x ∷ ys) x ≡ slice_index_or ys 0 first
+pub follower_new : (first x : Dart) (xs ys : List Dart) → has_dart xs x ≡ false → follower first (xs ++ x ∷ ys) x ≡ slice_index_or ys 0 first
 follower_new first x [] ys h = ap (λ (b : Bool). cond b (slice_index_or ys 0 first) (follower first ys x)) (same_dart_self x)
 follower_new first x (y ∷ xs) ys h =
     ap (λ (b : Bool). cond b (slice_index_or (xs ++ x ∷ ys) 0 first) (follower first (xs ++ x ∷ ys) x)) (or_left_false (same_dart x y) (has_dart xs x) h)
     ∙ follower_new first x xs ys (or_right_false (same_dart x y) (has_dart xs x) h)
 
 -- what follows d is what followed it, or the new dart comes between
-follower_old : (first x d : Dart) (xs ys : List Dart) → same_dart d x ≡ false → has_dart xs x ≡ false
+pub follower_old : (first x d : Dart) (xs ys : List Dart) → same_dart d x ≡ false → has_dart xs x ≡ false
     → (follower first (xs ++ x ∷ ys) d ≡ follower first (xs ++ ys) d) ⊎ ((follower first (xs ++ x ∷ ys) d ≡ x) × (slice_index_or ys 0 first ≡ follower first (xs ++ ys) d))
 follower_old first x d [] ys other new = inl (ap (λ (b : Bool). cond b (slice_index_or ys 0 first) (follower first ys d)) other)
 follower_old first x d (y ∷ []) ys other new = elim (cases_Bool (same_dart d y)) [

@@ -120,7 +120,8 @@ twin_step n = grind (arith, nat_tests)
 same_from : (c d : Dart) → c ≡ d → same_dart c d ≡ true
 same_from c d e = ap (same_dart c) (sym e) ∙ same_dart_self c
 
-not_same : (c d : Dart) → (c ≡ d → ⊥) → same_dart c d ≡ false
+-- different darts fail the test
+pub not_same : (c d : Dart) → (c ≡ d → ⊥) → same_dart c d ≡ false
 not_same c d apart = elim (cases_Bool (same_dart c d)) [ inl e ↦ absurd (apart (same_dart_true c d e)) | inr e ↦ e ]
 
 -- the place of the twin is the twin of the place

@@ -22,7 +22,8 @@ item_at x [] i e = cc
 item_at x (y ∷ xs) zero e = let same : y ≡ x = cc in inl (sym same)
 item_at x (y ∷ xs) (suc i) e = inr (item_at x xs i e)
 
-has_item : (d : Dart) (ds : List Dart) → IsIn d ds → has_dart ds d ≡ true
+-- an item of a list passes the test
+pub has_item : (d : Dart) (ds : List Dart) → IsIn d ds → has_dart ds d ≡ true
 has_item d [] h = absurd h
 has_item d (c ∷ ds) (inl e) = ap (λ x. same_dart d x || has_dart ds d) (sym e) ∙ ap (λ b. b || has_dart ds d) (same_dart_self d)
 has_item d (c ∷ ds) (inr h) = ap (λ b. same_dart d c || b) (has_item d ds h) ∙ or-true (same_dart d c)

@@ -15,17 +15,18 @@ use Rattle.topo_core.proofs.NewDarts.{has_dart-append, or_right_false, stands_in
 pub record IsDistinct (ds : List Dart) : Type 0 where
   pub once : (d : Dart) → count_by (same_dart d) ds ≤ 1
 
-distinct_right : (xs ys : List Dart) → IsDistinct (xs ++ ys) → IsDistinct ys
+-- the parts of a list in which no dart stands twice
+pub distinct_right : (xs ys : List Dart) → IsDistinct (xs ++ ys) → IsDistinct ys
 distinct_right xs ys distinct = record { once = λ d. let sum = sum_by-append (λ c. one (same_dart d c)) xs ys in let most = distinct.once d in omega arith }
 
-distinct_left : (xs ys : List Dart) → IsDistinct (xs ++ ys) → IsDistinct xs
+pub distinct_left : (xs ys : List Dart) → IsDistinct (xs ++ ys) → IsDistinct xs
 distinct_left xs ys distinct = record { once = λ d. let sum = sum_by-append (λ c. one (same_dart d c)) xs ys in let most = distinct.once d in omega arith }
 
-distinct_tail : (c : Dart) (cs : List Dart) → IsDistinct (c ∷ cs) → IsDistinct cs
+pub distinct_tail : (c : Dart) (cs : List Dart) → IsDistinct (c ∷ cs) → IsDistinct cs
 distinct_tail c cs distinct = record { once = λ d. let sum = sum_by-cons (λ e. one (same_dart d e)) c cs in let most = distinct.once d in omega arith }
 
 -- a dart of both parts would stand twice
-not_in_both : (xs ys : List Dart) (d : Dart) → IsDistinct (xs ++ ys) → has_dart xs d ≡ true → has_dart ys d ≡ true → ⊥
+pub not_in_both : (xs ys : List Dart) (d : Dart) → IsDistinct (xs ++ ys) → has_dart xs d ≡ true → has_dart ys d ≡ true → ⊥
 not_in_both xs ys d distinct here there =
     let sum = sum_by-append (λ c. one (same_dart d c)) xs ys in
     let most = distinct.once d in
@@ -96,7 +97,7 @@ follower_apart first z (b ∷ cs) distinct outside c d c_in d_in e =
     ]
 
 -- what follows d round its point
-abbrev next_around : List Dart → Dart → Dart
+abbrev pub next_around : List Dart → Dart → Dart
 next_around around d = follower (slice_index_or around 0 d) around d
 
 next_around_in : (around : List Dart) (d : Dart) → has_dart around d ≡ true → has_dart around (next_around around d) ≡ true

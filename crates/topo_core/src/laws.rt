@@ -1,6 +1,6 @@
 //! Laws of the definitions. The functions do nothing: their contracts are the laws.
 
-ghost use Rattle.topo_core.specs.Insertions.{InsertionKeepsForm, SimpleRoutesAreInsertable};
+ghost use Rattle.topo_core.specs.Insertions.{InsertionKeepsForm, InsertionShowsTurns, SimpleRoutesAreInsertable};
 ghost use Rattle.topo_core.specs.Laws.{DartsAreNumbered, DartsStandOnce, GrowthKeepsEmbedding, GrowthKeepsFaces, GrowthKeepsGenus, NumbersKeepConnection, NumbersKeepFaces, TurnIsAPermutation};
 
 /// A growth in a corner of a vertex makes a connected embedding of a connected embedding.
@@ -47,6 +47,12 @@ pub fn numbers_keep_faces()
 /// The picture that shows a new edge along a route whose corners and crossed darts are there is well formed.
 pub fn insertion_keeps_form()
     ensures { InsertionKeepsForm }
+{}
+
+/// An insertion keeps how the darts turn but along its route: each old dart is followed as before, straight or after the new edge,
+/// and each new crossing has the crossed edge and the new one in turn.
+pub fn insertion_shows_turns()
+    ensures { InsertionShowsTurns }
 {}
 
 /// An edge can be shown along a route that meets no face twice: such a route crosses no segment twice.

@@ -111,12 +111,12 @@ AreReady live (k ∷ ks) = ((live k.half ≡ false) × (live (twin k.half) ≡ f
 
 -- ---- A link taken out
 
-without_link-other : (g : ℕ → ℕ) (n : ℕ) (k : Link) (a c : ℕ) → IsApart n a k.half → IsApart n c k.half → g a ≡ c → without_link g k a ≡ c
+pub without_link-other : (g : ℕ → ℕ) (n : ℕ) (k : Link) (a c : ℕ) → IsApart n a k.half → IsApart n c k.half → g a ≡ c → without_link g k a ≡ c
 without_link-other g n k a c pa pc e =
     let at : without g (twin k.half) a ≡ c = without-elsewhere g (twin k.half) a pa.not_twin (λ w. pc.not_twin (sym e ∙ w)) ∙ e in
     without-elsewhere (without g (twin k.half)) k.half a pa.not_self (λ w. pc.not_self (sym at ∙ w)) ∙ at
 
-apart_twin : (n a y : ℕ) → n % 2 ≡ 0 → IsApart n a y → IsApart n (twin a) y
+pub apart_twin : (n a y : ℕ) → n % 2 ≡ 0 → IsApart n a y → IsApart n (twin a) y
 apart_twin n a y even p = record {
   within = twin-within n a even p.within;
   not_self = λ e. p.not_twin (sym (twin-twin a) ∙ ap twin e);
@@ -144,7 +144,7 @@ pub links_stay : (g : ℕ → ℕ) (n : ℕ) (k : Link) (ks : List Link) → n %
 links_stay g n k [] even u h = h
 links_stay g n k (l ∷ ls) even u h = (link_stays g n k l even u.0 h.0, h.1, links_stay g n k ls even u.1 h.2)
 
-link_permutation : (g : ℕ → ℕ) (n : ℕ) (k : Link) → IsPermutation g n → n % 2 ≡ 0 → k.half < n → IsPermutation (without_link g k) n
+pub link_permutation : (g : ℕ → ℕ) (n : ℕ) (k : Link) → IsPermutation g n → n % 2 ≡ 0 → k.half < n → IsPermutation (without_link g k) n
 link_permutation g n k p even lh =
     let half : ℕ → ℕ = without g (twin k.half) in
     let ph : IsPermutation half n = bypassed-permutation g half n (twin k.half) p (twin-within n k.half even lh) (without-bypass g n (twin k.half)) in
@@ -199,7 +199,7 @@ pub all_map : {X : Type 0} (P Q : X → Type 0) → ((x : X) → P x → Q x) �
 all_map P Q f [] h = h
 all_map P Q f (x ∷ xs) h = (f x h.0, all_map P Q f xs h.1)
 
-apart_back : (n k l : ℕ) → k < n → IsApart n l k → IsApart n k l
+pub apart_back : (n k l : ℕ) → k < n → IsApart n l k → IsApart n k l
 apart_back n k l lk p = record {
   within = lk;
   not_self = λ e. p.not_self (sym e);

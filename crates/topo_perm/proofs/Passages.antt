@@ -12,9 +12,9 @@ use Rattle.topo_perm.specs.Live.{IsSlab, live_cycle_count}
 use Rattle.topo_perm.specs.Renumbering.{IsRenumbering, IsCarried, Renumbers, RenumbersTurn}
 use Rattle.topo_perm.proofs.Walks.{twin-within, face_next-permutation}
 use Rattle.topo_perm.proofs.Faces.{twin-twin, twin-apart, twin-other}
-use Rattle.topo_perm.proofs.Splitting.{without, without-self, without-elsewhere}
+use Rattle.topo_perm.proofs.Splitting.{without, without-self, without-onward, without-elsewhere}
 use Rattle.topo_perm.proofs.Renumbered.{renumbered_same_cycle, renumbered_cycles, renumbered_faces, renumbered_connected}
-use Rattle.topo_perm.proofs.Links.{Link, IsLink, AreLinks, AreReady, AreInFaces, AreUnlinked, IsUnlinked, half_unlinked, twin_unlinked, links_stay, without_link, Drawn, draw, without_links, with_links, live_links, with_segment, all_map}
+use Rattle.topo_perm.proofs.Links.{Link, IsLink, AreLinks, AreReady, AreInFaces, AreUnlinked, IsUnlinked, half_unlinked, twin_unlinked, links_stay, without_link, without_link-other, link_permutation, apart_twin, Drawn, draw, without_links, with_links, live_links, with_segment, all_map}
 use Rattle.topo_perm.proofs.Bends.{dead_bends, Bend, IsBend, AreBends, AreBendable, AreOnOthers, Bent, IsNamed, IsStraight, IsUnbent, IsWithin, Straightened, straighten, with_bends, live_bends, all_bends, all_both}
 
 -- ---- Numbers that are names
@@ -50,6 +50,11 @@ is_named-of name m d ld = some_below-true (λ e. name e == name d) m d ld (eq-eq
 pub all_at : {X : Type 0} (P : X → Type 0) (x : X) (xs : List X) → AllByRecursion P xs → IsIn x xs → P x
 all_at P x [] h i = elim i [ ]
 all_at P x (y ∷ ys) h i = elim i [ | inl e ↦ subst P (sym e) h.0 | inr j ↦ all_at P x ys h.1 j ]
+
+-- every item of a list
+pub all_of : {X : Type 0} (P : X → Type 0) (xs : List X) → ((x : X) → IsIn x xs → P x) → AllByRecursion P xs
+all_of P [] f = tt
+all_of P (x ∷ xs) f = (f x (inl refl), all_of P xs (λ y i. f y (inr i)))
 
 -- a dart is on no bend's segment, or it is a bend's dart or the twin of one
 abbrev pub BentOrNot : ℕ → List Bend → ℕ → Type 0
@@ -133,4 +138,42 @@ links_alone g n (k ∷ ks) l even h i = elim i [
       (fixed_stays (without_link g k) n ks k.half (without-self half k.half k.half refl) u,
         fixed_stays (without_link g k) n ks (twin k.half) (without-elsewhere half k.half (twin k.half) (twin-other k.half) (λ w. twin-other k.half (sym at_twin ∙ w)) ∙ at_twin) (twin_unlinked n ks k.half even u))
   | inr j ↦ links_alone (without_link g k) n ks l even (links_stay g n k ks even h.1 h.2) j
+]
+
+-- ---- Where the other darts turn with the links out
+
+pub links_permutation : (g : ℕ → ℕ) (n : ℕ) (ks : List Link) → IsPermutation g n → n % 2 ≡ 0 → AreLinks g n ks → IsPermutation (without_links g ks) n
+links_permutation g n [] p even h = p
+links_permutation g n (k ∷ ks) p even h = links_permutation (without_link g k) n ks (link_permutation g n k p even h.0.there) even (links_stay g n k ks even h.1 h.2)
+
+-- what leads past no link leads on as before
+pub past_links : (g : ℕ → ℕ) (n : ℕ) (ks : List Link) (a c : ℕ) → IsUnlinked n ks a → IsUnlinked n ks c → g a ≡ c → without_links g ks a ≡ c
+past_links g n [] a c u w e = e
+past_links g n (k ∷ ks) a c u w e = past_links (without_link g k) n ks a c u.1 w.1 (without_link-other g n k a c u.0 w.0 e)
+
+-- what led to a link leads on to its corner
+pub over_link : (g : ℕ → ℕ) (n : ℕ) (ks : List Link) (l : Link) (a : ℕ) → n % 2 ≡ 0 → AreLinks g n ks → IsIn l ks → IsUnlinked n ks a → g a ≡ l.half → without_links g ks a ≡ l.from
+over_link g n [] l a even h i u e = elim i [ ]
+over_link g n (k ∷ ks) l a even h i u e = elim i [
+  | inl s ↦
+      let half : ℕ → ℕ = without g (twin k.half) in
+      let at : half a ≡ k.half = without-elsewhere g (twin k.half) a u.0.not_twin (λ w. twin-other k.half (sym (sym (e ∙ ap (λ (v : Link). v.half) s) ∙ w))) ∙ e ∙ ap (λ (v : Link). v.half) s in
+      let on : half k.half ≡ k.from = without-elsewhere g (twin k.half) k.half (λ w. twin-other k.half (sym w)) (λ w. h.0.from_apart.not_twin (sym h.0.leaves ∙ w)) ∙ h.0.leaves in
+      past_links (without_link g k) n ks a k.from u.1 (all_map (AreUnlinked n k) (λ j. IsApart n k.from j.half) (λ j w. w.from) ks h.1) (without-onward half k.half a u.0.not_self at ∙ on)
+      ∙ ap (λ (v : Link). v.from) (sym s)
+  | inr j ↦ over_link (without_link g k) n ks l a even (links_stay g n k ks even h.1 h.2) j u.1
+      (without_link-other g n k a l.half u.0 (all_at (AreUnlinked n k) l ks h.1 j).half e)
+]
+
+pub over_link_back : (g : ℕ → ℕ) (n : ℕ) (ks : List Link) (l : Link) (a : ℕ) → n % 2 ≡ 0 → AreLinks g n ks → IsIn l ks → IsUnlinked n ks a → g a ≡ twin l.half → without_links g ks a ≡ l.to
+over_link_back g n [] l a even h i u e = elim i [ ]
+over_link_back g n (k ∷ ks) l a even h i u e = elim i [
+  | inl s ↦
+      let half : ℕ → ℕ = without g (twin k.half) in
+      let at : half a ≡ k.to = without-onward g (twin k.half) a u.0.not_twin (e ∙ ap (λ (v : Link). twin v.half) s) ∙ h.0.arrives in
+      past_links (without_link g k) n ks a k.to u.1 (all_map (AreUnlinked n k) (λ j. IsApart n k.to j.half) (λ j w. w.to) ks h.1)
+      (without-elsewhere half k.half a u.0.not_self (λ w. h.0.to_apart.not_self (sym at ∙ w)) ∙ at)
+      ∙ ap (λ (v : Link). v.to) (sym s)
+  | inr j ↦ over_link_back (without_link g k) n ks l a even (links_stay g n k ks even h.1 h.2) j u.1
+      (without_link-other g n k a (twin l.half) u.0 (apart_twin n l.half k.half even (all_at (AreUnlinked n k) l ks h.1 j).half) e)
 ]

@@ -15,21 +15,9 @@ use Rattle.topo_perm.proofs.Faces.{twin-twin, twin-apart}
 use Rattle.topo_perm.proofs.Renumbered.{renumbered_same_cycle, renumbered_cycles, renumbered_faces, renumbered_connected}
 use Rattle.topo_perm.proofs.Links.{Link, IsLink, AreLinks, AreReady, AreInFaces, Drawn, draw, without_links, with_links, live_links, with_self, with_twin, with_old, with_segment, all_map}
 use Rattle.topo_perm.proofs.Bends.{Bend, IsBend, AreBends, AreBendable, Bent, IsNamed, IsUnbent, IsWithin, Straightened, straighten, with_bends, live_bends, dead_bends, all_bends, all_both}
-use Rattle.topo_perm.proofs.Passages.{find_below, found_below, is_named, named_by, is_named-of, all_at, bent_or_not, AreAlong, Walks, MeetsOnce, AreStrange, IsPlaced, IsPassage, links_alone}
-
--- a passage and what stays with its bends taken out
-record Ground (g : ℕ → ℕ) (n : ℕ) (f : ℕ → ℕ) (m : ℕ) (name : ℕ → ℕ) (c : ℕ) (ks : List Bend) (e : ℕ) (ls : List Link) : Type 0 where
-  p : IsPassage g n f m name c ks e ls
-  s : Straightened (without_links g ls) n f m name ks
+use Rattle.topo_perm.proofs.Passages.{find_below, found_below, is_named, named_by, is_named-of, all_at, bent_or_not, AreAlong, Walks, MeetsOnce, AreStrange, IsPlaced, IsPassage, all_of, links_alone}
 
 -- ---- The system below is f under other numbers
-
-record Facts (g : ℕ → ℕ) (n : ℕ) (f : ℕ → ℕ) (m : ℕ) (name : ℕ → ℕ) (c : ℕ) (ks : List Bend) (e : ℕ) (ls : List Link) : Type 0 where
-  ground : Ground g n f m name c ks e ls
-  bend : AllByRecursion (IsBend (without_links g ls) n m name) ks
-
-abbrev live_below : (g : ℕ → ℕ) (n : ℕ) (f : ℕ → ℕ) (m : ℕ) (name : ℕ → ℕ) (ks : List Bend) (ls : List Link) → Straightened (without_links g ls) n f m name ks → ℕ → Bool
-live_below g n f m name ks ls s = is_named s.names m
 
 not_named : (name : ℕ → ℕ) (m a : ℕ) → ((d : ℕ) → d < m → name d ≢ a) → is_named name m a ≡ false
 not_named name m a h = some_below-false (λ d. name d == a) m (λ d ld. ne_eqb (name d) a (h d ld))
@@ -117,4 +105,227 @@ slab_below g n f m name c ks e ls p s =
               ]
         ]
       ];
+    }
+
+-- ---- What is live
+
+-- a passage over its ground: b is the turn without links, s what it is without bends
+record OnGround (g : ℕ → ℕ) (n : ℕ) (f : ℕ → ℕ) (m : ℕ) (name : ℕ → ℕ) (c : ℕ) (ks : List Bend) (e : ℕ) (ls : List Link) : Type 0 where
+  p : IsPassage g n f m name c ks e ls
+  s : Straightened (without_links g ls) n f m name ks
+  i : AllByRecursion (IsBend (without_links g ls) n m name) ks
+
+bendable_of : (live : ℕ → Bool) (name : ℕ → ℕ) (ks : List Bend) → AllByRecursion (λ k. (live k.beyond ≡ false) × (live (twin k.beyond) ≡ false) × (live (name k.dart) ≡ true)) ks → AreBendable live name ks
+bendable_of live name [] h = tt
+bendable_of live name (k ∷ ks) h = (h.0, bendable_of live name ks h.1)
+
+bendable : (b : ℕ → ℕ) (n : ℕ) (f : ℕ → ℕ) (m : ℕ) (name : ℕ → ℕ) (ks : List Bend) → AllByRecursion (IsBend b n m name) ks → (s : Straightened b n f m name ks) → AreBendable (is_named s.names m) name ks
+bendable b n f m name ks i s = bendable_of (is_named s.names m) name ks (all_of (λ k. (is_named s.names m k.beyond ≡ false) × (is_named s.names m (twin k.beyond) ≡ false) × (is_named s.names m (name k.dart) ≡ true)) ks (λ k h. (
+  not_named s.names m k.beyond (λ d ld. (all_at (λ l. IsApart n (s.names d) l.beyond) k ks (s.within d ld) h).not_self),
+  not_named s.names m (twin k.beyond) (λ d ld. (all_at (λ l. IsApart n (s.names d) l.beyond) k ks (s.within d ld) h).not_twin),
+  subst (λ (v : ℕ). is_named s.names m v ≡ true) (all_at (λ l. s.names l.dart ≡ name l.dart) k ks s.near h) (is_named-of s.names m k.dart (all_at (IsBend b n m name) k ks i h).there))))
+
+-- with the bends each name is live, and each dart at a bend
+beyond_live : (live : ℕ → Bool) (ks : List Bend) (k : Bend) → IsIn k ks → (with_bends live ks k.beyond ≡ true) × (with_bends live ks (twin k.beyond) ≡ true)
+beyond_live live [] k h = elim h [ ]
+beyond_live live (j ∷ js) k h = elim h [
+  | inl e ↦ subst (λ (v : Bend). (with_bends live (j ∷ js) v.beyond ≡ true) × (with_bends live (j ∷ js) (twin v.beyond) ≡ true)) (sym e) (with_self (with_bends live js) j.beyond, with_twin (with_bends live js) j.beyond)
+  | inr w ↦ let (a, t) = beyond_live live js k w in (with_old (with_bends live js) j.beyond k.beyond a, with_old (with_bends live js) j.beyond (twin k.beyond) t)
+]
+
+name_live : (b : ℕ → ℕ) (n : ℕ) (f : ℕ → ℕ) (m : ℕ) (name : ℕ → ℕ) (ks : List Bend) → AllByRecursion (IsBend b n m name) ks → (s : Straightened b n f m name ks) → (d : ℕ) → d < m → with_bends (is_named s.names m) ks (name d) ≡ true
+name_live b n f m name ks i s d ld = elim (named_below b n f m name ks i s d ld) [
+  | inl at ↦ live_bends (is_named s.names m) ks (name d) (subst (λ (v : ℕ). is_named s.names m v ≡ true) at (is_named-of s.names m d ld))
+  | inr q ↦ subst (λ (v : ℕ). with_bends (is_named s.names m) ks v ≡ true) (sym q.3) (beyond_live (is_named s.names m) ks q.0 q.1).1
+]
+
+link_live : (live : ℕ → Bool) (ls : List Link) (l : Link) → IsIn l ls → (with_links live ls l.half ≡ true) × (with_links live ls (twin l.half) ≡ true)
+link_live live [] l h = elim h [ ]
+link_live live (j ∷ js) l h = elim h [
+  | inl e ↦ subst (λ (v : Link). (with_links live (j ∷ js) v.half ≡ true) × (with_links live (j ∷ js) (twin v.half) ≡ true)) (sym e) (with_self (with_links live js) j.half, with_twin (with_links live js) j.half)
+  | inr w ↦ let (a, t) = link_live live js l w in (with_old (with_links live js) j.half l.half a, with_old (with_links live js) j.half (twin l.half) t)
+]
+
+-- the corners of the links are live
+corners_live : (live : ℕ → Bool) (m : ℕ) (name : ℕ → ℕ) (z : ℕ) (ks : List Bend) (e : ℕ) (ls : List Link) → AreAlong name z ks e ls → live z ≡ true → live (name e) ≡ true
+    → AllByRecursion (λ k. (live k.beyond ≡ true) × (live (twin (name k.dart)) ≡ true)) ks → AllByRecursion (λ l. (live l.from ≡ true) × (live l.to ≡ true)) ls
+corners_live live m name z [] e [] a hz he h = tt
+corners_live live m name z [] e (l ∷ []) a hz he h = ((ap live a.0 ∙ hz, ap live a.1 ∙ he), tt)
+corners_live live m name z [] e (l ∷ (j ∷ ls)) a hz he h = elim a [ ]
+corners_live live m name z (k ∷ ks) e [] a hz he h = tt
+corners_live live m name z (k ∷ ks) e (l ∷ ls) a hz he h = ((ap live a.0 ∙ hz, ap live a.1 ∙ h.0.0), corners_live live m name (twin (name k.dart)) ks e ls a.2 h.0.1 he h.1)
+
+ready_of : (live : ℕ → Bool) (ls : List Link) → AllByRecursion (λ l. (live l.half ≡ false) × (live (twin l.half) ≡ false)) ls → AllByRecursion (λ l. (live l.from ≡ true) × (live l.to ≡ true)) ls → AreReady live ls
+ready_of live [] h g = tt
+ready_of live (l ∷ ls) h g = ((h.0.0, h.0.1, g.0.0, g.0.1), ready_of live ls h.1 g.1)
+
+-- the halves of a link are not live before
+half_dead : (g : ℕ → ℕ) (n : ℕ) (f : ℕ → ℕ) (m : ℕ) (name : ℕ → ℕ) (c : ℕ) (ks : List Bend) (e : ℕ) (ls : List Link) → OnGround g n f m name c ks e ls → (s : Straightened (without_links g ls) n f m name ks) → (l : Link) → IsIn l ls
+    → (with_bends (is_named s.names m) ks l.half ≡ false) × (with_bends (is_named s.names m) ks (twin l.half) ≡ false)
+half_dead g n f m name c ks e ls o s l h =
+    let new : (d : ℕ) → d < m → IsApart n (name d) l.half = all_at (λ j. (d : ℕ) → d < m → IsApart n (name d) j.half) l ls o.p.new h in
+    let strange : AllByRecursion (AreStrange n name l) ks = all_at (λ j. AllByRecursion (AreStrange n name j) ks) l ls o.p.strange h in
+    let near : IsWithin n ks l.half = all_map (AreStrange n name l) (λ k. IsApart n l.half k.beyond) (λ k w. w.beyond) ks strange in
+    let far : IsWithin n ks (twin l.half) = all_map (AreStrange n name l) (λ k. IsApart n (twin l.half) k.beyond) (λ k w. record {
+      within = twin-within n l.half s.named.even w.beyond.within;
+      not_self = λ v. w.beyond.not_twin (sym (twin-twin l.half) ∙ ap twin v);
+      not_twin = λ v. w.beyond.not_self (twin-apart l.half k.beyond v);
+    }) ks strange in
+    (
+      dead_bends (is_named s.names m) n ks l.half (not_named s.names m l.half (s.fresh l.half (λ d ld. (new d ld).not_self) (all_map (AreStrange n name l) (λ k. twin (name k.dart) ≢ l.half) (λ k w v. w.back.not_self (sym v)) ks strange))) near,
+      dead_bends (is_named s.names m) n ks (twin l.half) (not_named s.names m (twin l.half) (s.fresh (twin l.half) (λ d ld. (new d ld).not_twin)
+      (all_map (AreStrange n name l) (λ k. twin (name k.dart) ≢ twin l.half) (λ k w v. w.back.not_twin (sym (twin-twin l.half) ∙ ap twin (sym v))) ks strange))) far,
+    )
+
+-- ---- The faces of the links
+
+-- a bend as seen from below
+record GoodBend (b : ℕ → ℕ) (m : ℕ) (name names : ℕ → ℕ) (k : Bend) : Type 0 where
+  there : k.dart < m
+  near : names k.dart ≡ name k.dart
+  back : names (twin k.dart) ≡ twin (name k.dart)
+  ahead : SameCycle (face_next b) (name k.dart) k.beyond
+
+-- what the faces below are above
+record AreFacesAbove (b : ℕ → ℕ) (n : ℕ) (f : ℕ → ℕ) (m : ℕ) (name names : ℕ → ℕ) : Type 0 where
+  permutation : IsPermutation (face_next b) n
+  even : m % 2 ≡ 0
+  within : (d : ℕ) → d < m → names d < n
+  name_within : (d : ℕ) → d < m → name d < n
+  carried : (a d : ℕ) → a < m → d < m → SameCycle (face_next f) a d → SameCycle (face_next b) (names a) (names d)
+  uncarried : (a d : ℕ) → a < m → d < m → SameCycle (face_next b) (names a) (names d) → SameCycle (face_next f) a d
+  at_name : (d : ℕ) → d < m → SameCycle (face_next b) (name d) (names d)
+
+faces_above : (b : ℕ → ℕ) (n : ℕ) (f : ℕ → ℕ) (m : ℕ) (name : ℕ → ℕ) (ks : List Bend) → IsNamed b n f m name → AllByRecursion (IsBend b n m name) ks → (s : Straightened b n f m name ks) → AreFacesAbove b n f m name s.names
+faces_above b n f m name ks named i s =
+    let back : ℕ → ℕ = λ y. find_below (λ d. s.names d == y) m in
+    let r : Renumbers s.names back (face_next f) (face_next s.bottom) m (is_named s.names m) n = renumbered_faces s.names back f s.bottom m (is_named s.names m) n (renumbers b n f m name ks s) in
+    record {
+      permutation = face_next-permutation b n named.permutation named.even;
+      even = named.turn_even;
+      within = s.named.within;
+      name_within = named.within;
+      carried = λ a d la ld w. s.kept (s.names a) (s.names d) (s.within a la) ((renumbered_same_cycle s.names back (face_next f) (face_next s.bottom) m (is_named s.names m) n a d r la ld).0 w);
+      uncarried = λ a d la ld w. (renumbered_same_cycle s.names back (face_next f) (face_next s.bottom) m (is_named s.names m) n a d r la ld).1 (s.back (s.names a) (s.names d) (s.within a la) (s.within d ld) w);
+      at_name = λ d ld. elim (named_below b n f m name ks i s d ld) [
+        | inl at ↦ subst (λ (v : ℕ). SameCycle (face_next b) (name d) v) (sym at) (SameCycle-refl (face_next b) (name d))
+        | inr q ↦
+            let far : s.names d ≡ twin (name q.0.dart) = ap s.names q.2 ∙ back_named b n f m name ks i s q.0 q.1 in
+            let side : SameCycle (face_next b) (twin q.0.beyond) (twin (name q.0.dart)) = (all_at (λ k. SameCycle (face_next b) (name k.dart) k.beyond × SameCycle (face_next b) (twin k.beyond) (twin (name k.dart))) q.0 ks s.sides q.1).1 in
+            subst (λ (v : ℕ). SameCycle (face_next b) v (s.names d)) (sym q.3) (subst (λ (v : ℕ). SameCycle (face_next b) (twin q.0.beyond) v) (sym far) side)
+      ];
+    }
+
+good_bends : (b : ℕ → ℕ) (n : ℕ) (f : ℕ → ℕ) (m : ℕ) (name : ℕ → ℕ) (ks : List Bend) → AllByRecursion (IsBend b n m name) ks → (s : Straightened b n f m name ks) → AllByRecursion (GoodBend b m name s.names) ks
+good_bends b n f m name ks i s = all_of (GoodBend b m name s.names) ks (λ k h. record {
+  there = (all_at (IsBend b n m name) k ks i h).there;
+  near = all_at (λ l. s.names l.dart ≡ name l.dart) k ks s.near h;
+  back = back_named b n f m name ks i s k h;
+  ahead = (all_at (λ l. SameCycle (face_next b) (name l.dart) l.beyond × SameCycle (face_next b) (twin l.beyond) (twin (name l.dart))) k ks s.sides h).0;
+})
+
+-- corner z lies in the face of c
+abbrev LiesAt : (ℕ → ℕ) → (ℕ → ℕ) → ℕ → ℕ → Type 0
+LiesAt b names z c = SameCycle (face_next b) z (names c)
+
+next_lies : (b : ℕ → ℕ) (m : ℕ) (name names : ℕ → ℕ) (k : Bend) → GoodBend b m name names k → LiesAt b names (twin (name k.dart)) (twin k.dart)
+next_lies b m name names k g = subst (λ (v : ℕ). SameCycle (face_next b) (twin (name k.dart)) v) (sym g.back) (SameCycle-refl (face_next b) (twin (name k.dart)))
+
+-- a corner in a face that the walk does not meet is in the face of no link's start
+far_links : (b : ℕ → ℕ) (n : ℕ) (f : ℕ → ℕ) (m : ℕ) (name names : ℕ → ℕ) → AreFacesAbove b n f m name names → (y a : ℕ) → y < n → a < m → LiesAt b names y a
+    → (z c : ℕ) (ks : List Bend) (e : ℕ) (ls : List Link) → AreAlong name z ks e ls → c < m → LiesAt b names z c → (SameCycle (face_next f) a c → ⊥)
+    → AllByRecursion (λ k. SameCycle (face_next f) a (twin k.dart) → ⊥) ks → AllByRecursion (GoodBend b m name names) ks → AllByRecursion (λ l. SameCycle (face_next b) y l.from → ⊥) ls
+far_links b n f m name names h y a ly la at z c [] e [] along lc lies out outs good = tt
+far_links b n f m name names h y a ly la at z c [] e (l ∷ []) along lc lies out outs good = (λ w. out (h.uncarried a c la lc
+    (SameCycle-trans (face_next b) (names a) y (names c) (SameCycle-sym (face_next b) n h.permutation y (names a) ly at)
+    (SameCycle-trans (face_next b) y z (names c) (subst (λ (v : ℕ). SameCycle (face_next b) y v) along.0 w) lies))), tt)
+far_links b n f m name names h y a ly la at z c [] e (l ∷ (j ∷ ls)) along lc lies out outs good = elim along [ ]
+far_links b n f m name names h y a ly la at z c (k ∷ ks) e [] along lc lies out outs good = tt
+far_links b n f m name names h y a ly la at z c (k ∷ ks) e (l ∷ ls) along lc lies out outs good = (λ w. out (h.uncarried a c la lc
+    (SameCycle-trans (face_next b) (names a) y (names c) (SameCycle-sym (face_next b) n h.permutation y (names a) ly at)
+    (SameCycle-trans (face_next b) y z (names c) (subst (λ (v : ℕ). SameCycle (face_next b) y v) along.0 w) lies))),
+  far_links b n f m name names h y a ly la at (twin (name k.dart)) (twin k.dart) ks e ls along.2 (twin-within m k.dart h.even good.0.there) (next_lies b m name names k good.0) outs.0 outs.1 good.1)
+
+in_faces : (b : ℕ → ℕ) (n : ℕ) (f : ℕ → ℕ) (m : ℕ) (name names : ℕ → ℕ) → AreFacesAbove b n f m name names → (z c : ℕ) (ks : List Bend) (e : ℕ) (ls : List Link) → AreAlong name z ks e ls → z < n → c < m → e < m → LiesAt b names z c
+    → Walks f c ks e → MeetsOnce f c ks → AllByRecursion (GoodBend b m name names) ks → AllByRecursion (λ k. twin (name k.dart) < n) ks → AreInFaces b ls
+in_faces b n f m name names h z c [] e [] along lz lc le lies walk once good within = tt
+in_faces b n f m name names h z c [] e (l ∷ []) along lz lc le lies walk once good within =
+    let there : SameCycle (face_next b) z (name e) = SameCycle-trans (face_next b) z (names c) (name e) lies
+        (SameCycle-trans (face_next b) (names c) (names e) (name e) (h.carried c e lc le walk) (SameCycle-sym (face_next b) n h.permutation (name e) (names e) (h.name_within e le) (h.at_name e le))) in
+    (subst (λ (v : ℕ). SameCycle (face_next b) v l.to) (sym along.0) (subst (λ (v : ℕ). SameCycle (face_next b) z v) (sym along.1) there), tt, tt)
+in_faces b n f m name names h z c [] e (l ∷ (j ∷ ls)) along lz lc le lies walk once good within = elim along [ ]
+in_faces b n f m name names h z c (k ∷ ks) e [] along lz lc le lies walk once good within = elim along [ ]
+in_faces b n f m name names h z c (k ∷ ks) e (l ∷ ls) along lz lc le lies walk once good within =
+    let lk : k.dart < m = good.0.there in
+    let lt : twin k.dart < m = twin-within m k.dart h.even lk in
+    let there : SameCycle (face_next b) z k.beyond = SameCycle-trans (face_next b) z (names c) k.beyond lies
+        (SameCycle-trans (face_next b) (names c) (names k.dart) k.beyond (h.carried c k.dart lc lk walk.0) (subst (λ (v : ℕ). SameCycle (face_next b) v k.beyond) (sym good.0.near) good.0.ahead)) in
+    let next : LiesAt b names (twin (name k.dart)) (twin k.dart) = next_lies b m name names k good.0 in
+    let far : AllByRecursion (λ j. SameCycle (face_next b) z j.from → ⊥) ls = far_links b n f m name names h z c lz lc lies (twin (name k.dart)) (twin k.dart) ks e ls along.2 lt next once.0.0 once.0.1 good.1 in
+    (
+      subst (λ (v : ℕ). SameCycle (face_next b) v l.to) (sym along.0) (subst (λ (v : ℕ). SameCycle (face_next b) z v) (sym along.1) there),
+      all_map (λ j. SameCycle (face_next b) z j.from → ⊥) (λ j. SameCycle (face_next b) l.from j.from → ⊥) (λ j w v. w (subst (λ (u : ℕ). SameCycle (face_next b) u j.from) along.0 v)) ls far,
+      in_faces b n f m name names h (twin (name k.dart)) (twin k.dart) ks e ls along.2 within.0 lt le next walk.1 once.1 good.1 within.1,
+    )
+
+-- ---- The whole passage
+
+-- each link makes one face more, and what hung together does so
+pub record Passed (g : ℕ → ℕ) (n : ℕ) (f : ℕ → ℕ) (m : ℕ) (ls : List Link) : Type 0 where
+  pub faces : cycle_count (face_next g) n ≡ cycle_count (face_next f) m + length ls
+  pub connected : ((a b : ℕ) → a < m → b < m → Joined f twin a b) → (a b : ℕ) → a < n → b < n → Joined g twin a b
+
+all_live : (g : ℕ → ℕ) (n : ℕ) (f : ℕ → ℕ) (m : ℕ) (name : ℕ → ℕ) (c : ℕ) (ks : List Bend) (e : ℕ) (ls : List Link) → IsPassage g n f m name c ks e ls
+    → AllByRecursion (IsBend (without_links g ls) n m name) ks → (s : Straightened (without_links g ls) n f m name ks) → (a : ℕ) → a < n → with_links (with_bends (is_named s.names m) ks) ls a ≡ true
+all_live g n f m name c ks e ls p i s a la =
+    let b : ℕ → ℕ = without_links g ls in
+    let live : ℕ → Bool = with_bends (is_named s.names m) ks in
+    elim (p.placed a la) [
+      | inl w ↦ live_links live ls a (subst (λ (v : ℕ). live v ≡ true) (sym w.2) (name_live b n f m name ks i s w.0 w.1))
+      | inr v ↦ elim v [
+        | inl w ↦ elim w.2 [
+          | inl at ↦ live_links live ls a (subst (λ (v : ℕ). live v ≡ true) (sym at) (beyond_live (is_named s.names m) ks w.0 w.1).0)
+          | inr at ↦ live_links live ls a (live_bends (is_named s.names m) ks a (subst (λ (v : ℕ). is_named s.names m v ≡ true) (sym at) (back_live b n f m name ks i s w.0 w.1)))
+        ]
+        | inr w ↦ elim w.2 [
+          | inl at ↦ subst (λ (v : ℕ). with_links live ls v ≡ true) (sym at) (link_live live ls w.0 w.1).0
+          | inr at ↦ subst (λ (v : ℕ). with_links live ls v ≡ true) (sym at) (link_live live ls w.0 w.1).1
+        ]
+      ]
+    ]
+
+whole_count : (h : ℕ → ℕ) (n : ℕ) (live : ℕ → Bool) → IsPermutation h n → ((a : ℕ) → a < n → live a ≡ true) → cycle_count h n ≡ live_cycle_count live h n
+whole_count h n live p all = renumbered_cycles (λ a. a) (λ a. a) h h n live n (record {
+  before = p;
+  after = p;
+  numbers = record { within = λ a la. la; alive = all; returns = λ a la. refl; back_within = λ y ly l. ly; back_returns = λ y ly l. refl };
+  map = record { each = λ a la. refl };
+})
+
+pub passed : (g : ℕ → ℕ) (n : ℕ) (f : ℕ → ℕ) (m : ℕ) (name : ℕ → ℕ) (c : ℕ) (ks : List Bend) (e : ℕ) (ls : List Link) → IsPassage g n f m name c ks e ls → Passed g n f m ls
+passed g n f m name c ks e ls p =
+    let b : ℕ → ℕ = without_links g ls in
+    let even : n % 2 ≡ 0 = p.named.even in
+    let i : AllByRecursion (IsBend b n m name) ks = all_bends b n m name ks p.bends in
+    let s : Straightened b n f m name ks = straighten b n f m name ks p.named p.bends p.straight in
+    let below : ℕ → Bool = is_named s.names m in
+    let live : ℕ → Bool = with_bends below ks in
+    let bent : Bent below s.bottom b n ks = s.bent below (slab_below g n f m name c ks e ls p s) (bendable b n f m name ks i s) in
+    let above : AreFacesAbove b n f m name s.names = faces_above b n f m name ks p.named i s in
+    let good : AllByRecursion (GoodBend b m name s.names) ks = good_bends b n f m name ks i s in
+    let faces : AreInFaces b ls = in_faces b n f m name s.names above (name c) c ks e ls p.along (p.named.within c p.from_there) p.from_there p.to_there (above.at_name c p.from_there) p.walk p.once good
+        (all_map (IsBend b n m name) (λ k. twin (name k.dart) < n) (λ k w. twin-within n (name k.dart) even (p.named.within k.dart w.there)) ks i) in
+    let corners : AllByRecursion (λ l. (live l.from ≡ true) × (live l.to ≡ true)) ls = corners_live live m name (name c) ks e ls p.along (name_live b n f m name ks i s c p.from_there) (name_live b n f m name ks i s e p.to_there)
+        (all_of (λ k. (live k.beyond ≡ true) × (live (twin (name k.dart)) ≡ true)) ks (λ k h. ((beyond_live below ks k h).0, live_bends below ks (twin (name k.dart)) (back_live b n f m name ks i s k h)))) in
+    let halves : AllByRecursion (λ l. (live l.half ≡ false) × (live (twin l.half) ≡ false)) ls = all_of (λ l. (live l.half ≡ false) × (live (twin l.half) ≡ false)) ls
+        (λ l h. half_dead g n f m name c ks e ls (record { p = p; s = s; i = i }) s l h) in
+    let d : Drawn live b g n ls = draw live g n ls p.permutation even p.links (ready_of live ls halves corners) faces bent.slab in
+    let back : ℕ → ℕ = λ y. find_below (λ v. s.names v == y) m in
+    let r : RenumbersTurn s.names back f s.bottom m below n = renumbers b n f m name ks s in
+    let count_below : cycle_count (face_next f) m ≡ live_cycle_count below (face_next s.bottom) n = renumbered_cycles s.names back (face_next f) (face_next s.bottom) m below n (renumbered_faces s.names back f s.bottom m below n r) in
+    let count_above : cycle_count (face_next g) n ≡ live_cycle_count (with_links live ls) (face_next g) n = whole_count (face_next g) n (with_links live ls) (face_next-permutation g n p.permutation even) (all_live g n f m name c ks e ls p i s) in
+    record {
+      faces = omega (arith, count_below, count_above, bent.faces, d.faces);
+      connected = λ hang x y lx ly. d.connected (bent.connected ((renumbered_connected s.names back f s.bottom m below n r).0 (λ u v lu lv hu hv. hang u v lu lv))) x y lx ly
+          (all_live g n f m name c ks e ls p i s x lx) (all_live g n f m name c ks e ls p i s y ly);
     }

@@ -15,3 +15,6 @@ pub mod Sorting
 pub mod Totals
 pub mod Verdicts
 pub mod Written
+pub mod InsertedNumbers
+pub mod InsertedPassage
+pub mod InsertedLawful

@@ -10,7 +10,7 @@ use Rattle.topo_core.specs.declared.rows.CrossRow.{CrossRow}
 use Rattle.topo_core.specs.declared.rows.EdgeRow.{EdgeRow}
 use Rattle.topo_core.specs.declared.rows.Rows.{Rows}
 use Rattle.topo_core.specs.Items.{IsIn, occurrences, rises_below}
-use Rattle.topo_core.specs.Lawful.{has_good_path, is_good_crossing}
+use Rattle.topo_core.specs.Lawful.{has_good_path, is_good_crossing, IsWellFormed}
 use Rattle.topo_core.specs.Picture.{face_count, segment_count}
 use Rattle.topo_core.proofs.Counting.{one}
 use Rattle.topo_core.proofs.Members.{left_true}
@@ -70,6 +70,14 @@ equally_long (x ∷ xs) ys same =
 
 -- ---- Segments
 
+-- each edge has a segment, and each crossing gives one more to each of its two edges
+pub segments_total : (rows : Rows) → IsWellFormed rows → rows.next_crossing ≤ 4294967296 → sum_by segment_count rows.edges ≡ length rows.edges + 2 * length rows.crossings
+segments_total rows good small =
+    let rise : rises_below rows.next_crossing (map (λ x. x.id) rows.crossings) ≡ true = left_true _ (list_all (is_good_crossing rows) rows.crossings) good.crossings in
+    let pairs : length (path_pairs rows.edges) ≡ length (crossing_pairs rows.crossings) = equally_long (path_pairs rows.edges) (crossing_pairs rows.crossings) (same_from_good rows good.paths small rise good.crossings) in
+    let two = two_pairs_each rows.crossings in
+    let segments = segments_by_pairs rows.edges in omega arith
+
 -- the sizes of a picture, and how they hang together
 pub record IsCounted (rows : Rows) : Type 0 where
   pub segments : sum_by segment_count rows.edges ≡ length rows.edges + 2 * length rows.crossings
@@ -92,11 +100,8 @@ counted limits rows is =
     let rise : rises_below rows.next_crossing (map (λ x. x.id) rows.crossings) ≡ true = left_true _ (list_all (is_good_crossing rows) rows.crossings) crossings in
     let few_edges : length rows.edges ≤ rows.next_edge = (let f = few_rise rows.next_edge (map (λ row. row.id) rows.edges) (left_true _ (list_all (has_good_path rows) rows.edges) paths) in omega (arith, length-map rows.edges (λ (row : EdgeRow). row.id))) in
     let few_crossings : length rows.crossings ≤ rows.next_crossing = (let f = few_rise rows.next_crossing (map (λ x. x.id) rows.crossings) rise in omega (arith, length-map rows.crossings (λ (x : CrossRow). x.id))) in
-    let pairs : length (path_pairs rows.edges) ≡ length (crossing_pairs rows.crossings) = equally_long (path_pairs rows.edges) (crossing_pairs rows.crossings) (same_from_good rows paths (omega arith) rise crossings) in
-    let two = two_pairs_each rows.crossings in
-    let segments = segments_by_pairs rows.edges in
     record {
-      segments = omega arith;
+      segments = segments_total rows good (omega arith);
       euler = is.lawful.genus_zero;
       vertices = omega arith;
       edges = omega arith;
