@@ -6,14 +6,13 @@ use Rattle.std.proofs.lemmas.List.{get_or-set_same, length-take-le, map-append, 
 use Rattle.std.proofs.lemmas.List.Elements.{filter-append}
 use Rattle.std.proofs.lemmas.Bool.{eq-eqb, le-ltb, lt-ltb}
 use Rattle.topo_core.specs.declared.darts.Dart.{Dart}
-use Rattle.topo_core.specs.declared.rows.EdgeRow.{EdgeRow}
 use Rattle.topo_core.specs.Items.{IsIn}
 use Rattle.topo_core.specs.Changes.{woven, put_in}
-use Rattle.topo_core.proofs.Counting.{eqb_less, eqb_more, lt_of_test}
+use Rattle.topo_core.proofs.Counting.{eqb_less, eqb_more}
 use Rattle.topo_core.proofs.Members.{left_true, right_true, test_of_each}
 use Rattle.topo_core.proofs.ShownRows.{in_images, number_below, number_from}
 use Rattle.topo_core.proofs.Weaving.{in_filter}
-use Rattle.topo_picture.specs.Inserting.{crossed_by, crossed_path, crossings_on, paths_below, repathed, segment_end}
+use Rattle.topo_picture.specs.Inserting.{crossed_path, crossings_on, segment_end}
 
 -- ---- Numbered items
 

@@ -4,7 +4,7 @@ use Rattle.std.specs.List.{enumerate_from}
 use Rattle.std.proofs.lemmas.List.{take_all}
 use Rattle.topo_core.specs.declared.darts.Dart.{Dart}
 use Rattle.topo_core.specs.declared.rows.CrossRow.{CrossRow}
-use Rattle.topo_core.specs.Changes.{new_crossing, sign_of}
+use Rattle.topo_core.specs.Changes.{new_crossing}
 use Rattle.topo_picture.proofs.CrossedPaths.{numbered_step}
 use Rattle.topo_picture.proofs.insertion.crossings_of.Goals as goal
 

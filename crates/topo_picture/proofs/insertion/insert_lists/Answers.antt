@@ -1,10 +1,8 @@
-use Rattle.std.proofs.Common.{◌≡◌, ◌∙◌, List, ap, arith, length, rules, subst, sym}
-use Rattle.std.specs.Prelude.{map}
+use Rattle.std.proofs.Common.{◌≡◌, ◌∙◌, length, rules, subst, sym}
 use Rattle.std.specs.Vec.{vec_len}
 use Rattle.std.proofs.lemmas.List.{take_at}
 use Rattle.topo_core.specs.Items.{IsIn}
-use Rattle.topo_core.specs.declared.rows.EdgeRow.{EdgeRow}
-use Rattle.topo_picture.specs.Inserting.{IdsRise, crossed_by}
+use Rattle.topo_picture.specs.Inserting.{IdsRise}
 use Rattle.topo_picture.proofs.CrossedRows.{crossed_rise}
 use Rattle.topo_picture.proofs.insertion.insert_lists.Goals as goal
 

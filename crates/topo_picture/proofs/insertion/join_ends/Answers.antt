@@ -1,4 +1,4 @@
-use Rattle.std.proofs.Common.{◌<◌, ◌∙◌, [], ap, get_or, length, length-set, set, sym}
+use Rattle.std.proofs.Common.{◌<◌, ◌∙◌, [], ap, length, length-set, set, sym}
 use Rattle.std.specs.Prelude.{filter, nat_lt}
 use Rattle.std.proofs.lemmas.List.{get_or_default}
 use Rattle.topo_core.specs.Changes.{put_in}

@@ -1,4 +1,4 @@
-use Rattle.std.proofs.Common.{◌<◌, ◌-◌, ◌+◌, ap, arith, drop, get_or, length}
+use Rattle.std.proofs.Common.{◌+◌, ap, arith, drop, get_or}
 use Rattle.std.proofs.lemmas.List.{at_drop_all, at_drop_more}
 use Rattle.topo_picture.specs.Inserting.{segment_end}
 use Rattle.topo_picture.proofs.CrossedPaths.{counts, ends_here, goes_past}

@@ -1,4 +1,4 @@
-use Rattle.std.proofs.Common.{◌≡◌, ◌-◌, ◌+◌, ◌∙◌, ap, arith, get_or, subst, sym, take}
+use Rattle.std.proofs.Common.{◌≡◌, ◌-◌, ◌+◌, ◌∙◌, ap, arith, subst, sym, take}
 use Rattle.std.specs.Prelude.{filter, map, nat_lt}
 use Rattle.topo_picture.specs.Inserting.{IdsRise, crossed_by, repathed}
 use Rattle.topo_picture.proofs.CrossedRows.{crossed_by_none, one_less, still_rise}
