@@ -102,11 +102,11 @@ gains rows u v kind r good lu lv apart known simple =
     let from_was : has_dart (darts rows) from ≡ true = corner_in rows good u r.start from simple.route.starts in
     let to_was : has_dart (darts rows) to ≡ true = corner_in rows good v r.end to simple.route.ends in
     let path : IsPath rows q rows.next_edge u v r good form s (lifted rows q from) (lifted rows q to) = path_of rows q rows.next_edge u v r good form s from to simple.route.starts simple.route.ends from_was to_was
-        (corners_apart rows good u v r.start r.end from to lu lv apart simple.route.starts simple.route.ends) may.crossed may.once in
+    (corners_apart rows good u v r.start r.end from to lu lv apart simple.route.starts simple.route.ends) may.crossed may.once in
     let links : List Link = path_links rows q rows.next_edge u v r good form s (lifted rows q from) (lifted rows q to) in
     let done : Passed (map_of (turn_images q)) (length (turn_images q)) (map_of (turn_images rows)) (length (turn_images rows)) links = passed (map_of (turn_images q)) (length (turn_images q)) (map_of (turn_images rows)) (length (turn_images rows))
-        (name rows q rows.next_edge u v r good form s) (index_of rows from) (path_bends rows q rows.next_edge u v r good form s (lifted rows q from) (lifted rows q to) path) (index_of rows to) links
-        (is_passage rows q rows.next_edge u v r good form s (lifted rows q from) (lifted rows q to) path from to from_was to_was refl refl simple.route.walk simple.once) in
+    (name rows q rows.next_edge u v r good form s) (index_of rows from) (path_bends rows q rows.next_edge u v r good form s (lifted rows q from) (lifted rows q to) path) (index_of rows to) links
+    (is_passage rows q rows.next_edge u v r good form s (lifted rows q from) (lifted rows q to) path from to from_was to_was refl refl simple.route.walk simple.once) in
     record {
       form = form;
       faces = done.faces ∙ ap (λ (k : ℕ). face_count rows + k) (links_count rows q rows.next_edge u v r good form s rows.next_crossing (index_of q (lifted rows q from)) r.crossed (index_of q (lifted rows q to)));
@@ -126,7 +126,7 @@ insertion_keeps_lawful rows u v kind r lawful lu lv apart known simple small =
     let after : sum_by segment_count q.edges ≡ length q.edges + 2 * length q.crossings = segments_total q g.form small in
     let edges : length q.edges ≡ length rows.edges + 1 = length-append (map (crossed_row rows r) rows.edges) _ ∙ ap (λ (k : ℕ). k + 1) (length-map rows.edges (crossed_row rows r)) in
     let points : length q.crossings ≡ length rows.crossings + length r.crossed = length-append rows.crossings _
-        ∙ ap (λ (k : ℕ). length rows.crossings + k) (length-map (numbered rows r) (new_crossing rows.next_edge) ∙ length-enumerate_from rows.next_crossing r.crossed) in
+    ∙ ap (λ (k : ℕ). length rows.crossings + k) (length-map (numbered rows r) (new_crossing rows.next_edge) ∙ length-enumerate_from rows.next_crossing r.crossed) in
     let vertices : length q.rotations ≡ length rows.rotations = shown_vertices rows u v kind r in
     let genus : HasGenusZero rows = lawful.genus_zero in
     let faces : face_count q ≡ face_count rows + (length r.crossed + 1) = g.faces in

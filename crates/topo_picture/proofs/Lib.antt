@@ -1,6 +1,9 @@
 pub mod Begins
+pub mod CrossedPaths
+pub mod CrossedRows
 pub mod RowCounts
 pub mod Growing
+pub mod Inserting
 pub mod Linking
 pub mod Lookups
 pub mod Noting

@@ -1,4 +1,5 @@
 pub mod Flats
+pub mod Inserting
 pub mod Loading
 pub mod Pairs
 pub mod Recovering

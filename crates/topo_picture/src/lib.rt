@@ -15,6 +15,7 @@ mod faults;
 mod flat;
 pub mod frozen;
 mod growth;
+mod insertion;
 pub mod load;
 mod numbers;
 mod pairs;
