@@ -143,3 +143,29 @@ crossed_more f h a b j = kept_joined f (partly (all_but h)) (λ v. Joined f twin
 pub put_back : (t : ℕ → ℕ → ℕ) (n : ℕ) (h : ℕ → ℕ) (count : ℕ) → IsOpening t n h count → (i : ℕ) → i < count → (a b : ℕ) → IsElsewhere n (h i) a → IsElsewhere n (h i) b → Joined (t (suc i)) twin a b → Joined (t i) twin a b
 put_back t n h count o i li a b ea eb j =
     crossed_more (t i) (h i) a b ((taken_out_joined (t i) (t (suc i)) n (h i) a b (record { permutation = o.permutation i; even = o.even; within = o.there i li }) (o.unchord i li) ea eb).1 j)
+
+-- ---- Which darts are out
+
+-- a dart that is out is of one of the segments
+pub out_of : (h : ℕ → ℕ) (i a : ℕ) → left_after h i a ≡ false → (j : ℕ) × (j < i) × ((a ≡ h j) ⊎ (a ≡ twin (h j)))
+out_of h zero a w = absurd (false≢true (sym w))
+out_of h (suc i) a w = elim (cases_eq a (h i)) [
+  | inl e ↦ (i, omega arith, inl e)
+  | inr nh ↦ elim (cases_eq a (twin (h i))) [
+    | inl e ↦ (i, omega arith, inr e)
+    | inr nt ↦
+        let (j, lj, which) = out_of h i a (sym (left_stays h i a nh nt) ∙ w) in
+        (j, omega (arith, lj), which)
+  ]
+]
+
+-- a dart is left with its twin
+pub left_twin : (h : ℕ → ℕ) (i a : ℕ) → left_after h i (twin a) ≡ left_after h i a
+left_twin h zero a = refl
+left_twin h (suc i) a = elim (cases_eq a (h i)) [
+  | inl e ↦ left_out h i (twin a) (inr (ap twin e)) ∙ sym (left_out h i a (inl e))
+  | inr nh ↦ elim (cases_eq a (twin (h i))) [
+    | inl e ↦ left_out h i (twin a) (inl (ap twin e ∙ twin-twin (h i))) ∙ sym (left_out h i a (inr e))
+    | inr nt ↦ left_stays h i (twin a) (λ e. nt (sym (twin-twin a) ∙ ap twin e)) (λ e. nh (sym (twin-twin a) ∙ ap twin e ∙ twin-twin (h i))) ∙ left_twin h i a ∙ sym (left_stays h i a nh nt)
+  ]
+]
