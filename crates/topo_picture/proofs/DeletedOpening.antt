@@ -1,7 +1,7 @@
 -- An edge of a lawful picture taken out segment by segment, on the numbers of the darts.
 use Rattle.std.proofs.Common.{◌≡◌, ◌≢◌, ℕ, zero, suc, ◌+◌, ◌*◌, ◌/◌, ◌%◌, ◌<◌, ◌≤◌, ◌==◌, Bool, true, false, ◌&&◌, not, List, [], ◌∷◌, length, ◌⊎◌, ◌↔◌, inl, inr, refl, sym, ◌∙◌, ap, subst, arith}
 use Rattle.std.specs.Prelude.{Some, slice_get, nat_lt}
-use Rattle.std.proofs.lemmas.Bool.{cases_Bool, cases_eq, false≢true}
+use Rattle.std.proofs.lemmas.Bool.{cases_eq, eq-eqb, false≢true, lt-ltb}
 use Rattle.topo_core.specs.declared.darts.Dart.{Dart}
 use Rattle.topo_core.specs.declared.darts.Way.{Way}
 use Rattle.topo_core.specs.declared.darts.Way.TheVariants.{Forward, Back}
@@ -18,7 +18,7 @@ use Rattle.topo_core.specs.Lawful.{IsWellFormed}
 use Rattle.topo_core.specs.Insertions.{lifted}
 use Rattle.topo_core.specs.Deletions.{HidesTurns, IsCrossingOf}
 use Rattle.topo_core.specs.Openings.{Opens, is_opened, opened_turn}
-use Rattle.topo_core.proofs.Numbering.{images_length, index_twin, turn_permutes}
+use Rattle.topo_core.proofs.Numbering.{images_length, index_apart, index_twin, turn_permutes}
 use Rattle.topo_core.proofs.Openings.{opens}
 use Rattle.topo_core.proofs.Renumbering.{numbers_connected}
 use Rattle.topo_core.proofs.ShownPlaces.{lifted_edge}
@@ -145,3 +145,106 @@ module _ (q : Rows) (e : ℕ) (row : EdgeRow) (good : IsWellFormed q) (known : e
         let off : LeadsOff (segment i Back) = (at_crossing i (omega (arith, h, ne))).back in
         absurd (off.other (sym (ap (λ (d : Dart). d.edge) off.leads) ∙ ap (λ (d : Dart). d.edge) alone))
   ]
+
+  -- ---- The turns with some segments out
+
+  -- a dart that is not on a segment, and does not turn to it, turns as before when the segment goes
+  step_off : (i : ℕ) → i ≤ last → (a b : ℕ) → a < n → a ≢ first_half i → a ≢ twin (first_half i) → b ≢ first_half i → b ≢ twin (first_half i) → opened_by i a ≡ b → opened_by (suc i) a ≡ b
+  step_off i hi a b la na nt nb nc at =
+      let u : IsUnchord (opened_by i) (opened_by (i + 1)) (length (darts q)) (first_half i) = opening.unchords row known i (subst (λ (v : ℕ). i < v) (ap (λ (r : EdgeRow). length r.crossings + 1) (edge_at_row q e row known)) (omega (arith, hi))) in
+      let la' : a < length (darts q) = subst (λ (v : ℕ). a < v) (sym as_many) la in
+      let half : u.half a ≡ b = u.first.elsewhere a la' na (λ w. nb (sym at ∙ w)) ∙ at in
+      let next : opened_by (i + 1) a ≡ b = u.second.elsewhere a la' nt (λ w. nc (sym half ∙ w)) ∙ half in
+      ap (λ (j : ℕ). opened_by j a) (let w : suc i ≡ i + 1 = omega arith in w) ∙ next
+
+  -- a dart of another edge is on no segment of e
+  pub off_segment : (d : Dart) → Is d → d.edge ≢ e → (i : ℕ) → i ≤ last → IsApart n (index_of q d) (first_half i)
+  off_segment d h ne i hi = segment_apart q good d (segment i Forward) h (segment_in i Forward hi) (λ w. ne (ap (λ (c : Dart). c.edge) w)) (λ w. ne (ap (λ (c : Dart). c.edge) w))
+
+  -- a dart of e that is left turns as in the whole system
+  pub left_turn : (i j : ℕ) (way : Way) → i ≤ j → j ≤ last → opened_by i (index_of q (segment j way)) ≡ index_of q (turn (system q) (segment j way))
+  left_turn zero j way hi hj = opening.shut (index_of q (segment j way)) (subst (λ (v : ℕ). index_of q (segment j way) < v) (sym as_many) (number_less q good (segment j way) (segment_in j way hj)))
+      ∙ turn_number q good (segment j way) (segment_in j way hj)
+  left_turn (suc i) j way hi hj =
+      let li : i ≤ last = omega (arith, hi, hj) in
+      let before : opened_by i (index_of q (segment j way)) ≡ index_of q (turn (system q) (segment j way)) = left_turn i j way (omega (arith, hi)) hj in
+      let self : IsApart n (index_of q (segment j way)) (first_half i) = on_others i j way (omega (arith, hi)) li hj in
+      elim (turns_on j way hj) [
+        | inl off ↦
+            let far : IsApart n (index_of q off.to) (first_half i) = off_segment off.to off.there off.other i li in
+            step_off i li (index_of q (segment j way)) (index_of q (turn (system q) (segment j way))) self.within self.not_self self.not_twin
+            (λ w. far.not_self (ap (index_of q) (sym off.leads) ∙ w)) (λ w. far.not_twin (ap (index_of q) (sym off.leads) ∙ w)) before
+        | inr alone ↦ step_off i li (index_of q (segment j way)) (index_of q (turn (system q) (segment j way))) self.within self.not_self self.not_twin
+            (λ w. self.not_self (ap (index_of q) (sym alone) ∙ w)) (λ w. self.not_twin (ap (index_of q) (sym alone) ∙ w)) before
+      ] where
+    on_others : (i j : ℕ) (way : Way) → i < j → i ≤ last → j ≤ last → IsApart n (index_of q (segment j way)) (first_half i)
+    on_others i j way less hi hj = segment_apart q good (segment j way) (segment i Forward) (segment_in j way hj) (segment_in i Forward hi)
+        (λ w. (let s : j ≡ i = ap (λ (d : Dart). d.seg) w in omega (arith, s, less))) (λ w. (let s : j ≡ i = ap (λ (d : Dart). d.seg) w in omega (arith, s, less)))
+
+  pub off_left : (d : Dart) → Is d → d.edge ≢ e → (i : ℕ) → i ≤ count → left_after first_half i (index_of q d) ≡ true
+  off_left d h ne i hi = left_of first_half i (index_of q d) (λ j lj.
+      let far : IsApart n (index_of q d) (first_half j) = off_segment d h ne j (let k = lj in let l : i ≤ last + 1 = hi in omega arith) in
+      (far.not_self, far.not_twin))
+
+  -- ---- The opening
+
+  permutes : (i : ℕ) → IsPermutation (opened_by i) n
+  permutes i = subst (λ (v : ℕ). IsPermutation (opened_by i) v) as_many (opening.permutes i)
+
+  shut : (a : ℕ) → a < n → opened_by 0 a ≡ map_of (turn_images q) a
+  shut a la = opening.shut a (subst (λ (v : ℕ). a < v) (sym as_many) la)
+
+  pub faces_shut : cycle_count (face_next (opened_by 0)) n ≡ cycle_count (face_next (map_of (turn_images q))) n
+  faces_shut = cycle_count-same (face_next (opened_by 0)) (face_next (map_of (turn_images q))) n (face_next-permutation (opened_by 0) n (permutes 0) (even_count q good))
+      (λ a la. shut (twin a) (twin-within n a (even_count q good) la))
+
+  pub is_opening : Connected (system q) → cycle_count (map_of (turn_images q)) n + cycle_count (face_next (map_of (turn_images q))) n ≡ n / 2 + 2 → IsOpening opened_by n first_half count
+  is_opening connected genus = record {
+    permutation = permutes;
+    even = even_count q good;
+    there = λ i li. number_less q good (segment i Forward) (segment_in i Forward (let k = li in omega arith));
+    apart = λ i j less lj. segment_apart q good (segment j Forward) (segment i Forward) (segment_in j Forward (let k = lj in omega arith)) (segment_in i Forward (let k = lj in let l = less in omega arith))
+        (λ w. (let s : j ≡ i = ap (λ (d : Dart). d.seg) w in omega (arith, s, less))) (λ w. (let s : j ≡ i = ap (λ (d : Dart). d.seg) w in omega (arith, s, less)));
+    unchord = λ i li.
+        let u : IsUnchord (opened_by i) (opened_by (i + 1)) (length (darts q)) (first_half i) = opening.unchords row known i (subst (λ (v : ℕ). i < v) (ap (λ (r : EdgeRow). length r.crossings + 1) (edge_at_row q e row known)) li) in
+        subst (λ (v : ℕ). IsUnchord (opened_by i) (opened_by v) n (first_half i)) (let w : i + 1 ≡ suc i = omega arith in w) (subst (λ (v : ℕ). IsUnchord (opened_by i) (opened_by (i + 1)) v (first_half i)) as_many u);
+    no_loop = λ i li w.
+        let hi : i ≤ last = (let k = li in omega arith) in
+        let at : opened_by i (first_half i) ≡ index_of q (turn (system q) (segment i Forward)) = left_turn i i Forward (omega arith) hi in
+        elim (turns_on i Forward hi) [
+          | inl off ↦ (off_segment off.to off.there off.other i hi).not_twin (ap (index_of q) (sym off.leads) ∙ sym at ∙ w)
+          | inr alone ↦ twin-other (first_half i) (sym w ∙ at ∙ ap (index_of q) alone)
+        ];
+    connected = λ a b la lb.
+        let joined : Joined (map_of (turn_images q)) twin a b = numbers_connected q good.paths good.crossings good.rotations connected.joined a b la lb in
+        walked_by (map_of (turn_images q)) (opened_by 0) n (turn_permutes q good.paths good.crossings good.rotations) (even_count q good)
+        (λ v lv. subst (λ (z : ℕ). Joined (opened_by 0) twin v z) (shut v lv) (Joined-turned (opened_by 0) twin v v (Joined-refl (opened_by 0) twin v))) a b la joined;
+    genus_zero = (let points : cycle_count (opened_by 0) n ≡ cycle_count (map_of (turn_images q)) n = cycle_count-same (opened_by 0) (map_of (turn_images q)) n (permutes 0) shut in
+        let faces = faces_shut in let g = genus in omega arith);
+  }
+
+  -- with all of e out its darts turn to themselves
+  pub slab_all : IsSlab (left_after first_half count) (opened_by count) n
+  slab_all = record {
+    permutation = permutes count;
+    even = even_count q good;
+    twins = λ a la. left_twin first_half count a;
+    free = λ a la dead.
+        let (j, lj, which) = out_of first_half count a dead in
+        let hj : j ≤ last = (let k = lj in omega arith) in
+        elim which [
+          | inl w ↦ subst (λ (v : ℕ). opened_by count v ≡ v) (sym w) (opening.out_alone count (segment j Forward) (segment_in j Forward hj) (out_test j lj Forward))
+          | inr w ↦ subst (λ (v : ℕ). opened_by count v ≡ v) (sym (w ∙ other_half j hj)) (opening.out_alone count (segment j Back) (segment_in j Back hj) (out_test j lj Back))
+        ];
+  } where
+    out_test : (j : ℕ) → j < count → (way : Way) → is_opened e count (segment j way) ≡ true
+    out_test j lj way = ap (λ (b : Bool). b && nat_lt j count) (eq-eqb e e refl) ∙ lt-ltb j count lj
+
+  -- a dart that is left has a number that is left
+  pub left_dart : (i : ℕ) → i ≤ count → (d : Dart) → Is d → is_opened e i d ≡ false → left_after first_half i (index_of q d) ≡ true
+  left_dart i hi d h stays = left_of first_half i (index_of q d) (λ j lj.
+      let hj : j ≤ last = (let k = hi in let l = lj in omega arith) in
+      (λ w. opened_there j lj Forward (index_apart q good.paths d (segment j Forward) h (segment_in j Forward hj) w),
+        λ w. opened_there j lj Back (index_apart q good.paths d (segment j Back) h (segment_in j Back hj) (w ∙ other_half j hj)))) where
+    opened_there : (j : ℕ) → j < i → (way : Way) → d ≡ segment j way → ⊥
+    opened_there j lj way same = false≢true (sym stays ∙ ap (is_opened e i) same ∙ ap (λ (b : Bool). b && nat_lt j i) (eq-eqb e e refl) ∙ lt-ltb j i lj)
