@@ -160,7 +160,7 @@ counts first s x path low some =
 pub goes_past : (first s x : ℕ) (path : List ℕ) → first ≤ x → segment_end first s (x ∷ path) ≡ segment_end first s path + 1
 goes_past first s x path high = ap (λ (b : Bool). cond {A = ℕ} b (cond {A = ℕ} (s == 0) 0 (segment_end first (s - 1) path + 1)) (segment_end first s path + 1)) (le-ltb x first high)
 
-pub within : (first s : ℕ) (path : List ℕ) → segment_end first s path ≤ length path
+within : (first s : ℕ) (path : List ℕ) → segment_end first s path ≤ length path
 within first s [] = omega arith
 within first s (x ∷ path) = bounded (nat_lt x first) (s == 0) (within first (s - 1) path) (within first s path) where
   bounded : (a b : Bool) → segment_end first (s - 1) path ≤ length path → segment_end first s path ≤ length path
@@ -168,6 +168,12 @@ within first s (x ∷ path) = bounded (nat_lt x first) (s == 0) (within first (s
   bounded true true h k = omega arith
   bounded true false h k = omega arith
   bounded false b h k = omega arith
+
+-- it ends within the path
+pub ends_within : (first s n : ℕ) (xs path : List ℕ) → n ≡ segment_end first s xs → xs ≡ path → n ≤ length path
+ends_within first s n xs path is same =
+    let inside = within first s xs in
+    let long = ap length same in omega arith
 
 -- ---- A rotation with a new edge
 

@@ -16,20 +16,20 @@ pub record IsPlaceOf (edges : List EdgeRow) (e i : ℕ) : Type 0 where
   pub inside : i < length edges
   pub here : HoldsAt (λ row. row.id ≡ e) edges i
 
--- each dart of an edge that is there is on its path
+-- the darts lie on the paths of their edges, of those that are there
 abbrev pub AreOnPaths : List EdgeRow → List Dart → Type 0
 AreOnPaths edges darts = (d : Dart) (row : EdgeRow) → IsIn d darts → IsIn row edges → row.id ≡ d.edge → d.seg ≤ length row.crossings
 
--- the crossings on the paths are those before this id
+-- the crossings on the paths have ids before this one
 abbrev pub paths_below : ℕ → List EdgeRow → Bool
 paths_below first edges = list_all (λ row. list_all (λ x. nat_lt x first) row.crossings) edges
 
--- the place on a path where a segment ends that is counted by the crossings before this id alone
+-- the place on a path where segment s ends, when only the crossings with ids before this one count
 abbrev pub segment_end : ℕ → ℕ → List ℕ → ℕ
 segment_end first s [] = 0
 segment_end first s (x ∷ xs) = cond (nat_lt x first) (cond (s == 0) 0 (segment_end first (s - 1) xs + 1)) (segment_end first s xs + 1)
 
--- the path with a crossing put on at the end of that segment
+-- the path with crossing x put on at the end of that segment
 abbrev pub crossed_path : ℕ → ℕ → ℕ → List ℕ → List ℕ
 crossed_path first s x path = insert path (segment_end first s path) x
 

@@ -16,7 +16,7 @@ use topo_core::listed::Listed;
 use topo_core::routes::Route;
 use topo_core::rows::{CrossRow, EdgeRow, Rows};
 
-/// The place on a path where a segment ends. Segments are counted by the crossings before `first`.
+/// The place on a path where a segment ends, when only the crossings with ids before `first` count.
 fn segment_end(path: &[u32], segment: u32, first: u32) -> usize
     ensures { result ≡ segment_end first segment path.now }
 {
@@ -32,7 +32,8 @@ fn segment_end(path: &[u32], segment: u32, first: u32) -> usize
     path.len()
 }
 
-/// Puts crossing `x` on a path, at the end of a segment that is counted by the crossings before `first`.
+/// Puts crossing `x` on a path at the end of a segment, when only the crossings with ids before
+/// `first` count.
 fn cross_path(
     alloc: Global,
     path: &mut Listed<u32>,

@@ -37,9 +37,9 @@ apply_rows-requires-clause-insertable c =
 pub invariant_of-self : goal.invariant_of-self
 invariant_of-self c =
     picture_after c.self.inside.limits c.self.inside.rows c.args.self.now c.args.u c.args.v c.args.kind c.args.plan.now.route c.self.invariant c.self.view_is c.requires.admitted c.requires.simple
-    c.apply_rows.result c.apply_rows.new.rows c.as_slice-needed.result.now c.as_slice-needed.ensures c.if-needed-left.false c.apply_rows.ensures.ok c.apply_rows.ensures.err
+    c.apply_rows.result c.apply_rows.new.rows c.as_slice-needed.result.now c.as_slice-needed.ensures (omega arith) c.apply_rows.ensures.ok c.apply_rows.ensures.err
 
 pub returns-clause-lawful : goal.returns-clause-lawful
 returns-clause-lawful c =
     picture_after c.self.inside.limits c.self.inside.rows c.args.self.now c.args.u c.args.v c.args.kind c.args.plan.now.route c.self.invariant c.self.view_is c.requires.admitted c.requires.simple
-    c.apply_rows.result c.apply_rows.new.rows c.as_slice-needed.result.now c.as_slice-needed.ensures c.if-needed-left.false c.apply_rows.ensures.ok c.apply_rows.ensures.err
+    c.apply_rows.result c.apply_rows.new.rows c.as_slice-needed.result.now c.as_slice-needed.ensures (omega arith) c.apply_rows.ensures.ok c.apply_rows.ensures.err
