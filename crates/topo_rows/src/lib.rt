@@ -6,4 +6,6 @@ mod first_path;
 #[cfg(test)]
 mod loading;
 #[cfg(test)]
+mod routes;
+#[cfg(test)]
 mod streams;
