@@ -20,3 +20,4 @@ pub mod InsertedPassage
 pub mod InsertedLawful
 pub mod AlonePoints
 pub mod WithoutCounts
+pub mod PointCycles
