@@ -1,8 +1,8 @@
 -- Darts that are alone round their points: a vertex with one edge.
-use Rattle.std.proofs.Common.{◌≡◌, ◌<◌, ◌≤◌, ◌||◌, ap, arith, Bool, cond, false, inl, inr, length, List, refl, subst, sym, true, ℕ, [], ◌++◌, ◌∙◌, ◌∷◌}
+use Rattle.std.proofs.Common.{◌≡◌, ◌<◌, ◌||◌, ap, arith, Bool, cond, false, inl, inr, length, List, refl, subst, sym, true, ℕ, [], ◌∙◌, ◌∷◌}
 use Rattle.std.specs.Prelude.{map, slice_index_or, Some, ◌==◌, ◌⊎◌}
 use Rattle.std.proofs.lemmas.List.Sums.{sum_by-cons}
-use Rattle.std.proofs.lemmas.Bool.{cases_Bool, eq-eqb, eqb-true, false≢true, or_cases, or_left, or_right}
+use Rattle.std.proofs.lemmas.Bool.{cases_Bool, eq-eqb, eqb-true, false≢true, or_left, or_right}
 use Rattle.topo_core.specs.declared.darts.Dart.{Dart}
 use Rattle.topo_core.specs.declared.rows.EdgeRow.{EdgeRow}
 use Rattle.topo_core.specs.declared.rows.Rows.{Rows}

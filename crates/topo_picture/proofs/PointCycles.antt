@@ -1,8 +1,8 @@
 -- The points of a picture without bare points are the cycles of its turn.
-use Rattle.std.proofs.Common.{◌≡◌, ◌≢◌, ◌+◌, ◌<◌, ap, arith, Bool, cond, eqb, false, inl, inr, length, List, not, refl, subst, suc, sym, true, zero, ℕ, [], ◌∙◌, ◌∷◌}
+use Rattle.std.proofs.Common.{◌≡◌, ◌+◌, ◌<◌, ap, arith, Bool, cond, false, inl, inr, length, List, refl, suc, sym, true, zero, ℕ, [], ◌∙◌, ◌∷◌}
 use Rattle.std.specs.Prelude.{map, slice_get, slice_index_or, Some, ◌==◌, ◌||◌}
-use Rattle.std.specs.List.{list_any, position_or_len, range_with_len}
-use Rattle.std.proofs.lemmas.Bool.{cases_Bool, cases_eq, eq-eqb, eqb-true, false≢true, or_left}
+use Rattle.std.specs.List.{list_any, range_with_len}
+use Rattle.std.proofs.lemmas.Bool.{cases_Bool, eq-eqb, eqb-true, false≢true}
 use Rattle.std.proofs.lemmas.List.{length-append, length-map}
 use Rattle.topo_core.specs.declared.darts.Dart.{Dart}
 use Rattle.topo_core.specs.declared.rows.Rows.{Rows}
@@ -16,13 +16,13 @@ use Rattle.topo_core.proofs.Counting.{eqb_less}
 use Rattle.topo_core.proofs.DartLaws.{same_dart_self, same_dart_true}
 use Rattle.topo_core.proofs.Members.{or_second}
 use Rattle.topo_core.proofs.NewDarts.{has_dart-append, or_left_false, or_right_false, stands_in, turn_at}
-use Rattle.topo_core.proofs.Numbering.{distinct_system, get_place, has_at, index_apart, place_in, turn_permutes, turn_stays}
-use Rattle.topo_core.proofs.Orbits.{is_met-SameCycle, SameCycle-is_met, SameCycle-refl}
+use Rattle.topo_core.proofs.Numbering.{distinct_system, get_place, has_at, index_apart, place_in, turn_permutes}
+use Rattle.topo_core.proofs.Orbits.{is_met-SameCycle, SameCycle-is_met}
 use Rattle.topo_core.proofs.Points.{at_point_in, turn_at_point}
-use Rattle.topo_core.proofs.Renumbering.{after_carried, Carries, turn_carried}
+use Rattle.topo_core.proofs.Renumbering.{after_carried, turn_carried}
 use Rattle.topo_core.proofs.RoundPoints.{point_distinct}
 use Rattle.topo_core.proofs.Standing.{system_test}
-use Rattle.topo_core.proofs.Turning.{distinct_right, distinct_tail, head_not_later, IsDistinct, next_around, not_in_both, turn_in}
+use Rattle.topo_core.proofs.Turning.{distinct_right, distinct_tail, head_not_later, IsDistinct, not_in_both, turn_in}
 use Rattle.topo_perm.proofs.Classes.{IsEquivalence, is_first-from}
 use Rattle.topo_perm.proofs.Exchange.{is_met-equivalence}
 use Rattle.topo_perm.proofs.Points.{class_count-carries}

@@ -1,22 +1,22 @@
 -- How many vertices, edges and crossings a picture has without an edge, and which vertices are bare then.
-use Rattle.std.proofs.Common.{◌≡◌, ◌≢◌, ◌+◌, ◌<◌, ◌≤◌, ◌||◌, ap, arith, Bool, cond, false, inl, inr, length, List, not, refl, subst, suc, sym, true, zero, ℕ, [], ◌++◌, ◌∙◌, ◌∷◌}
-use Rattle.std.specs.Prelude.{count_by, filter, map, slice_index_or, Some, option_map, unwrap_or, ◌==◌, ◌⊎◌}
+use Rattle.std.proofs.Common.{◌≡◌, ◌≢◌, ◌+◌, ◌<◌, ◌≤◌, ◌||◌, ap, arith, Bool, cond, false, inl, inr, length, List, not, refl, suc, sym, true, ℕ, [], ◌++◌, ◌∙◌, ◌∷◌}
+use Rattle.std.specs.Prelude.{count_by, filter, map, slice_index_or, Some, option_map, unwrap_or, ◌==◌}
 use Rattle.std.specs.List.{list_all, list_any}
 use Rattle.std.proofs.lemmas.List.{length-map}
 use Rattle.std.proofs.lemmas.List.Filters.{length-filter_both}
-use Rattle.std.proofs.lemmas.List.Sums.{length-filter, sum_by-cons}
-use Rattle.std.proofs.lemmas.Bool.{cases_Bool, eq-eqb, eqb-true, false≢true, or_from}
+use Rattle.std.proofs.lemmas.List.Sums.{length-filter}
+use Rattle.std.proofs.lemmas.Bool.{cases_Bool, eq-eqb, false≢true, or_from}
 use Rattle.topo_core.specs.declared.rows.CrossRow.{CrossRow}
 use Rattle.topo_core.specs.declared.rows.EdgeRow.{EdgeRow}
 use Rattle.topo_core.specs.declared.rows.Rows.{Rows}
 use Rattle.topo_core.specs.Changes.{from_least, uncrossed_row, without}
-use Rattle.topo_core.specs.Items.{has_id, IsIn, occurrences, rises_below}
+use Rattle.topo_core.specs.Items.{has_id, occurrences, rises_below}
 use Rattle.topo_core.specs.Lawful.{has_good_path, is_good_crossing, IsWellFormed}
 use Rattle.topo_core.specs.Picture.{cross_row, edge_row, rotation}
 use Rattle.topo_core.proofs.Counting.{at_most_one, eqb_more, none_counted_any, one, sum_found, sum_of_map}
 use Rattle.topo_core.proofs.Members.{in_range, left_true}
 use Rattle.topo_core.proofs.RoundPoints.{taken_out}
-use Rattle.topo_core.proofs.ShownPlaces.{in_counted, path_once}
+use Rattle.topo_core.proofs.ShownPlaces.{path_once}
 use Rattle.topo_core.proofs.Standing.{good_rotation}
 use Rattle.topo_core.proofs.SystemDarts.{crossing_there, edge_at_row, row_id, row_in, some_of}
 use Rattle.topo_core.proofs.WithoutRows.{filter_passes, gone, in_has_id, IsRotated, is_left, occurrences-passing, without_rotated, without_rotation, without_vertices}
