@@ -1,19 +1,18 @@
 -- A picture that shows a new edge along a route that meets no face twice is lawful.
-use Rattle.std.proofs.Common.{◌≡◌, ◌≢◌, ℕ, zero, suc, ◌+◌, ◌-◌, ◌*◌, ◌<◌, ◌≤◌, ◌==◌, Bool, true, false, ◌||◌, List, [], ◌∷◌, ◌++◌, length, inl, inr, refl, sym, ◌∙◌, ap, subst, arith}
-use Rattle.std.specs.Prelude.{Some, flat_map, map, slice_index_or, slice_set, sum_by}
-use Rattle.std.specs.List.{AllByRecursion, enumerate_from, list_any}
+use Rattle.std.proofs.Common.{◌≡◌, ◌≢◌, ℕ, zero, suc, ◌+◌, ◌*◌, ◌<◌, ◌≤◌, ◌==◌, Bool, true, false, ◌||◌, List, [], ◌∷◌, length, inl, inr, refl, sym, ◌∙◌, ap, subst, arith}
+use Rattle.std.specs.Prelude.{Some, map, slice_index_or, slice_set, sum_by}
+use Rattle.std.specs.List.{list_any}
 use Rattle.std.proofs.lemmas.Bool.{cases_Bool, ne_eqb}
 use Rattle.std.proofs.lemmas.Grind.{flat_map-append}
 use Rattle.std.proofs.lemmas.List.{get_or-set_other, length-append, length-map}
 use Rattle.std.proofs.lemmas.List.FromFn.{length-enumerate_from}
 use Rattle.topo_core.specs.declared.darts.Dart.{Dart}
-use Rattle.topo_core.specs.declared.rows.EdgeRow.{EdgeRow}
 use Rattle.topo_core.specs.declared.rows.Rows.{Rows}
 use Rattle.topo_core.specs.declared.routes.Route.{Route}
 use Rattle.topo_core.specs.Cycles.{map_of}
 use Rattle.topo_core.specs.Items.{IsIn}
 use Rattle.topo_core.specs.Systems.{Connected, darts_in, has_dart}
-use Rattle.topo_core.specs.Picture.{around_crossing, around_vertex, corner, darts, end_dart, face_count, index_of, rotation, segment_count, system, turn_images, vertices}
+use Rattle.topo_core.specs.Picture.{around_crossing, around_vertex, corner, darts, face_count, index_of, rotation, segment_count, system, turn_images, vertices}
 use Rattle.topo_core.specs.Lawful.{HasGenusZero, IsWellFormed, Lawful}
 use Rattle.topo_core.specs.Changes.{crossed_row, new_crossing, numbered, put_in, shown, with_end}
 use Rattle.topo_core.specs.Routes.{IsSimpleRoute}
@@ -30,9 +29,7 @@ use Rattle.topo_core.proofs.ShownTurns.{shows_turns}
 use Rattle.topo_core.proofs.SimpleRoutes.{simple_is_insertable}
 use Rattle.topo_core.proofs.Turning.{IsDistinct, distinct_left}
 use Rattle.topo_perm.proofs.Links.{Link}
-use Rattle.topo_perm.proofs.Passages.{IsPassage}
 use Rattle.topo_perm.proofs.Passing.{Passed, passed}
-use Rattle.topo_picture.proofs.InsertedNumbers.{number_less}
 use Rattle.topo_picture.proofs.InsertedPassage.{IsPath, is_passage, links_of, name, path_bends, path_links, path_of}
 use Rattle.topo_picture.proofs.Totals.{segments_total}
 use Rattle.topo_picture.proofs.Verdicts.{bare_points}

@@ -1,5 +1,5 @@
 -- A picture that shows a new edge, as numbers: the new edge is a passage through the old system.
-use Rattle.std.proofs.Common.{◌≡◌, ◌≢◌, ℕ, zero, suc, ◌+◌, ◌-◌, ◌%◌, ◌<◌, ◌≤◌, ◌==◌, Bool, true, false, ◌&&◌, cond, List, [], ◌∷◌, length, ◌⊎◌, inl, inr, refl, sym, ◌∙◌, ap, subst, arith}
+use Rattle.std.proofs.Common.{◌≡◌, ◌≢◌, ℕ, suc, ◌+◌, ◌-◌, ◌<◌, ◌≤◌, ◌==◌, Bool, true, false, ◌&&◌, List, [], ◌∷◌, length, ◌⊎◌, inl, inr, refl, sym, ◌∙◌, ap, subst, arith}
 use Rattle.std.specs.Prelude.{Some}
 use Rattle.std.specs.List.{AllByRecursion, enumerate_from}
 use Rattle.std.proofs.lemmas.Bool.{cases_Bool, cases_eq, eq-eqb, false≢true}
@@ -8,24 +8,22 @@ use Rattle.topo_core.specs.declared.darts.Way.{Way}
 use Rattle.topo_core.specs.declared.darts.Way.TheVariants.{Forward, Back}
 use Rattle.topo_core.specs.declared.rows.Rows.{Rows}
 use Rattle.topo_core.specs.declared.routes.Route.{Route}
-use Rattle.topo_core.specs.Cycles.{IsPermutation, SameCycle, map_of}
+use Rattle.topo_core.specs.Cycles.{SameCycle, map_of}
 use Rattle.topo_core.specs.Rotations.{twin, face_next}
 use Rattle.topo_core.specs.Items.{IsIn}
 use Rattle.topo_core.specs.Darts.{dart_twin, reversed}
 use Rattle.topo_core.specs.Systems.{SameFace, has_dart, turn}
-use Rattle.topo_core.specs.Picture.{ahead, behind, corner, darts, index_of, system, turn_images}
+use Rattle.topo_core.specs.Picture.{corner, darts, index_of, system, turn_images}
 use Rattle.topo_core.specs.Lawful.{IsWellFormed}
 use Rattle.topo_core.specs.Changes.{numbered}
 use Rattle.topo_core.specs.Routes.{Crosses, MeetsFacesOnce}
-use Rattle.topo_core.specs.Insertions.{CrossesOnce, FollowsBut, ShowsTurns, backward, lifted, onward, onward_by, same_segment}
+use Rattle.topo_core.specs.Insertions.{CrossesOnce, ShowsTurns, backward, lifted, onward, onward_by, same_segment}
 use Rattle.topo_core.proofs.DartLaws.{twin-twin}
 use Rattle.topo_core.proofs.Numbering.{index_apart, index_twin, turn_permutes, turn_stays, twin_in}
 use Rattle.topo_core.proofs.ShownPlaces.{lifted_edge}
 use Rattle.topo_core.proofs.ShownRows.{number_below, number_from, numbered_in}
 use Rattle.topo_core.proofs.SimpleRoutes.{same_or_twins}
 use Rattle.topo_perm.specs.Edits.{IsApart}
-use Rattle.topo_perm.proofs.Faces.{twin-twin as other-other}
-use Rattle.topo_perm.proofs.Walks.{twin-within}
 use Rattle.topo_perm.proofs.Links.{AreLinks, AreUnlinked, IsLink, IsUnlinked, Link, apart_back, without_links}
 use Rattle.topo_perm.proofs.Bends.{AreBends, AreOnOthers, Bend, IsBend, IsNamed, IsStraight, IsUnbent}
 use Rattle.topo_perm.proofs.Passages.{AreAlong, AreStrange, IsPassage, IsPlaced, MeetsOnce, Walks, all_at, all_of, links_permutation, over_link, over_link_back, past_links}

@@ -20,3 +20,6 @@ pub mod InsertedPassage
 pub mod InsertedLawful
 pub mod DeletedOpening
 pub mod DeletedCuts
+pub mod AlonePoints
+pub mod WithoutCounts
+pub mod PointCycles
