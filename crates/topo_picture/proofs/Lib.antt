@@ -18,3 +18,4 @@ pub mod Written
 pub mod InsertedNumbers
 pub mod InsertedPassage
 pub mod InsertedLawful
+pub mod DeletedTurns
