@@ -19,3 +19,4 @@ pub mod InsertedNumbers
 pub mod InsertedPassage
 pub mod InsertedLawful
 pub mod DeletedTurns
+pub mod DeletedSegments
