@@ -64,6 +64,20 @@ run_places q c d (x ∷ xs) b r =
       ],
     )
 
+-- ---- Parts of segments
+
+-- where the crossing i of edge c of p stands in q
+abbrev pub stands_in : Rows → Rows → ℕ → ℕ → ℕ
+stands_in q p c i = place_on q c (slice_index_or (edge_at p c).crossings i 0)
+
+-- the segment of p that segment k of edge c of q is a part of
+abbrev pub segment_over : Rows → Rows → ℕ → ℕ → ℕ
+segment_over q p c k = count_below (λ i. nat_lt (stands_in q p c i) k) (length (edge_at p c).crossings)
+
+-- the dart of p that a dart of q is a part of, where q has more crossings on its edges
+abbrev pub collapsed : Rows → Rows → Dart → Dart
+collapsed q p d = record { edge = d.edge; seg = segment_over q p d.edge d.seg; way = d.way }
+
 module _ (q : Rows) (e : ℕ) (p : Rows) (hp : IsWellFormed p) (s : HidesTurns q e p) where
   abbrev pub Was : Dart → Type 0
   Was d = has_dart (darts p) d ≡ true
@@ -74,16 +88,8 @@ module _ (q : Rows) (e : ℕ) (p : Rows) (hp : IsWellFormed p) (s : HidesTurns q
   abbrev path : ℕ → List ℕ
   path c = (edge_at p c).crossings
 
-  -- where the crossing i of edge c of p stands in q
-  abbrev pub stands : ℕ → ℕ → ℕ
-  stands c i = place_on q c (slice_index_or (path c) i 0)
-
-  -- the segment of p that segment k of edge c of q is a part of
-  abbrev pub segment_over : ℕ → ℕ → ℕ
-  segment_over c k = count_below (λ i. nat_lt (stands c i) k) (length (path c))
-
-  abbrev pub collapsed : Dart → Dart
-  collapsed d = record { edge = d.edge; seg = segment_over d.edge d.seg; way = d.way }
+  abbrev stands : ℕ → ℕ → ℕ
+  stands = stands_in q p
 
   abbrev begins : ℕ → ℕ → ℕ
   begins c k = first_part (path c) (edge_at q c).crossings k
@@ -125,7 +131,7 @@ module _ (q : Rows) (e : ℕ) (p : Rows) (hp : IsWellFormed p) (s : HidesTurns q
       let last : begins c (suc j) ≡ stands c j + 1 = begins_at c j in
       let low : stands c i ≤ stands c j = stands_ordered c there i j (omega arith) (omega arith) in omega arith
 
-  over : (c k z : ℕ) → is_some (edge_row p c) ≡ true → k ≤ length (path c) → begins c k ≤ z → z ≤ ends c k → segment_over c z ≡ k
+  over : (c k z : ℕ) → is_some (edge_row p c) ≡ true → k ≤ length (path c) → begins c k ≤ z → z ≤ ends c k → segment_over q p c z ≡ k
   over c k z there inside from to = first_pass (λ i. nat_lt (stands c i) z) k (length (path c)) inside
       (λ i less. lt_test (stands c i) z (stands_before c k z there inside from i less))
       (λ i more less.
@@ -134,13 +140,13 @@ module _ (q : Rows) (e : ℕ) (p : Rows) (hp : IsWellFormed p) (s : HidesTurns q
 
   -- ---- Collapsed darts
 
-  pub collapsed_lifted : (d : Dart) → Was d → collapsed (lifted p q d) ≡ d
+  pub collapsed_lifted : (d : Dart) → Was d → collapsed q p (lifted p q d) ≡ d
   collapsed_lifted d was = by_way d.edge d.seg d.way (edge_of_dart p hp d was) (segment_of_dart p hp d was) where
-    by_way : (c k : ℕ) (w : Way) → is_some (edge_row p c) ≡ true → k ≤ length (path c) → collapsed (lifted p q (record { edge = c; seg = k; way = w })) ≡ record { edge = c; seg = k; way = w }
-    by_way c k Forward there inside = ap collapsed (lifted_forward p q c k) ∙ ap (forward c) (over c k (begins c k) there inside (omega arith) (span c k there inside).0)
-    by_way c k Back there inside = ap collapsed (lifted_back p q c k) ∙ ap (back c) (over c k (ends c k) there inside (span c k there inside).0 (omega arith))
+    by_way : (c k : ℕ) (w : Way) → is_some (edge_row p c) ≡ true → k ≤ length (path c) → collapsed q p (lifted p q (record { edge = c; seg = k; way = w })) ≡ record { edge = c; seg = k; way = w }
+    by_way c k Forward there inside = ap (collapsed q p) (lifted_forward p q c k) ∙ ap (forward c) (over c k (begins c k) there inside (omega arith) (span c k there inside).0)
+    by_way c k Back there inside = ap (collapsed q p) (lifted_back p q c k) ∙ ap (back c) (over c k (ends c k) there inside (span c k there inside).0 (omega arith))
 
-  collapsed_at : (c k i : ℕ) (w : Way) → is_some (edge_row p c) ≡ true → k ≤ length (path c) → IsIn i (crossings_between q e c k) → collapsed (onward_by q i c w) ≡ record { edge = c; seg = k; way = w }
+  collapsed_at : (c k i : ℕ) (w : Way) → is_some (edge_row p c) ≡ true → k ≤ length (path c) → IsIn i (crossings_between q e c k) → collapsed q p (onward_by q i c w) ≡ record { edge = c; seg = k; way = w }
   collapsed_at c k i Forward there inside between =
       let (from, to) : (begins c k ≤ place_on q c i) × (place_on q c i + 1 ≤ ends c k) = (span c k there inside).1 i between in
       ap (forward c) (over c k (place_on q c i + 1) there inside (omega arith) to)
@@ -148,10 +154,14 @@ module _ (q : Rows) (e : ℕ) (p : Rows) (hp : IsWellFormed p) (s : HidesTurns q
       let (from, to) : (begins c k ≤ place_on q c i) × (place_on q c i + 1 ≤ ends c k) = (span c k there inside).1 i between in
       ap (back c) (over c k (place_on q c i) there inside from (omega arith))
 
+  -- a dart at a crossing gone from the segment of d
+  pub collapsed_onward : (d : Dart) (i : ℕ) → Was d → IsIn i (crossings_between q e d.edge d.seg) → collapsed q p (onward_by q i d.edge d.way) ≡ d
+  collapsed_onward d i was between = collapsed_at d.edge d.seg i d.way (edge_of_dart p hp d was) (segment_of_dart p hp d was) between
+
   -- the dart y of q is a part of the dart d of p: its first one, or one that starts at a crossing of e
   pub record IsPart (y d : Dart) : Type 0 where
     pub was : Was d
-    pub at : collapsed y ≡ d
+    pub at : collapsed q p y ≡ d
     pub on : (y ≡ lifted p q d) ⊎ ((x : CrossRow) × IsCrossingOf q e d.edge x × IsIn x.id (crossings_between q e d.edge d.seg) × (y ≡ onward_by q x.id d.edge d.way))
 
   part_at : (c : ℕ) (x : CrossRow) (w : Way) (y : Dart) → IsCrossingOf q e c x → y ≡ onward_by q x.id c w → (d : Dart) × IsPart y d
@@ -162,7 +172,7 @@ module _ (q : Rows) (e : ℕ) (p : Rows) (hp : IsWellFormed p) (s : HidesTurns q
         record { edge = c; seg = k; way = w },
         record {
           was = dart_of_segment p hp c k w there inside;
-          at = ap collapsed at ∙ collapsed_at c k x.id w there inside between;
+          at = ap (collapsed q p) at ∙ collapsed_at c k x.id w there inside between;
           on = inr (x, is, between, at);
         },
       )
@@ -172,7 +182,7 @@ module _ (q : Rows) (e : ℕ) (p : Rows) (hp : IsWellFormed p) (s : HidesTurns q
   part_of y here other = elim (s.no_others y here) [
     | inl on_e ↦ absurd (other on_e.0)
     | inr w ↦ elim w [
-      | inl v ↦ (v.0, record { was = v.1; at = ap collapsed v.2 ∙ collapsed_lifted v.0 v.1; on = inl v.2 })
+      | inl v ↦ (v.0, record { was = v.1; at = ap (collapsed q p) v.2 ∙ collapsed_lifted v.0 v.1; on = inl v.2 })
       | inr v ↦ elim v.3 [
         | inl at ↦ part_at v.0 v.1 Forward y v.2 at
         | inr at ↦ part_at v.0 v.1 Back y v.2 at

@@ -20,3 +20,4 @@ pub mod InsertedPassage
 pub mod InsertedLawful
 pub mod DeletedTurns
 pub mod DeletedSegments
+pub mod DeletedCollapse
