@@ -1,6 +1,6 @@
 -- A picture whose edge is opened from end to end, as numbers: the picture without the edge, drawn with points of degree two on its segments.
-use Rattle.std.proofs.Common.{◌≡◌, ◌≢◌, ℕ, zero, suc, ◌+◌, ◌<◌, ◌≤◌, true, false, List, [], ◌∷◌, length, ◌⊎◌, inl, inr, refl, sym, ◌∙◌, ap, subst, arith}
-use Rattle.std.specs.Prelude.{Some, is_some}
+use Rattle.std.proofs.Common.{◌≡◌, ◌≢◌, ℕ, ◌+◌, ◌<◌, ◌≤◌, true, List, [], ◌∷◌, length, ◌⊎◌, inl, inr, refl, sym, ◌∙◌, ap, subst, arith}
+use Rattle.std.specs.Prelude.{is_some}
 use Rattle.topo_core.specs.declared.darts.Dart.{Dart}
 use Rattle.topo_core.specs.declared.darts.Way.{Way}
 use Rattle.topo_core.specs.declared.darts.Way.TheVariants.{Forward, Back}
@@ -16,7 +16,7 @@ use Rattle.topo_core.specs.Insertions.{lifted, onward_by}
 use Rattle.topo_core.specs.Items.{IsIn}
 use Rattle.topo_core.specs.Lawful.{IsWellFormed}
 use Rattle.topo_core.specs.Openings.{Opens, opened_turn}
-use Rattle.topo_core.specs.Picture.{ahead, behind, darts, edge_at, edge_row, index_of, segment_count, system, turn_images}
+use Rattle.topo_core.specs.Picture.{ahead, behind, darts, edge_at, edge_row, index_of, system, turn_images}
 use Rattle.topo_core.specs.Pictures.{back, forward}
 use Rattle.topo_core.specs.Systems.{has_dart, turn}
 use Rattle.topo_core.proofs.DartLaws.{twin-twin}
@@ -153,7 +153,7 @@ module _ (q : Rows) (e : ℕ) (p : Rows) (hq : IsWellFormed q) (hp : IsWellForme
   straight_turn : (d : Dart) → Is d → d.edge ≢ e → (turn (system q) d).edge ≢ e → t (num d) ≡ num (turn (system q) d)
   straight_turn d h ne next =
       straight (opened_turn q e) (length (darts q)) half count steps (num d) (below d h)
-          (λ j lj. (off d h ne j lj, subst (λ (v : ℕ). (v ≢ half j) × (v ≢ twin (half j))) (sym (at_first d h)) (off (turn (system q) d) (turn_in d h) next j lj)))
+      (λ j lj. (off d h ne j lj, subst (λ (v : ℕ). (v ≢ half j) × (v ≢ twin (half j))) (sym (at_first d h)) (off (turn (system q) d) (turn_in d h) next j lj)))
       ∙ at_first d h
 
   over_segment : (k : ℕ) (way : Way) → k < count → (d z : Dart) → Is d → d.edge ≢ e → Is z → z.edge ≢ e

@@ -1,7 +1,7 @@
 -- A picture without an edge: the segments on which the darts of the whole picture lie.
-use Rattle.std.proofs.Common.{◌≡◌, ◌≢◌, ℕ, zero, suc, ◌+◌, ◌-◌, ◌<◌, ◌≤◌, ◌==◌, Bool, true, false, cond, List, [], ◌∷◌, length, ◌⊎◌, inl, inr, refl, sym, ◌∙◌, ap, subst, arith}
+use Rattle.std.proofs.Common.{◌≡◌, ◌≢◌, ℕ, zero, suc, ◌+◌, ◌-◌, ◌<◌, ◌≤◌, Bool, true, false, cond, List, [], ◌∷◌, length, ◌⊎◌, inl, inr, refl, sym, ◌∙◌, ap, subst, arith}
 use Rattle.std.specs.Prelude.{is_some, nat_lt, slice_index_or}
-use Rattle.std.proofs.lemmas.Bool.{cases_eq, eq-eqb}
+use Rattle.std.proofs.lemmas.Bool.{cases_eq}
 use Rattle.std.proofs.lemmas.Bool.Decides.{nat_tests}
 use Rattle.topo_core.specs.declared.darts.Dart.{Dart}
 use Rattle.topo_core.specs.declared.darts.Way.{Way}
@@ -9,12 +9,11 @@ use Rattle.topo_core.specs.declared.darts.Way.TheVariants.{Forward, Back}
 use Rattle.topo_core.specs.declared.rows.CrossRow.{CrossRow}
 use Rattle.topo_core.specs.declared.rows.Rows.{Rows}
 use Rattle.topo_core.specs.Cycles.{count_below}
-use Rattle.topo_core.specs.Darts.{dart_twin}
 use Rattle.topo_core.specs.Deletions.{HidesTurns, IsCrossingOf, RunsOver, crossings_between}
 use Rattle.topo_core.specs.Insertions.{lifted, onward_by}
 use Rattle.topo_core.specs.Items.{IsIn}
 use Rattle.topo_core.specs.Lawful.{IsWellFormed}
-use Rattle.topo_core.specs.Picture.{ahead, behind, darts, edge_at, edge_row, place_on}
+use Rattle.topo_core.specs.Picture.{ahead, darts, edge_at, edge_row, place_on}
 use Rattle.topo_core.specs.Pictures.{back, forward}
 use Rattle.topo_core.specs.Systems.{has_dart}
 use Rattle.topo_core.proofs.Counting.{eqb_less, eqb_more, lt_test}
@@ -135,8 +134,8 @@ module _ (q : Rows) (e : ℕ) (p : Rows) (hp : IsWellFormed p) (s : HidesTurns q
   over c k z there inside from to = first_pass (λ i. nat_lt (stands c i) z) k (length (path c)) inside
       (λ i less. lt_test (stands c i) z (stands_before c k z there inside from i less))
       (λ i more less.
-          let at : ends c k ≡ stands c k = ends_at c k (omega arith) in
-          let high : stands c k ≤ stands c i = stands_ordered c there k i more less in not_less (stands c i) z (omega arith))
+      let at : ends c k ≡ stands c k = ends_at c k (omega arith) in
+      let high : stands c k ≤ stands c i = stands_ordered c there k i more less in not_less (stands c i) z (omega arith))
 
   -- ---- Collapsed darts
 
