@@ -23,3 +23,6 @@ pub mod DeletedCuts
 pub mod AlonePoints
 pub mod WithoutCounts
 pub mod PointCycles
+pub mod DeletedTurns
+pub mod DeletedSegments
+pub mod DeletedCollapse
