@@ -13,10 +13,11 @@ use std::alloc::{AllocError, Global};
 use std::io::{Read, Write};
 use topo_core::calls::Command;
 use topo_core::limits::Limits;
+use topo_forms::Script;
+use topo_forms::script_forms::MAX_SCRIPT_BYTES;
 use topo_picture::Picture;
 use topo_price::table::{PriceFault, PriceTable};
-use topo_script::script_forms::MAX_SCRIPT_BYTES;
-use topo_script::{Script, picture_text};
+use topo_script::picture_text;
 
 /// Reads a script, carries out its commands on its start under its limits, and writes the text of
 /// the picture and a line feed. A refused command changes nothing, and the run goes on. So far a
