@@ -26,3 +26,4 @@ pub mod PointCycles
 pub mod DeletedTurns
 pub mod DeletedSegments
 pub mod DeletedCollapse
+pub mod DeletedLawful
