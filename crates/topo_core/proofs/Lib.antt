@@ -5,6 +5,7 @@ pub mod Counting
 pub mod DartLaws
 pub mod DartOrder
 pub mod Growing
+pub mod GonePaths
 pub mod GrownFaces
 pub mod Lengthening
 pub mod Members
@@ -24,4 +25,7 @@ pub mod Standing
 pub mod SystemDarts
 pub mod Turning
 pub mod Weaving
+pub mod WithoutForm
+pub mod WithoutPlaces
+pub mod WithoutRows
 pub mod WovenPaths

@@ -1,6 +1,7 @@
 pub mod Changes
 pub mod Cycles
 pub mod Darts
+pub mod Deletions
 pub mod Edits
 pub mod Evidence
 pub mod History

@@ -1,5 +1,6 @@
 //! Laws of the definitions. The functions do nothing: their contracts are the laws.
 
+ghost use Rattle.topo_core.specs.Deletions.{DeletionKeepsForm};
 ghost use Rattle.topo_core.specs.Insertions.{InsertionKeepsForm, InsertionShowsTurns, SimpleRoutesAreInsertable};
 ghost use Rattle.topo_core.specs.Laws.{DartsAreNumbered, DartsStandOnce, GrowthKeepsEmbedding, GrowthKeepsFaces, GrowthKeepsGenus, NumbersKeepConnection, NumbersKeepFaces, TurnIsAPermutation};
 
@@ -53,6 +54,11 @@ pub fn insertion_keeps_form()
 /// and each new crossing has the crossed edge and the new one in turn.
 pub fn insertion_shows_turns()
     ensures { InsertionShowsTurns }
+{}
+
+/// The picture without an edge is well formed.
+pub fn deletion_keeps_form()
+    ensures { DeletionKeepsForm }
 {}
 
 /// An edge can be shown along a route that meets no face twice: such a route crosses no segment twice.
