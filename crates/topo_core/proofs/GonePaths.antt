@@ -3,7 +3,7 @@ use Rattle.std.proofs.Common.{◌≡◌, ℕ, zero, suc, ◌+◌, ◌-◌, ◌<�
 use Rattle.std.specs.Prelude.{◌==◌, ◌⊎◌, filter, nat_lt}
 use Rattle.std.proofs.lemmas.List.{length-append}
 use Rattle.std.proofs.lemmas.List.Sums.{sum_by-cons}
-use Rattle.std.proofs.lemmas.Bool.{cases_Bool, eq-eqb, eqb-true, false≢true}
+use Rattle.std.proofs.lemmas.Bool.{cases_Bool, eq-eqb}
 use Rattle.topo_core.specs.declared.rows.Rows.{Rows}
 use Rattle.topo_core.specs.Deletions.{gone_on, RunsOver}
 use Rattle.topo_core.specs.Items.{has_id, IsIn, occurrences}
@@ -315,5 +315,5 @@ runs_over q c front (x ∷ xs) behind_it parts once =
     let rest = runs_over q c (front ++ x ∷ []) xs behind_it (parts ∙ sym (append_assoc front (x ∷ []) (xs ++ behind_it))) once in (
       ap (back c) (sym place),
       subst (λ k. RunsOver q c (forward c (place_of whole x + 1)) xs (back c k)) total
-        (subst (λ k. RunsOver q c (forward c k) xs (back c (length (front ++ x ∷ []) + length xs))) next rest),
+          (subst (λ k. RunsOver q c (forward c k) xs (back c (length (front ++ x ∷ []) + length xs))) next rest),
     )

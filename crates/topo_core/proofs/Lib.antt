@@ -14,6 +14,7 @@ pub mod Numbering
 pub mod Orbits
 pub mod Points
 pub mod Renumbering
+pub mod RoundPoints
 pub mod RouteDarts
 pub mod ShownForm
 pub mod ShownPlaces
@@ -28,4 +29,5 @@ pub mod Weaving
 pub mod WithoutForm
 pub mod WithoutPlaces
 pub mod WithoutRows
+pub mod WithoutTurns
 pub mod WovenPaths

@@ -1,5 +1,5 @@
 -- Where the darts of a picture without an edge stood on their edges before.
-use Rattle.std.proofs.Common.{◌≡◌, ◌≢◌, ℕ, zero, suc, ◌+◌, ◌<◌, ◌≤◌, Bool, true, false, cond, not, ◌||◌, List, [], ◌∷◌, ◌++◌, length, get_or, refl, sym, ap, subst, ◌∙◌, arith, inl, inr}
+use Rattle.std.proofs.Common.{◌≡◌, ◌≢◌, ℕ, zero, suc, ◌+◌, ◌<◌, ◌≤◌, Bool, true, false, cond, not, ◌||◌, List, [], ◌∷◌, length, get_or, refl, sym, ap, subst, ◌∙◌, arith, inl, inr}
 use Rattle.std.specs.Prelude.{◌==◌, ◌⊎◌, Some, is_some, nat_lt, slice_get}
 use Rattle.std.proofs.lemmas.Bool.{cases_Bool, eq-eqb, eqb-true, false≢true, or_cases, or_left, or_right}
 use Rattle.topo_core.specs.declared.darts.Dart.{Dart}
@@ -17,7 +17,7 @@ use Rattle.topo_core.specs.Lawful.{IsWellFormed}
 use Rattle.topo_core.specs.Picture.{ahead, behind, cross_row, darts, edge_at, edge_row, end_dart, place_on, segment_count}
 use Rattle.topo_core.specs.Pictures.{back, forward}
 use Rattle.topo_core.specs.Systems.{has_dart}
-use Rattle.topo_core.proofs.Counting.{eqb_symm, le_of_test, lt_of_test, one}
+use Rattle.topo_core.proofs.Counting.{le_of_test, lt_of_test, one}
 use Rattle.topo_core.proofs.GonePaths.{first_inside, first_not_gone, firsts_apart, gone_from, gone_once, gone_parts, gone_segment, item_in, item_place, last_inside, last_not_gone, lasts_apart, left_of, places_apart, runs_over}
 use Rattle.topo_core.proofs.Members.{found}
 use Rattle.topo_core.proofs.ShownPlaces.{at_its_place, lifted_ahead, lifted_back, lifted_behind, lifted_edge, lifted_forward, on_path_of, path_once}
@@ -26,7 +26,7 @@ use Rattle.topo_core.proofs.SystemDarts.{crossing_there, edge_at_row, eqb_self, 
 use Rattle.topo_core.proofs.Weaving.{in_filter}
 use Rattle.topo_core.proofs.WithoutForm.{without_well_formed}
 use Rattle.topo_core.proofs.WithoutRows.{filter_in, filter_passes, gone, has_id_in, in_has_id, is_uncrossed, without_edge, without_edge_there, without_known}
-use Rattle.topo_core.proofs.WovenPaths.{counted_in, first_part, first_part_is, last_part, last_part_is, place_of}
+use Rattle.topo_core.proofs.WovenPaths.{counted_in, first_part, first_part_is, last_part, last_part_is}
 
 -- ---- Darts of good rows
 
@@ -170,14 +170,17 @@ module _ (rows : Rows) (e : ℕ) (good : IsWellFormed rows) (known : is_some (ed
       let pick = crossing_on rows good c n there h in
       let x = pick.0 in
       let of_c = is_one_of rows good c x there pick.1 (subst (λ m. IsIn m (edge_at rows c).crossings) (sym pick.2) h) in
-      let of_e = is_one_of rows good e x known pick.1 (subst (λ m. IsIn m (gone rows e)) (sym pick.2) (in_has_id n (gone rows e) is_gone)) in
-      (x, pick.2, record {
-        there = pick.1;
-        edges = elim of_c [
-          | inl c_crossed ↦ elim of_e [ inl e_crossed ↦ absurd (apart (c_crossed ∙ sym e_crossed)) | inr e_new ↦ inr (sym c_crossed, sym e_new) ]
-          | inr c_new ↦ elim of_e [ inl e_crossed ↦ inl (sym e_crossed, sym c_new) | inr e_new ↦ absurd (apart (c_new ∙ sym e_new)) ]
-        ];
-      })
+      let of_e = is_one_of rows good e x known pick.1 (subst (λ m. IsIn m (gone rows e)) (sym pick.2) (in_has_id n (gone rows e) is_gone)) in (
+        x,
+        pick.2,
+        record {
+          there = pick.1;
+          edges = elim of_c [
+            | inl c_crossed ↦ elim of_e [ inl e_crossed ↦ absurd (apart (c_crossed ∙ sym e_crossed)) | inr e_new ↦ inr (sym c_crossed, sym e_new) ]
+            | inr c_new ↦ elim of_e [ inl e_crossed ↦ inl (sym e_crossed, sym c_new) | inr e_new ↦ absurd (apart (c_new ∙ sym e_new)) ]
+          ];
+        },
+      )
 
   -- what is known of the other edge at a crossing
   pub record OtherEdge (c n : ℕ) : Type 0 where
@@ -360,11 +363,11 @@ module _ (rows : Rows) (e : ℕ) (good : IsWellFormed rows) (known : is_some (ed
   pub gone_apart : (c : ℕ) (x : CrossRow) (d : Dart) → IsCrossingOf rows e c x → has_dart (darts after) d ≡ true → (lift d ≢ ahead rows c x.id) × (lift d ≢ behind rows c x.id)
   gone_apart c x d is h = (
     λ same. (
-    let edges : c ≡ d.edge = sym (ap (λ (y : Dart). y.edge) same) ∙ lifted_edge after rows d in
-    (not_at d x (subst (λ f. IsCrossingOf rows e f x) edges is) h).0 (same ∙ ap (λ f. ahead rows f x.id) edges)),
+        let edges : c ≡ d.edge = sym (ap (λ (y : Dart). y.edge) same) ∙ lifted_edge after rows d in
+        (not_at d x (subst (λ f. IsCrossingOf rows e f x) edges is) h).0 (same ∙ ap (λ f. ahead rows f x.id) edges)),
     λ same. (
-    let edges : c ≡ d.edge = sym (ap (λ (y : Dart). y.edge) same) ∙ lifted_edge after rows d in
-    (not_at d x (subst (λ f. IsCrossingOf rows e f x) edges is) h).1 (same ∙ ap (λ f. behind rows f x.id) edges)),
+        let edges : c ≡ d.edge = sym (ap (λ (y : Dart). y.edge) same) ∙ lifted_edge after rows d in
+        (not_at d x (subst (λ f. IsCrossingOf rows e f x) edges is) h).1 (same ∙ ap (λ f. behind rows f x.id) edges)),
   )
 
   -- ---- The darts of the edge

@@ -1,7 +1,6 @@
 -- The rows of a picture without an edge: each edge, each crossing and each rotation by those before.
-use Rattle.std.proofs.Common.{◌≡◌, ◌≢◌, ℕ, zero, suc, ◌+◌, ◌<◌, ◌≤◌, Bool, true, false, cond, not, ◌||◌, List, [], ◌∷◌, ◌++◌, length, take, drop, get_or, refl, sym, ap, subst, ◌∙◌, arith, inl, inr}
-use Rattle.std.specs.Prelude.{◌⊎◌, ◌==◌, Option, Some, None, count_by, filter, find, fold, is_some, map, min, nat_lt, option_map}
-use Rattle.std.specs.List.{list_all}
+use Rattle.std.proofs.Common.{◌≡◌, ◌≢◌, ℕ, ◌+◌, ◌<◌, ◌≤◌, Bool, true, false, cond, not, ◌||◌, List, [], ◌∷◌, ◌++◌, length, take, drop, get_or, refl, sym, ap, subst, ◌∙◌, arith, inl, inr}
+use Rattle.std.specs.Prelude.{◌⊎◌, ◌==◌, Option, Some, None, filter, find, fold, is_some, map, min, nat_lt, option_map}
 use Rattle.std.proofs.Math.ListN.{get_or-map}
 use Rattle.std.proofs.Math.Seq.{drop-cons}
 use Rattle.std.proofs.lemmas.List.{length-map, take-append-drop}
@@ -12,15 +11,14 @@ use Rattle.topo_core.specs.declared.rows.EdgeRow.{EdgeRow}
 use Rattle.topo_core.specs.declared.rows.CrossRow.{CrossRow}
 use Rattle.topo_core.specs.Items.{has_id, IsIn, occurrences, rises_below}
 use Rattle.topo_core.specs.Picture.{cross_row, edge_at, edge_row, rotation}
-use Rattle.topo_core.specs.Lawful.{has_good_path, IsWellFormed}
-use Rattle.topo_core.specs.Changes.{from_least, listed_from, uncrossed_row, without}
+use Rattle.topo_core.specs.Lawful.{IsWellFormed}
+use Rattle.topo_core.specs.Changes.{from_least, uncrossed_row, without}
 use Rattle.topo_core.proofs.Counting.{ids_above, lt_test, one}
-use Rattle.topo_core.proofs.Growing.{below_limit, in_append, none_found}
-use Rattle.topo_core.proofs.Members.{in_map, left_true, right_true}
+use Rattle.topo_core.proofs.Growing.{below_limit, none_found}
+use Rattle.topo_core.proofs.Members.{in_map, right_true}
 use Rattle.topo_core.proofs.ShownPlaces.{at_its_place, in_counted, on_path_of}
 use Rattle.topo_core.proofs.ShownRows.{find_map, in_images}
-use Rattle.topo_core.proofs.Standing.{good_crossing}
-use Rattle.topo_core.proofs.SystemDarts.{edge_at_row, eqb_self, row_in, some_of}
+use Rattle.topo_core.proofs.SystemDarts.{edge_at_row, some_of}
 use Rattle.topo_core.proofs.Weaving.{in_filter}
 use Rattle.topo_core.proofs.WovenPaths.{counted_in, place_of}
 

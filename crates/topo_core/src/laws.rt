@@ -1,6 +1,6 @@
 //! Laws of the definitions. The functions do nothing: their contracts are the laws.
 
-ghost use Rattle.topo_core.specs.Deletions.{DeletionKeepsForm};
+ghost use Rattle.topo_core.specs.Deletions.{DeletionKeepsForm, DeletionShowsTurns};
 ghost use Rattle.topo_core.specs.Insertions.{InsertionKeepsForm, InsertionShowsTurns, SimpleRoutesAreInsertable};
 ghost use Rattle.topo_core.specs.Laws.{DartsAreNumbered, DartsStandOnce, GrowthKeepsEmbedding, GrowthKeepsFaces, GrowthKeepsGenus, NumbersKeepConnection, NumbersKeepFaces, TurnIsAPermutation};
 
@@ -59,6 +59,12 @@ pub fn insertion_shows_turns()
 /// The picture without an edge is well formed.
 pub fn deletion_keeps_form()
     ensures { DeletionKeepsForm }
+{}
+
+/// A deletion keeps how the darts turn but along the edge: each dart that is left is followed as before, straight or after the edge,
+/// and at each crossing of the edge the segments of the other edge that meet there are one.
+pub fn deletion_shows_turns()
+    ensures { DeletionShowsTurns }
 {}
 
 /// An edge can be shown along a route that meets no face twice: such a route crosses no segment twice.

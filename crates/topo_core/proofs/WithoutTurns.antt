@@ -1,0 +1,398 @@
+-- How the darts of a picture without an edge turned before.
+use Rattle.std.proofs.Common.{◌≡◌, ℕ, ◌+◌, ◌<◌, ◌≤◌, Bool, true, false, cond, not, ◌||◌, List, [], ◌∷◌, ◌++◌, length, refl, sym, ap, subst, ◌∙◌, arith, inl, inr}
+use Rattle.std.specs.Prelude.{◌==◌, ◌⊎◌, filter, is_some, map, slice_index_or}
+use Rattle.std.specs.List.{range_with_len}
+use Rattle.std.proofs.lemmas.List.{map-append}
+use Rattle.std.proofs.lemmas.Simd.{map-map}
+use Rattle.std.proofs.lemmas.Bool.{cases_Bool, eq-eqb, eqb-true, false≢true, or_left, or_right}
+use Rattle.topo_core.specs.declared.darts.Dart.{Dart}
+use Rattle.topo_core.specs.declared.darts.Sign.{Sign}
+use Rattle.topo_core.specs.declared.darts.Sign.TheVariants.{LeftToRight, RightToLeft}
+use Rattle.topo_core.specs.declared.darts.Way.{Way}
+use Rattle.topo_core.specs.declared.rows.CrossRow.{CrossRow}
+use Rattle.topo_core.specs.declared.rows.EdgeRow.{EdgeRow}
+use Rattle.topo_core.specs.declared.rows.Rows.{Rows}
+use Rattle.topo_core.specs.Changes.{without}
+use Rattle.topo_core.specs.Darts.{reversed, same_dart}
+use Rattle.topo_core.specs.Deletions.{HidesTurns, IsCrossingOf, newcomer_rightward, rightward}
+use Rattle.topo_core.specs.Insertions.{FollowsBut, lifted, onward_by}
+use Rattle.topo_core.specs.Items.{IsIn, occurrences}
+use Rattle.topo_core.specs.Lawful.{IsWellFormed}
+use Rattle.topo_core.specs.Picture.{ahead, around_crossing, around_vertex, behind, clockwise, darts, edge_at, edge_row, end_dart, rotation, system, vertices}
+use Rattle.topo_core.specs.Pictures.{back, forward}
+use Rattle.topo_core.specs.Systems.{darts_in, has_dart, turn}
+use Rattle.topo_core.proofs.Counting.{at_most_one, one}
+use Rattle.topo_core.proofs.DartLaws.{same_dart_self, same_dart_true}
+use Rattle.topo_core.proofs.Growing.{in_append, map_same}
+use Rattle.topo_core.proofs.Members.{in_left, in_map, in_range, in_right, range_below}
+use Rattle.topo_core.proofs.Numbering.{distinct_system, not_same}
+use Rattle.topo_core.proofs.Points.{at_point_in, has_image, image_of_dart, next_of_image, point_of, turn_at_point}
+use Rattle.topo_core.proofs.RoundPoints.{distinct_exchanged, has_exchanged, IsTakenOut, next_of_four, next_of_taken, next_rotated, next_without, point_distinct, taken_out}
+use Rattle.topo_core.proofs.RouteDarts.{has_item}
+use Rattle.topo_core.proofs.ShownPlaces.{in_counted, lifted_ahead, lifted_behind, lifted_edge, on_path_of}
+use Rattle.topo_core.proofs.ShownRows.{in_images}
+use Rattle.topo_core.proofs.Standing.{good_crossing, good_rotation, system_test}
+use Rattle.topo_core.proofs.SystemDarts.{edge_at_row, eqb_self, path_facts, row_id, row_in, some_of}
+use Rattle.topo_core.proofs.Turning.{distinct_right, IsDistinct, next_around}
+use Rattle.topo_core.proofs.WithoutPlaces.{ahead_there, aheads_apart, behind_there, behinds_apart, between_of, dart_runs, edge_dart, edge_meets, edge_of_dart, edge_place, gone_apart, left_edge, left_end, lifted_apart, lifted_there, now, on_a_segment, on_one_segment, one_of, other_edge}
+use Rattle.topo_core.proofs.WithoutRows.{filter_passes, IsRotated, without_crossings, without_rotated, without_vertices}
+
+-- ---- Lists of images
+
+image_of_clockwise : (g : Dart → Dart) (sign : Sign) (a b c d : Dart) → clockwise sign (g a) (g b) (g c) (g d) ≡ map g (clockwise sign a b c d)
+image_of_clockwise g LeftToRight a b c d = refl
+image_of_clockwise g RightToLeft a b c d = refl
+
+end_edge : (rows : Rows) (w c : ℕ) → (end_dart rows w c).edge ≡ c
+end_edge rows w c = elim ((edge_at rows c).a == w) as (λ (t : Bool). (cond {A = Dart} t (forward c 0) (back c (length (edge_at rows c).crossings))).edge ≡ c) [ true ↦ refl | false ↦ refl ]
+
+-- ---- In a picture without an edge
+
+module _ (rows : Rows) (e : ℕ) (good : IsWellFormed rows) (known : is_some (edge_row rows e) ≡ true) where
+  abbrev after : Rows
+  after = without rows e
+
+  abbrev is_good : IsWellFormed after
+  is_good = now rows e good known
+
+  abbrev lift : Dart → Dart
+  lift = lifted after rows
+
+  distinct_before : IsDistinct (darts_in (system rows))
+  distinct_before = distinct_system rows good.paths good.crossings good.rotations
+
+  distinct_after : IsDistinct (darts_in (system after))
+  distinct_after = distinct_system after is_good.paths is_good.crossings is_good.rotations
+
+  -- a dart round a point is one of the picture
+  at_point_there : (around : List Dart) → IsIn around (system after) → (d : Dart) → has_dart around d ≡ true → has_dart (darts after) d ≡ true
+  at_point_there around at d h = sym (system_test after is_good.paths is_good.crossings is_good.rotations d) ∙ at_point_in (system after) around d at h
+
+  same_lift : (c d : Dart) → has_dart (darts after) c ≡ true → has_dart (darts after) d ≡ true → same_dart (lift d) (lift c) ≡ same_dart d c
+  same_lift c d h k = elim (cases_Bool (same_dart d c)) [
+    | inl s ↦ ap (λ y. same_dart (lift d) (lift y)) (sym (same_dart_true d c s)) ∙ same_dart_self (lift d) ∙ sym s
+    | inr s ↦ not_same (lift d) (lift c) (λ same. false≢true (sym s ∙ ap (same_dart d) (sym (lifted_apart rows e good known d c k h same)) ∙ same_dart_self d)) ∙ sym s
+  ]
+
+  -- what comes next round a point, lifted
+  next_lifted : (around : List Dart) (d : Dart) → IsIn around (system after) → has_dart around d ≡ true → next_around (map lift around) (lift d) ≡ lift (turn (system after) d)
+  next_lifted around d at h =
+      next_of_image lift d around (λ c k. same_lift c d (at_point_there around at c k) (at_point_there around at d h))
+      ∙ ap lift (sym (turn_at_point (system after) distinct_after around d at h))
+
+  turn_before : (around : List Dart) (d : Dart) → IsIn around (system rows) → has_dart around d ≡ true → turn (system rows) d ≡ next_around around d
+  turn_before = turn_at_point (system rows) distinct_before
+
+  -- ---- Round the crossings that are left
+
+  around_left : (x : CrossRow) → IsIn x after.crossings → around_crossing rows x ≡ map lift (around_crossing after x)
+  around_left x h =
+      let facts = good_crossing after is_good.crossings x h in
+      let on_crossed = on_path_of after is_good x h x.crossed facts.crossed (or_left (x.crossed == x.crossed) (x.crossed == x.newcomer) (eqb_self x.crossed)) in
+      let on_newcomer = on_path_of after is_good x h x.newcomer facts.newcomer (or_right (x.newcomer == x.crossed) (x.newcomer == x.newcomer) (eqb_self x.newcomer)) in
+      ap (λ d. clockwise x.sign d (behind rows x.crossed x.id) (ahead rows x.newcomer x.id) (behind rows x.newcomer x.id)) (lifted_ahead after rows x.crossed x.id on_crossed)
+      ∙ ap (λ d. clockwise x.sign (lift (ahead after x.crossed x.id)) d (ahead rows x.newcomer x.id) (behind rows x.newcomer x.id)) (lifted_behind after rows x.crossed x.id on_crossed)
+      ∙ ap (λ d. clockwise x.sign (lift (ahead after x.crossed x.id)) (lift (behind after x.crossed x.id)) d (behind rows x.newcomer x.id)) (lifted_ahead after rows x.newcomer x.id on_newcomer)
+      ∙ ap (λ d. clockwise x.sign (lift (ahead after x.crossed x.id)) (lift (behind after x.crossed x.id)) (lift (ahead after x.newcomer x.id)) d) (lifted_behind after rows x.newcomer x.id on_newcomer)
+      ∙ image_of_clockwise lift x.sign (ahead after x.crossed x.id) (behind after x.crossed x.id) (ahead after x.newcomer x.id) (behind after x.newcomer x.id)
+
+  crossing_point : (x : CrossRow) → IsIn x rows.crossings → IsIn (around_crossing rows x) (system rows)
+  crossing_point x h = in_right (around_crossing rows x) (map (around_vertex rows) (vertices rows)) (map (around_crossing rows) rows.crossings) (in_map (around_crossing rows) x rows.crossings h)
+
+  turns_at_left : (x : CrossRow) (d : Dart) → IsIn x after.crossings → has_dart (around_crossing after x) d ≡ true → turn (system rows) (lift d) ≡ lift (turn (system after) d)
+  turns_at_left x d h k =
+      let same = around_left x h in
+      let at = in_right (around_crossing after x) (map (around_vertex after) (vertices after)) (map (around_crossing after) after.crossings) (in_map (around_crossing after) x after.crossings h) in
+      turn_before (around_crossing rows x) (lift d) (crossing_point x (without_crossings rows e x h).0) (ap (λ ds. has_dart ds (lift d)) same ∙ has_image lift (around_crossing after x) d k)
+      ∙ ap (λ ds. next_around ds (lift d)) same
+      ∙ next_lifted (around_crossing after x) d at k
+
+  -- ---- Round the vertices
+
+  module _ (w : ℕ) (inside : w < length rows.rotations) where
+    w_in : IsIn w (vertices rows)
+    w_in = in_range 0 (length rows.rotations) w (omega arith) (omega arith)
+
+    w_left : IsIn w (vertices after)
+    w_left = subst (λ n. IsIn w (range_with_len 0 n)) (sym (without_vertices rows e)) w_in
+
+    point_before : IsIn (around_vertex rows w) (system rows)
+    point_before = in_left (around_vertex rows w) (map (around_vertex rows) (vertices rows)) (map (around_crossing rows) rows.crossings) (in_map (around_vertex rows) w (vertices rows) w_in)
+
+    point_after : IsIn (around_vertex after w) (system after)
+    point_after = in_left (around_vertex after w) (map (around_vertex after) (vertices after)) (map (around_crossing after) after.crossings) (in_map (around_vertex after) w (vertices after) w_left)
+
+    -- the darts of the edges that are left, as they stood before
+    abbrev kept : List Dart
+    kept = map (end_dart rows w) (filter (λ f. not (f == e)) (rotation rows w))
+
+    entry_left : (f : ℕ) → IsIn f (rotation after w) → is_some (edge_row after f) ≡ true
+    entry_left = (good_rotation after is_good.rotations w w_left).known
+
+    ends_lifted : map lift (around_vertex after w) ≡ map (end_dart rows w) (rotation after w)
+    ends_lifted =
+        map-map lift (end_dart after w) (rotation after w)
+        ∙ map_same (λ f. lift (end_dart after w f)) (end_dart rows w) (rotation after w) (λ f h. sym (left_end rows e good known w f (entry_left f h)))
+
+    once : occurrences e (rotation rows w) ≤ 1
+    once =
+        let row = some_of (edge_row rows e) known in
+        subst (λ n. occurrences n (rotation rows w) ≤ 1) (row_id rows e row.0 row.1)
+        (at_most_one _ _ ((good_rotation rows good.rotations w w_in).counted row.0 (row_in rows e row.0 row.1)))
+
+    -- the picture's list is the one before without the edge, from another place on
+    abbrev turned : IsRotated (filter (λ f. not (f == e)) (rotation rows w)) (rotation after w)
+    turned = without_rotated rows e w
+
+    kept_is : kept ≡ map (end_dart rows w) turned.front ++ map (end_dart rows w) turned.back
+    kept_is = ap (map (end_dart rows w)) turned.was ∙ map-append (end_dart rows w) turned.front turned.back
+
+    lifted_is : map lift (around_vertex after w) ≡ map (end_dart rows w) turned.back ++ map (end_dart rows w) turned.front
+    lifted_is = ends_lifted ∙ ap (map (end_dart rows w)) turned.now ∙ map-append (end_dart rows w) turned.back turned.front
+
+    kept_has : (d : Dart) → has_dart (around_vertex after w) d ≡ true → has_dart kept (lift d) ≡ true
+    kept_has d h =
+        ap (λ ds. has_dart ds (lift d)) kept_is
+        ∙ has_exchanged (map (end_dart rows w) turned.front) (map (end_dart rows w) turned.back) (lift d)
+        ∙ ap (λ ds. has_dart ds (lift d)) (sym lifted_is)
+        ∙ has_image lift (around_vertex after w) d h
+
+    next_kept : IsDistinct kept → (d : Dart) → has_dart (around_vertex after w) d ≡ true → next_around kept (lift d) ≡ lift (turn (system after) d)
+    next_kept distinct d h =
+        ap (λ ds. next_around ds (lift d)) kept_is
+        ∙ next_rotated (map (end_dart rows w) turned.front) (map (end_dart rows w) turned.back) (lift d) (subst IsDistinct kept_is distinct) (ap (λ ds. has_dart ds (lift d)) (sym kept_is) ∙ kept_has d h)
+        ∙ ap (λ ds. next_around ds (lift d)) (sym lifted_is)
+        ∙ next_lifted (around_vertex after w) d point_after h
+
+    around_distinct : IsDistinct (around_vertex rows w)
+    around_distinct = point_distinct (system rows) (around_vertex rows w) distinct_before point_before
+
+    -- the list with the dart of the edge, in parts
+    parts_are : (out : IsTakenOut e (rotation rows w)) → around_vertex rows w ≡ map (end_dart rows w) out.front ++ end_dart rows w e ∷ map (end_dart rows w) out.back
+    parts_are out = ap (map (end_dart rows w)) out.was ∙ map-append (end_dart rows w) out.front (e ∷ out.back)
+
+    kept_parts : (out : IsTakenOut e (rotation rows w)) → kept ≡ map (end_dart rows w) out.front ++ map (end_dart rows w) out.back
+    kept_parts out = ap (map (end_dart rows w)) out.now ∙ map-append (end_dart rows w) out.front out.back
+
+    -- each dart is followed as now, but for the edge
+    turns_at_vertex : (d : Dart) → has_dart (around_vertex after w) d ≡ true → FollowsBut rows e (lift d) (lift (turn (system after) d))
+    turns_at_vertex d h = elim (taken_out e (rotation rows w) once) [
+      | inl out ↦
+          let h_front = map (end_dart rows w) out.front in
+          let h_back = map (end_dart rows w) out.back in
+          let x = end_dart rows w e in
+          let parts = parts_are out in
+          let without_it = kept_parts out in
+          let distinct : IsDistinct (h_front ++ x ∷ h_back) = subst IsDistinct parts around_distinct in
+          let fewer : IsDistinct kept = subst IsDistinct (sym without_it) (less_distinct h_front h_back x distinct) in
+          let apart : same_dart (lift d) x ≡ false = not_same (lift d) x (λ same.
+          (left_edge rows e good known d.edge (edge_of_dart after is_good d (at_point_there (around_vertex after w) point_after d h))).apart
+          (sym (lifted_edge after rows d) ∙ ap (λ (y : Dart). y.edge) same ∙ end_edge rows w e)) in
+          let in_parts : has_dart (h_front ++ h_back) (lift d) ≡ true = ap (λ ds. has_dart ds (lift d)) (sym without_it) ∙ kept_has d h in
+          let d_there : has_dart (around_vertex rows w) (lift d) ≡ true = ap (λ ds. has_dart ds (lift d)) parts ∙ has_exchanged h_front (x ∷ h_back) (lift d)
+          ∙ or_right (same_dart (lift d) x) (has_dart (h_back ++ h_front) (lift d)) (has_exchanged h_back h_front (lift d) ∙ in_parts) in
+          let x_there : has_dart (around_vertex rows w) x ≡ true = ap (λ ds. has_dart ds x) parts ∙ has_exchanged h_front (x ∷ h_back) x
+          ∙ or_left (same_dart x x) (has_dart (h_back ++ h_front) x) (same_dart_self x) in
+          let d_next = turn_before (around_vertex rows w) (lift d) point_before d_there ∙ ap (λ ds. next_around ds (lift d)) parts in
+          let x_next = turn_before (around_vertex rows w) x point_before x_there ∙ ap (λ ds. next_around ds x) parts in
+          let now_next = ap (λ ds. next_around ds (lift d)) (sym without_it) ∙ next_kept fewer d h in
+          elim (next_without h_front h_back x (lift d) distinct apart in_parts) [
+            | inl same ↦ inl (d_next ∙ same ∙ now_next)
+            | inr between ↦
+                let by_edge = d_next ∙ between.0 in
+                inr (ap (λ (y : Dart). y.edge) by_edge ∙ end_edge rows w e, ap (turn (system rows)) by_edge ∙ x_next ∙ between.1 ∙ now_next)
+          ]
+      | inr same ↦
+          let all : kept ≡ around_vertex rows w = ap (map (end_dart rows w)) same in
+          inl (
+          turn_before (around_vertex rows w) (lift d) point_before (ap (λ ds. has_dart ds (lift d)) (sym all) ∙ kept_has d h)
+          ∙ ap (λ ds. next_around ds (lift d)) (sym all)
+          ∙ next_kept (subst IsDistinct (sym all) around_distinct) d h)
+    ] where
+      less_distinct : (front back : List Dart) (x : Dart) → IsDistinct (front ++ x ∷ back) → IsDistinct (front ++ back)
+      less_distinct front back x distinct = distinct_exchanged back front (distinct_right (x ∷ []) (back ++ front) (distinct_exchanged front (x ∷ back) distinct))
+
+    -- the dart of the edge is followed by itself or by a lifted one
+    edge_turns : IsIn e (rotation rows w) → (turn (system rows) (end_dart rows w e) ≡ end_dart rows w e) ⊎ ((c : Dart) × (has_dart (darts after) c ≡ true) × (turn (system rows) (end_dart rows w e) ≡ lift c))
+    edge_turns there = elim (taken_out e (rotation rows w) once) [
+      | inl out ↦
+          let h_front = map (end_dart rows w) out.front in
+          let h_back = map (end_dart rows w) out.back in
+          let x = end_dart rows w e in
+          let parts = parts_are out in
+          let x_there : has_dart (around_vertex rows w) x ≡ true = ap (λ ds. has_dart ds x) parts ∙ has_exchanged h_front (x ∷ h_back) x
+          ∙ or_left (same_dart x x) (has_dart (h_back ++ h_front) x) (same_dart_self x) in
+          let next : turn (system rows) x ≡ slice_index_or (h_back ++ h_front) 0 x = turn_before (around_vertex rows w) x point_before x_there ∙ ap (λ ds. next_around ds x) parts ∙ next_of_taken h_front h_back x (subst IsDistinct parts around_distinct) in
+          elim (first_of (h_back ++ h_front) x) [
+            | inl none ↦ inl (next ∙ none)
+            | inr head ↦
+                let y = slice_index_or (h_back ++ h_front) 0 x in
+                let in_kept : has_dart kept y ≡ true = ap (λ ds. has_dart ds y) (kept_parts out) ∙ has_exchanged h_front h_back y ∙ head in
+                let in_lifted : has_dart (map lift (around_vertex after w)) y ≡ true =
+                ap (λ ds. has_dart ds y) lifted_is
+                ∙ has_exchanged (map (end_dart rows w) turned.back) (map (end_dart rows w) turned.front) y
+                ∙ ap (λ ds. has_dart ds y) (sym kept_is)
+                ∙ in_kept in
+                let image = image_of_dart lift (around_vertex after w) y in_lifted in
+                inr (image.0, at_point_there (around_vertex after w) point_after image.0 image.1, next ∙ image.2)
+          ]
+      | inr same ↦ absurd (false≢true (ap not (sym (eqb_self e)) ∙ filter_passes (λ f. not (f == e)) e (rotation rows w) (subst (IsIn e) (sym same) there)))
+    ] where
+      first_of : (ds : List Dart) (x : Dart) → (slice_index_or ds 0 x ≡ x) ⊎ (has_dart ds (slice_index_or ds 0 x) ≡ true)
+      first_of [] x = inl refl
+      first_of (d ∷ ds) x = inr (or_left (same_dart d d) (has_dart ds d) (same_dart_self d))
+
+  -- each dart of the picture is followed as before, but for the edge
+  pub turns_as_now : (d : Dart) → has_dart (darts after) d ≡ true → FollowsBut rows e (lift d) (lift (turn (system after) d))
+  turns_as_now d h =
+      let point = point_of (system after) d (system_test after is_good.paths is_good.crossings is_good.rotations d ∙ h) in
+      elim (in_append point.0 (map (around_vertex after) (vertices after)) (map (around_crossing after) after.crossings) point.1) [
+        | inl at_vertex ↦
+            let image = in_images (around_vertex after) point.0 (vertices after) at_vertex in
+            let below = range_below image.0 0 (length after.rotations) image.1 in
+            let same = without_vertices rows e in
+            turns_at_vertex image.0 (omega arith) d (ap (λ ds. has_dart ds d) (sym image.2) ∙ point.2)
+        | inr at_crossing ↦
+            let image = in_images (around_crossing after) point.0 after.crossings at_crossing in
+            inl (turns_at_left image.0 d image.1 (ap (λ ds. has_dart ds d) (sym image.2) ∙ point.2))
+      ]
+
+  -- ---- Round the crossings of the edge
+
+  -- a list of darts that stand round one point
+  record IsPoint (around : List Dart) : Type 0 where
+    turned_by : (d : Dart) → has_dart around d ≡ true → turn (system rows) d ≡ next_around around d
+    distinct : IsDistinct around
+
+  point_of_crossing : (x : CrossRow) → IsIn x rows.crossings → IsPoint (around_crossing rows x)
+  point_of_crossing x h = record {
+    turned_by = λ d k. turn_before (around_crossing rows x) d (crossing_point x h) k;
+    distinct = point_distinct (system rows) (around_crossing rows x) distinct_before (crossing_point x h);
+  }
+
+  four_turns : (a b c d : Dart) → IsPoint (a ∷ b ∷ c ∷ d ∷ []) → (turn (system rows) a ≡ b) × (turn (system rows) b ≡ c) × (turn (system rows) c ≡ d) × (turn (system rows) d ≡ a)
+  four_turns a b c d point =
+      let four = a ∷ b ∷ c ∷ d ∷ [] in
+      let next = next_of_four a b c d point.distinct in (
+        point.turned_by a (has_item a four (inl refl)) ∙ next.first,
+        point.turned_by b (has_item b four (inr (inl refl))) ∙ next.second,
+        point.turned_by c (has_item c four (inr (inr (inl refl)))) ∙ next.third,
+        point.turned_by d (has_item d four (inr (inr (inr (inl refl))))) ∙ next.last,
+      )
+
+  -- edge c ahead, the dart of the edge that goes this way, edge c back, the other dart of the edge
+  pub record RoundCrossing (c n : ℕ) (w : Way) : Type 0 where
+    pub to_right : turn (system rows) (ahead rows c n) ≡ onward_by rows n e w
+    pub from_right : turn (system rows) (onward_by rows n e w) ≡ behind rows c n
+    pub to_left : turn (system rows) (behind rows c n) ≡ onward_by rows n e (reversed w)
+    pub from_left : turn (system rows) (onward_by rows n e (reversed w)) ≡ ahead rows c n
+
+  round_newcomer : (sign : Sign) (c n : ℕ) → IsPoint (clockwise sign (ahead rows c n) (behind rows c n) (ahead rows e n) (behind rows e n)) → RoundCrossing c n (newcomer_rightward sign)
+  round_newcomer LeftToRight c n point =
+      let turns = four_turns (ahead rows c n) (ahead rows e n) (behind rows c n) (behind rows e n) point in
+      record { to_right = turns.0; from_right = turns.1; to_left = turns.2; from_left = turns.3 }
+  round_newcomer RightToLeft c n point =
+      let turns = four_turns (ahead rows c n) (behind rows e n) (behind rows c n) (ahead rows e n) point in
+      record { to_right = turns.0; from_right = turns.1; to_left = turns.2; from_left = turns.3 }
+
+  round_crossed : (sign : Sign) (c n : ℕ) → IsPoint (clockwise sign (ahead rows e n) (behind rows e n) (ahead rows c n) (behind rows c n)) → RoundCrossing c n (reversed (newcomer_rightward sign))
+  round_crossed LeftToRight c n point =
+      let turns = four_turns (ahead rows e n) (ahead rows c n) (behind rows e n) (behind rows c n) point in
+      record { to_right = turns.1; from_right = turns.2; to_left = turns.3; from_left = turns.0 }
+  round_crossed RightToLeft c n point =
+      let turns = four_turns (ahead rows e n) (behind rows c n) (behind rows e n) (ahead rows c n) point in
+      record { to_right = turns.3; from_right = turns.0; to_left = turns.1; from_left = turns.2 }
+
+  -- as the crossing's sign says
+  pub round_crossing : (c : ℕ) (x : CrossRow) → IsCrossingOf rows e c x → RoundCrossing c x.id (rightward x e)
+  round_crossing c x is =
+      let at = λ (a b : ℕ). clockwise x.sign (ahead rows a x.id) (behind rows a x.id) (ahead rows b x.id) (behind rows b x.id) in
+      let point = point_of_crossing x is.there in
+      let right = λ (t : Bool). cond {A = Way} t (newcomer_rightward x.sign) (reversed (newcomer_rightward x.sign)) in
+      elim is.edges [
+        | inl (e_crossed, c_new) ↦
+            let other : (x.newcomer == e) ≡ false = elim (cases_Bool (x.newcomer == e)) [
+              | inl k ↦ absurd ((other_edge rows e good known c x is).apart (sym c_new ∙ eqb-true x.newcomer e k))
+              | inr k ↦ k
+            ] in
+            subst (RoundCrossing c x.id) (sym (ap right other))
+            (round_crossed x.sign c x.id (subst (λ b. IsPoint (at e b)) c_new (subst (λ a. IsPoint (at a x.newcomer)) e_crossed point)))
+        | inr (c_crossed, e_new) ↦
+            subst (RoundCrossing c x.id) (sym (ap right (eq-eqb x.newcomer e e_new)))
+            (round_newcomer x.sign c x.id (subst (λ b. IsPoint (at c b)) e_new (subst (λ a. IsPoint (at a x.newcomer)) c_crossed point)))
+      ]
+
+  -- ---- The ends of the edge
+
+  abbrev row : EdgeRow
+  row = edge_at rows e
+
+  -- what is known of its row
+  record EdgeFacts : Type 0 where
+    a_in : row.a < length rows.rotations
+    b_in : row.b < length rows.rotations
+    apart : (row.a == row.b) ≡ false
+    at_ends : (w : ℕ) → w < length rows.rotations → (row.a == w || row.b == w) ≡ true → IsIn e (rotation rows w)
+
+  edge_facts : EdgeFacts
+  edge_facts =
+      let pick = some_of (edge_row rows e) known in
+      let facts = path_facts rows good.paths pick.0 (row_in rows e pick.0 pick.1) in
+      let same = edge_at_row rows e pick.0 pick.1 in
+      record {
+        a_in = subst (λ (r : EdgeRow). r.a < length rows.rotations) (sym same) facts.a_in;
+        b_in = subst (λ (r : EdgeRow). r.b < length rows.rotations) (sym same) facts.b_in;
+        apart = subst (λ (r : EdgeRow). (r.a == r.b) ≡ false) (sym same) facts.apart;
+        at_ends = λ w inside is_end.
+            let counted = (good_rotation rows good.rotations w (w_in w inside)).counted pick.0 (row_in rows e pick.0 pick.1) in
+            let test : (pick.0.a == w || pick.0.b == w) ≡ true = subst (λ (r : EdgeRow). (r.a == w || r.b == w) ≡ true) same is_end in
+            let all : occurrences pick.0.id (rotation rows w) ≡ 1 = counted ∙ ap one test in
+            subst (λ n. IsIn n (rotation rows w)) (row_id rows e pick.0 pick.1) (in_counted pick.0.id (rotation rows w) (omega arith));
+      }
+
+  abbrev IsFollowed : Dart → Type 0
+  IsFollowed d = (turn (system rows) d ≡ d) ⊎ ((c : Dart) × (has_dart (darts after) c ≡ true) × (turn (system rows) d ≡ lift c))
+
+  pub first_turns : IsFollowed (forward e 0)
+  first_turns =
+      let end : end_dart rows row.a e ≡ forward e 0 = ap (λ (t : Bool). cond {A = Dart} t (forward e 0) (back e (length row.crossings))) (eqb_self row.a) in
+      subst IsFollowed end (edge_turns row.a edge_facts.a_in (edge_facts.at_ends row.a edge_facts.a_in (or_left (row.a == row.a) (row.b == row.a) (eqb_self row.a))))
+
+  pub last_turns : IsFollowed (back e (length row.crossings))
+  last_turns =
+      let end : end_dart rows row.b e ≡ back e (length row.crossings) = ap (λ (t : Bool). cond {A = Dart} t (forward e 0) (back e (length row.crossings))) edge_facts.apart in
+      subst IsFollowed end (edge_turns row.b edge_facts.b_in (edge_facts.at_ends row.b edge_facts.b_in (or_right (row.a == row.b) (row.b == row.b) (eqb_self row.b))))
+
+  -- ---- The deletion
+
+  -- all of it
+  pub turns_hidden : HidesTurns rows e after
+  turns_hidden = record {
+    lifts = lifted_there rows e good known;
+    lifts_apart = lifted_apart rows e good known;
+    left_edges = λ d h. (left_edge rows e good known d.edge (edge_of_dart after is_good d h)).apart;
+    turns = turns_as_now;
+    segments = dart_runs rows e good known;
+    between = between_of rows e good known;
+    on_segment = on_a_segment rows e good known;
+    one_segment = on_one_segment rows e good known;
+    other_edge = λ c x is. let other = other_edge rows e good known c x is in (other.apart, other.left);
+    crossed_there = λ c x is. (ahead_there rows e good known c x is, behind_there rows e good known c x is);
+    gone_points = gone_apart rows e good known;
+    ahead_apart = aheads_apart rows e good known;
+    behind_apart = behinds_apart rows e good known;
+    round_ahead = λ c x is. let round = round_crossing c x is in (round.to_right, round.from_right);
+    round_behind = λ c x is. let round = round_crossing c x is in (round.to_left, round.from_left);
+    edge_there = edge_dart rows e good known;
+    edge_crossing = λ i n at.
+        let place = edge_place rows e good known i n at in
+        let meets = edge_meets rows e good known i n at in
+        (meets.0, meets.1, meets.2, meets.3, ap (λ k. forward e (k + 1)) place, ap (back e) place);
+    first_end = first_turns;
+    last_end = last_turns;
+    no_others = one_of rows e good known;
+  }
+
+-- the picture without an edge turns along the edge as it should, and elsewhere as before
+pub hides_turns : (rows : Rows) (e : ℕ) → IsWellFormed rows → is_some (edge_row rows e) ≡ true → HidesTurns rows e (without rows e)
+hides_turns = turns_hidden
