@@ -1,3 +1,4 @@
+pub mod Bypassing
 pub mod Certificates
 pub mod Computed
 pub mod Connection

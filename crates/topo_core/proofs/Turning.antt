@@ -33,7 +33,7 @@ not_in_both xs ys d distinct here there =
     let left = any_counted (same_dart d) xs here in
     let right = any_counted (same_dart d) ys there in omega arith
 
-head_not_later : (c : Dart) (cs : List Dart) → IsDistinct (c ∷ cs) → has_dart cs c ≡ false
+pub head_not_later : (c : Dart) (cs : List Dart) → IsDistinct (c ∷ cs) → has_dart cs c ≡ false
 head_not_later c cs distinct = elim (cases_Bool (has_dart cs c)) [
   | inl e ↦ absurd (not_in_both (c ∷ []) cs c distinct (or_left (same_dart c c) false (same_dart_self c)) e)
   | inr e ↦ e

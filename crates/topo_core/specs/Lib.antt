@@ -10,6 +10,7 @@ pub mod Items
 pub mod Lawful
 pub mod Laws
 pub mod Limits
+pub mod Openings
 pub mod Picture
 pub mod Pictures
 pub mod Rotations
