@@ -1,19 +1,18 @@
 -- A picture that shows a new edge along a route that meets no face twice is lawful.
-use Rattle.std.proofs.Common.{◌≡◌, ◌≢◌, ℕ, zero, suc, ◌+◌, ◌-◌, ◌*◌, ◌<◌, ◌≤◌, ◌==◌, Bool, true, false, ◌||◌, List, [], ◌∷◌, ◌++◌, length, inl, inr, refl, sym, ◌∙◌, ap, subst, arith}
-use Rattle.std.specs.Prelude.{Some, flat_map, map, slice_index_or, slice_set, sum_by}
-use Rattle.std.specs.List.{AllByRecursion, enumerate_from, list_any}
+use Rattle.std.proofs.Common.{◌≡◌, ◌≢◌, ℕ, zero, suc, ◌+◌, ◌*◌, ◌<◌, ◌≤◌, ◌==◌, Bool, true, false, ◌||◌, List, [], ◌∷◌, length, inl, inr, refl, sym, ◌∙◌, ap, subst, arith}
+use Rattle.std.specs.Prelude.{Some, map, slice_index_or, slice_set, sum_by}
+use Rattle.std.specs.List.{list_any}
 use Rattle.std.proofs.lemmas.Bool.{cases_Bool, ne_eqb}
 use Rattle.std.proofs.lemmas.Grind.{flat_map-append}
 use Rattle.std.proofs.lemmas.List.{get_or-set_other, length-append, length-map}
 use Rattle.std.proofs.lemmas.List.FromFn.{length-enumerate_from}
 use Rattle.topo_core.specs.declared.darts.Dart.{Dart}
-use Rattle.topo_core.specs.declared.rows.EdgeRow.{EdgeRow}
 use Rattle.topo_core.specs.declared.rows.Rows.{Rows}
 use Rattle.topo_core.specs.declared.routes.Route.{Route}
 use Rattle.topo_core.specs.Cycles.{map_of}
 use Rattle.topo_core.specs.Items.{IsIn}
 use Rattle.topo_core.specs.Systems.{Connected, darts_in, has_dart}
-use Rattle.topo_core.specs.Picture.{around_crossing, around_vertex, corner, darts, end_dart, face_count, index_of, rotation, segment_count, system, turn_images, vertices}
+use Rattle.topo_core.specs.Picture.{around_crossing, around_vertex, corner, darts, face_count, index_of, rotation, segment_count, system, turn_images, vertices}
 use Rattle.topo_core.specs.Lawful.{HasGenusZero, IsWellFormed, Lawful}
 use Rattle.topo_core.specs.Changes.{crossed_row, new_crossing, numbered, put_in, shown, with_end}
 use Rattle.topo_core.specs.Routes.{IsSimpleRoute}
@@ -30,9 +29,7 @@ use Rattle.topo_core.proofs.ShownTurns.{shows_turns}
 use Rattle.topo_core.proofs.SimpleRoutes.{simple_is_insertable}
 use Rattle.topo_core.proofs.Turning.{IsDistinct, distinct_left}
 use Rattle.topo_perm.proofs.Links.{Link}
-use Rattle.topo_perm.proofs.Passages.{IsPassage}
 use Rattle.topo_perm.proofs.Passing.{Passed, passed}
-use Rattle.topo_picture.proofs.InsertedNumbers.{number_less}
 use Rattle.topo_picture.proofs.InsertedPassage.{IsPath, is_passage, links_of, name, path_bends, path_links, path_of}
 use Rattle.topo_picture.proofs.Totals.{segments_total}
 use Rattle.topo_picture.proofs.Verdicts.{bare_points}
@@ -102,11 +99,11 @@ gains rows u v kind r good lu lv apart known simple =
     let from_was : has_dart (darts rows) from ≡ true = corner_in rows good u r.start from simple.route.starts in
     let to_was : has_dart (darts rows) to ≡ true = corner_in rows good v r.end to simple.route.ends in
     let path : IsPath rows q rows.next_edge u v r good form s (lifted rows q from) (lifted rows q to) = path_of rows q rows.next_edge u v r good form s from to simple.route.starts simple.route.ends from_was to_was
-        (corners_apart rows good u v r.start r.end from to lu lv apart simple.route.starts simple.route.ends) may.crossed may.once in
+    (corners_apart rows good u v r.start r.end from to lu lv apart simple.route.starts simple.route.ends) may.crossed may.once in
     let links : List Link = path_links rows q rows.next_edge u v r good form s (lifted rows q from) (lifted rows q to) in
     let done : Passed (map_of (turn_images q)) (length (turn_images q)) (map_of (turn_images rows)) (length (turn_images rows)) links = passed (map_of (turn_images q)) (length (turn_images q)) (map_of (turn_images rows)) (length (turn_images rows))
-        (name rows q rows.next_edge u v r good form s) (index_of rows from) (path_bends rows q rows.next_edge u v r good form s (lifted rows q from) (lifted rows q to) path) (index_of rows to) links
-        (is_passage rows q rows.next_edge u v r good form s (lifted rows q from) (lifted rows q to) path from to from_was to_was refl refl simple.route.walk simple.once) in
+    (name rows q rows.next_edge u v r good form s) (index_of rows from) (path_bends rows q rows.next_edge u v r good form s (lifted rows q from) (lifted rows q to) path) (index_of rows to) links
+    (is_passage rows q rows.next_edge u v r good form s (lifted rows q from) (lifted rows q to) path from to from_was to_was refl refl simple.route.walk simple.once) in
     record {
       form = form;
       faces = done.faces ∙ ap (λ (k : ℕ). face_count rows + k) (links_count rows q rows.next_edge u v r good form s rows.next_crossing (index_of q (lifted rows q from)) r.crossed (index_of q (lifted rows q to)));
@@ -126,7 +123,7 @@ insertion_keeps_lawful rows u v kind r lawful lu lv apart known simple small =
     let after : sum_by segment_count q.edges ≡ length q.edges + 2 * length q.crossings = segments_total q g.form small in
     let edges : length q.edges ≡ length rows.edges + 1 = length-append (map (crossed_row rows r) rows.edges) _ ∙ ap (λ (k : ℕ). k + 1) (length-map rows.edges (crossed_row rows r)) in
     let points : length q.crossings ≡ length rows.crossings + length r.crossed = length-append rows.crossings _
-        ∙ ap (λ (k : ℕ). length rows.crossings + k) (length-map (numbered rows r) (new_crossing rows.next_edge) ∙ length-enumerate_from rows.next_crossing r.crossed) in
+    ∙ ap (λ (k : ℕ). length rows.crossings + k) (length-map (numbered rows r) (new_crossing rows.next_edge) ∙ length-enumerate_from rows.next_crossing r.crossed) in
     let vertices : length q.rotations ≡ length rows.rotations = shown_vertices rows u v kind r in
     let genus : HasGenusZero rows = lawful.genus_zero in
     let faces : face_count q ≡ face_count rows + (length r.crossed + 1) = g.faces in

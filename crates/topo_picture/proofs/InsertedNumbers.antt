@@ -1,32 +1,19 @@
 -- Darts before and after an insertion as numbers: the new edge is a passage through the old system.
-use Rattle.std.proofs.Common.{◌≡◌, ◌≢◌, ℕ, zero, suc, ◌+◌, ◌-◌, ◌%◌, ◌<◌, ◌≤◌, ◌==◌, Bool, true, false, cond, List, [], ◌∷◌, length, ◌⊎◌, inl, inr, refl, sym, ◌∙◌, ap, subst, arith}
+use Rattle.std.proofs.Common.{◌≡◌, ◌≢◌, ℕ, ◌%◌, ◌<◌, true, length, sym, ◌∙◌, ap, subst}
 use Rattle.std.specs.Prelude.{Option, Some, slice_get, unwrap_or}
-use Rattle.std.specs.List.{AllByRecursion, enumerate_from}
-use Rattle.std.proofs.lemmas.Bool.{cases_Bool, false≢true}
 use Rattle.topo_core.specs.declared.darts.Dart.{Dart}
-use Rattle.topo_core.specs.declared.darts.Way.{Way}
-use Rattle.topo_core.specs.declared.darts.Way.TheVariants.{Forward, Back}
+use Rattle.topo_core.specs.declared.darts.Way.TheVariants.{Forward}
 use Rattle.topo_core.specs.declared.rows.Rows.{Rows}
-use Rattle.topo_core.specs.declared.routes.Route.{Route}
-use Rattle.topo_core.specs.Cycles.{IsPermutation, SameCycle, map_of}
+use Rattle.topo_core.specs.Cycles.{SameCycle, map_of}
 use Rattle.topo_core.specs.Rotations.{twin, face_next}
-use Rattle.topo_core.specs.Items.{IsIn}
 use Rattle.topo_core.specs.Darts.{dart_twin}
 use Rattle.topo_core.specs.Systems.{SameFace, has_dart, turn}
-use Rattle.topo_core.specs.Picture.{ahead, behind, corner, darts, index_of, system, turn_images}
+use Rattle.topo_core.specs.Picture.{darts, index_of, system, turn_images}
 use Rattle.topo_core.specs.Lawful.{IsWellFormed}
-use Rattle.topo_core.specs.Changes.{numbered}
-use Rattle.topo_core.specs.Routes.{Crosses, MeetsFacesOnce}
-use Rattle.topo_core.specs.Insertions.{CrossesOnce, FollowsBut, ShowsTurns, backward, lifted, onward, same_segment}
-use Rattle.topo_core.proofs.DartLaws.{twin-twin}
-use Rattle.topo_core.proofs.Numbering.{even_images, get_index, has_at, image_of, images_length, index_apart, index_less, index_of_get, index_twin, turn_permutes, turn_stays, twin_in}
+use Rattle.topo_core.proofs.Numbering.{even_images, get_index, has_at, image_of, images_length, index_apart, index_less, index_of_get, index_twin, turn_stays, twin_in}
 use Rattle.topo_core.proofs.Renumbering.{face_darts, face_numbers}
 use Rattle.topo_core.proofs.SystemDarts.{get_there}
 use Rattle.topo_perm.specs.Edits.{IsApart}
-use Rattle.topo_perm.proofs.Walks.{twin-within}
-use Rattle.topo_perm.proofs.Links.{AreLinks, AreUnlinked, IsLink, IsUnlinked, Link, without_links}
-use Rattle.topo_perm.proofs.Bends.{AreBends, AreOnOthers, Bend, IsBend, IsNamed, IsStraight, IsUnbent}
-use Rattle.topo_perm.proofs.Passages.{AreAlong, AreStrange, IsPassage, IsPlaced, MeetsOnce, Walks, links_permutation, over_link, over_link_back, past_links}
 
 -- ---- Numbers of one picture
 

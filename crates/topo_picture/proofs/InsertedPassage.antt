@@ -1,5 +1,5 @@
 -- A picture that shows a new edge, as numbers: the new edge is a passage through the old system.
-use Rattle.std.proofs.Common.{◌≡◌, ◌≢◌, ℕ, zero, suc, ◌+◌, ◌-◌, ◌%◌, ◌<◌, ◌≤◌, ◌==◌, Bool, true, false, ◌&&◌, cond, List, [], ◌∷◌, length, ◌⊎◌, inl, inr, refl, sym, ◌∙◌, ap, subst, arith}
+use Rattle.std.proofs.Common.{◌≡◌, ◌≢◌, ℕ, suc, ◌+◌, ◌-◌, ◌<◌, ◌≤◌, ◌==◌, Bool, true, false, ◌&&◌, List, [], ◌∷◌, length, ◌⊎◌, inl, inr, refl, sym, ◌∙◌, ap, subst, arith}
 use Rattle.std.specs.Prelude.{Some}
 use Rattle.std.specs.List.{AllByRecursion, enumerate_from}
 use Rattle.std.proofs.lemmas.Bool.{cases_Bool, cases_eq, eq-eqb, false≢true}
@@ -8,24 +8,22 @@ use Rattle.topo_core.specs.declared.darts.Way.{Way}
 use Rattle.topo_core.specs.declared.darts.Way.TheVariants.{Forward, Back}
 use Rattle.topo_core.specs.declared.rows.Rows.{Rows}
 use Rattle.topo_core.specs.declared.routes.Route.{Route}
-use Rattle.topo_core.specs.Cycles.{IsPermutation, SameCycle, map_of}
+use Rattle.topo_core.specs.Cycles.{SameCycle, map_of}
 use Rattle.topo_core.specs.Rotations.{twin, face_next}
 use Rattle.topo_core.specs.Items.{IsIn}
 use Rattle.topo_core.specs.Darts.{dart_twin, reversed}
 use Rattle.topo_core.specs.Systems.{SameFace, has_dart, turn}
-use Rattle.topo_core.specs.Picture.{ahead, behind, corner, darts, index_of, system, turn_images}
+use Rattle.topo_core.specs.Picture.{corner, darts, index_of, system, turn_images}
 use Rattle.topo_core.specs.Lawful.{IsWellFormed}
 use Rattle.topo_core.specs.Changes.{numbered}
 use Rattle.topo_core.specs.Routes.{Crosses, MeetsFacesOnce}
-use Rattle.topo_core.specs.Insertions.{CrossesOnce, FollowsBut, ShowsTurns, backward, lifted, onward, onward_by, same_segment}
+use Rattle.topo_core.specs.Insertions.{CrossesOnce, ShowsTurns, backward, lifted, onward, onward_by, same_segment}
 use Rattle.topo_core.proofs.DartLaws.{twin-twin}
 use Rattle.topo_core.proofs.Numbering.{index_apart, index_twin, turn_permutes, turn_stays, twin_in}
 use Rattle.topo_core.proofs.ShownPlaces.{lifted_edge}
 use Rattle.topo_core.proofs.ShownRows.{number_below, number_from, numbered_in}
 use Rattle.topo_core.proofs.SimpleRoutes.{same_or_twins}
 use Rattle.topo_perm.specs.Edits.{IsApart}
-use Rattle.topo_perm.proofs.Faces.{twin-twin as other-other}
-use Rattle.topo_perm.proofs.Walks.{twin-within}
 use Rattle.topo_perm.proofs.Links.{AreLinks, AreUnlinked, IsLink, IsUnlinked, Link, apart_back, without_links}
 use Rattle.topo_perm.proofs.Bends.{AreBends, AreOnOthers, Bend, IsBend, IsNamed, IsStraight, IsUnbent}
 use Rattle.topo_perm.proofs.Passages.{AreAlong, AreStrange, IsPassage, IsPlaced, MeetsOnce, Walks, all_at, all_of, links_permutation, over_link, over_link_back, past_links}
@@ -207,34 +205,39 @@ module _ (p q : Rows) (f u v : ℕ) (r : Route) (hp : IsWellFormed p) (hq : IsWe
   unlinked_links : (i : ℕ) (a b : Dart) → Is a → a.edge ≢ f → Is b → b.edge ≢ f → i ≤ length r.crossed → (x : ℕ) (z e : Dart) (ds : List Dart) → IsRest x ds → IsStart x z e → i < x - p.next_crossing
       → AllByRecursion (AreUnlinked n (record { from = num a; to = num b; half = num (newcomer i Forward) })) (links_of x (num z) ds (num e))
   unlinked_links i a b ha na hb nb hi x z e [] h t less =
-      let le : x - p.next_crossing ≤ length r.crossed = index_least x [] h in
-      (record {
-        half = newcomers_apart i (x - p.next_crossing) hi le (λ w. (let k = less in omega arith));
-        from = strange a ha na (x - p.next_crossing) le;
-        to = strange b hb nb (x - p.next_crossing) le;
-        from_back = strange z t.z_in t.z_other i hi;
-        to_back = strange e t.e_in t.e_other i hi;
-      }, tt)
+      let le : x - p.next_crossing ≤ length r.crossed = index_least x [] h in (
+        record {
+          half = newcomers_apart i (x - p.next_crossing) hi le (λ w. (let k = less in omega arith));
+          from = strange a ha na (x - p.next_crossing) le;
+          to = strange b hb nb (x - p.next_crossing) le;
+          from_back = strange z t.z_in t.z_other i hi;
+          to_back = strange e t.e_in t.e_other i hi;
+        },
+        tt,
+      )
   unlinked_links i a b ha na hb nb hi x z e (d ∷ ds) h t less =
       let le : x - p.next_crossing ≤ length r.crossed = index_least x (d ∷ ds) h in
-      let there : Is (onward q x d) = (s.crossed_there x d (h.sub x d (inl refl))).0 in
-      (record {
-        half = newcomers_apart i (x - p.next_crossing) hi le (λ w. (let k = less in omega arith));
-        from = strange a ha na (x - p.next_crossing) le;
-        to = strange b hb nb (x - p.next_crossing) le;
-        from_back = strange z t.z_in t.z_other i hi;
-        to_back = strange (onward q x d) there (onward_other x d h.was.0) i hi;
-      }, unlinked_links i a b ha na hb nb hi (x + 1) (backward q x d) e ds (rest_of x d ds h) (next_start x z e d ds h t) (let k = h.from in omega arith))
+      let there : Is (onward q x d) = (s.crossed_there x d (h.sub x d (inl refl))).0 in (
+        record {
+          half = newcomers_apart i (x - p.next_crossing) hi le (λ w. (let k = less in omega arith));
+          from = strange a ha na (x - p.next_crossing) le;
+          to = strange b hb nb (x - p.next_crossing) le;
+          from_back = strange z t.z_in t.z_other i hi;
+          to_back = strange (onward q x d) there (onward_other x d h.was.0) i hi;
+        },
+        unlinked_links i a b ha na hb nb hi (x + 1) (backward q x d) e ds (rest_of x d ds h) (next_start x z e d ds h t) (let k = h.from in omega arith),
+      )
 
   are_links : (x : ℕ) (z e : Dart) (ds : List Dart) → IsRest x ds → IsStart x z e → AreLinks g n (links_of x (num z) ds (num e))
   are_links x z e [] h t = (last_link x z e h t, tt, tt)
   are_links x z e (d ∷ ds) h t =
       let there : Is (onward q x d) = (s.crossed_there x d (h.sub x d (inl refl))).0 in
       let t' : IsStart (x + 1) (backward q x d) e = next_start x z e d ds h t in
-      let h' : IsRest (x + 1) ds = rest_of x d ds h in
-      (inner_link x z e d ds h t,
+      let h' : IsRest (x + 1) ds = rest_of x d ds h in (
+        inner_link x z e d ds h t,
         unlinked_links (x - p.next_crossing) z (onward q x d) t.z_in t.z_other there (onward_other x d h.was.0) (index_least x (d ∷ ds) h) (x + 1) (backward q x d) e ds h' t' (let k = h.from in omega arith),
-        are_links (x + 1) (backward q x d) e ds h' t')
+        are_links (x + 1) (backward q x d) e ds h' t',
+      )
 
   -- each segment of the new edge is a link
   link_at : (x : ℕ) (z e : Dart) (ds : List Dart) → IsRest x ds → (i : ℕ) → x - p.next_crossing ≤ i → i ≤ length r.crossed → (l : Link) × IsIn l (links_of x (num z) ds (num e)) × (l.half ≡ num (newcomer i Forward))
@@ -419,10 +422,10 @@ module _ (p q : Rows) (f u v : ℕ) (r : Route) (hp : IsWellFormed p) (hq : IsWe
               let t_in : Is t = turn_stays q hq.paths hq.crossings hq.rotations up up_in in
               over_at (turn (system q) up) up up_in (lifted_other d was) refl over.0 t_in ∙ ap num over.1 ∙ goal
         ] where
-      over_at : (t a : Dart) → Is a → a.edge ≢ f → turn (system q) a ≡ t → t.edge ≡ f → Is t → below z e (num a) ≡ num (turn (system q) t)
-      over_at t a ha na at et ht =
-          let same : t ≡ newcomer t.seg t.way = ap (λ (i : ℕ). (let c : Dart = record { edge = i; seg = t.seg; way = t.way } in c)) et in
-          over_newcomer z e h a ha na t.seg t.way (on_new_edge t ht et) (at ∙ same) ∙ ap (λ (c : Dart). num (turn (system q) c)) (sym same)
+          over_at : (t a : Dart) → Is a → a.edge ≢ f → turn (system q) a ≡ t → t.edge ≡ f → Is t → below z e (num a) ≡ num (turn (system q) t)
+          over_at t a ha na at et ht =
+              let same : t ≡ newcomer t.seg t.way = ap (λ (i : ℕ). (let c : Dart = record { edge = i; seg = t.seg; way = t.way } in c)) et in
+              over_newcomer z e h a ha na t.seg t.way (on_new_edge t ht et) (at ∙ same) ∙ ap (λ (c : Dart). num (turn (system q) c)) (sym same)
 
     named : IsNamed (below z e) n old m name
     named = record {
@@ -442,13 +445,16 @@ module _ (p q : Rows) (f u v : ℕ) (r : Route) (hp : IsWellFormed p) (hq : IsWe
     -- no crossed dart is on the segment of d where no bend is
     unbent_segments : (a : ℕ) → a < m → (x : ℕ) (ds : List Dart) → AllByRecursion (λ d. has_dart (darts p) d ≡ true) ds → IsUnbent m (bends_of x ds) a → AllByRecursion (λ c. same_segment c (dart_of p hp a) ≡ false) ds
     unbent_segments a la x [] was u = tt
-    unbent_segments a la x (c ∷ cs) was u = (elim (cases_Bool (same_segment c (dart_of p hp a))) [
-      | inr apart ↦ apart
-      | inl one ↦ absurd (elim (same_or_twins c (dart_of p hp a) one) [
-        | inl same ↦ u.0.not_self (sym (number_of p hp a la) ∙ ap (index_of p) same)
-        | inr twins ↦ u.0.not_twin (sym (number_of p hp a la) ∙ ap (index_of p) (sym (twin-twin (dart_of p hp a)) ∙ ap dart_twin twins) ∙ index_twin p c was.0)
-      ])
-    ], unbent_segments a la (x + 1) cs was.1 u.1)
+    unbent_segments a la x (c ∷ cs) was u = (
+      elim (cases_Bool (same_segment c (dart_of p hp a))) [
+        | inr apart ↦ apart
+        | inl one ↦ absurd (elim (same_or_twins c (dart_of p hp a) one) [
+          | inl same ↦ u.0.not_self (sym (number_of p hp a la) ∙ ap (index_of p) same)
+          | inr twins ↦ u.0.not_twin (sym (number_of p hp a la) ∙ ap (index_of p) (sym (twin-twin (dart_of p hp a)) ∙ ap dart_twin twins) ∙ index_twin p c was.0)
+        ])
+      ],
+      unbent_segments a la (x + 1) cs was.1 u.1,
+    )
 
     abbrev pub path_bends : List Bend
     path_bends = bends_of p.next_crossing r.crossed
@@ -463,24 +469,36 @@ module _ (p q : Rows) (f u v : ℕ) (r : Route) (hp : IsWellFormed p) (hq : IsWe
 
     along : (to : Dart) → Was to → num e ≡ num (lifted p q to) → (x : ℕ) (y : ℕ) (ds : List Dart) → IsRest x ds → AreAlong name y (bends_of x ds) (index_of p to) (links_of x y ds (num e))
     along to was at x y [] k = (refl, at ∙ sym (name_of to was))
-    along to was at x y (d ∷ ds) k = (refl, refl, subst (λ (w : ℕ). AreAlong name w (bends_of (x + 1) ds) (index_of p to) (links_of (x + 1) (num (backward q x d)) ds (num e))) (sym (back_number x d (crossed_at x d ds k)))
-      (along to was at (x + 1) (num (backward q x d)) ds (rest_of x d ds k)))
+    along to was at x y (d ∷ ds) k = (
+      refl,
+      refl,
+      subst (λ (w : ℕ). AreAlong name w (bends_of (x + 1) ds) (index_of p to) (links_of (x + 1) (num (backward q x d)) ds (num e))) (sym (back_number x d (crossed_at x d ds k)))
+          (along to was at (x + 1) (num (backward q x d)) ds (rest_of x d ds k)),
+    )
 
     walks : (to c : Dart) → Was c → (x : ℕ) (ds : List Dart) → IsRest x ds → Crosses (system p) c ds to → Walks old (index_of p c) (bends_of x ds) (index_of p to)
     walks to c was x [] k walk = same_face p hp c to was walk
-    walks to c was x (d ∷ ds) k walk = (same_face p hp c d was walk.0, subst (λ (w : ℕ). Walks old w (bends_of (x + 1) ds) (index_of p to)) (index_twin p d k.was.0)
-      (walks to (dart_twin d) (twin_in p d k.was.0) (x + 1) ds (rest_of x d ds k) walk.1))
+    walks to c was x (d ∷ ds) k walk = (
+      same_face p hp c d was walk.0,
+      subst (λ (w : ℕ). Walks old w (bends_of (x + 1) ds) (index_of p to)) (index_twin p d k.was.0)
+          (walks to (dart_twin d) (twin_in p d k.was.0) (x + 1) ds (rest_of x d ds k) walk.1),
+    )
 
     never : (c : Dart) → Was c → (x : ℕ) (ds : List Dart) → AllByRecursion (λ d. has_dart (darts p) d ≡ true) ds → AllByRecursion (λ y. SameFace (system p) c (dart_twin y) → ⊥) ds
         → AllByRecursion (λ j. SameCycle (face_next old) (index_of p c) (twin j.dart) → ⊥) (bends_of x ds)
     never c was x [] here out = tt
-    never c was x (d ∷ ds) here out = (λ w. out.0 (face_same p hp c (dart_twin d) was (twin_in p d here.0) (subst (λ (v : ℕ). SameCycle (face_next old) (index_of p c) v) (sym (index_twin p d here.0)) w)),
-      never c was (x + 1) ds here.1 out.1)
+    never c was x (d ∷ ds) here out = (
+      λ w. out.0 (face_same p hp c (dart_twin d) was (twin_in p d here.0) (subst (λ (v : ℕ). SameCycle (face_next old) (index_of p c) v) (sym (index_twin p d here.0)) w)),
+      never c was (x + 1) ds here.1 out.1,
+    )
 
     meets_once : (c : Dart) → Was c → (x : ℕ) (ds : List Dart) → IsRest x ds → MeetsFacesOnce (system p) c ds → MeetsOnce old (index_of p c) (bends_of x ds)
     meets_once c was x [] k once = tt
-    meets_once c was x (d ∷ ds) k once = (never c was x (d ∷ ds) k.was once.0, subst (λ (w : ℕ). MeetsOnce old w (bends_of (x + 1) ds)) (index_twin p d k.was.0)
-      (meets_once (dart_twin d) (twin_in p d k.was.0) (x + 1) ds (rest_of x d ds k) once.1))
+    meets_once c was x (d ∷ ds) k once = (
+      never c was x (d ∷ ds) k.was once.0,
+      subst (λ (w : ℕ). MeetsOnce old w (bends_of (x + 1) ds)) (index_twin p d k.was.0)
+          (meets_once (dart_twin d) (twin_in p d k.was.0) (x + 1) ds (rest_of x d ds k) once.1),
+    )
 
     -- ---- Every dart has its place
 
@@ -505,15 +523,19 @@ module _ (p q : Rows) (f u v : ℕ) (r : Route) (hp : IsWellFormed p) (hq : IsWe
             | inl v ↦ inl (index_of p v.0, number_less p hp v.0 v.1, at ∙ ap num v.2 ∙ sym (name_of v.0 v.1))
             | inr v ↦
                 let k : IsIn (bend_of v.0 v.1) path_bends = bend_at p.next_crossing v.0 v.1 r.crossed v.2 in
-                inr (inl (bend_of v.0 v.1, k, elim v.3 [
-                  | inl on ↦ inl (at ∙ ap num on)
-                  | inr back ↦ inr (at ∙ ap num back ∙ sym (back_number v.0 v.1 (was_crossed v.0 v.1 v.2)))
-                ]))
+                inr (inl (
+                  bend_of v.0 v.1,
+                  k,
+                  elim v.3 [
+                    | inl on ↦ inl (at ∙ ap num on)
+                    | inr back ↦ inr (at ∙ ap num back ∙ sym (back_number v.0 v.1 (was_crossed v.0 v.1 v.2)))
+                  ],
+                ))
           ]
         ] where
-      half_or_twin : (i : ℕ) (way : Way) → i ≤ length r.crossed → (l : Link) → l.half ≡ num (newcomer i Forward) → (a : ℕ) → a ≡ num (newcomer i way) → (a ≡ l.half) ⊎ (a ≡ twin l.half)
-      half_or_twin i Forward hi l half a at = inl (at ∙ sym half)
-      half_or_twin i Back hi l half a at = inr (at ∙ sym (twin_half i hi) ∙ ap twin (sym half))
+          half_or_twin : (i : ℕ) (way : Way) → i ≤ length r.crossed → (l : Link) → l.half ≡ num (newcomer i Forward) → (a : ℕ) → a ≡ num (newcomer i way) → (a ≡ l.half) ⊎ (a ≡ twin l.half)
+          half_or_twin i Forward hi l half a at = inl (at ∙ sym half)
+          half_or_twin i Back hi l half a at = inr (at ∙ sym (twin_half i hi) ∙ ap twin (sym half))
 
     pub is_passage : (from to : Dart) → Was from → Was to → num z ≡ num (lifted p q from) → num e ≡ num (lifted p q to) → Crosses (system p) from r.crossed to → MeetsFacesOnce (system p) from r.crossed
         → IsPassage g n old m name (index_of p from) path_bends (index_of p to) (path_links z e)
@@ -536,19 +558,22 @@ module _ (p q : Rows) (f u v : ℕ) (r : Route) (hp : IsWellFormed p) (hq : IsWe
           strange = all_of (λ l. AllByRecursion (AreStrange n name l) path_bends) (path_links z e) (λ l i. strange_bends l i (link_there (path_links z e) l links i) p.next_crossing r.crossed h.rest);
           placed = placed;
         } where
-      link_there : (ls : List Link) (l : Link) → AreLinks g n ls → IsIn l ls → l.half < n
-      link_there [] l k i = elim i [ ]
-      link_there (j ∷ js) l k i = elim i [
-        | inl same ↦ subst (λ (w : Link). w.half < n) (sym same) k.0.there
-        | inr later ↦ link_there js l k.2 later
-      ]
-      strange_bends : (l : Link) → IsIn l (path_links z e) → l.half < n → (x : ℕ) (ds : List Dart) → IsRest x ds → AllByRecursion (AreStrange n name l) (bends_of x ds)
-      strange_bends l i there x [] k = tt
-      strange_bends l i there x (d ∷ ds) k =
-          let c : IsCrossed x d = crossed_at x d ds k in
-          let on : IsApart n (num (onward q x d)) l.half = all_at (λ j. IsApart n (num (onward q x d)) j.half) l (path_links z e) (off_path z e h (onward q x d) (s.crossed_there x d c.at).0 (onward_other x d c.was)) i in
-          let back : IsApart n (num (backward q x d)) l.half = all_at (λ j. IsApart n (num (backward q x d)) j.half) l (path_links z e) (off_path z e h (backward q x d) (s.crossed_there x d c.at).1 (backward_other x d c.was)) i in
-          (record {
-            beyond = apart_back n l.half (num (onward q x d)) there on;
-            back = subst (λ (w : ℕ). IsApart n l.half w) (sym (back_number x d c)) (apart_back n l.half (num (backward q x d)) there back);
-          }, strange_bends l i there (x + 1) ds (rest_of x d ds k))
+          link_there : (ls : List Link) (l : Link) → AreLinks g n ls → IsIn l ls → l.half < n
+          link_there [] l k i = elim i [ ]
+          link_there (j ∷ js) l k i = elim i [
+            | inl same ↦ subst (λ (w : Link). w.half < n) (sym same) k.0.there
+            | inr later ↦ link_there js l k.2 later
+          ]
+
+          strange_bends : (l : Link) → IsIn l (path_links z e) → l.half < n → (x : ℕ) (ds : List Dart) → IsRest x ds → AllByRecursion (AreStrange n name l) (bends_of x ds)
+          strange_bends l i there x [] k = tt
+          strange_bends l i there x (d ∷ ds) k =
+              let c : IsCrossed x d = crossed_at x d ds k in
+              let on : IsApart n (num (onward q x d)) l.half = all_at (λ j. IsApart n (num (onward q x d)) j.half) l (path_links z e) (off_path z e h (onward q x d) (s.crossed_there x d c.at).0 (onward_other x d c.was)) i in
+              let back : IsApart n (num (backward q x d)) l.half = all_at (λ j. IsApart n (num (backward q x d)) j.half) l (path_links z e) (off_path z e h (backward q x d) (s.crossed_there x d c.at).1 (backward_other x d c.was)) i in (
+                record {
+                  beyond = apart_back n l.half (num (onward q x d)) there on;
+                  back = subst (λ (w : ℕ). IsApart n l.half w) (sym (back_number x d c)) (apart_back n l.half (num (backward q x d)) there back);
+                },
+                strange_bends l i there (x + 1) ds (rest_of x d ds k),
+              )

@@ -1,6 +1,8 @@
 pub mod Begins
+pub mod Deleting
 pub mod RowCounts
 pub mod Growing
+pub mod Leaving
 pub mod Linking
 pub mod Lookups
 pub mod Noting

@@ -11,6 +11,7 @@
 
 mod copies;
 pub mod counts;
+mod deletion;
 mod faults;
 mod flat;
 pub mod frozen;
