@@ -1,6 +1,6 @@
 -- Taking one dart out of a system: what led to it leads on to what followed it, and all else turns as before.
 use Rattle.std.proofs.Common.{◌≡◌, ◌||◌, ap, ap₂, Bool, cond, false, inl, inr, List, not, refl, subst, sym, true, [], ◌++◌, ◌∙◌, ◌∷◌}
-use Rattle.std.specs.Prelude.{filter, map, slice_index_or, ◌⊎◌}
+use Rattle.std.specs.Prelude.{filter, ◌⊎◌}
 use Rattle.std.proofs.lemmas.Bool.{cases_Bool, false≢true, or_cases}
 use Rattle.topo_core.specs.declared.darts.Dart.{Dart}
 use Rattle.topo_core.specs.Darts.{same_dart}
@@ -8,10 +8,10 @@ use Rattle.topo_core.specs.Items.{IsIn}
 use Rattle.topo_core.specs.Systems.{bypassed, darts_in, follower, has_dart, System, turn}
 use Rattle.topo_core.proofs.DartLaws.{same_dart_self, same_dart_true}
 use Rattle.topo_core.proofs.Members.{in_map, or_second}
-use Rattle.topo_core.proofs.NewDarts.{follower_new, follower_old, has_dart-append, or_left_false, or_right_false, stands_in}
+use Rattle.topo_core.proofs.NewDarts.{follower_new, follower_old, or_left_false, or_right_false, stands_in}
 use Rattle.topo_core.proofs.Numbering.{not_same}
-use Rattle.topo_core.proofs.Points.{at_point_in, distinct_passing, has_passing, passing_has, passing_points, point_of, turn_at_point}
-use Rattle.topo_core.proofs.Turning.{distinct_left, distinct_right, distinct_tail, head_not_later, IsDistinct, next_around, turn_in}
+use Rattle.topo_core.proofs.Points.{distinct_passing, has_passing, passing_has, passing_points, point_of, turn_at_point}
+use Rattle.topo_core.proofs.Turning.{distinct_left, distinct_right, distinct_tail, head_not_later, IsDistinct, next_around}
 
 -- ---- Lists without one dart
 

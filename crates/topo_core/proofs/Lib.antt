@@ -1,3 +1,4 @@
+pub mod BarePoints
 pub mod Bypassing
 pub mod Certificates
 pub mod Computed
@@ -12,6 +13,8 @@ pub mod Lengthening
 pub mod Members
 pub mod NewDarts
 pub mod Numbering
+pub mod OpenedDarts
+pub mod Openings
 pub mod Orbits
 pub mod Points
 pub mod Renumbering

@@ -241,7 +241,7 @@ module _ (rows : Rows) (paths : has_good_paths rows ≡ true) where
     pub dart_at : (i : ℕ) → i < length (turn_images rows) → (d : Dart) × (slice_get (darts rows) i ≡ Some d)
     dart_at i h = get_there (darts rows) i (subst (λ n. i < n) (images_length rows) h)
 
-    image_at : (i : ℕ) (d : Dart) → slice_get (darts rows) i ≡ Some d → map_of (turn_images rows) i ≡ index_of rows (turn (system rows) d)
+    pub image_at : (i : ℕ) (d : Dart) → slice_get (darts rows) i ≡ Some d → map_of (turn_images rows) i ≡ index_of rows (turn (system rows) d)
     image_at i d e = index_of_map (λ d. index_of rows (turn (system rows) d)) (darts rows) i d e
 
     -- numbers are below the number of images

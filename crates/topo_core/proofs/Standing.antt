@@ -92,7 +92,7 @@ back_at e s l true true h = absurd (let k : true ≡ false = h in cc)
 back_at e s l true false h = weigh_no _ 1 (back_forward e s e 0) ∙ elim (cases_Bool (s == l)) [ inl e ↦ sym (weigh_yes _ 0 e) | inr e ↦ sym (weigh_no _ 0 e) ]
 back_at e s l false u h = ap (λ (b : Bool). cond {A = ℕ} b (one u) 0) (back_back e s e l ∙ ap (λ b. b && s == l) (eqb_self e))
 
-end_dart_edge : (rows : Rows) (v e : ℕ) → (end_dart rows v e).edge ≡ e
+pub end_dart_edge : (rows : Rows) (v e : ℕ) → (end_dart rows v e).edge ≡ e
 end_dart_edge rows v e = elim ((edge_at rows e).a == v) as (λ (t : Bool). (cond {A = Dart} t (forward e 0) (back e (length (edge_at rows e).crossings))).edge ≡ e) [ true ↦ refl | false ↦ refl ]
 
 -- ---- Counts at a crossing

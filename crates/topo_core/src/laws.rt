@@ -2,6 +2,7 @@
 
 ghost use Rattle.topo_core.specs.Deletions.{DeletionKeepsForm, DeletionShowsTurns};
 ghost use Rattle.topo_core.specs.Insertions.{InsertionKeepsForm, InsertionShowsTurns, SimpleRoutesAreInsertable};
+ghost use Rattle.topo_core.specs.Openings.{OpeningBares, OpeningUnchords, OpeningsKeepConnection, OpeningsKeepFaces};
 ghost use Rattle.topo_core.specs.Laws.{DartsAreNumbered, DartsStandOnce, GrowthKeepsEmbedding, GrowthKeepsFaces, GrowthKeepsGenus, NumbersKeepConnection, NumbersKeepFaces, TurnIsAPermutation};
 
 /// A growth in a corner of a vertex makes a connected embedding of a connected embedding.
@@ -70,4 +71,24 @@ pub fn deletion_shows_turns()
 /// An edge can be shown along a route that meets no face twice: such a route crosses no segment twice.
 pub fn simple_routes_are_insertable()
     ensures { SimpleRoutesAreInsertable }
+{}
+
+/// Opening an edge takes out one segment after the other: on the numbers of the darts each is one chord less.
+pub fn opening_unchords()
+    ensures { OpeningUnchords }
+{}
+
+/// Two darts that are left have one face of the opened system on their left just when their numbers lie on one cycle of the face map.
+pub fn openings_keep_faces()
+    ensures { OpeningsKeepFaces }
+{}
+
+/// The darts of an opened system are those that are not out, and two of them are joined just when their numbers are.
+pub fn openings_keep_connection()
+    ensures { OpeningsKeepConnection }
+{}
+
+/// An opened edge leaves no crossing bare, and a vertex just where it is the only edge there and its dart at the vertex is out.
+pub fn opening_bares()
+    ensures { OpeningBares }
 {}

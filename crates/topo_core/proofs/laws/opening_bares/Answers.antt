@@ -1,0 +1,5 @@
+use Rattle.topo_core.proofs.BarePoints.{bares}
+use Rattle.topo_core.proofs.laws.opening_bares.Goals as goal
+
+pub returns : goal.returns
+returns c rows good = bares rows good.crossings good.rotations

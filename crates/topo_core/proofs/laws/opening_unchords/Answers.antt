@@ -1,0 +1,5 @@
+use Rattle.topo_core.proofs.Openings.{opens}
+use Rattle.topo_core.proofs.laws.opening_unchords.Goals as goal
+
+pub returns : goal.returns
+returns c rows good = opens rows good.paths good.crossings good.rotations

@@ -1,0 +1,5 @@
+use Rattle.topo_core.proofs.OpenedDarts.{joins_opened}
+use Rattle.topo_core.proofs.laws.openings_keep_connection.Goals as goal
+
+pub returns : goal.returns
+returns c rows good = joins_opened rows good.paths good.crossings good.rotations
