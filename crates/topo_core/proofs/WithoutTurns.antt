@@ -9,6 +9,7 @@ use Rattle.topo_core.specs.declared.darts.Dart.{Dart}
 use Rattle.topo_core.specs.declared.darts.Sign.{Sign}
 use Rattle.topo_core.specs.declared.darts.Sign.TheVariants.{LeftToRight, RightToLeft}
 use Rattle.topo_core.specs.declared.darts.Way.{Way}
+use Rattle.topo_core.specs.declared.darts.Way.TheVariants.{Forward, Back}
 use Rattle.topo_core.specs.declared.rows.CrossRow.{CrossRow}
 use Rattle.topo_core.specs.declared.rows.EdgeRow.{EdgeRow}
 use Rattle.topo_core.specs.declared.rows.Rows.{Rows}
@@ -396,3 +397,24 @@ module _ (rows : Rows) (e : ℕ) (good : IsWellFormed rows) (known : is_some (ed
 -- the picture without an edge turns along the edge as it should, and elsewhere as before
 pub hides_turns : (rows : Rows) (e : ℕ) → IsWellFormed rows → is_some (edge_row rows e) ≡ true → HidesTurns rows e (without rows e)
 hides_turns = turns_hidden
+
+-- ---- The two orders round a crossing
+
+-- round a crossing of e and c: c ahead, one dart of e, c back, the other dart of e
+pub record GoesRound (q : Rows) (c n : ℕ) (first second : Dart) : Type 0 where
+  pub from_ahead : turn (system q) (ahead q c n) ≡ first
+  pub from_first : turn (system q) first ≡ behind q c n
+  pub from_behind : turn (system q) (behind q c n) ≡ second
+  pub from_second : turn (system q) second ≡ ahead q c n
+
+-- e ahead is the first of its two, or the second
+pub two_orders : (q : Rows) (e : ℕ) (p : Rows) → HidesTurns q e p → (c : ℕ) (x : CrossRow) → IsCrossingOf q e c x
+    → GoesRound q c x.id (ahead q e x.id) (behind q e x.id) ⊎ GoesRound q c x.id (behind q e x.id) (ahead q e x.id)
+two_orders q e p hides c x is =
+    let right = hides.round_ahead c x is in
+    let left = hides.round_behind c x is in
+    by_way (rightward x e) (record { from_ahead = right.0; from_first = right.1; from_behind = left.0; from_second = left.1 }) where
+      by_way : (w : Way) → GoesRound q c x.id (onward_by q x.id e w) (onward_by q x.id e (reversed w))
+          → GoesRound q c x.id (ahead q e x.id) (behind q e x.id) ⊎ GoesRound q c x.id (behind q e x.id) (ahead q e x.id)
+      by_way Forward round = inl round
+      by_way Back round = inr round

@@ -2,16 +2,19 @@
 use Rattle.std.specs.Prelude.{◌≡◌, ℕ, List, [], ◌∷◌, ◌++◌, map, length, sum_by, slice_index_or, Some, None, false, true}
 use Rattle.topo_core.specs.declared.darts.Dart.{Dart}
 use Rattle.topo_core.specs.declared.darts.Sign.TheVariants.{LeftToRight, RightToLeft}
+use Rattle.topo_core.specs.declared.darts.Way.TheVariants.{Forward, Back}
 use Rattle.topo_core.specs.declared.routes.Route.{Route}
 use Rattle.topo_core.specs.declared.rows.Rows.{Rows}
 use Rattle.topo_core.specs.declared.limits.Limits.{Limits}
 use Rattle.topo_core.specs.declared.calls.Refusal.TheVariants.{NoVertex, SameEnds, NoPosition, BadKind, Full}
 use Rattle.topo_core.specs.Systems.{Connected, face_step}
 use Rattle.topo_core.specs.Picture.{system, segment_count, face_count, around_vertex, edge_row}
-use Rattle.topo_core.specs.Pictures.{seed, bipyramid, joined_apexes, hexagon, crossed_hexagon, barrier, passed_barrier, cross, forward, back}
+use Rattle.topo_core.specs.Pictures.{seed, bipyramid, joined_apexes, hexagon, crossed_hexagon, barrier, passed_barrier, cross, crossing, forward, back}
 use Rattle.topo_core.specs.Lawful.{Lawful, HasGenusZero, has_good_rotations}
 use Rattle.topo_core.specs.Routes.{Pricing, IsFirst, HasNoRoute}
 use Rattle.topo_core.specs.Changes.{shown, grown, without, IsCut, IsLocalCut}
+use Rattle.topo_core.specs.Insertions.{lifted}
+use Rattle.topo_core.specs.Deletions.{crossings_between, rightward, RunsOver}
 use Rattle.topo_core.specs.Steps.{grow_refusal, insert_refusal}
 
 -- ---- Words of the evidence
@@ -152,6 +155,17 @@ pub record BarrierEvidence : Type 0 where
   pub passed_lawful : IsLawfulWith passed_barrier 6 3 7 13 6
   pub deleted : without passed_barrier 6 ≡ record barrier { next_edge = 7; next_crossing = 3 }
   pub may_be_deleted : IsNoCut passed_barrier 6
+  -- before edge 6 is deleted a crossing of it lies on each segment of edge 0, first out of the triangle and then into it
+  pub on_first : crossings_between passed_barrier 6 0 0 ≡ 1 ∷ []
+  pub on_second : crossings_between passed_barrier 6 0 1 ≡ 2 ∷ []
+  pub first_runs : RunsOver passed_barrier 0 (lifted barrier passed_barrier (forward 0 0)) (1 ∷ []) (lifted barrier passed_barrier (back 0 0))
+  pub second_lifted : lifted barrier passed_barrier (forward 0 1) ≡ forward 0 2
+  -- edge 6 leaves edge 0 on its right and comes back from there; on the right of edge 6, where it leaves, edge 0 goes back
+  pub out_on_right : rightward (crossing 1 0 6 LeftToRight) 6 ≡ Forward
+  pub in_from_right : rightward (crossing 2 0 6 RightToLeft) 6 ≡ Back
+  pub back_on_right : rightward (crossing 1 0 6 LeftToRight) 0 ≡ Back
+  -- and before edge 0 is deleted both crossings lie on edge 6
+  pub on_newcomer : crossings_between passed_barrier 0 6 0 ≡ 1 ∷ 2 ∷ []
   -- edge 3 ends at a vertex of its own, so its second segment cuts
   pub cut : IsCutAt barrier 3 1
 

@@ -25,5 +25,13 @@ returns c = record {
   passed_lawful = record { lawful = record { embedding = record { well_formed = record { paths = refl; crossings = refl; rotations = refl }; connected = connected_by_tests (system passed_barrier) 12 refl refl }; genus_zero = refl }; vertex_count = refl; crossing_count = refl; edge_count = refl; total_segments = refl; total_faces = refl };
   deleted = refl;
   may_be_deleted = no_cut_by_tests passed_barrier 6 refl (connected_by_tests (system (without passed_barrier 6)) 10 refl refl);
+  on_first = refl;
+  on_second = refl;
+  first_runs = (refl, refl);
+  second_lifted = refl;
+  out_on_right = refl;
+  in_from_right = refl;
+  back_on_right = refl;
+  on_newcomer = refl;
   cut = cut_by_tests barrier 3 1 (lit≤ tt) refl refl refl refl whole_before;
 }
