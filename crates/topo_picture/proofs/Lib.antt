@@ -1,4 +1,5 @@
 pub mod Begins
+pub mod Cutting
 pub mod Deleting
 pub mod RowCounts
 pub mod Growing

@@ -1,3 +1,4 @@
+pub mod Cutting
 pub mod Deleting
 pub mod Flats
 pub mod Loading

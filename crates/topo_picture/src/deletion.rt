@@ -15,7 +15,7 @@ use topo_core::listed::Listed;
 use topo_core::rows::{CrossRow, EdgeRow, Rows};
 
 /// The place of an edge that is there.
-fn place_of_edge(edges: &[EdgeRow], e: u32) -> usize
+pub(crate) fn place_of_edge(edges: &[EdgeRow], e: u32) -> usize
     requires rise { IsStrictlyIncreasing (map (λ row. row.id) edges.now) }
     requires there { list_any (λ y. y == e) (map (λ row. row.id) edges.now) ≡ true }
     ensures within { result < length edges.now }

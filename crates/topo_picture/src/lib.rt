@@ -11,6 +11,7 @@
 
 mod copies;
 pub mod counts;
+mod cuts;
 mod deletion;
 mod faults;
 mod flat;
