@@ -7,17 +7,19 @@ use std::process::ExitCode;
 use std::rt::Env;
 use std::{env, io};
 use topo_cli::verbs::verb;
-use topo_cli::{RunFault, Verb, run_io};
+use topo_cli::{RunFault, Verb, check_io, run_io};
 
 /// The status of a run without a fault.
 const DONE: u8 = 0;
 
-/// The status where the words were refused or asked for help.
+/// The status where the words were refused, asked for help, or name a command that is not here yet.
 const REFUSED: u8 = 2;
 
 fn main(rt: HostRuntime) -> ExitCode {
     let status = match read_verb(&rt) {
         Ok(Verb::Run) => run(&rt),
+        Ok(Verb::Replay) => replay(&rt),
+        Ok(Verb::Check) => check(&rt),
         Err(status) => status,
     };
     ExitCode::from(status)
@@ -51,6 +53,20 @@ fn read_verb<R: Env + Eprint + AllocGlobal>(rt: &R) -> Result<Verb, u8> {
 /// Runs the script on standard input.
 fn run<R: Input + Print + Eprint + AllocGlobal>(rt: &R) -> u8 {
     match run_io(rt.alloc(), &mut rt.reader(), &mut io::writer(rt)) {
+        Ok(()) => DONE,
+        Err(fault) => tell(rt, &fault),
+    }
+}
+
+/// Tells that a replay cannot be done yet.
+fn replay<R: Eprint>(rt: &R) -> u8 {
+    let _ = eprintln!(rt; "planar: replay comes with a later version");
+    REFUSED
+}
+
+/// Checks the picture on standard input.
+fn check<R: Input + Print + Eprint + AllocGlobal>(rt: &R) -> u8 {
+    match check_io(rt.alloc(), &mut rt.reader(), &mut io::writer(rt)) {
         Ok(()) => DONE,
         Err(fault) => tell(rt, &fault),
     }

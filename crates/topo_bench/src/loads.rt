@@ -1,5 +1,6 @@
-//! Loading, timed on a grid of one size.
+//! Loading, timed on a grid or a mesh of one size.
 
+use crate::meshes::Mesh;
 use crate::report::print_line;
 use std::alloc::{AllocError, Global};
 use std::io;
@@ -13,13 +14,17 @@ use topo_picture::Picture;
 const DARTS_IN_ALL: u32 = 2_000_000;
 
 /// A square grid with a number of vertices on each side. From each vertex an edge leads to the right
-/// and one down; their ids rise from vertex to vertex, row by row.
+/// and one down; their ids rise from vertex to vertex, row by row. Their kinds are 1 to 9, mixed.
 #[derive(Clone, Copy)]
-struct Grid {
+pub(crate) struct Grid {
     side: u32,
 }
 
 impl Grid {
+    pub(crate) fn with_side(side: u32) -> Grid {
+        Grid { side }
+    }
+
     /// The smallest grid with that many darts, or the largest that the limits let.
     fn with_darts(darts: u32) -> Grid {
         for side in 2..181u32 {
@@ -34,7 +39,7 @@ impl Grid {
         self.side.wrapping_sub(1)
     }
 
-    fn darts(self) -> u32 {
+    pub(crate) fn darts(self) -> u32 {
         self.last().wrapping_mul(self.side).wrapping_mul(4)
     }
 
@@ -81,6 +86,25 @@ impl Grid {
         Ok(Listed::from_vec(list))
     }
 
+    fn push_edge(
+        self,
+        alloc: Global,
+        edges: &mut Vec<EdgeRow>,
+        id: u32,
+        a: u32,
+        b: u32,
+    ) -> Result<(), AllocError> {
+        let mixed = id.wrapping_mul(2_654_435_761) / 65_536;
+        edges.push(EdgeRow {
+            id,
+            a,
+            b,
+            kind: 1 + mixed % 9,
+            crossings: Listed::new(alloc),
+        })?;
+        Ok(())
+    }
+
     fn push_edges(
         self,
         alloc: Global,
@@ -91,28 +115,16 @@ impl Grid {
         let a = self.vertex(x, y);
         if x < self.last() {
             let b = self.vertex(x.wrapping_add(1), y);
-            edges.push(EdgeRow {
-                id: self.right(x, y),
-                a,
-                b,
-                kind: 0,
-                crossings: Listed::new(alloc),
-            })?;
+            self.push_edge(alloc, edges, self.right(x, y), a, b)?;
         }
         if y < self.last() {
             let b = self.vertex(x, y.wrapping_add(1));
-            edges.push(EdgeRow {
-                id: self.down(x, y),
-                a,
-                b,
-                kind: 0,
-                crossings: Listed::new(alloc),
-            })?;
+            self.push_edge(alloc, edges, self.down(x, y), a, b)?;
         }
         Ok(())
     }
 
-    fn rows(self, alloc: Global) -> Result<Rows, AllocError> {
+    pub(crate) fn rows(self, alloc: Global) -> Result<Rows, AllocError> {
         let mut rotations = Vec::new(alloc);
         let mut edges = Vec::new(alloc);
         for y in 0..self.side {
@@ -131,21 +143,43 @@ impl Grid {
     }
 }
 
-/// Loads a grid often enough that the clock can tell, and prints the line.
-pub(crate) fn time<R: Clock + Print + AllocGlobal>(rt: &R, darts: u32) -> io::Result<()> {
-    let grid = Grid::with_darts(darts);
-    let rows = grid.rows(rt.alloc())?;
-    let Ok(limits) = Limits::new(65_536, 65_536, 1_048_576) else {
+/// The greatest limits that there are.
+pub(crate) fn greatest_limits() -> Option<Limits> {
+    Limits::new(65_536, 65_536, 1_048_576).ok()
+}
+
+/// Loads rows often enough that the clock can tell, and prints the line.
+fn time_rows<R: Clock + Print + AllocGlobal>(
+    rt: &R,
+    name: &str,
+    rows: &Rows,
+    darts: u32,
+) -> io::Result<()> {
+    let Some(limits) = greatest_limits() else {
         return Ok(());
     };
-    let size = grid.darts().max(1);
+    let size = darts.max(1);
     let calls = DARTS_IN_ALL / size + 1;
     let start = Instant::now(rt)?;
     for _turn in 0..calls {
-        match Picture::load(rt.alloc(), limits, &rows) {
+        match Picture::load(rt.alloc(), limits, rows) {
             Ok(_) => {}
             Err(fault) => println!(rt; "{fault}")?,
         }
     }
-    print_line(rt, "load", size, calls, start.elapsed(rt)?)
+    print_line(rt, name, size, calls, start.elapsed(rt)?)
+}
+
+/// Times the loading of a grid.
+pub(crate) fn time<R: Clock + Print + AllocGlobal>(rt: &R, darts: u32) -> io::Result<()> {
+    let grid = Grid::with_darts(darts);
+    let rows = grid.rows(rt.alloc())?;
+    time_rows(rt, "load", &rows, grid.darts())
+}
+
+/// Times the loading of a mesh.
+pub(crate) fn time_mesh<R: Clock + Print + AllocGlobal>(rt: &R, lines: u32) -> io::Result<()> {
+    let mesh = Mesh::with_lines(lines);
+    let rows = mesh.rows(rt.alloc())?;
+    time_rows(rt, "load_mesh", &rows, mesh.darts())
 }

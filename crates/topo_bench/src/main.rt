@@ -9,8 +9,10 @@ use std::{env, io};
 
 mod forms;
 mod loads;
+mod meshes;
 mod permutations;
 mod report;
+mod searches;
 
 use forms::Form;
 use permutations::Measured;
@@ -20,6 +22,9 @@ const USAGE: &str = "usage: topo_bench NAME SIZE..
 NAME is cycles, is_connected, euler or load; each SIZE is a number of darts, even and from 2 to
 100000000. For load it is that of a square grid, and at most about 130000.
 A line for each size: nanoseconds a call, and a dart.
+Or NAME is load_mesh; each SIZE is a number of lines, at most 1024, of which each crosses as many.
+Or NAME is search; each SIZE is the number of vertices on each side of a square grid, at most 180.
+A line for each size: nanoseconds a search between random ends, and a dart.
 Or NAME is read_script, read_report or report; each SIZE is a number of calls in the text.
 A line for each size: megabytes a second.";
 
@@ -53,6 +58,12 @@ fn time_at<R: Clock + Print + AllocGlobal>(rt: &R, name: &str, word: &str) -> io
     };
     if name == "load" {
         return loads::time(rt, size);
+    }
+    if name == "load_mesh" {
+        return loads::time_mesh(rt, size);
+    }
+    if name == "search" {
+        return searches::time(rt, size);
     }
     if let Some(call) = Measured::from_name(name) {
         return call.time(rt, size);

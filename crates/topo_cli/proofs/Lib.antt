@@ -1,2 +1,1 @@
-pub mod Runs
-pub mod Scripts
+pub mod Leading

@@ -1,5 +1,7 @@
+pub mod Checks
+pub mod Growths
+pub mod Limiting
 pub mod Reading
 pub mod Runs
-pub mod Scripts
 pub mod Statuses
 pub mod Words

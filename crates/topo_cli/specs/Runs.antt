@@ -1,86 +1,141 @@
 -- What a run writes.
-use Rattle.std.specs.Prelude.{◌≡◌, ℕ, List, [], ◌∷◌, ◌++◌, map, Option, Ok, Err}
-use Rattle.std.specs.List.{AllByRecursion}
+use Rattle.std.specs.Prelude.{◌≡◌, ℕ, List, [], ◌∷◌, ◌++◌, map, slice_index_or, Option, Some, None, Ok, ⊤}
+use Rattle.std.specs.List.{AllByRecursion, range_with_len}
 use Rattle.std.specs.Io.KnownBytes.{Appends, Keeps}
 use Rattle.topo_core.specs.declared.rows.Rows.{Rows}
 use Rattle.topo_core.specs.declared.limits.Limits.{Limits}
-use Rattle.topo_core.specs.declared.calls.Call.{Call}
-use Rattle.topo_core.specs.declared.calls.Call.TheVariants.{Grow}
 use Rattle.topo_core.specs.declared.calls.Command.{Command}
-use Rattle.topo_core.specs.declared.calls.Command.TheVariants.{Plain}
 use Rattle.topo_core.specs.declared.calls.Entry.{Entry}
 use Rattle.topo_core.specs.Routes.{Pricing}
-use Rattle.topo_core.specs.History.{IsRun, Replays}
+use Rattle.topo_core.specs.History.{IsRun, Replays, call_of}
+use Rattle.topo_core.specs.Limits.{InRange}
 use Rattle.topo_core.specs.Pictures.{seed}
+use Rattle.topo_picture.specs.declared.load.LoadFault.{LoadFault}
+use Rattle.topo_picture.specs.Loading.{FailsFirst}
+use Rattle.topo_picture.specs.Shown.{IsPicture}
+use Rattle.topo_price.specs.declared.table.PriceFault.{PriceFault}
+use Rattle.topo_price.specs.declared.table.PriceFault.TheVariants.{BadPrice}
+use Rattle.topo_price.specs.Prices.{first_bad}
+use Rattle.topo_script.specs.declared.fault.ScriptFault.{ScriptFault}
+use Rattle.topo_script.specs.declared.scripts.LimitRows.{LimitRows}
+use Rattle.topo_script.specs.declared.scripts.Script.{Script}
 use Rattle.topo_script.specs.Pictures.{rows_text}
-use Rattle.topo_cli.specs.declared.growth.Growth.{Growth}
-use Rattle.topo_cli.specs.declared.fault.ScriptFault.{ScriptFault}
+use Rattle.topo_script.specs.Reads.{IsFirstFault}
 use Rattle.topo_cli.specs.declared.fault.RunFault.{RunFault}
-use Rattle.topo_cli.specs.declared.fault.RunFault.TheVariants.{Memory, Script, ReadFault, WriteFault}
+use Rattle.topo_cli.specs.declared.fault.RunFault.TheVariants.{Memory, Script as OfScript, BadLimits, Price, Load, ReadFault, WriteFault}
+use Rattle.topo_cli.specs.Growths.{growths_script_of}
+use Rattle.topo_cli.specs.Limiting.{AreLimits}
 use Rattle.topo_cli.specs.Reading.{IsRead}
-use Rattle.topo_cli.specs.Scripts.{script_of}
 
--- every edge costs 1
-abbrev pub price_one : Pricing
-price_one facts n = n ≡ 1
+-- ---- What a script sets
 
-abbrev pub growth_call : Growth → Call
-growth_call g = Grow g.u g.position g.kind
+-- the price of a kind: kinds past the end of the list have price 1
+abbrev pub price_of_kind : List (Option ℕ) → ℕ → Option ℕ
+price_of_kind prices kind = slice_index_or prices kind (Some 1)
 
--- the one list of commands
-abbrev pub growth_lists : List Growth → List (List Command)
-growth_lists growths = map (λ g. Plain (growth_call g)) growths ∷ []
+-- an edge costs the price of its kind
+abbrev pub priced : List (Option ℕ) → Pricing
+priced prices facts n = price_of_kind prices facts.kind ≡ Some n
 
--- the rows that the growths make of the first picture, one after another, under these limits; a refused one changes nothing
-pub record GrowTo (limits : Limits) (growths : List Growth) (rows : Rows) : Type 0 where
+-- the prices of all kinds
+unfoldable pub price_table : List (Option ℕ) → List (Option ℕ)
+price_table prices = map (price_of_kind prices) (range_with_len 0 64)
+
+-- the picture that a run begins with
+abbrev pub start_of : Option Rows → Rows
+start_of None = seed
+start_of (Some rows) = rows
+
+-- the numbers are limits, the prices may stand in a table, and the start is a picture under the limits
+pub record IsSound (script : Script) (limits : Limits) : Type 0 where
+  pub numbers : AreLimits script.limits limits
+  pub prices : first_bad (price_table script.prices) ≡ None
+  pub start : IsPicture limits (start_of script.start)
+
+-- the limits that a script sets are in range
+abbrev pub HasLimits : LimitRows → Type 0
+HasLimits numbers = InRange numbers.vertices numbers.edges numbers.crossings
+
+abbrev pub IsBadPrice : List (Option ℕ) → PriceFault → Type 0
+IsBadPrice prices (BadPrice kind) = first_bad (price_table prices) ≡ Some kind
+
+-- the rows that a script starts with are no picture under its limits: this is the first test that they fail
+pub record HasBadStart (script : Script) (fault : LoadFault) : Type 0 where
+  pub limits : Limits
+  pub numbers : AreLimits script.limits limits
+  pub rows : Rows
+  pub start : script.start ≡ Some rows
+  pub first : FailsFirst limits rows fault
+
+-- what is told of a script that asks for growths: the first of limits, prices and start that is at fault
+abbrev pub IsUnsound : Script → RunFault → Type 0
+IsUnsound script Memory = ⊤
+IsUnsound script BadLimits = HasLimits script.limits → ⊥
+IsUnsound script (Price fault) = HasLimits script.limits × IsBadPrice script.prices fault
+IsUnsound script (Load fault) = (first_bad (price_table script.prices) ≡ None) × HasBadStart script fault
+IsUnsound script (OfScript fault) = ⊥
+IsUnsound script ReadFault = ⊥
+IsUnsound script WriteFault = ⊥
+
+-- ---- What a run makes
+
+-- the commands lead from p to q: a history of their calls, in order, all of caller 0
+pub record LeadsBy (prices : List (Option ℕ)) (limits : Limits) (p : Rows) (commands : List Command) (q : Rows) : Type 0 where
   pub history : List Entry
-  pub run : IsRun price_one limits seed (growth_lists growths) history rows
-
--- the growths lead from p to q: a history of their calls, in order, all of caller 0
-pub record GrowsBy (limits : Limits) (p : Rows) (growths : List Growth) (q : Rows) : Type 0 where
-  pub history : List Entry
-  pub replayed : Replays price_one limits p history q
-  pub calls : map (λ entry. entry.call) history ≡ map growth_call growths
+  pub replayed : Replays (priced prices) limits p history q
+  pub calls : map (λ entry. entry.call) history ≡ map call_of commands
   pub callers : AllByRecursion (λ entry. entry.caller ≡ 0) history
 
--- the greatest limits
-pub record AreGreatest (limits : Limits) : Type 0 where
-  pub vertices : limits.vertices ≡ 65536
-  pub edges : limits.edges ≡ 65536
-  pub crossings : limits.crossings ≡ 1048576
-
--- the text is that of the rows that the growths make under the greatest limits, with a line feed
-pub record IsGrownLine (growths : List Growth) (text : List ℕ) : Type 0 where
-  pub limits : Limits
-  pub greatest : AreGreatest limits
+-- the text is that of the rows to which the commands lead, with a line feed
+pub record IsGrownLine (prices : List (Option ℕ)) (limits : Limits) (p : Rows) (commands : List Command) (text : List ℕ) : Type 0 where
   pub rows : Rows
-  pub grown : GrowTo limits growths rows
+  pub led : LeadsBy prices limits p commands rows
   pub line : text ≡ rows_text rows ++ 10 ∷ []
 
--- what was read asks for these growths
-pub record Asks (old_left new_left : Option (List ℕ)) (growths : List Growth) : Type 0 where
-  pub input : List ℕ
-  pub read : IsRead old_left new_left input
-  pub spelled : script_of input ≡ Ok growths
+-- the text is that of the rows after a run of the script from its start, with a line feed
+pub record IsRunLine (script : Script) (text : List ℕ) : Type 0 where
+  pub limits : Limits
+  pub sound : IsSound script limits
+  pub history : List Entry
+  pub rows : Rows
+  pub run : IsRun (priced script.prices) limits (start_of script.start) script.workers history rows
+  pub line : text ≡ rows_text rows ++ 10 ∷ []
 
--- what was read has this fault first
+-- ---- What a run reads and writes
+
+-- what was read is this script, which asks for growths alone
+pub record Asks (old_left new_left : Option (List ℕ)) (script : Script) : Type 0 where
+  pub input : List ℕ
+  pub read : IsRead 1048576 old_left new_left input
+  pub spelled : growths_script_of input ≡ Ok script
+
+-- what was read is no such script: this is its first fault
 pub record HasFault (old_left new_left : Option (List ℕ)) (fault : ScriptFault) : Type 0 where
   pub input : List ℕ
-  pub read : IsRead old_left new_left input
-  pub first : script_of input ≡ Err fault
+  pub read : IsRead 1048576 old_left new_left input
+  pub first : IsFirstFault (growths_script_of input) fault
 
--- what was read asks for growths, and the line that shows what they make is written
+-- what was read is a script with this fault after reading
+pub record AsksUnsoundly (old_left new_left : Option (List ℕ)) (fault : RunFault) : Type 0 where
+  pub script : Script
+  pub asked : Asks old_left new_left script
+  pub unsound : IsUnsound script fault
+
+-- what was read is a script, and the line that shows what it makes is written
 pub record IsDone (old_left new_left old_held new_held : Option (List ℕ)) : Type 0 where
-  pub growths : List Growth
-  pub asked : Asks old_left new_left growths
+  pub script : Script
+  pub asked : Asks old_left new_left script
   pub line : List ℕ
-  pub shown : IsGrownLine growths line
+  pub shown : IsRunLine script line
   pub written : Appends old_held new_held line
 
--- A fault of a script is the first one of what was read. Nothing is written but where the writer failed, and then what
--- was read has no fault.
+-- A fault is the first one of what was read, and then nothing is written, but where the writer failed: then what was
+-- read has no fault.
 abbrev pub FailsBy : RunFault → Option (List ℕ) → Option (List ℕ) → Option (List ℕ) → Option (List ℕ) → Type 0
 FailsBy Memory old_left new_left old_held new_held = Keeps old_held new_held
-FailsBy (Script fault) old_left new_left old_held new_held = HasFault old_left new_left fault × Keeps old_held new_held
+FailsBy (OfScript fault) old_left new_left old_held new_held = HasFault old_left new_left fault × Keeps old_held new_held
+FailsBy BadLimits old_left new_left old_held new_held = AsksUnsoundly old_left new_left BadLimits × Keeps old_held new_held
+FailsBy (Price fault) old_left new_left old_held new_held = AsksUnsoundly old_left new_left (Price fault) × Keeps old_held new_held
+FailsBy (Load fault) old_left new_left old_held new_held = AsksUnsoundly old_left new_left (Load fault) × Keeps old_held new_held
 FailsBy ReadFault old_left new_left old_held new_held = Keeps old_held new_held
-FailsBy WriteFault old_left new_left old_held new_held = (growths : List Growth) × Asks old_left new_left growths
+FailsBy WriteFault old_left new_left old_held new_held = (script : Script) × Asks old_left new_left script × ((line : List ℕ) × IsRunLine script line)

@@ -3,18 +3,21 @@ use Rattle.std.specs.Prelude.{List, codes, true, bytes_eq, if◌then◌else◌, 
 use Rattle.clap.specs.Simple.{on_top}
 use Rattle.clap.specs.Words.{App, Shape, Text, new_app, subcommand_of, with_subcommand}
 use Rattle.topo_cli.specs.declared.Verb.{Verb}
-use Rattle.topo_cli.specs.declared.Verb.TheVariants.{Run}
+use Rattle.topo_cli.specs.declared.Verb.TheVariants.{Run, Replay, Check}
 
 -- a command must be named, and no word at all asks for help
 abbrev pub planar_shape : Shape → Shape
 planar_shape s = record s { subcommand_required = true; arg_required_else_help = true }
 
--- the program with its one command
+abbrev pub with_command : App → Text → App
+with_command app name = with_subcommand app (new_app name).top
+
+-- the program with its commands
 abbrev pub planar_app : App
-planar_app = with_subcommand (on_top planar_shape (new_app (codes "planar"))) (new_app (codes "run")).top
+planar_app = with_command (with_command (with_command (on_top planar_shape (new_app (codes "planar"))) (codes "run")) (codes "replay")) (codes "check")
 
 abbrev pub verb_named : Text → Option Verb
-verb_named name = if bytes_eq name (codes "run") then Some Run else None
+verb_named name = if bytes_eq name (codes "run") then Some Run else (if bytes_eq name (codes "replay") then Some Replay else (if bytes_eq name (codes "check") then Some Check else None))
 
 -- the command that the words name
 abbrev pub asked_verb : List Text → Option Verb

@@ -1,69 +1,28 @@
-//! What can go wrong with a script, and with a run.
+//! What can go wrong with a command.
 
-ghost use Rattle.std.specs.Prelude.{◌≡◌};
-
-use std::fmt;
 use thiserror::Error;
+use topo_picture::LoadFault;
+use topo_price::table::PriceFault;
+use topo_script::ScriptFault;
 
-/// A place in a script. It is printed as a path: `$` is the whole text, a member adds `/` and its key,
-/// an element adds `/` and its index from 0.
-#[derive(Clone, Copy, Debug, PartialEq, Eq)]
-pub enum Place {
-    /// `$`
-    Whole,
-    /// `$/version`
-    Version,
-    /// `$/workers`
-    Workers,
-    /// `$/workers/0`, the list of commands.
-    List,
-    /// `$/workers/0/J`, the command at place J of the list.
-    Command(usize),
-    /// `$/workers/0/J/K`, the element at place K of a command.
-    Element(usize, usize),
-}
-
-impl fmt::Display for Place {
-    fn fmt<W: fmt::Write>(&self, f: &mut fmt::Formatter<W>) -> fmt::Result {
-        match self {
-            Place::Whole => write!(f, "$"),
-            Place::Version => write!(f, "$/version"),
-            Place::Workers => write!(f, "$/workers"),
-            Place::List => write!(f, "$/workers/0"),
-            Place::Command(j) => write!(f, "$/workers/0/{j}"),
-            Place::Element(j, k) => write!(f, "$/workers/0/{j}/{k}"),
-        }
-    }
-}
-
-/// Why bytes are no script. Each fault is printed as its number, its name and its place.
-#[derive(Clone, Copy, Debug, PartialEq, Eq, Error)]
-pub enum ScriptFault {
-    /// The bytes are no JSON.
-    #[error("50 NotJson")]
-    NotJson,
-    /// There are more bytes than a script may have.
-    #[error("51 TooLong")]
-    TooLong,
-    /// A value has another form than the one that is due at its place.
-    #[error("52 BadShape {0}")]
-    BadShape(Place),
-    /// The version is another one than 1.
-    #[error("53 BadVersion")]
-    BadVersion,
-    /// A number is no whole number from 0 to 4294967295.
-    #[error("54 BadNumber {0}")]
-    BadNumber(Place),
-}
-
-/// Why a run gives no picture.
+/// Why a command has no answer. Each fault is printed as its number, its name and its value.
 #[derive(Clone, Copy, Debug, PartialEq, Eq, Error)]
 pub enum RunFault {
     /// A growth of memory was refused.
     #[error("8 Memory")]
     Memory,
+    /// The bytes are not of the form that the command reads.
     #[error(transparent)]
     Script(ScriptFault),
+    /// A limit of the script lies outside its range.
+    #[error("11 BadLimits")]
+    BadLimits,
+    /// A price of the script lies outside its range.
+    #[error(transparent)]
+    Price(PriceFault),
+    /// The rows are no picture within the limits.
+    #[error(transparent)]
+    Load(LoadFault),
     /// The reader failed, or gave neither its end nor enough bytes in the turns that it has.
     #[error("55 ReadFault")]
     ReadFault,
@@ -73,6 +32,7 @@ pub enum RunFault {
 }
 
 impl RunFault {
+    ghost use Rattle.std.specs.Prelude.{◌≡◌};
     ghost use Rattle.topo_cli.specs.Statuses.{status_of};
 
     /// The status that the program ends with: 3 for want of memory, and else 1.
@@ -80,8 +40,10 @@ impl RunFault {
         ensures { result ≡ status_of self.now }
     {
         match self {
-            RunFault::Memory => 3,
-            RunFault::Script(_) | RunFault::ReadFault | RunFault::WriteFault => 1,
+            RunFault::Memory
+            | RunFault::Script(ScriptFault::Memory)
+            | RunFault::Load(LoadFault::Memory) => 3,
+            _ => 1,
         }
     }
 }

@@ -1,20 +1,22 @@
 //! The commands of the program, over any reader and any writer.
 //!
-//! `run_io` reads a script, lets a picture grow by its commands and writes the text of the picture.
-//! Where the reader tells what it still holds and the writer what it has been given, the contract
-//! says which bytes are written: the text of the rows that the commands make of the first picture, one
-//! after another, and one line feed, and nothing else. Each fault of a script is the first one, in an
-//! order that a definition fixes, and then nothing is written. `verbs::verb` reads the words of a command
+//! `run_io` reads a script, lets its start grow by its commands and writes the text of the picture.
+//! `check_io` reads a picture and writes how large it is. Where the reader tells what it still holds
+//! and the writer what it has been given, the contracts say which bytes are written, and nothing else
+//! is. Each fault is the first one of what was read, in an order that a definition fixes, and then
+//! nothing is written, but where the writer itself failed. `verbs::verb` reads the words of a command
 //! line.
 #![tactic(auto)]
 
+pub mod check;
 pub mod fault;
-pub mod growth;
+mod growths;
 mod reading;
 pub mod run;
-mod script;
 pub mod verbs;
+mod writing;
 
+pub use check::check_io;
 pub use fault::RunFault;
 pub use run::run_io;
 
@@ -23,4 +25,8 @@ pub use run::run_io;
 pub enum Verb {
     /// Read a script and print the picture that it makes.
     Run,
+    /// Read a report and carry out its history again.
+    Replay,
+    /// Read a picture and print how large it is.
+    Check,
 }

@@ -2,7 +2,7 @@
 
 ghost use Rattle.std.specs.Prelude.{◌≡◌, IfOk, IfErr, Some, map, true, is_some};
 ghost use Rattle.clap.specs.Words.{app_of, kind_of, takes};
-ghost use Rattle.topo_cli.specs.Words.{planar_app, verb_named, asked_verb};
+ghost use Rattle.topo_cli.specs.Words.{planar_app, verb_named, asked_verb, with_command};
 
 use crate::Verb;
 use clap::error::ErrorKind;
@@ -17,23 +17,24 @@ edges, and each crossing as a dummy vertex of degree four.";
 
 /// What it says after them.
 const AFTER: &str = "\
-Example:
-  echo '{\"version\":1,\"workers\":[[[\"grow\",1,0,0],[\"grow\",1,1,7]]]}' | planar run
+Examples:
+  echo '{\"version\":1,\"workers\":[[[\"grow\",1,0,0],[\"grow\",1,1,7]]]}' > script.json
+  planar run < script.json > picture.json
+  planar check < picture.json
 
 Statuses:
   0  done
-  1  a fault of the script, of reading or of writing
+  1  a fault of what was read, of reading or of writing
   2  these words were refused, or asked for help
   3  not enough memory";
 
-const RUN: &str = "Reads a script from standard input and prints the picture that it makes";
+const RUN: &str = "Reads a script and prints the picture that it makes";
 
 const RUN_LONG: &str = "\
 Reads a script from standard input, carries out its commands one after another,
 and prints the picture on one line of standard output.
 
-The first picture has the vertices 0 and 1, and edge 0 between them. A script is
-a JSON object with the version 1 and one list of commands:
+A script is a JSON object with a version and one list of commands:
 
   {\"version\":1,\"workers\":[[[\"grow\",1,0,0],[\"grow\",1,1,7]]]}
 
@@ -41,26 +42,75 @@ a JSON object with the version 1 and one list of commands:
 63, into a corner of vertex U: the one before the edge at POSITION of its
 clockwise list. A command that is refused changes nothing, and the run goes on.
 
+A script may also have \"start\", a picture; without it the run begins with the
+vertices 0 and 1, and edge 0 between them. \"limits\" says how large the picture
+may grow, and \"prices\" what it costs to cross edges of each kind.
+
 A fault is one line on standard error, as: planar: 52 BadShape $/workers";
+
+const REPLAY: &str = "Reads a report and carries out its history again (not yet)";
+
+const REPLAY_LONG: &str = "\
+Will read a report from standard input, carry out its history again from its
+start, and print how many calls it has. It comes with a later version.";
+
+const CHECK: &str = "Reads a picture and prints how large it is, where it is a lawful one";
+
+const CHECK_LONG: &str = "\
+Reads a picture from standard input. Where it is a lawful one, a connected
+embedding of genus zero, prints how large it is on one line of standard output.
+
+A picture is what run prints:
+
+  {\"crossings\":[],\"edges\":[{\"a\":0,\"b\":1,\"crossings\":[],\"id\":0,\"kind\":0}],
+   \"next_crossing\":0,\"next_edge\":1,\"rotations\":[[0],[0]]}
+
+and the line for this one is
+
+  lawful vertices=2 crossings=0 edges=1 segments=1 faces=1
+
+A fault is one line on standard error, as: planar: 25 NotPlanar";
+
+/// The program with one command more.
+fn with_command<'a>(
+    alloc: Global,
+    planar: Command<'a>,
+    name: &'a str,
+    about: &'a str,
+    long_about: &'a str,
+) -> Result<Command<'a>, AllocError>
+    ensures { IfOk result (λ command. app_of command ≡ with_command (app_of planar.entry) name.entry.now) }
+{
+    let command = Command::new(alloc, name)
+        .about(about)
+        .long_about(long_about);
+    planar.subcommand(command)
+}
 
 /// The command line of the program.
 fn planar_command<'a>(alloc: Global) -> Result<Command<'a>, AllocError>
     ensures { IfOk result (λ command. app_of command ≡ planar_app) }
 {
-    let run = Command::new(alloc, "run").about(RUN).long_about(RUN_LONG);
-    Command::new(alloc, "planar")
+    let planar = Command::new(alloc, "planar")
         .about(ABOUT)
         .after_help(AFTER)
         .subcommand_required(true)
-        .arg_required_else_help(true)
-        .subcommand(run)
+        .arg_required_else_help(true);
+    let planar = with_command(alloc, planar, "run", RUN, RUN_LONG)?;
+    let planar = with_command(alloc, planar, "replay", REPLAY, REPLAY_LONG)?;
+    with_command(alloc, planar, "check", CHECK, CHECK_LONG)
 }
 
 /// The command of this name.
 fn verb_named(name: &str) -> Option<Verb>
     ensures { result ≡ verb_named name.now }
 {
-    if name == "run" { Some(Verb::Run) } else { None }
+    match name {
+        "run" => Some(Verb::Run),
+        "replay" => Some(Verb::Replay),
+        "check" => Some(Verb::Check),
+        _ => None,
+    }
 }
 
 /// The command that the words ask for; the first word is the program's name. Where `clap` refuses the

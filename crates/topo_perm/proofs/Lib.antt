@@ -22,3 +22,5 @@ pub mod Links
 pub mod Bends
 pub mod Passages
 pub mod Passing
+pub mod Stages
+pub mod Collapses

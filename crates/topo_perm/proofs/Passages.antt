@@ -81,7 +81,7 @@ AreAlong name z [] e [] = ⊥
 AreAlong name z [] e (l ∷ []) = (l.from ≡ z) × (l.to ≡ name e)
 AreAlong name z [] e (l ∷ (j ∷ ls)) = ⊥
 AreAlong name z (k ∷ ks) e [] = ⊥
-AreAlong name z (k ∷ ks) e (l ∷ ls) = (l.from ≡ z) × (l.to ≡ k.beyond) × AreAlong name (twin (name k.dart)) ks e ls
+AreAlong name z (k ∷ ks) e (l ∷ ls) = (l.from ≡ z) × (l.to ≡ k.beyond) × AreAlong name (twin k.near) ks e ls
 
 -- crossing the segments of the bends leads from the face of c to the face of e
 abbrev pub Walks : (ℕ → ℕ) → ℕ → List Bend → ℕ → Type 0
@@ -95,12 +95,12 @@ MeetsOnce f c (k ∷ ks) = AllByRecursion (λ j. SameCycle (face_next f) c (twin
 -- what the darts of a bend and of a link have to do with each other: nothing
 pub record AreStrange (n : ℕ) (name : ℕ → ℕ) (l : Link) (k : Bend) : Type 0 where
   pub beyond : IsApart n l.half k.beyond
-  pub back : IsApart n l.half (twin (name k.dart))
+  pub back : IsApart n l.half (twin k.near)
 
 -- a number stands for a dart of f, for a dart at a bend, or for half a link
 abbrev pub IsPlaced : ℕ → (ℕ → ℕ) → List Bend → List Link → ℕ → Type 0
 IsPlaced m name ks ls a = ((d : ℕ) × (d < m) × (a ≡ name d))
-    ⊎ (((k : Bend) × IsIn k ks × ((a ≡ k.beyond) ⊎ (a ≡ twin (name k.dart))))
+    ⊎ (((k : Bend) × IsIn k ks × ((a ≡ k.beyond) ⊎ (a ≡ twin k.near)))
     ⊎ ((l : Link) × IsIn l ls × ((a ≡ l.half) ⊎ (a ≡ twin l.half))))
 
 -- g on n numbers is f on m numbers, named so, with a path of links from the corner of c over the bends to the corner of e

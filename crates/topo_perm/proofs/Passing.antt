@@ -51,17 +51,17 @@ named_below : (b : ℕ → ℕ) (n : ℕ) (f : ℕ → ℕ) (m : ℕ) (name : �
 named_below b n f m name ks i s d ld = elim (bent_or_not m ks d ld) [
   | inl u ↦ inl (s.unbent d u)
   | inr w ↦ elim w.2 [
-    | inl e ↦ inl (ap s.names e ∙ all_at (λ k. s.names k.dart ≡ name k.dart) w.0 ks s.near w.1 ∙ ap name (sym e))
+    | inl e ↦ inl (ap s.names e ∙ all_at (λ k. s.names k.dart ≡ k.near) w.0 ks s.near w.1 ∙ all_at (λ k. k.near ≡ name k.dart) w.0 ks s.nears w.1 ∙ ap name (sym e))
     | inr e ↦ inr (w.0, w.1, e, ap name e ∙ (all_at (IsBend b n m name) w.0 ks i w.1).other_end)
   ]
 ]
 
 -- the dart back from a bend is named below
-back_named : (b : ℕ → ℕ) (n : ℕ) (f : ℕ → ℕ) (m : ℕ) (name : ℕ → ℕ) (ks : List Bend) → AllByRecursion (IsBend b n m name) ks → (s : Straightened b n f m name ks) → (k : Bend) → IsIn k ks → s.names (twin k.dart) ≡ twin (name k.dart)
+back_named : (b : ℕ → ℕ) (n : ℕ) (f : ℕ → ℕ) (m : ℕ) (name : ℕ → ℕ) (ks : List Bend) → AllByRecursion (IsBend b n m name) ks → (s : Straightened b n f m name ks) → (k : Bend) → IsIn k ks → s.names (twin k.dart) ≡ twin k.near
 back_named b n f m name ks i s k h =
-    s.twins k.dart (all_at (IsBend b n m name) k ks i h).there ∙ ap twin (all_at (λ l. s.names l.dart ≡ name l.dart) k ks s.near h)
+    s.twins k.dart (all_at (IsBend b n m name) k ks i h).there ∙ ap twin (all_at (λ l. s.names l.dart ≡ l.near) k ks s.near h)
 
-back_live : (b : ℕ → ℕ) (n : ℕ) (f : ℕ → ℕ) (m : ℕ) (name : ℕ → ℕ) (ks : List Bend) → AllByRecursion (IsBend b n m name) ks → (s : Straightened b n f m name ks) → (k : Bend) → IsIn k ks → is_named s.names m (twin (name k.dart)) ≡ true
+back_live : (b : ℕ → ℕ) (n : ℕ) (f : ℕ → ℕ) (m : ℕ) (name : ℕ → ℕ) (ks : List Bend) → AllByRecursion (IsBend b n m name) ks → (s : Straightened b n f m name ks) → (k : Bend) → IsIn k ks → is_named s.names m (twin k.near) ≡ true
 back_live b n f m name ks i s k h =
     let lk : k.dart < m = (all_at (IsBend b n m name) k ks i h).there in
     subst (λ (v : ℕ). is_named s.names m v ≡ true) (back_named b n f m name ks i s k h) (is_named-of s.names m (twin k.dart) (twin-within m k.dart s.named.turn_even lk))
@@ -115,15 +115,15 @@ record OnGround (g : ℕ → ℕ) (n : ℕ) (f : ℕ → ℕ) (m : ℕ) (name : 
   s : Straightened (without_links g ls) n f m name ks
   i : AllByRecursion (IsBend (without_links g ls) n m name) ks
 
-bendable_of : (live : ℕ → Bool) (name : ℕ → ℕ) (ks : List Bend) → AllByRecursion (λ k. (live k.beyond ≡ false) × (live (twin k.beyond) ≡ false) × (live (name k.dart) ≡ true)) ks → AreBendable live name ks
+bendable_of : (live : ℕ → Bool) (name : ℕ → ℕ) (ks : List Bend) → AllByRecursion (λ k. (live k.beyond ≡ false) × (live (twin k.beyond) ≡ false) × (live k.near ≡ true)) ks → AreBendable live ks
 bendable_of live name [] h = tt
 bendable_of live name (k ∷ ks) h = (h.0, bendable_of live name ks h.1)
 
-bendable : (b : ℕ → ℕ) (n : ℕ) (f : ℕ → ℕ) (m : ℕ) (name : ℕ → ℕ) (ks : List Bend) → AllByRecursion (IsBend b n m name) ks → (s : Straightened b n f m name ks) → AreBendable (is_named s.names m) name ks
-bendable b n f m name ks i s = bendable_of (is_named s.names m) name ks (all_of (λ k. (is_named s.names m k.beyond ≡ false) × (is_named s.names m (twin k.beyond) ≡ false) × (is_named s.names m (name k.dart) ≡ true)) ks (λ k h. (
+bendable : (b : ℕ → ℕ) (n : ℕ) (f : ℕ → ℕ) (m : ℕ) (name : ℕ → ℕ) (ks : List Bend) → AllByRecursion (IsBend b n m name) ks → (s : Straightened b n f m name ks) → AreBendable (is_named s.names m) ks
+bendable b n f m name ks i s = bendable_of (is_named s.names m) name ks (all_of (λ k. (is_named s.names m k.beyond ≡ false) × (is_named s.names m (twin k.beyond) ≡ false) × (is_named s.names m k.near ≡ true)) ks (λ k h. (
   not_named s.names m k.beyond (λ d ld. (all_at (λ l. IsApart n (s.names d) l.beyond) k ks (s.within d ld) h).not_self),
   not_named s.names m (twin k.beyond) (λ d ld. (all_at (λ l. IsApart n (s.names d) l.beyond) k ks (s.within d ld) h).not_twin),
-  subst (λ (v : ℕ). is_named s.names m v ≡ true) (all_at (λ l. s.names l.dart ≡ name l.dart) k ks s.near h) (is_named-of s.names m k.dart (all_at (IsBend b n m name) k ks i h).there))))
+  subst (λ (v : ℕ). is_named s.names m v ≡ true) (all_at (λ l. s.names l.dart ≡ l.near) k ks s.near h) (is_named-of s.names m k.dart (all_at (IsBend b n m name) k ks i h).there))))
 
 -- with the bends each name is live, and each dart at a bend
 beyond_live : (live : ℕ → Bool) (ks : List Bend) (k : Bend) → IsIn k ks → (with_bends live ks k.beyond ≡ true) × (with_bends live ks (twin k.beyond) ≡ true)
@@ -148,12 +148,12 @@ link_live live (j ∷ js) l h = elim h [
 
 -- the corners of the links are live
 corners_live : (live : ℕ → Bool) (m : ℕ) (name : ℕ → ℕ) (z : ℕ) (ks : List Bend) (e : ℕ) (ls : List Link) → AreAlong name z ks e ls → live z ≡ true → live (name e) ≡ true
-    → AllByRecursion (λ k. (live k.beyond ≡ true) × (live (twin (name k.dart)) ≡ true)) ks → AllByRecursion (λ l. (live l.from ≡ true) × (live l.to ≡ true)) ls
+    → AllByRecursion (λ k. (live k.beyond ≡ true) × (live (twin k.near) ≡ true)) ks → AllByRecursion (λ l. (live l.from ≡ true) × (live l.to ≡ true)) ls
 corners_live live m name z [] e [] a hz he h = tt
 corners_live live m name z [] e (l ∷ []) a hz he h = ((ap live a.0 ∙ hz, ap live a.1 ∙ he), tt)
 corners_live live m name z [] e (l ∷ (j ∷ ls)) a hz he h = elim a [ ]
 corners_live live m name z (k ∷ ks) e [] a hz he h = tt
-corners_live live m name z (k ∷ ks) e (l ∷ ls) a hz he h = ((ap live a.0 ∙ hz, ap live a.1 ∙ h.0.0), corners_live live m name (twin (name k.dart)) ks e ls a.2 h.0.1 he h.1)
+corners_live live m name z (k ∷ ks) e (l ∷ ls) a hz he h = ((ap live a.0 ∙ hz, ap live a.1 ∙ h.0.0), corners_live live m name (twin k.near) ks e ls a.2 h.0.1 he h.1)
 
 ready_of : (live : ℕ → Bool) (ls : List Link) → AllByRecursion (λ l. (live l.half ≡ false) × (live (twin l.half) ≡ false)) ls → AllByRecursion (λ l. (live l.from ≡ true) × (live l.to ≡ true)) ls → AreReady live ls
 ready_of live [] h g = tt
@@ -172,9 +172,9 @@ half_dead g n f m name c ks e ls o s l h =
       not_twin = λ v. w.beyond.not_self (twin-apart l.half k.beyond v);
     }) ks strange in
     (
-      dead_bends (is_named s.names m) n ks l.half (not_named s.names m l.half (s.fresh l.half (λ d ld. (new d ld).not_self) (all_map (AreStrange n name l) (λ k. twin (name k.dart) ≢ l.half) (λ k w v. w.back.not_self (sym v)) ks strange))) near,
+      dead_bends (is_named s.names m) n ks l.half (not_named s.names m l.half (s.fresh l.half (λ d ld. (new d ld).not_self) (all_map (AreStrange n name l) (λ k. twin k.near ≢ l.half) (λ k w v. w.back.not_self (sym v)) ks strange))) near,
       dead_bends (is_named s.names m) n ks (twin l.half) (not_named s.names m (twin l.half) (s.fresh (twin l.half) (λ d ld. (new d ld).not_twin)
-      (all_map (AreStrange n name l) (λ k. twin (name k.dart) ≢ twin l.half) (λ k w v. w.back.not_twin (sym (twin-twin l.half) ∙ ap twin (sym v))) ks strange))) far,
+      (all_map (AreStrange n name l) (λ k. twin k.near ≢ twin l.half) (λ k w v. w.back.not_twin (sym (twin-twin l.half) ∙ ap twin (sym v))) ks strange))) far,
     )
 
 -- ---- The faces of the links
@@ -182,9 +182,9 @@ half_dead g n f m name c ks e ls o s l h =
 -- a bend as seen from below
 record GoodBend (b : ℕ → ℕ) (m : ℕ) (name names : ℕ → ℕ) (k : Bend) : Type 0 where
   there : k.dart < m
-  near : names k.dart ≡ name k.dart
-  back : names (twin k.dart) ≡ twin (name k.dart)
-  ahead : SameCycle (face_next b) (name k.dart) k.beyond
+  near : names k.dart ≡ k.near
+  back : names (twin k.dart) ≡ twin k.near
+  ahead : SameCycle (face_next b) k.near k.beyond
 
 -- what the faces below are above
 record AreFacesAbove (b : ℕ → ℕ) (n : ℕ) (f : ℕ → ℕ) (m : ℕ) (name names : ℕ → ℕ) : Type 0 where
@@ -210,8 +210,8 @@ faces_above b n f m name ks named i s =
       at_name = λ d ld. elim (named_below b n f m name ks i s d ld) [
         | inl at ↦ subst (λ (v : ℕ). SameCycle (face_next b) (name d) v) (sym at) (SameCycle-refl (face_next b) (name d))
         | inr q ↦
-            let far : s.names d ≡ twin (name q.0.dart) = ap s.names q.2 ∙ back_named b n f m name ks i s q.0 q.1 in
-            let side : SameCycle (face_next b) (twin q.0.beyond) (twin (name q.0.dart)) = (all_at (λ k. SameCycle (face_next b) (name k.dart) k.beyond × SameCycle (face_next b) (twin k.beyond) (twin (name k.dart))) q.0 ks s.sides q.1).1 in
+            let far : s.names d ≡ twin q.0.near = ap s.names q.2 ∙ back_named b n f m name ks i s q.0 q.1 in
+            let side : SameCycle (face_next b) (twin q.0.beyond) (twin q.0.near) = (all_at (λ k. SameCycle (face_next b) k.near k.beyond × SameCycle (face_next b) (twin k.beyond) (twin k.near)) q.0 ks s.sides q.1).1 in
             subst (λ (v : ℕ). SameCycle (face_next b) v (s.names d)) (sym q.3) (subst (λ (v : ℕ). SameCycle (face_next b) (twin q.0.beyond) v) (sym far) side)
       ];
     }
@@ -219,17 +219,17 @@ faces_above b n f m name ks named i s =
 good_bends : (b : ℕ → ℕ) (n : ℕ) (f : ℕ → ℕ) (m : ℕ) (name : ℕ → ℕ) (ks : List Bend) → AllByRecursion (IsBend b n m name) ks → (s : Straightened b n f m name ks) → AllByRecursion (GoodBend b m name s.names) ks
 good_bends b n f m name ks i s = all_of (GoodBend b m name s.names) ks (λ k h. record {
   there = (all_at (IsBend b n m name) k ks i h).there;
-  near = all_at (λ l. s.names l.dart ≡ name l.dart) k ks s.near h;
+  near = all_at (λ l. s.names l.dart ≡ l.near) k ks s.near h;
   back = back_named b n f m name ks i s k h;
-  ahead = (all_at (λ l. SameCycle (face_next b) (name l.dart) l.beyond × SameCycle (face_next b) (twin l.beyond) (twin (name l.dart))) k ks s.sides h).0;
+  ahead = (all_at (λ l. SameCycle (face_next b) l.near l.beyond × SameCycle (face_next b) (twin l.beyond) (twin l.near)) k ks s.sides h).0;
 })
 
 -- corner z lies in the face of c
 abbrev LiesAt : (ℕ → ℕ) → (ℕ → ℕ) → ℕ → ℕ → Type 0
 LiesAt b names z c = SameCycle (face_next b) z (names c)
 
-next_lies : (b : ℕ → ℕ) (m : ℕ) (name names : ℕ → ℕ) (k : Bend) → GoodBend b m name names k → LiesAt b names (twin (name k.dart)) (twin k.dart)
-next_lies b m name names k g = subst (λ (v : ℕ). SameCycle (face_next b) (twin (name k.dart)) v) (sym g.back) (SameCycle-refl (face_next b) (twin (name k.dart)))
+next_lies : (b : ℕ → ℕ) (m : ℕ) (name names : ℕ → ℕ) (k : Bend) → GoodBend b m name names k → LiesAt b names (twin k.near) (twin k.dart)
+next_lies b m name names k g = subst (λ (v : ℕ). SameCycle (face_next b) (twin k.near) v) (sym g.back) (SameCycle-refl (face_next b) (twin k.near))
 
 -- a corner in a face that the walk does not meet is in the face of no link's start
 far_links : (b : ℕ → ℕ) (n : ℕ) (f : ℕ → ℕ) (m : ℕ) (name names : ℕ → ℕ) → AreFacesAbove b n f m name names → (y a : ℕ) → y < n → a < m → LiesAt b names y a
@@ -244,10 +244,10 @@ far_links b n f m name names h y a ly la at z c (k ∷ ks) e [] along lc lies ou
 far_links b n f m name names h y a ly la at z c (k ∷ ks) e (l ∷ ls) along lc lies out outs good = (λ w. out (h.uncarried a c la lc
     (SameCycle-trans (face_next b) (names a) y (names c) (SameCycle-sym (face_next b) n h.permutation y (names a) ly at)
     (SameCycle-trans (face_next b) y z (names c) (subst (λ (v : ℕ). SameCycle (face_next b) y v) along.0 w) lies))),
-  far_links b n f m name names h y a ly la at (twin (name k.dart)) (twin k.dart) ks e ls along.2 (twin-within m k.dart h.even good.0.there) (next_lies b m name names k good.0) outs.0 outs.1 good.1)
+  far_links b n f m name names h y a ly la at (twin k.near) (twin k.dart) ks e ls along.2 (twin-within m k.dart h.even good.0.there) (next_lies b m name names k good.0) outs.0 outs.1 good.1)
 
 in_faces : (b : ℕ → ℕ) (n : ℕ) (f : ℕ → ℕ) (m : ℕ) (name names : ℕ → ℕ) → AreFacesAbove b n f m name names → (z c : ℕ) (ks : List Bend) (e : ℕ) (ls : List Link) → AreAlong name z ks e ls → z < n → c < m → e < m → LiesAt b names z c
-    → Walks f c ks e → MeetsOnce f c ks → AllByRecursion (GoodBend b m name names) ks → AllByRecursion (λ k. twin (name k.dart) < n) ks → AreInFaces b ls
+    → Walks f c ks e → MeetsOnce f c ks → AllByRecursion (GoodBend b m name names) ks → AllByRecursion (λ k. twin k.near < n) ks → AreInFaces b ls
 in_faces b n f m name names h z c [] e [] along lz lc le lies walk once good within = tt
 in_faces b n f m name names h z c [] e (l ∷ []) along lz lc le lies walk once good within =
     let there : SameCycle (face_next b) z (name e) = SameCycle-trans (face_next b) z (names c) (name e) lies
@@ -260,12 +260,12 @@ in_faces b n f m name names h z c (k ∷ ks) e (l ∷ ls) along lz lc le lies wa
     let lt : twin k.dart < m = twin-within m k.dart h.even lk in
     let there : SameCycle (face_next b) z k.beyond = SameCycle-trans (face_next b) z (names c) k.beyond lies
         (SameCycle-trans (face_next b) (names c) (names k.dart) k.beyond (h.carried c k.dart lc lk walk.0) (subst (λ (v : ℕ). SameCycle (face_next b) v k.beyond) (sym good.0.near) good.0.ahead)) in
-    let next : LiesAt b names (twin (name k.dart)) (twin k.dart) = next_lies b m name names k good.0 in
-    let far : AllByRecursion (λ j. SameCycle (face_next b) z j.from → ⊥) ls = far_links b n f m name names h z c lz lc lies (twin (name k.dart)) (twin k.dart) ks e ls along.2 lt next once.0.0 once.0.1 good.1 in
+    let next : LiesAt b names (twin k.near) (twin k.dart) = next_lies b m name names k good.0 in
+    let far : AllByRecursion (λ j. SameCycle (face_next b) z j.from → ⊥) ls = far_links b n f m name names h z c lz lc lies (twin k.near) (twin k.dart) ks e ls along.2 lt next once.0.0 once.0.1 good.1 in
     (
       subst (λ (v : ℕ). SameCycle (face_next b) v l.to) (sym along.0) (subst (λ (v : ℕ). SameCycle (face_next b) z v) (sym along.1) there),
       all_map (λ j. SameCycle (face_next b) z j.from → ⊥) (λ j. SameCycle (face_next b) l.from j.from → ⊥) (λ j w v. w (subst (λ (u : ℕ). SameCycle (face_next b) u j.from) along.0 v)) ls far,
-      in_faces b n f m name names h (twin (name k.dart)) (twin k.dart) ks e ls along.2 within.0 lt le next walk.1 once.1 good.1 within.1,
+      in_faces b n f m name names h (twin k.near) (twin k.dart) ks e ls along.2 within.0 lt le next walk.1 once.1 good.1 within.1,
     )
 
 -- ---- The whole passage
@@ -294,7 +294,7 @@ all_live g n f m name c ks e ls p i s a la =
       ]
     ]
 
-whole_count : (h : ℕ → ℕ) (n : ℕ) (live : ℕ → Bool) → IsPermutation h n → ((a : ℕ) → a < n → live a ≡ true) → cycle_count h n ≡ live_cycle_count live h n
+pub whole_count : (h : ℕ → ℕ) (n : ℕ) (live : ℕ → Bool) → IsPermutation h n → ((a : ℕ) → a < n → live a ≡ true) → cycle_count h n ≡ live_cycle_count live h n
 whole_count h n live p all = renumbered_cycles (λ a. a) (λ a. a) h h n live n (record {
   before = p;
   after = p;
@@ -314,9 +314,9 @@ passed g n f m name c ks e ls p =
     let above : AreFacesAbove b n f m name s.names = faces_above b n f m name ks p.named i s in
     let good : AllByRecursion (GoodBend b m name s.names) ks = good_bends b n f m name ks i s in
     let faces : AreInFaces b ls = in_faces b n f m name s.names above (name c) c ks e ls p.along (p.named.within c p.from_there) p.from_there p.to_there (above.at_name c p.from_there) p.walk p.once good
-        (all_map (IsBend b n m name) (λ k. twin (name k.dart) < n) (λ k w. twin-within n (name k.dart) even (p.named.within k.dart w.there)) ks i) in
+        (all_map (IsBend b n m name) (λ k. twin k.near < n) (λ k w. twin-within n k.near even w.near_there) ks i) in
     let corners : AllByRecursion (λ l. (live l.from ≡ true) × (live l.to ≡ true)) ls = corners_live live m name (name c) ks e ls p.along (name_live b n f m name ks i s c p.from_there) (name_live b n f m name ks i s e p.to_there)
-        (all_of (λ k. (live k.beyond ≡ true) × (live (twin (name k.dart)) ≡ true)) ks (λ k h. ((beyond_live below ks k h).0, live_bends below ks (twin (name k.dart)) (back_live b n f m name ks i s k h)))) in
+        (all_of (λ k. (live k.beyond ≡ true) × (live (twin k.near) ≡ true)) ks (λ k h. ((beyond_live below ks k h).0, live_bends below ks (twin k.near) (back_live b n f m name ks i s k h)))) in
     let halves : AllByRecursion (λ l. (live l.half ≡ false) × (live (twin l.half) ≡ false)) ls = all_of (λ l. (live l.half ≡ false) × (live (twin l.half) ≡ false)) ls
         (λ l h. half_dead g n f m name c ks e ls (record { p = p; s = s; i = i }) s l h) in
     let d : Drawn live b g n ls = draw live g n ls p.permutation even p.links (ready_of live ls halves corners) faces bent.slab in

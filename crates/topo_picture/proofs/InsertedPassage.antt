@@ -94,7 +94,7 @@ module _ (p q : Rows) (f u v : ℕ) (r : Route) (hp : IsWellFormed p) (hq : IsWe
   -- ---- The bends and the links
 
   abbrev pub bend_of : ℕ → Dart → Bend
-  bend_of x d = record { dart = index_of p d; beyond = num (onward q x d) }
+  bend_of x d = record { dart = index_of p d; near = num (lifted p q d); beyond = num (onward q x d) }
 
   abbrev pub bends_of : ℕ → List Dart → List Bend
   bends_of x [] = []
@@ -323,8 +323,8 @@ module _ (p q : Rows) (f u v : ℕ) (r : Route) (hp : IsWellFormed p) (hq : IsWe
       low : p.next_crossing ≤ x
       high : x < p.next_crossing + length r.crossed
 
-    back_number : (x : ℕ) (d : Dart) → IsCrossed x d → twin (name (index_of p d)) ≡ num (backward q x d)
-    back_number x d c = ap twin (name_of d c.was) ∙ sym (index_twin q (lifted p q d) (lifted_there d c.was)) ∙ ap num (s.before_crossing x d c.at)
+    back_number : (x : ℕ) (d : Dart) → IsCrossed x d → twin (num (lifted p q d)) ≡ num (backward q x d)
+    back_number x d c = sym (index_twin q (lifted p q d) (lifted_there d c.was)) ∙ ap num (s.before_crossing x d c.at)
 
     is_bend : (x : ℕ) (d : Dart) → IsCrossed x d → IsBend (below z e) n m name (bend_of x d)
     is_bend x d c =
@@ -332,12 +332,14 @@ module _ (p q : Rows) (f u v : ℕ) (r : Route) (hp : IsWellFormed p) (hq : IsWe
         let back : Dart = backward q x d in
         let on_in : Is on = (s.crossed_there x d c.at).0 in
         let back_in : Is back = (s.crossed_there x d c.at).1 in
-        let at_back : twin (name (index_of p d)) ≡ num back = back_number x d c in
+        let at_back : twin (num (lifted p q d)) ≡ num back = back_number x d c in
         let next : x - p.next_crossing + 1 ≤ length r.crossed = (let k = c.low in let l = c.high in omega arith) in
         let here : x - p.next_crossing ≤ length r.crossed = (let k = c.low in let l = c.high in omega arith) in
         let twin_was : Was (dart_twin d) = twin_in p d c.was in
         record {
           there = number_less p hp d c.was;
+          near_there = number_less q hq (lifted p q d) (lifted_there d c.was);
+          near_apart = numbers_apart q hq (lifted p q d) on (lifted_there d c.was) on_in ((s.new_points x d d c.at c.was).0);
           beyond_there = number_less q hq on on_in;
           onto = over_newcomer z e h on on_in (onward_other x d c.was) (x - p.next_crossing + 1) Forward next ((s.round_ahead x d c.at).0 ∙ (s.newcomer x d c.at).0)
               ∙ ap num (ap (turn (system q)) (sym (s.newcomer x d c.at).0) ∙ (s.round_ahead x d c.at).1) ∙ sym at_back;
@@ -349,7 +351,7 @@ module _ (p q : Rows) (f u v : ℕ) (r : Route) (hp : IsWellFormed p) (hq : IsWe
           new_back = λ a la w. numbers_apart q hq (lifted p q (dart_of p hp a)) back (lifted_there (dart_of p hp a) (dart_here p hp a la)) back_in ((s.new_points x d (dart_of p hp a) c.at (dart_here p hp a la)).1) (w ∙ at_back);
         }
 
-    on_others : (x y : ℕ) (c d : Dart) → IsCrossed x c → IsCrossed y d → x ≢ y → same_segment c d ≡ false → AreOnOthers m name (bend_of x c) (bend_of y d)
+    on_others : (x y : ℕ) (c d : Dart) → IsCrossed x c → IsCrossed y d → x ≢ y → same_segment c d ≡ false → AreOnOthers m (bend_of x c) (bend_of y d)
     on_others x y c d hc hd ne apart =
         let on_c : Is (onward q x c) = (s.crossed_there x c hc.at).0 in
         let on_d : Is (onward q y d) = (s.crossed_there y d hd.at).0 in
@@ -359,6 +361,7 @@ module _ (p q : Rows) (f u v : ℕ) (r : Route) (hp : IsWellFormed p) (hq : IsWe
           dart = segment_apart p hp d c hd.was hc.was
               (λ w. one_segment c d (ap (λ (v : Dart). v.edge) (sym w)) (ap (λ (v : Dart). v.seg) (sym w)) apart)
               (λ w. one_segment c d (ap (λ (v : Dart). v.edge) (sym w)) (ap (λ (v : Dart). v.seg) (sym w)) apart);
+          near = numbers_apart q hq (lifted p q d) (lifted p q c) (lifted_there d hd.was) (lifted_there c hc.was) (λ w. one_segment c d (ap (λ (v : Dart). v.edge) (s.lifts_apart c d hc.was hd.was (sym w))) (ap (λ (v : Dart). v.seg) (s.lifts_apart c d hc.was hd.was (sym w))) apart);
           beyond = numbers_apart q hq (onward q y d) (onward q x c) on_d on_c (λ w. ne (sym (s.onward_apart y x d c hd.at hc.at w)));
           beyond_back = λ w. numbers_apart q hq (onward q y d) (backward q x c) on_d back_c (s.not_both y x d c hd.at hc.at) (w ∙ back_number x c hc);
           back_beyond = λ w. numbers_apart q hq (onward q x c) (backward q y d) on_c back_d (s.not_both x y c d hc.at hd.at) (w ∙ back_number y d hd);
@@ -372,13 +375,13 @@ module _ (p q : Rows) (f u v : ℕ) (r : Route) (hp : IsWellFormed p) (hq : IsWe
       high = (let l : x + suc (length ds) ≡ p.next_crossing + length r.crossed = k.size in omega arith);
     }
 
-    later_bends : (x : ℕ) (c : Dart) → IsCrossed x c → (y : ℕ) (ds : List Dart) → IsRest y ds → x < y → AllByRecursion (λ d. same_segment c d ≡ false) ds → AllByRecursion (AreOnOthers m name (bend_of x c)) (bends_of y ds)
+    later_bends : (x : ℕ) (c : Dart) → IsCrossed x c → (y : ℕ) (ds : List Dart) → IsRest y ds → x < y → AllByRecursion (λ d. same_segment c d ≡ false) ds → AllByRecursion (AreOnOthers m (bend_of x c)) (bends_of y ds)
     later_bends x c hc y [] k less apart = tt
     later_bends x c hc y (d ∷ ds) k less apart = (on_others x y c d hc (crossed_at y d ds k) (λ w. (let l = less in omega arith)) apart.0, later_bends x c hc (y + 1) ds (rest_of y d ds k) (omega (arith, less)) apart.1)
 
     are_bends : (x : ℕ) (ds : List Dart) → IsRest x ds → AreBends (below z e) n m name (bends_of x ds)
     are_bends x [] k = tt
-    are_bends x (d ∷ ds) k = (is_bend x d (crossed_at x d ds k), later_bends x d (crossed_at x d ds k) (x + 1) ds (rest_of x d ds k) (omega arith) k.once.0, are_bends (x + 1) ds (rest_of x d ds k))
+    are_bends x (d ∷ ds) k = (is_bend x d (crossed_at x d ds k), later_bends x d (crossed_at x d ds k) (x + 1) ds (rest_of x d ds k) (omega arith) k.once.0, are_bends (x + 1) ds (rest_of x d ds k), sym (name_of d k.was.0))
 
     -- ---- The old system under its numbers in q
 

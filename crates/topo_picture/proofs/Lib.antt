@@ -4,6 +4,11 @@ pub mod Deleting
 pub mod RowCounts
 pub mod Growing
 pub mod Leaving
+pub mod CrossedPaths
+pub mod CrossedRows
+pub mod RowCounts
+pub mod Growing
+pub mod Inserting
 pub mod Linking
 pub mod Lookups
 pub mod Noting
@@ -18,3 +23,5 @@ pub mod Written
 pub mod InsertedNumbers
 pub mod InsertedPassage
 pub mod InsertedLawful
+pub mod DeletedOpening
+pub mod DeletedCuts

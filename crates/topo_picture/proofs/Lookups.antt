@@ -109,12 +109,12 @@ module _ (rows : Rows) (paths : has_good_paths rows ≡ true) where
   lt_is m n h = grind (arith, nat_tests)
 
   -- the row at the place of an edge
-  pub row_placed : (ids : List ℕ) (id place : ℕ) (row : EdgeRow) → ids ≡ map (λ row. row.id) rows.edges → place < length ids → slice_index ids place ≡ id → row ≡ get_or rows.edges place row → (slice_get rows.edges place ≡ Some row) × (edge_row rows id ≡ Some row)
-  row_placed ids id place row are within is read =
+  pub row_placed : (ids : List ℕ) (id place : ℕ) (edge : EdgeRow) → ids ≡ map (λ row. row.id) rows.edges → place < length ids → slice_index ids place ≡ id → edge ≡ get_or rows.edges place edge → (slice_get rows.edges place ≡ Some edge) × (edge_row rows id ≡ Some edge)
+  row_placed ids id place edge are within is read =
       let as_many : length ids ≡ length rows.edges = ap length are ∙ length-map rows.edges (λ row. row.id) in
-      let at : slice_get rows.edges place ≡ Some row = slice_get-get_or rows.edges place row (omega arith) ∙ ap Some (sym read) in
-      let named : id ≡ row.id = sym is ∙ ap (λ xs. slice_index xs place) are ∙ get_or-map (λ (row : EdgeRow). row.id) rows.edges place row 0 (omega arith) ∙ ap (λ (r : EdgeRow). r.id) (sym read) in
-      (at, ap (edge_row rows) named ∙ row_found place row at)
+      let at : slice_get rows.edges place ≡ Some edge = slice_get-get_or rows.edges place edge (omega arith) ∙ ap Some (sym read) in
+      let named : id ≡ edge.id = sym is ∙ ap (λ xs. slice_index xs place) are ∙ get_or-map (λ (row : EdgeRow). row.id) rows.edges place edge 0 (omega arith) ∙ ap (λ (r : EdgeRow). r.id) (sym read) in
+      (at, ap (edge_row rows) named ∙ row_found place edge at)
 
   -- a dart of that edge is one of the rows just when its segment is
   pub dart_there : (d : Dart) (row : EdgeRow) → edge_row rows d.edge ≡ Some row → d.seg < segment_count row → has_dart (darts rows) d ≡ true

@@ -1,6 +1,7 @@
 pub mod Cutting
 pub mod Deleting
 pub mod Flats
+pub mod Inserting
 pub mod Loading
 pub mod Pairs
 pub mod Recovering

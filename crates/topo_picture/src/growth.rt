@@ -11,7 +11,7 @@ use topo_core::listed::Listed;
 use topo_core::rows::{EdgeRow, Rows};
 
 /// Puts `e` into the corner at a position of the list.
-fn put_into(
+pub(crate) fn put_into(
     alloc: Global,
     around: &mut Listed<u32>,
     position: u32,

@@ -17,6 +17,7 @@ mod faults;
 mod flat;
 pub mod frozen;
 mod growth;
+mod insertion;
 pub mod load;
 mod numbers;
 mod pairs;

@@ -4,6 +4,7 @@ use crate::copies::copy_rows;
 use crate::counts::Counts;
 use crate::frozen::Frozen;
 use crate::growth::grow_rows;
+use crate::insertion::apply_rows;
 use crate::load::{LoadFault, first_fault};
 use std::alloc::{AllocError, Global};
 use std::marker::Model;
@@ -12,6 +13,7 @@ use topo_core::ids::{EdgeId, VertexId};
 use topo_core::limits::Limits;
 use topo_core::listed::Listed;
 use topo_core::rows::{EdgeRow, Rows};
+use topo_route::plan::Plan;
 
 /// A connected embedding of a graph of genus zero, within limits.
 #[derive(Drop)]
@@ -31,10 +33,11 @@ impl Model for Picture {
 }
 
 impl Picture {
-    ghost use Rattle.std.specs.Prelude.{◌≡◌, ◌⊎◌, IfOk, IfErr, OnErr, length, Some, None};
+    ghost use Rattle.std.specs.Prelude.{◌≡◌, ◌⊎◌, ◌+◌, ◌<◌, IfOk, IfErr, OnErr, length, Some, None};
     ghost use Rattle.topo_core.specs.Pictures.{seed};
-    ghost use Rattle.topo_core.specs.Changes.{grown};
-    ghost use Rattle.topo_core.specs.Steps.{grow_refusal, insert_refusal};
+    ghost use Rattle.topo_core.specs.Routes.{IsSimpleRoute};
+    ghost use Rattle.topo_core.specs.Changes.{grown, shown};
+    ghost use Rattle.topo_core.specs.Steps.{HasRoomFor, grow_refusal, insert_refusal};
     ghost use Rattle.topo_picture.specs.Loading.{FailsFirst};
     ghost use Rattle.topo_picture.specs.Shown.{IsPicture};
     ghost use Rattle.topo_picture.specs.Totals.{AreCountsOf};
@@ -166,6 +169,42 @@ impl Picture {
                     Err(_) => Err(Refusal::Memory),
                 }
             }
+        }
+    }
+
+    /// Puts a new edge of the given kind from `u` to `v` along the plan's route, with a crossing on
+    /// each segment that the route crosses, and answers its number. It is refused as Full where the
+    /// crossing ids left are fewer than the route crosses. Memory is answered only where they suffice.
+    pub fn apply(
+        &mut self,
+        alloc: Global,
+        u: u32,
+        v: u32,
+        kind: u32,
+        plan: &Plan,
+    ) -> Result<EdgeId, Refusal>
+        requires admitted { insert_refusal self.old.limits self.old.rows u v kind ≡ None }
+        requires simple { IsSimpleRoute self.old.rows u v plan.now.route }
+        ensures room { IfOk result (λ _. HasRoomFor self.old.limits self.old.rows plan.now.route) }
+        ensures number { IfOk result (λ made. made ≡ self.old.rows.next_edge) }
+        ensures shown { IfOk result (λ _. self.new.rows ≡ shown self.old.rows u v kind plan.now.route) }
+
+        ensures refused { IfErr result (λ why. ((why ≡ Refusal.Full) × (self.old.limits.crossings < self.old.rows.next_crossing + length plan.now.route.crossed))
+            ⊎ ((why ≡ Refusal.Memory) × HasRoomFor self.old.limits self.old.rows plan.now.route)) }
+        ensures unchanged { OnErr result (self.new ≡ self.old) }
+
+        ensures same_limits { self.new.limits ≡ self.old.limits }
+        ensures lawful { IsPicture self.new.limits self.new.rows }
+    {
+        let needed = plan.route.crossed.as_slice().len();
+        let left = self.limits.crossings - self.rows.next_crossing;
+        if needed > left as usize {
+            return Err(Refusal::Full);
+        }
+        let made = EdgeId::new(self.rows.next_edge);
+        match apply_rows(alloc, &mut self.rows, u, v, kind, &plan.route) {
+            Ok(()) => Ok(made),
+            Err(_) => Err(Refusal::Memory),
         }
     }
 }

@@ -32,7 +32,7 @@ const SEED: &str = "\
 \"next_crossing\":0,\"next_edge\":1,\"rotations\":[[0],[0]]}\n";
 
 /// What a run prints on these bytes: the picture, or the fault.
-fn printed(alloc: Global, script: &[u8]) -> Result<String, Fail> {
+pub(crate) fn printed(alloc: Global, script: &[u8]) -> Result<String, Fail> {
     let mut reader = script;
     let mut written: Vec<u8> = Vec::new(alloc);
     match run_io(alloc, &mut reader, &mut written) {
@@ -47,7 +47,11 @@ fn printed(alloc: Global, script: &[u8]) -> Result<String, Fail> {
 }
 
 /// Each script of a table prints what stands beside it.
-fn check_table(rt: &impl Abort, alloc: Global, table: &[(&str, &str)]) -> Result<(), Fail> {
+pub(crate) fn check_table(
+    rt: &impl Abort,
+    alloc: Global,
+    table: &[(&str, &str)],
+) -> Result<(), Fail> {
     for (script, wanted) in table {
         let got = printed(alloc, script.as_bytes())?;
         assert!(rt; got.as_str() == *wanted, "{script}: {got}");
@@ -70,6 +74,8 @@ fn pictures(rt: HostRuntime) -> Result<(), Fail> {
         ("{\"version\":1,\"workers\":[[]]}", SEED),
         (" { \"workers\" : [ [ ] ] , \"version\" : 1 } \n", SEED),
         ("{\"version\":0,\"version\":1,\"workers\":[[]]}", SEED),
+        ("{\"version\":2,\"workers\":[[]]}", SEED),
+        ("{\"start\":\"seed\",\"version\":1,\"workers\":[[]]}", SEED),
     ];
     check_table(&rt, rt.alloc(), table.as_slice())
 }
@@ -99,13 +105,9 @@ fn shapes(rt: HostRuntime) -> Result<(), Fail> {
             "{\"version\":1.0,\"workers\":[[]]}",
             "54 BadNumber $/version",
         ),
-        ("{\"version\":2,\"workers\":[[]]}", "53 BadVersion"),
+        ("{\"version\":3,\"workers\":[[]]}", "53 BadVersion"),
         ("{\"version\":0,\"x\":1}", "53 BadVersion"),
         ("{\"version\":4294967295}", "53 BadVersion"),
-        (
-            "{\"start\":\"seed\",\"version\":1,\"workers\":[[]]}",
-            "52 BadShape $",
-        ),
         ("{\"version\":1,\"z\":0}", "52 BadShape $"),
         ("{\"version\":1}", "52 BadShape $/workers"),
         ("{\"version\":1,\"workers\":{}}", "52 BadShape $/workers"),
@@ -264,6 +266,7 @@ fn failing_writers(rt: HostRuntime) -> Result<(), Fail> {
 fn faults_print(rt: HostRuntime) -> Result<(), Fail> {
     let alloc = rt.alloc();
     assert!(rt; format!(in alloc; "{}", RunFault::Memory)?.as_str() == "8 Memory");
+    assert!(rt; format!(in alloc; "{}", RunFault::BadLimits)?.as_str() == "11 BadLimits");
     assert!(rt; format!(in alloc; "{}", RunFault::ReadFault)?.as_str() == "55 ReadFault");
     assert!(rt; format!(in alloc; "{}", RunFault::WriteFault)?.as_str() == "56 WriteFault");
     Ok(())
@@ -301,15 +304,24 @@ fn full(rt: HostRuntime) -> Result<(), Fail> {
 #[test]
 fn words(rt: HostRuntime) -> Result<(), Fail> {
     let alloc = rt.alloc();
-    let run = ["planar", "run"];
-    assert!(rt; verb(alloc, run.as_slice()).is_ok_and(|v| v == Verb::Run));
+    let named = [
+        ("run", Verb::Run),
+        ("replay", Verb::Replay),
+        ("check", Verb::Check),
+    ];
+    for (name, wanted) in named {
+        let words = ["planar", name];
+        assert!(rt; verb(alloc, words.as_slice()).is_ok_and(|v| v == wanted));
+        let more = ["planar", name, "now"];
+        assert!(rt; verb(alloc, more.as_slice()).is_err());
+        let help = ["planar", name, "--help"];
+        assert!(rt; verb(alloc, help.as_slice()).is_err());
+    }
     let none = ["planar"];
     assert!(rt; verb(alloc, none.as_slice()).is_err());
-    let more = ["planar", "run", "now"];
-    assert!(rt; verb(alloc, more.as_slice()).is_err());
     let other = ["planar", "walk"];
     assert!(rt; verb(alloc, other.as_slice()).is_err());
-    let help = ["planar", "run", "--help"];
+    let help = ["planar", "help"];
     assert!(rt; verb(alloc, help.as_slice()).is_err());
     Ok(())
 }

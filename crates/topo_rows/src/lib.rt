@@ -2,8 +2,16 @@
 #![tactic(auto)]
 
 #[cfg(test)]
+mod checks;
+#[cfg(test)]
 mod first_path;
 #[cfg(test)]
 mod loading;
+#[cfg(test)]
+mod pictures;
+#[cfg(test)]
+mod routes;
+#[cfg(test)]
+mod settings;
 #[cfg(test)]
 mod streams;

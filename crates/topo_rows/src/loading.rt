@@ -11,17 +11,17 @@ use topo_picture::{LoadFault, Picture};
 /// A picture as a table: rotations; edges as (id, a, b, kind, path); crossings as (id, crossed,
 /// newcomer, left to right); the next ids.
 #[derive(Clone, Copy)]
-struct Table {
-    rotations: &'static [&'static [u32]],
-    edges: &'static [(u32, u32, u32, u32, &'static [u32])],
-    crossings: &'static [(u32, u32, u32, bool)],
-    next_edge: u32,
-    next_crossing: u32,
+pub(crate) struct Table {
+    pub(crate) rotations: &'static [&'static [u32]],
+    pub(crate) edges: &'static [(u32, u32, u32, u32, &'static [u32])],
+    pub(crate) crossings: &'static [(u32, u32, u32, bool)],
+    pub(crate) next_edge: u32,
+    pub(crate) next_crossing: u32,
 }
 
 /// One number or list in another form.
 #[derive(Clone, Copy)]
-enum Edit {
+pub(crate) enum Edit {
     Rotation(usize, &'static [u32]),
     Id(usize, u32),
     A(usize, u32),
@@ -31,6 +31,7 @@ enum Edit {
     Cross(usize, (u32, u32, u32, bool)),
     NextEdge(u32),
     NextCrossing(u32),
+    Exchange(usize, usize),
     None,
 }
 
@@ -43,7 +44,7 @@ const SEED: Table = Table {
 };
 
 /// A triangle between two apexes.
-const BIPYRAMID: Table = Table {
+pub(crate) const BIPYRAMID: Table = Table {
     rotations: &[
         &[0, 3, 2, 6],
         &[0, 7, 1, 4],
@@ -68,7 +69,7 @@ const BIPYRAMID: Table = Table {
 };
 
 /// The same after an edge from apex to apex across edge 1.
-const JOINED: Table = Table {
+pub(crate) const JOINED: Table = Table {
     rotations: &[
         &[0, 3, 2, 6],
         &[0, 7, 1, 4],
@@ -94,7 +95,7 @@ const JOINED: Table = Table {
 };
 
 /// A triangle whose base is crossed by edge 3; a vertex hangs in either part.
-const BARRIER: Table = Table {
+pub(crate) const BARRIER: Table = Table {
     rotations: &[&[0, 1, 4], &[0, 5, 2], &[1, 2, 3], &[3], &[4], &[5]],
     edges: &[
         (0, 0, 1, 0, &[0]),
@@ -193,6 +194,11 @@ fn edges(alloc: Global, table: &Table, edit: Edit) -> Result<Listed<EdgeRow>, Al
     for (at, row) in table.edges.iter().enumerate() {
         rows.push(row_of(alloc, *row, at, edit)?)?;
     }
+    if let Edit::Exchange(i, j) = edit {
+        if i < rows.len() && j < rows.len() {
+            rows.swap(i, j);
+        }
+    }
     Ok(Listed::from_vec(rows))
 }
 
@@ -218,7 +224,7 @@ fn crossings(alloc: Global, table: &Table, edit: Edit) -> Result<Listed<CrossRow
     Ok(Listed::from_vec(rows))
 }
 
-fn rows_of(alloc: Global, table: &Table, edit: Edit) -> Result<Rows, AllocError> {
+pub(crate) fn rows_of(alloc: Global, table: &Table, edit: Edit) -> Result<Rows, AllocError> {
     Ok(Rows {
         rotations: rotations(alloc, table, edit)?,
         edges: edges(alloc, table, edit)?,
@@ -234,7 +240,7 @@ fn rows_of(alloc: Global, table: &Table, edit: Edit) -> Result<Rows, AllocError>
     })
 }
 
-fn loaded(alloc: Global, rows: &Rows) -> Result<Picture, LoadFault> {
+pub(crate) fn loaded(alloc: Global, rows: &Rows) -> Result<Picture, LoadFault> {
     match Limits::new(65_536, 65_536, 1_048_576) {
         Ok(limits) => Picture::load(alloc, limits, rows),
         Err(_) => Err(LoadFault::Memory),
@@ -282,6 +288,7 @@ const BROKEN: &[(Table, Edit, LoadFault)] = &[
     // ids that do not rise
     (JOINED, Edit::Id(0, 1), LoadFault::BadPath),
     (JOINED, Edit::Id(1, 0), LoadFault::BadPath),
+    (JOINED, Edit::Exchange(0, 1), LoadFault::BadPath),
     (BIPYRAMID, Edit::Id(8, 7), LoadFault::BadPath),
     (BIPYRAMID, Edit::Id(8, 9), LoadFault::BadPath),
     // ends that are no vertices

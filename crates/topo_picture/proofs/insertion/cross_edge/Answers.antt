@@ -1,0 +1,18 @@
+use Rattle.std.proofs.Common.{◌∙◌, ap, get_or, set, sym}
+use Rattle.topo_picture.specs.Inserting.{crossed_path}
+use Rattle.topo_picture.proofs.CrossedRows.{none_repathed, ok_more, repathed_at}
+use Rattle.topo_picture.proofs.insertion.cross_edge.Goals as goal
+
+pub returns-in-Some-clause-ok : goal.returns-in-Some-clause-ok
+returns-in-Some-clause-ok c =
+    let edges = c.args.edges.now in
+    let at = c.in-Some.i in
+    let row = c.index-edges-i.result in
+    let place = c.in-Some.ensures.some in
+    ok_more c.cross_path.result
+    (λ ok. ap (λ path. set edges at (record (get_or edges at row) { crossings = path })) ok
+    ∙ repathed_at c.requires.limit c.args.e at (crossed_path c.args.first c.args.segment c.args.x) row edges c.requires.rise place.inside (place.here row))
+    c.cross_path.ensures.ok
+
+pub returns-in-None-clause-ok : goal.returns-in-None-clause-ok
+returns-in-None-clause-ok c = sym (none_repathed c.args.e (crossed_path c.args.first c.args.segment c.args.x) c.args.edges.now c.in-None.ensures.none)
