@@ -6,8 +6,6 @@ pub mod Growing
 pub mod Leaving
 pub mod CrossedPaths
 pub mod CrossedRows
-pub mod RowCounts
-pub mod Growing
 pub mod Inserting
 pub mod Linking
 pub mod Lookups
