@@ -1,8 +1,11 @@
 pub mod Begins
-pub mod CrossedPaths
-pub mod CrossedRows
+pub mod Cutting
+pub mod Deleting
 pub mod RowCounts
 pub mod Growing
+pub mod Leaving
+pub mod CrossedPaths
+pub mod CrossedRows
 pub mod Inserting
 pub mod Linking
 pub mod Lookups

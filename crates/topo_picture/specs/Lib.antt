@@ -1,3 +1,5 @@
+pub mod Cutting
+pub mod Deleting
 pub mod Flats
 pub mod Inserting
 pub mod Loading

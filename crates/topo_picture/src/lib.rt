@@ -11,6 +11,8 @@
 
 mod copies;
 pub mod counts;
+mod cuts;
+mod deletion;
 mod faults;
 mod flat;
 pub mod frozen;
