@@ -6,6 +6,7 @@ pub mod DartLaws
 pub mod DartOrder
 pub mod Growing
 pub mod GrownFaces
+pub mod LeastRoutes
 pub mod Lengthening
 pub mod Members
 pub mod NewDarts
