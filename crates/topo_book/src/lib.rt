@@ -1,0 +1,13 @@
+//! A picture with its history, for one thread.
+//!
+//! A `Book` holds the picture that it began with, the picture now, the prices and every call that was
+//! answered, refusals too. Each call is a step: it does what the definitions of `topo_core` say and
+//! its entry is the last of the history, or memory is wanted and nothing has changed. So the history
+//! is legal from the start, each picture on the way is lawful, and the picture now is the replay.
+#![tactic(auto)]
+
+mod book;
+mod replies;
+mod steps;
+
+pub use book::Book;
