@@ -31,8 +31,8 @@ module _ (price : Pricing) (promise : KeepsPromise price) (rows : Rows) (good : 
       let positive = promise.positive cost.2.facts cost.0 cost.2.asked in
       let total = cost.4 in
       let back : SameFace (system rows) c (dart_twin y) → ⊥ = λ same.
-          let short = shortest ys cost.1 (begins_anywhere ys c (dart_twin y) d c_in same walk.1) cost.3 in
-          omega arith
+      let short = shortest ys cost.1 (begins_anywhere ys c (dart_twin y) d c_in same walk.1) cost.3 in
+      omega arith
       in
       (back, comes_never_back ys (dart_twin y) c d n cost.1 c_in shortest walk.1 cost.3 (omega arith))
 
@@ -42,8 +42,8 @@ module _ (price : Pricing) (promise : KeepsPromise price) (rows : Rows) (good : 
   shortest_meets_once (x ∷ xs) c d n c_in shortest walk cost =
       let total = cost.4 in
       let later : IsShortest (dart_twin x) d cost.1 = λ ys m other paid.
-          let whole = shortest (x ∷ ys) (cost.0 + m) (walk.0, other) (cost.0, m, cost.2, paid, refl) in
-          omega arith
+      let whole = shortest (x ∷ ys) (cost.0 + m) (walk.0, other) (cost.0, m, cost.2, paid, refl) in
+      omega arith
       in
       (comes_never_back (x ∷ xs) c c d n n c_in shortest walk cost (omega arith), shortest_meets_once xs (dart_twin x) d cost.1 (twin_in rows x (face_stays rows good c x c_in walk.0)) later walk.1 cost.3)
 
@@ -52,6 +52,6 @@ module _ (price : Pricing) (promise : KeepsPromise price) (rows : Rows) (good : 
   least_is_simple u v r n least =
       let route = least.priced.route in
       let shortest : IsShortest route.from route.to n = λ ys m walk cost. least.least (record r { crossed = ys }) m
-          (record { route = record { from = route.from; to = route.to; starts = route.starts; ends = route.ends; walk = walk }; cost = cost })
+      (record { route = record { from = route.from; to = route.to; starts = route.starts; ends = route.ends; walk = walk }; cost = cost })
       in
       record { route = route; once = shortest_meets_once r.crossed route.from route.to n (corner_in rows good u r.start route.from route.starts) shortest route.walk least.priced.cost }

@@ -4,6 +4,7 @@ pub mod Connection
 pub mod Counting
 pub mod DartLaws
 pub mod DartOrder
+pub mod Determined
 pub mod Growing
 pub mod GrownFaces
 pub mod LeastRoutes
@@ -14,6 +15,7 @@ pub mod Numbering
 pub mod Orbits
 pub mod Renumbering
 pub mod RouteDarts
+pub mod RouteOrder
 pub mod ShownForm
 pub mod ShownRows
 pub mod SimpleRoutes
