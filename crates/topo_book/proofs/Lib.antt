@@ -1,1 +1,2 @@
-pub mod Replaying
+pub mod Histories
+pub mod Wrong

@@ -1,11 +1,12 @@
 //! Replies that are told and entered, and copies of them.
 
-ghost use Rattle.std.specs.Prelude.{◌≡◌, IfOk};
+ghost use Rattle.std.specs.Prelude.{◌≡◌, ◌↔◌, IfOk, IsTrue};
 
 use std::alloc::{AllocError, Global};
 use topo_core::calls::{Refusal, Reply};
+use topo_core::darts::Dart;
 use topo_core::listed::Listed;
-use topo_core::routes::Route;
+use topo_core::routes::{Inserted, Route};
 
 /// One reply twice: as the caller is told it, and as the history keeps it.
 #[derive(Drop)]
@@ -35,4 +36,45 @@ pub(crate) fn copy_route(alloc: Global, route: &Route) -> Result<Route, AllocErr
         crossed: Listed::from_vec(crossed),
         end: route.end,
     })
+}
+
+/// Whether two lists of darts are equal.
+fn same_darts(a: &[Dart], b: &[Dart]) -> bool
+    ensures { IsTrue result ↔ (a.now ≡ b.now) }
+{
+    a == b
+}
+
+/// Whether two routes are equal.
+fn same_route(a: &Route, b: &Route) -> bool
+    ensures { IsTrue result ↔ (a.now ≡ b.now) }
+{
+    let crossed = same_darts(a.crossed.as_slice(), b.crossed.as_slice());
+    crossed && a.start == b.start && a.end == b.end
+}
+
+/// Whether two insertions are equal.
+fn same_insertion(a: &Inserted, b: &Inserted) -> bool
+    ensures { IsTrue result ↔ (a.now ≡ b.now) }
+{
+    a.id == b.id && a.price == b.price && same_route(&a.route, &b.route)
+}
+
+/// Whether two replies are equal.
+pub(crate) fn same_reply(a: &Reply, b: &Reply) -> bool
+    ensures { IsTrue result ↔ (a.now ≡ b.now) }
+{
+    match (a, b) {
+        (
+            Reply::Grown { vertex, edge },
+            Reply::Grown {
+                vertex: other_vertex,
+                edge: other_edge,
+            },
+        ) => vertex == other_vertex && edge == other_edge,
+        (Reply::Inserted(made), Reply::Inserted(other)) => same_insertion(made, other),
+        (Reply::Deleted(edge), Reply::Deleted(other)) => edge == other,
+        (Reply::Refused(why), Reply::Refused(other)) => why == other,
+        _ => false,
+    }
 }

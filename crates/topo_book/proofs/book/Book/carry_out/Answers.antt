@@ -3,7 +3,7 @@ use Rattle.std.specs.Arc.{arc_value}
 use Rattle.topo_core.specs.declared.calls.Entry.{Entry}
 use Rattle.topo_core.specs.Steps.{Step}
 use Rattle.topo_price.specs.Prices.{prices_of}
-use Rattle.topo_book.proofs.Replaying.{book_lawful, book_steps}
+use Rattle.topo_book.proofs.Histories.{book_lawful, book_steps}
 use Rattle.topo_book.proofs.book.Book.carry_out.Goals as goal
 
 pub take_step-requires : goal.take_step-requires

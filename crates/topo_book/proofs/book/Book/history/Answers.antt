@@ -2,7 +2,7 @@ use Rattle.std.proofs.Common.{subst}
 use Rattle.topo_core.specs.History.{Replays}
 use Rattle.topo_price.specs.Prices.{prices_of}
 use Rattle.topo_book.specs.Books.{BookState, ReplaysLawfully}
-use Rattle.topo_book.proofs.Replaying.{book_replays}
+use Rattle.topo_book.proofs.Histories.{book_replays}
 use Rattle.topo_book.proofs.book.Book.history.Goals as goal
 
 pub returns-clause-legal : goal.returns-clause-legal

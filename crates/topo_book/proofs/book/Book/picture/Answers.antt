@@ -1,7 +1,7 @@
 use Rattle.std.proofs.Common.{subst}
 use Rattle.topo_picture.specs.Shown.{IsPicture}
 use Rattle.topo_book.specs.Books.{BookState}
-use Rattle.topo_book.proofs.Replaying.{book_lawful}
+use Rattle.topo_book.proofs.Histories.{book_lawful}
 use Rattle.topo_book.proofs.book.Book.picture.Goals as goal
 
 pub returns-clause-lawful : goal.returns-clause-lawful
