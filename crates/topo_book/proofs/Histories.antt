@@ -1,5 +1,5 @@
 -- Histories that grow at their end, and the books that keep them.
-use Rattle.std.proofs.Common.{◌≡◌, List, [], ◌∷◌, ◌++◌, refl, sym, subst, ◌∙◌}
+use Rattle.std.proofs.Common.{◌≡◌, List, [], ◌∷◌, ◌++◌, Option, Some, None, IfSome, refl, sym, subst, ◌∙◌}
 use Rattle.topo_core.specs.declared.rows.Rows.{Rows}
 use Rattle.topo_core.specs.declared.limits.Limits.{Limits}
 use Rattle.topo_core.specs.declared.calls.Entry.{Entry}
@@ -7,7 +7,7 @@ use Rattle.topo_core.specs.Routes.{Pricing}
 use Rattle.topo_core.specs.Steps.{Step}
 use Rattle.topo_core.specs.History.{Replays}
 use Rattle.topo_picture.specs.Shown.{Shown, IsPicture}
-use Rattle.topo_book.specs.Books.{ReplaysLawfully, IsBook}
+use Rattle.topo_book.specs.Books.{BookState, CanFollow, IsBook, IsNext, NextState, ReplaysLawfully, picture_after}
 
 module _ (price : Pricing) (limits : Limits) where
   pub replays : (entries : List Entry) (p q : Rows) → ReplaysLawfully price limits p entries q → Replays price limits p entries q
@@ -48,3 +48,13 @@ module _ (price : Pricing) (start picture : Shown) (history : List Entry) (book 
             (subst (λ (l : Limits). Step price l picture.rows entry.call entry.reply next.rows) book.same_limits step)
             (subst (λ (l : Limits). IsPicture l next.rows) same good);
       }
+
+-- what was made ready makes a book of a book
+pub book_follows : {F : Type 0} (price : Pricing) (book : BookState F) (next : NextState) → IsBook price book.start book.history book.picture → IsNext next.entry next.picture
+    → CanFollow price book next → IsBook price book.start (book.history ++ next.entry ∷ []) (picture_after next.picture book.picture)
+book_follows price book next is_book is_next follows =
+    book_steps price book.start book.picture book.history is_book (picture_after next.picture book.picture) next.entry follows.step follows.same_limits
+    (lawful_after next.picture is_next.lawful) where
+      lawful_after : (after : Option Shown) → IfSome after (λ p. IsPicture p.limits p.rows) → IsPicture (picture_after after book.picture).limits (picture_after after book.picture).rows
+      lawful_after (Some p) good = good
+      lawful_after None good = book_lawful price book.start book.picture book.history is_book

@@ -2,6 +2,7 @@
 
 ghost use Rattle.std.specs.Arc.{arc_value};
 
+use crate::next::{Next, make_next};
 use crate::steps::take_step;
 use std::alloc::{AllocError, Global};
 use std::marker::Model;
@@ -48,7 +49,7 @@ impl<F: Asks> Book<F> {
     ghost use Rattle.topo_core.specs.declared.calls.Reply.TheVariants.{Refused};
     ghost use Rattle.topo_picture.specs.Shown.{IsPicture};
     ghost use Rattle.topo_price.specs.Prices.{prices_of};
-    ghost use Rattle.topo_book.specs.Books.{IsSameBook, IsUnchanged, ReplaysLawfully};
+    ghost use Rattle.topo_book.specs.Books.{CanFollow, IsSameBook, IsUnchanged, ReplaysLawfully, picture_after};
 
     /// The book that begins with this picture and no entry.
     pub fn new(alloc: Global, start: Picture, tariff: Arc<Tariff<F>>) -> Result<Self, AllocError>
@@ -170,6 +171,67 @@ impl<F: Asks> Book<F> {
         ensures same_book { IsSameBook self.old self.new }
     {
         self.carry_out(alloc, caller, Call::Grow { u, position, kind }, None)
+    }
+
+    /// Makes a call ready to be entered, on a copy of the picture, with the place of its entry
+    /// reserved. The book is as it was, whatever the answer.
+    pub fn prepare(&mut self, alloc: Global, caller: u32, call: Call) -> Result<Next, AllocError>
+        ensures entry { IfOk result (λ n. (n.entry.caller ≡ caller) × (n.entry.call ≡ call)) }
+        ensures ready { IfOk result (CanFollow (prices_of (F.answers self.new.tariff)) self.new) }
+        ensures unchanged { IsUnchanged self.old self.new }
+        ensures same_book { IsSameBook self.old self.new }
+    {
+        self.make_ready(alloc, caller, call, None)
+    }
+
+    /// As `prepare` of an insertion, whatever the plan: its route is taken where the plan passes the
+    /// check on the picture now, which spares the search.
+    pub fn prepare_planned(
+        &mut self,
+        alloc: Global,
+        caller: u32,
+        u: u32,
+        v: u32,
+        kind: u32,
+        plan: &Plan,
+    ) -> Result<Next, AllocError>
+        ensures entry { IfOk result (λ n. (n.entry.caller ≡ caller) × (n.entry.call ≡ Insert u v kind)) }
+        ensures ready { IfOk result (CanFollow (prices_of (F.answers self.new.tariff)) self.new) }
+        ensures unchanged { IsUnchanged self.old self.new }
+        ensures same_book { IsSameBook self.old self.new }
+    {
+        self.make_ready(alloc, caller, Call::Insert { u, v, kind }, Some(plan))
+    }
+
+    /// Enters what was made ready. It takes no memory.
+    pub fn commit(&mut self, next: Next)
+        requires { CanFollow (prices_of (F.answers self.old.tariff)) self.old next }
+        ensures entered { self.new.history ≡ self.old.history ++ next.entry ∷ [] }
+        ensures picture { self.new.picture ≡ picture_after next.picture self.old.picture }
+        ensures same_book { IsSameBook self.old self.new }
+    {
+        let (entry, picture) = next.into_parts();
+        self.history.push_reserved(entry);
+        if let Some(picture) = picture {
+            self.picture = picture;
+        }
+    }
+
+    /// Makes the call ready on a copy of the picture.
+    fn make_ready(
+        &mut self,
+        alloc: Global,
+        caller: u32,
+        call: Call,
+        plan: Option<&Plan>,
+    ) -> Result<Next, AllocError>
+        ensures entry { IfOk result (λ n. (n.entry.caller ≡ caller) × (n.entry.call ≡ call)) }
+        ensures ready { IfOk result (CanFollow (prices_of (F.answers self.new.tariff)) self.new) }
+        ensures unchanged { IsUnchanged self.old self.new }
+        ensures same_book { IsSameBook self.old self.new }
+    {
+        self.history.reserve(1)?;
+        make_next(alloc, &self.picture, &self.tariff, caller, call, plan)
     }
 
     /// Carries the call out and enters it. Whatever fails, fails before anything changes.

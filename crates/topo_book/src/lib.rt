@@ -8,9 +8,11 @@
 #![tactic(auto)]
 
 mod book;
+mod next;
 mod replaying;
 mod replies;
 mod steps;
 
 pub use book::Book;
+pub use next::Next;
 pub use replaying::{ReplayFault, replay};
