@@ -176,7 +176,8 @@ impl<F: Asks> Book<F> {
     /// Makes a call ready to be entered, on a copy of the picture, with the place of its entry
     /// reserved. The book is as it was, whatever the answer.
     pub fn prepare(&mut self, alloc: Global, caller: u32, call: Call) -> Result<Next, AllocError>
-        ensures entry { IfOk result (λ n. (n.entry.caller ≡ caller) × (n.entry.call ≡ call)) }
+        ensures caller { IfOk result (λ n. n.entry.caller ≡ caller) }
+        ensures call { IfOk result (λ n. n.entry.call ≡ call) }
         ensures ready { IfOk result (CanFollow (prices_of (F.answers self.new.tariff)) self.new) }
         ensures unchanged { IsUnchanged self.old self.new }
         ensures same_book { IsSameBook self.old self.new }
@@ -195,7 +196,8 @@ impl<F: Asks> Book<F> {
         kind: u32,
         plan: &Plan,
     ) -> Result<Next, AllocError>
-        ensures entry { IfOk result (λ n. (n.entry.caller ≡ caller) × (n.entry.call ≡ Insert u v kind)) }
+        ensures caller { IfOk result (λ n. n.entry.caller ≡ caller) }
+        ensures call { IfOk result (λ n. n.entry.call ≡ Insert u v kind) }
         ensures ready { IfOk result (CanFollow (prices_of (F.answers self.new.tariff)) self.new) }
         ensures unchanged { IsUnchanged self.old self.new }
         ensures same_book { IsSameBook self.old self.new }
@@ -225,7 +227,8 @@ impl<F: Asks> Book<F> {
         call: Call,
         plan: Option<&Plan>,
     ) -> Result<Next, AllocError>
-        ensures entry { IfOk result (λ n. (n.entry.caller ≡ caller) × (n.entry.call ≡ call)) }
+        ensures caller { IfOk result (λ n. n.entry.caller ≡ caller) }
+        ensures call { IfOk result (λ n. n.entry.call ≡ call) }
         ensures ready { IfOk result (CanFollow (prices_of (F.answers self.new.tariff)) self.new) }
         ensures unchanged { IsUnchanged self.old self.new }
         ensures same_book { IsSameBook self.old self.new }

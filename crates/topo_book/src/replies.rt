@@ -1,10 +1,11 @@
 //! Replies that are told and entered, and copies of them.
 
-ghost use Rattle.std.specs.Prelude.{◌≡◌, ◌↔◌, IfOk, IsTrue};
+ghost use Rattle.std.specs.Prelude.{◌≡◌, ◌↔◌, Err, IfErr, IfOk, IsErr, IsTrue};
 
 use std::alloc::{AllocError, Global};
 use topo_core::calls::{Refusal, Reply};
 use topo_core::darts::Dart;
+use topo_core::ids::{EdgeId, VertexId};
 use topo_core::listed::Listed;
 use topo_core::routes::{Inserted, Route};
 
@@ -23,6 +24,38 @@ pub(crate) fn refused(why: Refusal) -> Answer
     Answer {
         told: Reply::Refused(why),
         entered: Reply::Refused(why),
+    }
+}
+
+/// What a growth is answered.
+pub(crate) fn growth_answer(made: Result<(VertexId, EdgeId), Refusal>) -> Result<Answer, AllocError>
+    ensures grown { IfOk made (λ m. IfOk result (λ answer. answer.entered ≡ Reply.Grown m.0 m.1)) }
+    ensures refused { IfErr made (λ why. IfOk result (λ answer. answer.entered ≡ Reply.Refused why)) }
+    ensures memory { IsErr result ↔ (made ≡ Err Refusal.Memory) }
+{
+    match made {
+        Ok((vertex, edge)) => Ok(Answer {
+            told: Reply::Grown { vertex, edge },
+            entered: Reply::Grown { vertex, edge },
+        }),
+        Err(Refusal::Memory) => Err(AllocError),
+        Err(why) => Ok(refused(why)),
+    }
+}
+
+/// What a deletion is answered.
+pub(crate) fn deletion_answer(edge: u32, made: Result<(), Refusal>) -> Result<Answer, AllocError>
+    ensures deleted { IfOk made (λ _. IfOk result (λ answer. answer.entered ≡ Reply.Deleted edge)) }
+    ensures refused { IfErr made (λ why. IfOk result (λ answer. answer.entered ≡ Reply.Refused why)) }
+    ensures memory { IsErr result ↔ (made ≡ Err Refusal.Memory) }
+{
+    match made {
+        Ok(()) => Ok(Answer {
+            told: Reply::Deleted(EdgeId::new(edge)),
+            entered: Reply::Deleted(EdgeId::new(edge)),
+        }),
+        Err(Refusal::Memory) => Err(AllocError),
+        Err(why) => Ok(refused(why)),
     }
 }
 

@@ -3,14 +3,13 @@
 ghost use Rattle.std.specs.Prelude.{◌≡◌, IfOk, OnErr, None};
 ghost use Rattle.topo_core.specs.Routes.{IsFirst};
 ghost use Rattle.topo_core.specs.Steps.{Step, insert_refusal};
-ghost use Rattle.topo_core.specs.declared.calls.Call.TheVariants.{Grow, Insert, Delete};
+ghost use Rattle.topo_core.specs.declared.calls.Call.TheVariants.{Insert};
 ghost use Rattle.topo_price.specs.Prices.{prices_of};
 ghost use Rattle.topo_picture.specs.Shown.{IsPicture};
 
-use crate::replies::{Answer, copy_route, refused};
+use crate::replies::{Answer, copy_route, deletion_answer, growth_answer, refused};
 use std::alloc::{AllocError, Global};
 use topo_core::calls::{Call, Refusal, Reply};
-use topo_core::ids::EdgeId;
 use topo_core::routes::Inserted;
 use topo_picture::Picture;
 use topo_price::tariff::{Asks, Tariff};
@@ -90,54 +89,6 @@ fn insert_first<F: Asks>(
     }
 }
 
-/// Grows a vertex.
-fn grow_vertex<F: Asks>(
-    alloc: Global,
-    picture: &mut Picture,
-    tariff: &Tariff<F>,
-    u: u32,
-    position: u32,
-    kind: u32,
-) -> Result<Answer, AllocError>
-    ensures step { IfOk result (λ answer. Step (prices_of (F.answers tariff.now)) picture.old.limits picture.old.rows (Grow u position kind) answer.entered picture.new.rows) }
-    ensures same_limits { picture.new.limits ≡ picture.old.limits }
-    ensures lawful { IsPicture picture.new.limits picture.new.rows }
-    ensures unchanged { OnErr result (picture.new ≡ picture.old) }
-{
-    let _ = tariff;
-    match picture.grow(alloc, u, position, kind) {
-        Ok((vertex, edge)) => Ok(Answer {
-            told: Reply::Grown { vertex, edge },
-            entered: Reply::Grown { vertex, edge },
-        }),
-        Err(Refusal::Memory) => Err(AllocError),
-        Err(why) => Ok(refused(why)),
-    }
-}
-
-/// Takes an edge out.
-fn delete_edge<F: Asks>(
-    alloc: Global,
-    picture: &mut Picture,
-    tariff: &Tariff<F>,
-    edge: u32,
-) -> Result<Answer, AllocError>
-    ensures step { IfOk result (λ answer. Step (prices_of (F.answers tariff.now)) picture.old.limits picture.old.rows (Delete edge) answer.entered picture.new.rows) }
-    ensures same_limits { picture.new.limits ≡ picture.old.limits }
-    ensures lawful { IsPicture picture.new.limits picture.new.rows }
-    ensures unchanged { OnErr result (picture.new ≡ picture.old) }
-{
-    let _ = tariff;
-    match picture.delete(alloc, edge) {
-        Ok(()) => Ok(Answer {
-            told: Reply::Deleted(EdgeId::new(edge)),
-            entered: Reply::Deleted(EdgeId::new(edge)),
-        }),
-        Err(Refusal::Memory) => Err(AllocError),
-        Err(why) => Ok(refused(why)),
-    }
-}
-
 /// Carries the call out in place. An insertion takes the plan's route where the plan passes the check.
 /// Whatever fails, fails before the picture changes.
 pub(crate) fn take_step<F: Asks>(
@@ -154,8 +105,8 @@ pub(crate) fn take_step<F: Asks>(
     ensures unchanged { OnErr result (picture.new ≡ picture.old) }
 {
     match call {
-        Call::Grow { u, position, kind } => grow_vertex(alloc, picture, tariff, u, position, kind),
+        Call::Grow { u, position, kind } => growth_answer(picture.grow(alloc, u, position, kind)),
         Call::Insert { u, v, kind } => insert_first(alloc, picture, tariff, u, v, kind, plan),
-        Call::Delete { edge } => delete_edge(alloc, picture, tariff, edge),
+        Call::Delete { edge } => deletion_answer(edge, picture.delete(alloc, edge)),
     }
 }
