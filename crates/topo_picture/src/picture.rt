@@ -113,7 +113,8 @@ impl Picture {
 
     /// An equal picture: the same rows and limits.
     pub fn copy(&self, alloc: Global) -> Result<Self, AllocError>
-        ensures { IfOk result (λ p. p ≡ self.now) }
+        ensures equal { IfOk result (λ p. p ≡ self.now) }
+        ensures lawful { IsPicture self.now.limits self.now.rows }
     {
         let rows = copy_rows(alloc, &self.rows)?;
         Ok(Picture {
