@@ -30,3 +30,4 @@ pub mod DeletedTurns
 pub mod DeletedSegments
 pub mod DeletedCollapse
 pub mod DeletedLawful
+pub mod DeletedPicture
