@@ -8,7 +8,7 @@ use Rattle.topo_core.specs.declared.darts.Way.{Way}
 use Rattle.topo_core.specs.declared.darts.Way.TheVariants.{Forward, Back}
 use Rattle.topo_core.specs.declared.rows.EdgeRow.{EdgeRow}
 use Rattle.topo_core.specs.declared.rows.Rows.{Rows}
-use Rattle.topo_core.specs.Cycles.{IsPermutation, SameCycle, cycle_count, map_of}
+use Rattle.topo_core.specs.Cycles.{IsPermutation, SameCycle, is_met, cycle_count, map_of}
 use Rattle.topo_core.specs.Rotations.{Joined, face_next, twin}
 use Rattle.topo_core.specs.Systems.{Connected, SameFace, darts_in, has_dart, turn}
 use Rattle.topo_core.specs.Picture.{darts, edge_at, edge_row, end_dart, face_count, index_of, rotation, system, turn_images}
@@ -18,7 +18,7 @@ use Rattle.topo_core.specs.Deletions.{HidesTurns}
 use Rattle.topo_core.specs.Openings.{Bares, JoinsOpened, is_opened, opened_turn}
 use Rattle.topo_core.proofs.BarePoints.{bares}
 use Rattle.topo_core.proofs.OpenedDarts.{joins_opened, rest_face_darts, rest_face_numbers}
-use Rattle.topo_core.proofs.Orbits.{SameCycle-sym}
+use Rattle.topo_core.proofs.Orbits.{SameCycle-is_met, SameCycle-sym, is_met-SameCycle, search_below}
 use Rattle.topo_core.proofs.Renumbering.{darts_connected, numbers_connected}
 use Rattle.topo_core.proofs.SystemDarts.{edge_at_row}
 use Rattle.topo_perm.specs.Cuts.{IsElsewhere}
@@ -258,3 +258,27 @@ module _ (q : Rows) (e : ℕ) (row : EdgeRow) (good : IsWellFormed q) (known : e
         apart_after = apart_after i which;
         whole_before = whole_before i cut.on_path cut.two_faces_before;
       }
+
+  -- ---- A cut by faces, or none
+
+  same_face_test : (i : ℕ) → i ≤ final → (is_met (face_next (at i)) size (half i) (twin (half i)) ≡ true → HasOneFace q e i) × (is_met (face_next (at i)) size (half i) (twin (half i)) ≡ false → HasOneFace q e i → ⊥)
+  same_face_test i hi = (
+    λ w. has_one_face i hi (is_met-SameCycle (face_next (at i)) size (half i) (twin (half i)) w),
+    λ w s. false≢true (sym w ∙ SameCycle-is_met (face_next (at i)) size (face_next-permutation (at i) size (o.permutation i) o.even) (half i) (twin (half i))
+        (number_less q good (seg i Forward) (segment_in q e row good known p hides i Forward hi)) (one_face i hi s)),
+  )
+
+  pub local_or_none : ((i : ℕ) × IsLocalCut q e i) ⊎ ((i : ℕ) → i ≤ final → HasOneFace q e i → ⊥)
+  local_or_none = elim (search_below (λ i. is_met (face_next (at i)) size (half i) (twin (half i))) (final + 1)) [
+    | inl w ↦
+        let hi : w.0 ≤ final = (let k = w.1 in omega arith) in
+        inl (
+          w.0,
+          record {
+            on_path = hi;
+            one_face = (same_face_test w.0 hi).0 w.2.here;
+            two_faces_before = λ j lj s. (same_face_test j (omega (arith, hi, lj))).1 (w.2.before j lj) s;
+          },
+        )
+    | inr none ↦ inr (λ i hi s. (same_face_test i hi).1 (none i (omega (arith, hi))) s)
+  ]

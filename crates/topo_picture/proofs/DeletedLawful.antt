@@ -2,7 +2,7 @@
 use Rattle.std.proofs.Common.{◌≡◌, ◌≢◌, ℕ, zero, suc, ◌+◌, ◌*◌, ◌/◌, ◌%◌, ◌<◌, ◌≤◌, ◌==◌, Bool, true, false, ◌||◌, List, [], ◌∷◌, length, is_some, ◌⊎◌, inl, inr, refl, sym, ◌∙◌, ap, subst, arith}
 use Rattle.std.specs.Prelude.{Option, Some, slice_index_or, sum_by}
 use Rattle.std.specs.List.{list_any}
-use Rattle.std.proofs.lemmas.Bool.{eq-eqb, eqb-true, cond-true, cond-false}
+use Rattle.std.proofs.lemmas.Bool.{cases_eq, eq-eqb, eqb-true, cond-true, cond-false}
 use Rattle.topo_core.specs.declared.darts.Dart.{Dart}
 use Rattle.topo_core.specs.declared.darts.Way.TheVariants.{Forward, Back}
 use Rattle.topo_core.specs.declared.limits.Limits.{Limits}
@@ -23,7 +23,7 @@ use Rattle.topo_perm.proofs.Collapses.{Collapses}
 use Rattle.topo_perm.proofs.Stages.{left_after}
 use Rattle.topo_picture.proofs.AlonePoints.{end_there, only_edge, only_ends, only_turn}
 use Rattle.topo_picture.proofs.DeletedCollapse.{collapse}
-use Rattle.topo_picture.proofs.DeletedCuts.{EndFacts, Whole, local_cut_is_cut, whole}
+use Rattle.topo_picture.proofs.DeletedCuts.{EndFacts, Whole, local_or_none, local_cut_is_cut, whole}
 use Rattle.topo_picture.proofs.DeletedOpening.{count, first_half, opened_by, slab_all}
 use Rattle.topo_picture.proofs.DeletedSegments.{collapsed}
 use Rattle.topo_picture.proofs.InsertedNumbers.{dart_of}
@@ -110,3 +110,24 @@ module _ (rows : Rows) (good : IsWellFormed rows) (e : ℕ) (row : EdgeRow) (kno
 
     pub no_cut : ((i : ℕ) → i ≤ length (edge_at rows e).crossings → HasOneFace rows e i → ⊥) → (i : ℕ) → IsCut rows e i → ⊥
     no_cut none i cut = cut.falls_apart (whole rows e row good known (without rows e) good_p hides ends connected genus name onto collapses none).connected_without
+
+    -- the first segment without which it falls apart is determined
+    one_cut : (i j : ℕ) → IsCut rows e i → IsCut rows e j → i ≡ j
+    one_cut i j a b = elim (cases_eq i j) [
+      | inl same ↦ same
+      | inr ne ↦ elim (less_or_more i j ne) [
+        | inl less ↦ absurd (a.apart_after (b.whole_before i less))
+        | inr more ↦ absurd (b.apart_after (a.whole_before j more))
+      ]
+    ] where
+      less_or_more : (i j : ℕ) → i ≢ j → (i < j) ⊎ (j < i)
+      less_or_more zero zero ne = absurd (ne refl)
+      less_or_more zero (suc j) ne = inl (omega arith)
+      less_or_more (suc i) zero ne = inr (omega arith)
+      less_or_more (suc i) (suc j) ne = elim (less_or_more i j (λ w. ne (ap suc w))) [ inl l ↦ inl (omega (arith, l)) | inr l ↦ inr (omega (arith, l)) ]
+
+    pub cut_is_by_faces : (i : ℕ) → IsCut rows e i → IsLocalCut rows e i
+    cut_is_by_faces i cut = elim (local_or_none rows e row good known (without rows e) good_p hides ends connected genus name onto collapses) [
+      | inl w ↦ subst (IsLocalCut rows e) (one_cut w.0 i (cut_by_faces w.0 w.1) cut) w.1
+      | inr none ↦ absurd (no_cut none i cut)
+    ]

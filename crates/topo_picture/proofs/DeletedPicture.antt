@@ -9,7 +9,7 @@ use Rattle.topo_core.specs.Changes.{HasOneFace, IsCut, IsLocalCut, without}
 use Rattle.topo_core.specs.Picture.{edge_at, edge_row, segment_count}
 use Rattle.topo_core.proofs.SystemDarts.{some_of}
 use Rattle.topo_picture.specs.Shown.{IsPicture, Shown}
-use Rattle.topo_picture.proofs.DeletedLawful.{cut_by_faces, no_cut, whole_without}
+use Rattle.topo_picture.proofs.DeletedLawful.{cut_by_faces, cut_is_by_faces, no_cut, whole_without}
 use Rattle.topo_picture.proofs.WithoutCounts.{vertices_without}
 
 pub found_listed : (e : ℕ) (edges : List EdgeRow) → is_some (find (λ row. row.id == e) edges) ≡ list_any (λ row. row.id == e) edges
@@ -37,6 +37,9 @@ module _ (limits : Limits) (rows : Rows) (e : ℕ) (is : IsPicture limits rows) 
 
   pub cut_of_picture : (i : ℕ) → IsLocalCut rows e i → IsCut rows e i
   cut_of_picture = cut_by_faces rows is.lawful.embedding.well_formed e (some_of (edge_row rows e) there).0 (some_of (edge_row rows e) there).1 is.lawful.embedding.connected is.lawful.genus_zero
+
+  pub local_of_picture : (i : ℕ) → IsCut rows e i → IsLocalCut rows e i
+  local_of_picture = cut_is_by_faces rows is.lawful.embedding.well_formed e (some_of (edge_row rows e) there).0 (some_of (edge_row rows e) there).1 is.lawful.embedding.connected is.lawful.genus_zero
 
 -- ---- What is found
 

@@ -38,7 +38,10 @@ pub returns-in-Ok-Some-clause-refused : goal.returns-in-Ok-Some-clause-refused
 returns-in-Ok-Some-clause-refused c =
     let there : is_some (edge_row c.self.inside.rows c.args.edge) ≡ true = sym c.has_edge.ensures ∙ c.if-not-has_edge.false in
     let cut : IsLocalCut c.self.inside.rows c.args.edge c.in-Ok-Some.segment =
-        found_some c.in-Ok-Some.field-0 (HasNoCut c.self.inside.rows c.args.edge) (IsLocalCut c.self.inside.rows c.args.edge) c.in-Ok-Some.segment c.in-Ok-Some.ensures c.in-Ok-Some.field-0-is in
-    inr (inl (c.in-Ok-Some.segment, refl,
+    found_some c.in-Ok-Some.field-0 (HasNoCut c.self.inside.rows c.args.edge) (IsLocalCut c.self.inside.rows c.args.edge) c.in-Ok-Some.segment c.in-Ok-Some.ensures c.in-Ok-Some.field-0-is in
+    inr (inl (
+      c.in-Ok-Some.segment,
+      refl,
       in_view c.self.inside.limits c.self.inside.rows c.args.self.now c.self.view_is (λ rows. is_some (edge_row rows c.args.edge) ≡ true) there,
-      in_view c.self.inside.limits c.self.inside.rows c.args.self.now c.self.view_is (λ rows. IsCut rows c.args.edge c.in-Ok-Some.segment) (cut_of_picture c.self.inside.limits c.self.inside.rows c.args.edge c.self.invariant there c.in-Ok-Some.segment cut)))
+      in_view c.self.inside.limits c.self.inside.rows c.args.self.now c.self.view_is (λ rows. IsCut rows c.args.edge c.in-Ok-Some.segment) (cut_of_picture c.self.inside.limits c.self.inside.rows c.args.edge c.self.invariant there c.in-Ok-Some.segment cut),
+    ))
