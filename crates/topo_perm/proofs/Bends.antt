@@ -1,10 +1,9 @@
 -- New points of degree two on segments of a rotation system, taken out one after another: what stays is that system under other numbers.
-use Rattle.std.proofs.Common.{◌≡◌, ◌≢◌, ℕ, suc, ◌+◌, ◌%◌, ◌<◌, ◌==◌, Bool, true, false, cond, List, [], ◌∷◌, ◌⊎◌, inl, inr, refl, sym, ◌∙◌, ap, subst, arith}
+use Rattle.std.proofs.Common.{◌≡◌, ◌≢◌, ℕ, ◌%◌, ◌<◌, ◌==◌, Bool, true, false, cond, List, [], ◌∷◌, inl, inr, refl, sym, ◌∙◌, ap, subst, arith}
 use Rattle.std.specs.List.{AllByRecursion}
 use Rattle.std.proofs.lemmas.Bool.{cases_eq, cond-true, cond-false, eq-eqb, ne_eqb}
 use Rattle.topo_core.specs.Cycles.{IsPermutation, SameCycle}
 use Rattle.topo_core.specs.Rotations.{twin, face_next}
-use Rattle.topo_core.specs.Edits.{IsSplit}
 use Rattle.topo_perm.specs.Edits.{IsApart, IsAllowedSplit, IsAllowedSmooth, Leads}
 use Rattle.topo_perm.specs.Joins.{AddsSegment, IsConnectedAmong}
 use Rattle.topo_perm.specs.Live.{IsSlab, live_cycle_count}
@@ -331,7 +330,7 @@ record IsFirstStep (b : ℕ → ℕ) (n : ℕ) (f : ℕ → ℕ) (m : ℕ) (name
 first_step : (b : ℕ → ℕ) (n : ℕ) (f : ℕ → ℕ) (m : ℕ) (name : ℕ → ℕ) (k : Bend) → IsNamed b n f m name → IsBend b n m name k → IsFirstStep b n f m name k
 first_step b n f m name k named i =
     let led : Leads (λ g. IsAllowedSmooth b g n k.beyond) = smooth_is_possible b n k.beyond named.permutation named.even i.beyond_there
-        (ap b i.onto ∙ i.round) (λ w. i.two (sym w ∙ i.onto)) (λ w. i.near_apart (twin-apart k.near k.beyond (sym i.onto ∙ w))) in
+    (ap b i.onto ∙ i.round) (λ w. i.two (sym w ∙ i.onto)) (λ w. i.near_apart (twin-apart k.near k.beyond (sym i.onto ∙ w))) in
     record {
       c = led.turn;
       smooth = led.edit;
@@ -348,7 +347,7 @@ one_bend_more live b c e n f m name k ks s o h r w =
     let old : ℕ → Bool = with_bends live ks in
     let new : ℕ → Bool = with_segment old k.beyond in
     let here : IsWithin n ks k.beyond = all_both (AreOnOthers m k) (IsBend b n m name) (λ l. IsApart n k.beyond l.beyond)
-        (λ l u v. beyond_apart b n m name k l s.named.turn_even s.bend u v) ks o (all_bends b n m name ks h) in
+    (λ l u v. beyond_apart b n m name k l s.named.turn_even s.bend u v) ks o (all_bends b n m name ks h) in
     let here_twin : IsWithin n ks (twin k.beyond) = all_map (λ l. IsApart n k.beyond l.beyond) (λ l. IsApart n (twin k.beyond) l.beyond) (λ l u. twin_apart n k.beyond l.beyond s.named.even u) ks here in
     let adds : AddsSegment old new n k.beyond = adds_segment old n k.beyond (dead_bends live n ks k.beyond r.0.0 here) (dead_bends live n ks (twin k.beyond) r.0.1 here_twin) in
     let alive : old k.near ≡ true = live_bends live ks k.near r.0.2 in
@@ -402,41 +401,50 @@ straighten b n f m name (k ∷ ks) named h straight =
       near = (rest.unbent k.dart k_unbent ∙ near_k ∙ sym h.3, rest.near);
       fresh = λ y u w. rest.fresh y (fresh_after b c n f m name k s y (λ e. w.0 (sym e)) (λ d ld ne. u d ld))
           w.1;
-      within = λ d ld. (record {
-        within = rest.named.within d ld;
-        not_self = rest.fresh k.beyond (fresh_after b c n f m name k s k.beyond i.two (λ e le ne. i.new e le))
-            (all_map (AreOnOthers m k) (λ l. twin l.near ≢ k.beyond) (λ l o e. o.back_beyond (sym e)) ks h.1) d ld;
-        not_twin = rest.fresh (twin k.beyond) (fresh_after b c n f m name k s (twin k.beyond) (λ w. apart_twins b c n f m name k s (sym w)) (λ e le ne. not_twin_beyond b c n f m name k s e le ne))
-            (all_map (IsBend b n m name) (λ l. twin l.near ≢ twin k.beyond) (λ l j e. j.new_back (twin k.dart) (twin-within m k.dart named.turn_even i.there) (i.other_end ∙ sym e)) ks others) d ld;
-      }, rest.within d ld);
+      within = λ d ld. (
+        record {
+          within = rest.named.within d ld;
+          not_self = rest.fresh k.beyond (fresh_after b c n f m name k s k.beyond i.two (λ e le ne. i.new e le))
+              (all_map (AreOnOthers m k) (λ l. twin l.near ≢ k.beyond) (λ l o e. o.back_beyond (sym e)) ks h.1) d ld;
+          not_twin = rest.fresh (twin k.beyond) (fresh_after b c n f m name k s (twin k.beyond) (λ w. apart_twins b c n f m name k s (sym w)) (λ e le ne. not_twin_beyond b c n f m name k s e le ne))
+              (all_map (IsBend b n m name) (λ l. twin l.near ≢ twin k.beyond) (λ l j e. j.new_back (twin k.dart) (twin-within m k.dart named.turn_even i.there) (i.other_end ∙ sym e)) ks others) d ld;
+        },
+        rest.within d ld,
+      );
       alone = λ y ly e u. rest.alone y ly (step_alone b c n f m name k s y ly e u)
           (fresh_after b c n f m name k s y (λ w. i.two (sym i.round ∙ ap b (sym w) ∙ e ∙ w)) (λ d ld ne. u d ld));
       beyond_alone = (
-        (rest.alone k.beyond i.beyond_there s.split.edit.isolated.this (fresh_after b c n f m name k s k.beyond i.two (λ d ld ne. i.new d ld)),
+        (
+          rest.alone k.beyond i.beyond_there s.split.edit.isolated.this (fresh_after b c n f m name k s k.beyond i.two (λ d ld ne. i.new d ld)),
           rest.alone (twin k.beyond) (twin-within n k.beyond named.even i.beyond_there) s.split.edit.isolated.other
-          (fresh_after b c n f m name k s (twin k.beyond) (λ w. apart_twins b c n f m name k s (sym w)) (λ d ld ne. not_twin_beyond b c n f m name k s d ld ne))),
-        rest.beyond_alone);
+              (fresh_after b c n f m name k s (twin k.beyond) (λ w. apart_twins b c n f m name k s (sym w)) (λ d ld ne. not_twin_beyond b c n f m name k s d ld ne)),
+        ),
+        rest.beyond_alone,
+      );
       bent = λ live slab r. one_bend_more live b c rest.bottom n f m name k ks s h.1 h.2 r
           (rest.bent live slab r.1);
       kept = λ a e u w. split_keeps_faces c b n k.near k.beyond a e s.split u.0 (rest.kept a e u.1 w);
       back = λ a e u v w. rest.back a e u.1 v.1 (smooth_keeps_faces b c n k.beyond a e first.smooth u.0 v.0 w);
-      sides = (split_sides c b n k.near k.beyond s.split,
-        all_sides b c n f m name k ks s h.1 others (all_nears b n m name ks h.2) rest.sides);
+      sides = (
+        split_sides c b n k.near k.beyond s.split,
+        all_sides b c n f m name k ks s h.1 others (all_nears b n m name ks h.2) rest.sides,
+      );
     } where
-  all_sides : (b c : ℕ → ℕ) (n : ℕ) (f : ℕ → ℕ) (m : ℕ) (name : ℕ → ℕ) (k : Bend) (ls : List Bend) → IsStep b c n f m name k → AllByRecursion (AreOnOthers m k) ls → AllByRecursion (IsBend b n m name) ls → AllByRecursion (λ l. l.near ≡ name l.dart) ls
-      → AllByRecursion (λ l. SameCycle (face_next c) l.near l.beyond × SameCycle (face_next c) (twin l.beyond) (twin l.near)) ls
-      → AllByRecursion (λ l. SameCycle (face_next b) l.near l.beyond × SameCycle (face_next b) (twin l.beyond) (twin l.near)) ls
-  all_sides b c n f m name k [] s o i e h = h
-  all_sides b c n f m name k (l ∷ ls) s o i e h =
-      let near : IsApart n l.near k.beyond = record {
-        within = i.0.near_there;
-        not_self = λ w. s.bend.new l.dart i.0.there (sym e.0 ∙ w);
-        not_twin = λ w. not_twin_beyond b c n f m name k s l.dart i.0.there o.0.dart.not_twin (sym e.0 ∙ w);
-      } in
-      let far : IsApart n (twin l.beyond) k.beyond = record {
-        within = twin-within n l.beyond s.named.even i.0.beyond_there;
-        not_self = λ w. s.bend.new (twin l.dart) (twin-within m l.dart s.named.turn_even i.0.there) (i.0.other_end ∙ w);
-        not_twin = λ w. o.0.beyond (twin-apart l.beyond k.beyond w);
-      } in
-      ((split_keeps_faces c b n k.near k.beyond l.near l.beyond s.split near h.0.0, split_keeps_faces c b n k.near k.beyond (twin l.beyond) (twin l.near) s.split far h.0.1),
-        all_sides b c n f m name k ls s o.1 i.1 e.1 h.1)
+      all_sides : (b c : ℕ → ℕ) (n : ℕ) (f : ℕ → ℕ) (m : ℕ) (name : ℕ → ℕ) (k : Bend) (ls : List Bend) → IsStep b c n f m name k → AllByRecursion (AreOnOthers m k) ls → AllByRecursion (IsBend b n m name) ls → AllByRecursion (λ l. l.near ≡ name l.dart) ls
+          → AllByRecursion (λ l. SameCycle (face_next c) l.near l.beyond × SameCycle (face_next c) (twin l.beyond) (twin l.near)) ls
+          → AllByRecursion (λ l. SameCycle (face_next b) l.near l.beyond × SameCycle (face_next b) (twin l.beyond) (twin l.near)) ls
+      all_sides b c n f m name k [] s o i e h = h
+      all_sides b c n f m name k (l ∷ ls) s o i e h =
+          let near : IsApart n l.near k.beyond = record {
+            within = i.0.near_there;
+            not_self = λ w. s.bend.new l.dart i.0.there (sym e.0 ∙ w);
+            not_twin = λ w. not_twin_beyond b c n f m name k s l.dart i.0.there o.0.dart.not_twin (sym e.0 ∙ w);
+          } in
+          let far : IsApart n (twin l.beyond) k.beyond = record {
+            within = twin-within n l.beyond s.named.even i.0.beyond_there;
+            not_self = λ w. s.bend.new (twin l.dart) (twin-within m l.dart s.named.turn_even i.0.there) (i.0.other_end ∙ w);
+            not_twin = λ w. o.0.beyond (twin-apart l.beyond k.beyond w);
+          } in (
+            (split_keeps_faces c b n k.near k.beyond l.near l.beyond s.split near h.0.0, split_keeps_faces c b n k.near k.beyond (twin l.beyond) (twin l.near) s.split far h.0.1),
+            all_sides b c n f m name k ls s o.1 i.1 e.1 h.1,
+          )

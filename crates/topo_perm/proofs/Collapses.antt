@@ -1,17 +1,17 @@
 -- A system whose segments are drawn with points of degree two on them: it has the faces and the connections of the system itself.
-use Rattle.std.proofs.Common.{◌≡◌, ◌≢◌, ℕ, zero, suc, ◌+◌, ◌%◌, ◌<◌, Bool, true, false, List, [], ◌∷◌, ◌⊎◌, inl, inr, refl, sym, ◌∙◌, ap, subst, arith}
+use Rattle.std.proofs.Common.{◌≡◌, ℕ, zero, suc, ◌%◌, ◌<◌, Bool, true, false, List, [], ◌∷◌, ◌⊎◌, inl, inr, refl, sym, ◌∙◌, ap, subst}
 use Rattle.std.proofs.lemmas.Bool.{cases_Bool, false≢true}
 use Rattle.topo_core.specs.Cycles.{IsPermutation, SameCycle, after, cycle_count, is_met}
-use Rattle.topo_core.specs.Rotations.{Joined, Move, along, face_next, moved, twin}
+use Rattle.topo_core.specs.Rotations.{Joined, Move, along, face_next, twin}
 use Rattle.topo_core.specs.Rotations.Move.{Turn, Cross}
 use Rattle.topo_core.proofs.Orbits.{SameCycle-is_met, SameCycle-refl, SameCycle-step, SameCycle-sym, SameCycle-trans, is_met-SameCycle}
 use Rattle.topo_perm.specs.Joins.{IsConnectedAmong}
 use Rattle.topo_perm.specs.Live.{IsSlab, live_cycle_count}
 use Rattle.topo_perm.specs.Renumbering.{IsEquivalence}
 use Rattle.topo_perm.proofs.Cuts.{Joined-back}
-use Rattle.topo_perm.proofs.Live.{CarriesLive, live_class_count-carries}
+use Rattle.topo_perm.proofs.Live.{live_class_count-carries}
 use Rattle.topo_perm.proofs.Faces.{twin-twin}
-use Rattle.topo_perm.proofs.Walks.{Joined-SameCycle, Joined-crossed, Joined-refl, Joined-trans, Joined-turned, face_next-permutation, twin-within}
+use Rattle.topo_perm.proofs.Walks.{Joined-crossed, Joined-refl, Joined-trans, Joined-turned, face_next-permutation, twin-within}
 
 -- the live darts of t are those of f under their names, and darts at points of degree two on the segments of f. `onto` gives each the dart of f that it is part of
 pub record Collapses (t : ℕ → ℕ) (n : ℕ) (live : ℕ → Bool) (f : ℕ → ℕ) (m : ℕ) (name onto : ℕ → ℕ) : Type 0 where
@@ -184,11 +184,12 @@ module _ (t : ℕ → ℕ) (n : ℕ) (live : ℕ → Bool) (f : ℕ → ℕ) (m 
       let on : Joined t twin (name d) (name (face_next f d)) = Joined-SameCycle-faces (name d) (name (face_next f d)) (c.forth d ld) in
       let back : Joined t twin (name (twin d)) (name (face_next f d)) = subst (λ (w : ℕ). Joined t twin (name (twin d)) w) (c.named_turns (twin d) lt) (Joined-turned t twin (name (twin d)) (name (twin d)) (Joined-refl t twin (name (twin d)))) in
       Joined-trans t twin (name d) (name (face_next f d)) (name (twin d)) on (Joined-back t n c.slab.permutation c.slab.even (name (twin d)) (name (face_next f d)) (c.within (twin d) lt) back) where
-    steps_joined : (k a : ℕ) → Joined t twin a (after (face_next t) k a)
-    steps_joined zero a = Joined-refl t twin a
-    steps_joined (suc k) a = Joined-turned t twin a (twin (after (face_next t) k a)) (Joined-crossed t twin a (after (face_next t) k a) (steps_joined k a))
-    Joined-SameCycle-faces : (a b : ℕ) → SameCycle (face_next t) a b → Joined t twin a b
-    Joined-SameCycle-faces a b s = subst (λ (w : ℕ). Joined t twin a w) s.leads (steps_joined s.steps a)
+        steps_joined : (k a : ℕ) → Joined t twin a (after (face_next t) k a)
+        steps_joined zero a = Joined-refl t twin a
+        steps_joined (suc k) a = Joined-turned t twin a (twin (after (face_next t) k a)) (Joined-crossed t twin a (after (face_next t) k a) (steps_joined k a))
+
+        Joined-SameCycle-faces : (a b : ℕ) → SameCycle (face_next t) a b → Joined t twin a b
+        Joined-SameCycle-faces a b s = subst (λ (w : ℕ). Joined t twin a w) s.leads (steps_joined s.steps a)
 
   face_joined : (k a : ℕ) → Joined t twin a (after (face_next t) k a)
   face_joined zero a = Joined-refl t twin a

@@ -1,12 +1,11 @@
 -- Chords in different faces, drawn one after another: each parts its face, and no other is parted.
-use Rattle.std.proofs.Common.{◌≡◌, ◌≢◌, ℕ, suc, ◌+◌, ◌%◌, ◌<◌, ◌==◌, Bool, true, false, ◌||◌, List, [], ◌∷◌, length, ◌⊎◌, inl, inr, refl, sym, ◌∙◌, ap, subst, arith}
+use Rattle.std.proofs.Common.{◌≡◌, ◌≢◌, ℕ, ◌+◌, ◌%◌, ◌<◌, ◌==◌, Bool, true, false, ◌||◌, List, [], ◌∷◌, length, inl, inr, refl, sym, ◌∙◌, ap, subst, arith}
 use Rattle.std.specs.List.{AllByRecursion}
 use Rattle.std.proofs.lemmas.Bool.{cases_eq, eq-eqb, ne_eqb}
 use Rattle.topo_core.specs.Cycles.{IsPermutation, IsBypass, SameCycle}
 use Rattle.topo_core.specs.Rotations.{twin, face_next}
-use Rattle.topo_core.specs.Edits.{IsIsolated}
 use Rattle.topo_core.proofs.Orbits.{SameCycle-sym}
-use Rattle.topo_perm.specs.Edits.{IsApart, AreTurns, IsAllowedChord, IsAllowedUnchord}
+use Rattle.topo_perm.specs.Edits.{IsApart, IsAllowedChord, IsAllowedUnchord}
 use Rattle.topo_perm.specs.Joins.{AddsSegment, IsConnectedAmong}
 use Rattle.topo_perm.specs.Live.{IsSlab, live_cycle_count}
 use Rattle.topo_perm.specs.LiveEdits.{GrowsSlab}

@@ -1,21 +1,16 @@
 -- A path of chords across bends: a new edge drawn through the faces of a rotation system, from corner to corner.
-use Rattle.std.proofs.Common.{◌≡◌, ◌≢◌, ℕ, suc, zero, ◌+◌, ◌%◌, ◌<◌, ◌==◌, Bool, true, false, cond, ◌||◌, List, [], ◌∷◌, length, ◌⊎◌, ◌↔◌, inl, inr, refl, sym, ◌∙◌, ap, subst, arith}
+use Rattle.std.proofs.Common.{◌≡◌, ℕ, suc, zero, ◌%◌, ◌<◌, ◌==◌, Bool, true, cond, ◌||◌, List, [], ◌∷◌, ◌⊎◌, inl, inr, refl, sym, ◌∙◌, ap, subst, arith}
 use Rattle.std.specs.List.{AllByRecursion}
-use Rattle.std.proofs.lemmas.Bool.{cases_Bool, cases_eq, cond-true, cond-false, eq-eqb, ne_eqb, eqb-true, false≢true}
-use Rattle.topo_core.specs.Cycles.{IsPermutation, SameCycle, cycle_count, some_below}
-use Rattle.topo_core.specs.Rotations.{Joined, twin, face_next}
+use Rattle.std.proofs.lemmas.Bool.{cases_Bool, cases_eq, cond-true, cond-false, eq-eqb, eqb-true, false≢true}
+use Rattle.topo_core.specs.Cycles.{IsPermutation, SameCycle, some_below}
+use Rattle.topo_core.specs.Rotations.{twin, face_next}
 use Rattle.topo_core.specs.Items.{IsIn}
-use Rattle.topo_core.proofs.Orbits.{SameCycle-refl, SameCycle-sym, SameCycle-trans, some_below-true, some_below-false}
+use Rattle.topo_core.proofs.Orbits.{some_below-true}
 use Rattle.topo_perm.specs.Edits.{IsApart}
-use Rattle.topo_perm.specs.Joins.{IsConnectedAmong}
-use Rattle.topo_perm.specs.Live.{IsSlab, live_cycle_count}
-use Rattle.topo_perm.specs.Renumbering.{IsRenumbering, IsCarried, Renumbers, RenumbersTurn}
-use Rattle.topo_perm.proofs.Walks.{twin-within, face_next-permutation}
-use Rattle.topo_perm.proofs.Faces.{twin-twin, twin-apart, twin-other}
+use Rattle.topo_perm.proofs.Faces.{twin-other}
 use Rattle.topo_perm.proofs.Splitting.{without, without-self, without-onward, without-elsewhere}
-use Rattle.topo_perm.proofs.Renumbered.{renumbered_same_cycle, renumbered_cycles, renumbered_faces, renumbered_connected}
-use Rattle.topo_perm.proofs.Links.{Link, IsLink, AreLinks, AreReady, AreInFaces, AreUnlinked, IsUnlinked, half_unlinked, twin_unlinked, links_stay, without_link, without_link-other, link_permutation, apart_twin, Drawn, draw, without_links, with_links, live_links, with_segment, all_map}
-use Rattle.topo_perm.proofs.Bends.{dead_bends, Bend, IsBend, AreBends, AreBendable, AreOnOthers, Bent, IsNamed, IsStraight, IsUnbent, IsWithin, Straightened, straighten, with_bends, live_bends, all_bends, all_both}
+use Rattle.topo_perm.proofs.Links.{Link, AreLinks, AreUnlinked, IsUnlinked, half_unlinked, twin_unlinked, links_stay, without_link, without_link-other, link_permutation, apart_twin, without_links, all_map}
+use Rattle.topo_perm.proofs.Bends.{Bend, AreBends, IsNamed, IsStraight, IsUnbent}
 
 -- ---- Numbers that are names
 
@@ -49,7 +44,7 @@ is_named-of name m d ld = some_below-true (λ e. name e == name d) m d ld (eq-eq
 
 pub all_at : {X : Type 0} (P : X → Type 0) (x : X) (xs : List X) → AllByRecursion P xs → IsIn x xs → P x
 all_at P x [] h i = elim i [ ]
-all_at P x (y ∷ ys) h i = elim i [ | inl e ↦ subst P (sym e) h.0 | inr j ↦ all_at P x ys h.1 j ]
+all_at P x (y ∷ ys) h i = elim i [ inl e ↦ subst P (sym e) h.0 | inr j ↦ all_at P x ys h.1 j ]
 
 -- every item of a list
 pub all_of : {X : Type 0} (P : X → Type 0) (xs : List X) → ((x : X) → IsIn x xs → P x) → AllByRecursion P xs
@@ -134,9 +129,10 @@ links_alone g n (k ∷ ks) l even h i = elim i [
       let half : ℕ → ℕ = without g (twin k.half) in
       let u : IsUnlinked n ks k.half = half_unlinked n k ks h.0.there h.1 in
       let at_twin : half (twin k.half) ≡ twin k.half = without-self g (twin k.half) (twin k.half) refl in
-      subst (λ (v : Link). (without_links g (k ∷ ks) v.half ≡ v.half) × (without_links g (k ∷ ks) (twin v.half) ≡ twin v.half)) (sym e)
-      (fixed_stays (without_link g k) n ks k.half (without-self half k.half k.half refl) u,
-        fixed_stays (without_link g k) n ks (twin k.half) (without-elsewhere half k.half (twin k.half) (twin-other k.half) (λ w. twin-other k.half (sym at_twin ∙ w)) ∙ at_twin) (twin_unlinked n ks k.half even u))
+      subst (λ (v : Link). (without_links g (k ∷ ks) v.half ≡ v.half) × (without_links g (k ∷ ks) (twin v.half) ≡ twin v.half)) (sym e) (
+        fixed_stays (without_link g k) n ks k.half (without-self half k.half k.half refl) u,
+        fixed_stays (without_link g k) n ks (twin k.half) (without-elsewhere half k.half (twin k.half) (twin-other k.half) (λ w. twin-other k.half (sym at_twin ∙ w)) ∙ at_twin) (twin_unlinked n ks k.half even u),
+      )
   | inr j ↦ links_alone (without_link g k) n ks l even (links_stay g n k ks even h.1 h.2) j
 ]
 

@@ -1,5 +1,5 @@
 -- Along a passage each link makes one face more, and what hung together does so.
-use Rattle.std.proofs.Common.{◌≡◌, ◌≢◌, ℕ, suc, ◌+◌, ◌%◌, ◌<◌, ◌==◌, Bool, true, false, List, [], ◌∷◌, length, ◌⊎◌, ◌↔◌, inl, inr, refl, sym, ◌∙◌, ap, subst, arith}
+use Rattle.std.proofs.Common.{◌≡◌, ◌≢◌, ℕ, ◌+◌, ◌%◌, ◌<◌, ◌==◌, Bool, true, false, List, [], ◌∷◌, length, ◌⊎◌, inl, inr, refl, sym, ◌∙◌, ap, subst, arith}
 use Rattle.std.specs.List.{AllByRecursion}
 use Rattle.std.proofs.lemmas.Bool.{cases_Bool, eqb-true, ne_eqb, false≢true}
 use Rattle.topo_core.specs.Cycles.{IsPermutation, SameCycle, cycle_count}
@@ -7,15 +7,14 @@ use Rattle.topo_core.specs.Rotations.{Joined, twin, face_next}
 use Rattle.topo_core.specs.Items.{IsIn}
 use Rattle.topo_core.proofs.Orbits.{SameCycle-refl, SameCycle-sym, SameCycle-trans, some_below-false}
 use Rattle.topo_perm.specs.Edits.{IsApart}
-use Rattle.topo_perm.specs.Joins.{IsConnectedAmong}
 use Rattle.topo_perm.specs.Live.{IsSlab, live_cycle_count}
 use Rattle.topo_perm.specs.Renumbering.{RenumbersTurn, Renumbers}
 use Rattle.topo_perm.proofs.Walks.{twin-within, face_next-permutation}
 use Rattle.topo_perm.proofs.Faces.{twin-twin, twin-apart}
 use Rattle.topo_perm.proofs.Renumbered.{renumbered_same_cycle, renumbered_cycles, renumbered_faces, renumbered_connected}
-use Rattle.topo_perm.proofs.Links.{Link, IsLink, AreLinks, AreReady, AreInFaces, Drawn, draw, without_links, with_links, live_links, with_self, with_twin, with_old, with_segment, all_map}
-use Rattle.topo_perm.proofs.Bends.{Bend, IsBend, AreBends, AreBendable, Bent, IsNamed, IsUnbent, IsWithin, Straightened, straighten, with_bends, live_bends, dead_bends, all_bends, all_both}
-use Rattle.topo_perm.proofs.Passages.{find_below, found_below, is_named, named_by, is_named-of, all_at, bent_or_not, AreAlong, Walks, MeetsOnce, AreStrange, IsPlaced, IsPassage, all_of, links_alone}
+use Rattle.topo_perm.proofs.Links.{Link, AreReady, AreInFaces, Drawn, draw, without_links, with_links, live_links, with_self, with_twin, with_old, all_map}
+use Rattle.topo_perm.proofs.Bends.{Bend, IsBend, AreBendable, Bent, IsNamed, IsWithin, Straightened, straighten, with_bends, live_bends, dead_bends, all_bends}
+use Rattle.topo_perm.proofs.Passages.{find_below, found_below, is_named, named_by, is_named-of, all_at, bent_or_not, AreAlong, Walks, MeetsOnce, AreStrange, IsPassage, all_of, links_alone}
 
 -- ---- The system below is f under other numbers
 
@@ -74,8 +73,8 @@ slab_below g n f m name c ks e ls p s =
     let i : AllByRecursion (IsBend b n m name) ks = all_bends b n m name ks p.bends in
     let live : ℕ → Bool = is_named s.names m in
     let up : (a : ℕ) → live a ≡ true → live (twin a) ≡ true = λ a h.
-        let (d, ld, at) = named_by s.names m a h in
-        subst (λ (v : ℕ). live v ≡ true) (s.twins d ld ∙ ap twin at) (is_named-of s.names m (twin d) (twin-within m d s.named.turn_even ld)) in
+    let (d, ld, at) = named_by s.names m a h in
+    subst (λ (v : ℕ). live v ≡ true) (s.twins d ld ∙ ap twin at) (is_named-of s.names m (twin d) (twin-within m d s.named.turn_even ld)) in
     record {
       permutation = s.named.permutation;
       even = s.named.even;
@@ -123,7 +122,8 @@ bendable : (b : ℕ → ℕ) (n : ℕ) (f : ℕ → ℕ) (m : ℕ) (name : ℕ �
 bendable b n f m name ks i s = bendable_of (is_named s.names m) name ks (all_of (λ k. (is_named s.names m k.beyond ≡ false) × (is_named s.names m (twin k.beyond) ≡ false) × (is_named s.names m k.near ≡ true)) ks (λ k h. (
   not_named s.names m k.beyond (λ d ld. (all_at (λ l. IsApart n (s.names d) l.beyond) k ks (s.within d ld) h).not_self),
   not_named s.names m (twin k.beyond) (λ d ld. (all_at (λ l. IsApart n (s.names d) l.beyond) k ks (s.within d ld) h).not_twin),
-  subst (λ (v : ℕ). is_named s.names m v ≡ true) (all_at (λ l. s.names l.dart ≡ l.near) k ks s.near h) (is_named-of s.names m k.dart (all_at (IsBend b n m name) k ks i h).there))))
+  subst (λ (v : ℕ). is_named s.names m v ≡ true) (all_at (λ l. s.names l.dart ≡ l.near) k ks s.near h) (is_named-of s.names m k.dart (all_at (IsBend b n m name) k ks i h).there),
+)))
 
 -- with the bends each name is live, and each dart at a bend
 beyond_live : (live : ℕ → Bool) (ks : List Bend) (k : Bend) → IsIn k ks → (with_bends live ks k.beyond ≡ true) × (with_bends live ks (twin k.beyond) ≡ true)
@@ -170,11 +170,10 @@ half_dead g n f m name c ks e ls o s l h =
       within = twin-within n l.half s.named.even w.beyond.within;
       not_self = λ v. w.beyond.not_twin (sym (twin-twin l.half) ∙ ap twin v);
       not_twin = λ v. w.beyond.not_self (twin-apart l.half k.beyond v);
-    }) ks strange in
-    (
+    }) ks strange in (
       dead_bends (is_named s.names m) n ks l.half (not_named s.names m l.half (s.fresh l.half (λ d ld. (new d ld).not_self) (all_map (AreStrange n name l) (λ k. twin k.near ≢ l.half) (λ k w v. w.back.not_self (sym v)) ks strange))) near,
       dead_bends (is_named s.names m) n ks (twin l.half) (not_named s.names m (twin l.half) (s.fresh (twin l.half) (λ d ld. (new d ld).not_twin)
-      (all_map (AreStrange n name l) (λ k. twin k.near ≢ twin l.half) (λ k w v. w.back.not_twin (sym (twin-twin l.half) ∙ ap twin (sym v))) ks strange))) far,
+          (all_map (AreStrange n name l) (λ k. twin k.near ≢ twin l.half) (λ k w v. w.back.not_twin (sym (twin-twin l.half) ∙ ap twin (sym v))) ks strange))) far,
     )
 
 -- ---- The faces of the links
@@ -236,22 +235,27 @@ far_links : (b : ℕ → ℕ) (n : ℕ) (f : ℕ → ℕ) (m : ℕ) (name names 
     → (z c : ℕ) (ks : List Bend) (e : ℕ) (ls : List Link) → AreAlong name z ks e ls → c < m → LiesAt b names z c → (SameCycle (face_next f) a c → ⊥)
     → AllByRecursion (λ k. SameCycle (face_next f) a (twin k.dart) → ⊥) ks → AllByRecursion (GoodBend b m name names) ks → AllByRecursion (λ l. SameCycle (face_next b) y l.from → ⊥) ls
 far_links b n f m name names h y a ly la at z c [] e [] along lc lies out outs good = tt
-far_links b n f m name names h y a ly la at z c [] e (l ∷ []) along lc lies out outs good = (λ w. out (h.uncarried a c la lc
-    (SameCycle-trans (face_next b) (names a) y (names c) (SameCycle-sym (face_next b) n h.permutation y (names a) ly at)
-    (SameCycle-trans (face_next b) y z (names c) (subst (λ (v : ℕ). SameCycle (face_next b) y v) along.0 w) lies))), tt)
+far_links b n f m name names h y a ly la at z c [] e (l ∷ []) along lc lies out outs good = (
+  λ w. out (h.uncarried a c la lc
+      (SameCycle-trans (face_next b) (names a) y (names c) (SameCycle-sym (face_next b) n h.permutation y (names a) ly at)
+      (SameCycle-trans (face_next b) y z (names c) (subst (λ (v : ℕ). SameCycle (face_next b) y v) along.0 w) lies))),
+  tt,
+)
 far_links b n f m name names h y a ly la at z c [] e (l ∷ (j ∷ ls)) along lc lies out outs good = elim along [ ]
 far_links b n f m name names h y a ly la at z c (k ∷ ks) e [] along lc lies out outs good = tt
-far_links b n f m name names h y a ly la at z c (k ∷ ks) e (l ∷ ls) along lc lies out outs good = (λ w. out (h.uncarried a c la lc
-    (SameCycle-trans (face_next b) (names a) y (names c) (SameCycle-sym (face_next b) n h.permutation y (names a) ly at)
-    (SameCycle-trans (face_next b) y z (names c) (subst (λ (v : ℕ). SameCycle (face_next b) y v) along.0 w) lies))),
-  far_links b n f m name names h y a ly la at (twin k.near) (twin k.dart) ks e ls along.2 (twin-within m k.dart h.even good.0.there) (next_lies b m name names k good.0) outs.0 outs.1 good.1)
+far_links b n f m name names h y a ly la at z c (k ∷ ks) e (l ∷ ls) along lc lies out outs good = (
+  λ w. out (h.uncarried a c la lc
+      (SameCycle-trans (face_next b) (names a) y (names c) (SameCycle-sym (face_next b) n h.permutation y (names a) ly at)
+      (SameCycle-trans (face_next b) y z (names c) (subst (λ (v : ℕ). SameCycle (face_next b) y v) along.0 w) lies))),
+  far_links b n f m name names h y a ly la at (twin k.near) (twin k.dart) ks e ls along.2 (twin-within m k.dart h.even good.0.there) (next_lies b m name names k good.0) outs.0 outs.1 good.1,
+)
 
 in_faces : (b : ℕ → ℕ) (n : ℕ) (f : ℕ → ℕ) (m : ℕ) (name names : ℕ → ℕ) → AreFacesAbove b n f m name names → (z c : ℕ) (ks : List Bend) (e : ℕ) (ls : List Link) → AreAlong name z ks e ls → z < n → c < m → e < m → LiesAt b names z c
     → Walks f c ks e → MeetsOnce f c ks → AllByRecursion (GoodBend b m name names) ks → AllByRecursion (λ k. twin k.near < n) ks → AreInFaces b ls
 in_faces b n f m name names h z c [] e [] along lz lc le lies walk once good within = tt
 in_faces b n f m name names h z c [] e (l ∷ []) along lz lc le lies walk once good within =
     let there : SameCycle (face_next b) z (name e) = SameCycle-trans (face_next b) z (names c) (name e) lies
-        (SameCycle-trans (face_next b) (names c) (names e) (name e) (h.carried c e lc le walk) (SameCycle-sym (face_next b) n h.permutation (name e) (names e) (h.name_within e le) (h.at_name e le))) in
+    (SameCycle-trans (face_next b) (names c) (names e) (name e) (h.carried c e lc le walk) (SameCycle-sym (face_next b) n h.permutation (name e) (names e) (h.name_within e le) (h.at_name e le))) in
     (subst (λ (v : ℕ). SameCycle (face_next b) v l.to) (sym along.0) (subst (λ (v : ℕ). SameCycle (face_next b) z v) (sym along.1) there), tt, tt)
 in_faces b n f m name names h z c [] e (l ∷ (j ∷ ls)) along lz lc le lies walk once good within = elim along [ ]
 in_faces b n f m name names h z c (k ∷ ks) e [] along lz lc le lies walk once good within = elim along [ ]
@@ -259,10 +263,9 @@ in_faces b n f m name names h z c (k ∷ ks) e (l ∷ ls) along lz lc le lies wa
     let lk : k.dart < m = good.0.there in
     let lt : twin k.dart < m = twin-within m k.dart h.even lk in
     let there : SameCycle (face_next b) z k.beyond = SameCycle-trans (face_next b) z (names c) k.beyond lies
-        (SameCycle-trans (face_next b) (names c) (names k.dart) k.beyond (h.carried c k.dart lc lk walk.0) (subst (λ (v : ℕ). SameCycle (face_next b) v k.beyond) (sym good.0.near) good.0.ahead)) in
+    (SameCycle-trans (face_next b) (names c) (names k.dart) k.beyond (h.carried c k.dart lc lk walk.0) (subst (λ (v : ℕ). SameCycle (face_next b) v k.beyond) (sym good.0.near) good.0.ahead)) in
     let next : LiesAt b names (twin k.near) (twin k.dart) = next_lies b m name names k good.0 in
-    let far : AllByRecursion (λ j. SameCycle (face_next b) z j.from → ⊥) ls = far_links b n f m name names h z c lz lc lies (twin k.near) (twin k.dart) ks e ls along.2 lt next once.0.0 once.0.1 good.1 in
-    (
+    let far : AllByRecursion (λ j. SameCycle (face_next b) z j.from → ⊥) ls = far_links b n f m name names h z c lz lc lies (twin k.near) (twin k.dart) ks e ls along.2 lt next once.0.0 once.0.1 good.1 in (
       subst (λ (v : ℕ). SameCycle (face_next b) v l.to) (sym along.0) (subst (λ (v : ℕ). SameCycle (face_next b) z v) (sym along.1) there),
       all_map (λ j. SameCycle (face_next b) z j.from → ⊥) (λ j. SameCycle (face_next b) l.from j.from → ⊥) (λ j w v. w (subst (λ (u : ℕ). SameCycle (face_next b) u j.from) along.0 v)) ls far,
       in_faces b n f m name names h (twin k.near) (twin k.dart) ks e ls along.2 within.0 lt le next walk.1 once.1 good.1 within.1,
@@ -314,11 +317,11 @@ passed g n f m name c ks e ls p =
     let above : AreFacesAbove b n f m name s.names = faces_above b n f m name ks p.named i s in
     let good : AllByRecursion (GoodBend b m name s.names) ks = good_bends b n f m name ks i s in
     let faces : AreInFaces b ls = in_faces b n f m name s.names above (name c) c ks e ls p.along (p.named.within c p.from_there) p.from_there p.to_there (above.at_name c p.from_there) p.walk p.once good
-        (all_map (IsBend b n m name) (λ k. twin k.near < n) (λ k w. twin-within n k.near even w.near_there) ks i) in
+    (all_map (IsBend b n m name) (λ k. twin k.near < n) (λ k w. twin-within n k.near even w.near_there) ks i) in
     let corners : AllByRecursion (λ l. (live l.from ≡ true) × (live l.to ≡ true)) ls = corners_live live m name (name c) ks e ls p.along (name_live b n f m name ks i s c p.from_there) (name_live b n f m name ks i s e p.to_there)
-        (all_of (λ k. (live k.beyond ≡ true) × (live (twin k.near) ≡ true)) ks (λ k h. ((beyond_live below ks k h).0, live_bends below ks (twin k.near) (back_live b n f m name ks i s k h)))) in
+    (all_of (λ k. (live k.beyond ≡ true) × (live (twin k.near) ≡ true)) ks (λ k h. ((beyond_live below ks k h).0, live_bends below ks (twin k.near) (back_live b n f m name ks i s k h)))) in
     let halves : AllByRecursion (λ l. (live l.half ≡ false) × (live (twin l.half) ≡ false)) ls = all_of (λ l. (live l.half ≡ false) × (live (twin l.half) ≡ false)) ls
-        (λ l h. half_dead g n f m name c ks e ls (record { p = p; s = s; i = i }) s l h) in
+    (λ l h. half_dead g n f m name c ks e ls (record { p = p; s = s; i = i }) s l h) in
     let d : Drawn live b g n ls = draw live g n ls p.permutation even p.links (ready_of live ls halves corners) faces bent.slab in
     let back : ℕ → ℕ = λ y. find_below (λ v. s.names v == y) m in
     let r : RenumbersTurn s.names back f s.bottom m below n = renumbers b n f m name ks s in

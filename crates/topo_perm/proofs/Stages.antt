@@ -1,16 +1,16 @@
 -- Segments taken out one after another, as long as each has two faces.
-use Rattle.std.proofs.Common.{◌≡◌, ◌≢◌, ℕ, zero, suc, ◌+◌, ◌*◌, ◌/◌, ◌%◌, ◌<◌, ◌≤◌, ◌==◌, Bool, true, false, ◌&&◌, ◌||◌, not, ◌⊎◌, ◌↔◌, inl, inr, refl, sym, ◌∙◌, ap, subst, arith}
+use Rattle.std.proofs.Common.{◌≡◌, ◌≢◌, ℕ, zero, suc, ◌+◌, ◌/◌, ◌%◌, ◌<◌, ◌≤◌, ◌==◌, Bool, true, false, ◌&&◌, ◌||◌, not, ◌⊎◌, inl, inr, refl, sym, ◌∙◌, ap, subst, arith}
 use Rattle.std.proofs.lemmas.Bool.{cases_eq, eq-eqb, ne_eqb, false≢true}
 use Rattle.topo_core.specs.Cycles.{IsPermutation, SameCycle, count_below, cycle_count}
 use Rattle.topo_core.specs.Rotations.{Joined, face_next, partly, twin}
 use Rattle.topo_core.specs.Edits.{IsUnchord}
-use Rattle.topo_perm.specs.Cuts.{HasGenusZero, IsElsewhere, IsSegmentOf, JoinedWithout, all_but}
+use Rattle.topo_perm.specs.Cuts.{IsElsewhere, JoinedWithout, all_but}
 use Rattle.topo_perm.specs.Edits.{IsApart, IsAllowedUnchord}
 use Rattle.topo_perm.specs.Joins.{AddsSegment, IsConnectedAmong}
 use Rattle.topo_perm.specs.Live.{IsSlab, free_segments, live_cycle_count, live_segments}
 use Rattle.topo_perm.specs.LiveEdits.{GrowsSlab, ShrinksSlab}
-use Rattle.topo_perm.proofs.Walks.{Joined-crossed, Joined-refl, Joined-turned, face_next-permutation, kept_joined, twin-within}
-use Rattle.topo_perm.proofs.Faces.{twin-twin, twin-other}
+use Rattle.topo_perm.proofs.Walks.{Joined-crossed, Joined-refl, Joined-turned, face_next-permutation, kept_joined}
+use Rattle.topo_perm.proofs.Faces.{twin-twin}
 use Rattle.topo_perm.proofs.Connecting.{unchord_connects}
 use Rattle.topo_perm.proofs.SlabEdits.{segments_grow, unchord_keeps_slab, unchord_live_faces, unchord_live_points}
 use Rattle.topo_perm.proofs.Slabs.{live_genus_zero_law, live_segments_law}
@@ -68,7 +68,8 @@ left_of h (suc i) a u = left_stays h i a (u i (omega arith)).0 (u i (omega arith
 segment_left : (t : ℕ → ℕ → ℕ) (n : ℕ) (h : ℕ → ℕ) (count : ℕ) → IsOpening t n h count → (i : ℕ) → i < count → (left_after h i (h i) ≡ true) × (left_after h i (twin (h i)) ≡ true)
 segment_left t n h count o i li = (
   left_of h i (h i) (λ j lj. ((o.apart j i lj li).not_self, (o.apart j i lj li).not_twin)),
-  left_of h i (twin (h i)) (λ j lj. (λ e. (o.apart j i lj li).not_twin (sym (twin-twin (h i)) ∙ ap twin e), λ e. (o.apart j i lj li).not_self (sym (twin-twin (h i)) ∙ ap twin e ∙ twin-twin (h j)))))
+  left_of h i (twin (h i)) (λ j lj. (λ e. (o.apart j i lj li).not_twin (sym (twin-twin (h i)) ∙ ap twin e), λ e. (o.apart j i lj li).not_self (sym (twin-twin (h i)) ∙ ap twin e ∙ twin-twin (h j)))),
+)
 
 step_adds : (t : ℕ → ℕ → ℕ) (n : ℕ) (h : ℕ → ℕ) (count : ℕ) → IsOpening t n h count → (i : ℕ) → i < count → AddsSegment (left_after h (suc i)) (left_after h i) n (h i)
 step_adds t n h count o i li = record {
@@ -126,7 +127,7 @@ parted t n h count o i li s one a b ea eb at_a at_b =
 -- ---- Segments put back
 
 twin-half : (h : ℕ) → twin h / 2 ≡ h / 2
-twin-half h = elim (halves h) [ | inl w ↦ omega (arith, w.0, w.1) | inr w ↦ omega (arith, w.0, w.1) ]
+twin-half h = elim (halves h) [ inl w ↦ omega (arith, w.0, w.1) | inr w ↦ omega (arith, w.0, w.1) ]
 
 -- not to cross a segment is to cross fewer
 crossed_more : (f : ℕ → ℕ) (h a b : ℕ) → JoinedWithout f h a b → Joined f twin a b

@@ -1,8 +1,8 @@
 -- The first segment of an edge with one face on both sides is the first without which the picture falls apart; where there is none, it stays whole.
-use Rattle.std.proofs.Common.{◌≡◌, ◌≢◌, ℕ, zero, suc, ◌+◌, ◌-◌, ◌/◌, ◌%◌, ◌<◌, ◌≤◌, ◌==◌, Bool, true, false, ◌&&◌, not, List, [], ◌∷◌, length, ◌⊎◌, ◌↔◌, inl, inr, refl, sym, ◌∙◌, ap, subst, arith}
+use Rattle.std.proofs.Common.{◌≡◌, ◌≢◌, ℕ, zero, suc, ◌+◌, ◌-◌, ◌/◌, ◌<◌, ◌≤◌, ◌==◌, Bool, true, false, ◌&&◌, not, List, [], ◌∷◌, length, ◌⊎◌, inl, inr, refl, sym, ◌∙◌, ap, subst, arith}
 use Rattle.std.specs.Prelude.{Some, nat_lt}
 use Rattle.std.specs.List.{list_any}
-use Rattle.std.proofs.lemmas.Bool.{cases_Bool, cases_eq, eq-eqb, false≢true, lt-ltb, ltb-true, ne_eqb}
+use Rattle.std.proofs.lemmas.Bool.{cases_Bool, eq-eqb, false≢true, lt-ltb, ltb-true, ne_eqb}
 use Rattle.topo_core.specs.declared.darts.Dart.{Dart}
 use Rattle.topo_core.specs.declared.darts.Way.{Way}
 use Rattle.topo_core.specs.declared.darts.Way.TheVariants.{Forward, Back}
@@ -10,17 +10,16 @@ use Rattle.topo_core.specs.declared.rows.EdgeRow.{EdgeRow}
 use Rattle.topo_core.specs.declared.rows.Rows.{Rows}
 use Rattle.topo_core.specs.Cycles.{IsPermutation, SameCycle, is_met, cycle_count, map_of}
 use Rattle.topo_core.specs.Rotations.{Joined, face_next, twin}
-use Rattle.topo_core.specs.Systems.{Connected, SameFace, darts_in, has_dart, turn}
+use Rattle.topo_core.specs.Systems.{Connected, darts_in, has_dart, turn}
 use Rattle.topo_core.specs.Picture.{darts, edge_at, edge_row, end_dart, face_count, index_of, rotation, system, turn_images}
 use Rattle.topo_core.specs.Changes.{HasOneFace, IsCut, IsLocalCut, opened, without}
 use Rattle.topo_core.specs.Lawful.{IsWellFormed}
 use Rattle.topo_core.specs.Deletions.{HidesTurns}
-use Rattle.topo_core.specs.Openings.{Bares, JoinsOpened, is_opened, opened_turn}
+use Rattle.topo_core.specs.Openings.{JoinsOpened, is_opened, opened_turn}
 use Rattle.topo_core.proofs.BarePoints.{bares}
 use Rattle.topo_core.proofs.OpenedDarts.{joins_opened, rest_face_darts, rest_face_numbers}
 use Rattle.topo_core.proofs.Orbits.{SameCycle-is_met, SameCycle-sym, is_met-SameCycle, search_below}
 use Rattle.topo_core.proofs.Renumbering.{darts_connected, numbers_connected}
-use Rattle.topo_core.proofs.SystemDarts.{edge_at_row}
 use Rattle.topo_perm.specs.Cuts.{IsElsewhere}
 use Rattle.topo_perm.specs.Edits.{IsApart}
 use Rattle.topo_perm.specs.Joins.{IsConnectedAmong}
@@ -28,8 +27,8 @@ use Rattle.topo_perm.proofs.Collapses.{Collapses, collapsed_back, collapsed_conn
 use Rattle.topo_perm.proofs.Faces.{twin-twin}
 use Rattle.topo_perm.proofs.Stages.{HaveTwoFaces, IsOpening, Stage, left_after, parted, put_back, stage}
 use Rattle.topo_perm.proofs.Walks.{face_next-permutation, twin-within}
-use Rattle.topo_picture.proofs.DeletedOpening.{LeadsOff, back_alone, left_dart, count, faces_shut, first_half, forward_alone, is_opening, last, left_turn, n, off_left, off_segment, opened_by, other_half, segment, segment_in, slab_all, turns_on}
-use Rattle.topo_picture.proofs.InsertedNumbers.{even_count, number_less}
+use Rattle.topo_picture.proofs.DeletedOpening.{back_alone, left_dart, count, faces_shut, first_half, forward_alone, is_opening, left_turn, off_left, off_segment, opened_by, other_half, segment_in, turns_on}
+use Rattle.topo_picture.proofs.InsertedNumbers.{number_less}
 use Rattle.topo_picture.proofs.Verdicts.{bare_points}
 
 abbrev is_bare : List ℕ → Bool

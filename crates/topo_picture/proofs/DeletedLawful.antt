@@ -1,22 +1,20 @@
 -- A picture without an edge of it: lawful where no segment of the edge has one face on both sides, and else cut at the first that has.
-use Rattle.std.proofs.Common.{◌≡◌, ◌≢◌, ℕ, zero, suc, ◌+◌, ◌*◌, ◌/◌, ◌%◌, ◌<◌, ◌≤◌, ◌==◌, Bool, true, false, ◌||◌, List, [], ◌∷◌, length, is_some, ◌⊎◌, inl, inr, refl, sym, ◌∙◌, ap, subst, arith}
-use Rattle.std.specs.Prelude.{Option, Some, slice_index_or, sum_by}
+use Rattle.std.proofs.Common.{◌≡◌, ◌≢◌, ℕ, zero, suc, ◌+◌, ◌*◌, ◌/◌, ◌<◌, ◌≤◌, ◌==◌, Bool, true, false, ◌||◌, List, [], ◌∷◌, length, is_some, ◌⊎◌, inl, inr, refl, sym, ◌∙◌, ap, subst, arith}
+use Rattle.std.specs.Prelude.{Some, slice_index_or, sum_by}
 use Rattle.std.specs.List.{list_any}
-use Rattle.std.proofs.lemmas.Bool.{cases_eq, eq-eqb, eqb-true, cond-true, cond-false}
-use Rattle.topo_core.specs.declared.darts.Dart.{Dart}
+use Rattle.std.proofs.lemmas.Bool.{cases_eq, eq-eqb, cond-true, cond-false}
 use Rattle.topo_core.specs.declared.darts.Way.TheVariants.{Forward, Back}
-use Rattle.topo_core.specs.declared.limits.Limits.{Limits}
 use Rattle.topo_core.specs.declared.rows.EdgeRow.{EdgeRow}
 use Rattle.topo_core.specs.declared.rows.Rows.{Rows}
 use Rattle.topo_core.specs.Cycles.{cycle_count, cycles_of, map_of}
 use Rattle.topo_core.specs.Rotations.{face_next}
 use Rattle.topo_core.specs.Systems.{Connected}
-use Rattle.topo_core.specs.Picture.{edge_at, edge_row, end_dart, face_count, index_of, rotation, segment_count, system, turn_images}
+use Rattle.topo_core.specs.Picture.{edge_at, edge_row, end_dart, face_count, index_of, segment_count, system, turn_images}
 use Rattle.topo_core.specs.Lawful.{HasGenusZero, IsWellFormed, Lawful}
 use Rattle.topo_core.specs.Changes.{HasOneFace, IsCut, IsLocalCut, without}
 use Rattle.topo_core.specs.Deletions.{HidesTurns}
 use Rattle.topo_core.specs.Insertions.{lifted}
-use Rattle.topo_core.proofs.SystemDarts.{PathFacts, edge_at_row, path_facts, row_in}
+use Rattle.topo_core.proofs.SystemDarts.{edge_at_row, path_facts, row_in}
 use Rattle.topo_core.proofs.WithoutForm.{without_well_formed}
 use Rattle.topo_core.proofs.WithoutTurns.{hides_turns}
 use Rattle.topo_perm.proofs.Collapses.{Collapses}

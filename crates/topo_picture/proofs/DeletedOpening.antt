@@ -1,6 +1,6 @@
 -- An edge of a lawful picture taken out segment by segment, on the numbers of the darts.
-use Rattle.std.proofs.Common.{◌≡◌, ◌≢◌, ℕ, zero, suc, ◌+◌, ◌*◌, ◌/◌, ◌%◌, ◌<◌, ◌≤◌, ◌==◌, Bool, true, false, ◌&&◌, not, List, [], ◌∷◌, length, ◌⊎◌, ◌↔◌, inl, inr, refl, sym, ◌∙◌, ap, subst, arith}
-use Rattle.std.specs.Prelude.{Some, slice_get, nat_lt}
+use Rattle.std.proofs.Common.{◌≡◌, ◌≢◌, ℕ, zero, suc, ◌+◌, ◌/◌, ◌<◌, ◌≤◌, Bool, true, false, ◌&&◌, length, ◌⊎◌, inl, inr, refl, sym, ◌∙◌, ap, subst, arith}
+use Rattle.std.specs.Prelude.{Some, nat_lt}
 use Rattle.std.proofs.lemmas.Bool.{cases_eq, eq-eqb, false≢true, lt-ltb}
 use Rattle.topo_core.specs.declared.darts.Dart.{Dart}
 use Rattle.topo_core.specs.declared.darts.Way.{Way}
@@ -8,12 +8,11 @@ use Rattle.topo_core.specs.declared.darts.Way.TheVariants.{Forward, Back}
 use Rattle.topo_core.specs.declared.rows.CrossRow.{CrossRow}
 use Rattle.topo_core.specs.declared.rows.EdgeRow.{EdgeRow}
 use Rattle.topo_core.specs.declared.rows.Rows.{Rows}
-use Rattle.topo_core.specs.Cycles.{IsPermutation, SameCycle, cycle_count, map_of}
+use Rattle.topo_core.specs.Cycles.{IsPermutation, cycle_count, map_of}
 use Rattle.topo_core.specs.Rotations.{Joined, face_next, twin}
 use Rattle.topo_core.specs.Edits.{IsUnchord}
-use Rattle.topo_core.specs.Darts.{dart_twin}
 use Rattle.topo_core.specs.Systems.{Connected, has_dart, turn}
-use Rattle.topo_core.specs.Picture.{ahead, behind, darts, edge_at, edge_row, index_of, segment_count, system, turn_images}
+use Rattle.topo_core.specs.Picture.{ahead, behind, darts, edge_at, edge_row, index_of, system, turn_images}
 use Rattle.topo_core.specs.Lawful.{IsWellFormed}
 use Rattle.topo_core.specs.Insertions.{lifted}
 use Rattle.topo_core.specs.Deletions.{HidesTurns, IsCrossingOf}
@@ -23,7 +22,7 @@ use Rattle.topo_core.proofs.Openings.{opens}
 use Rattle.topo_core.proofs.Renumbering.{numbers_connected}
 use Rattle.topo_core.proofs.ShownPlaces.{lifted_edge}
 use Rattle.topo_core.proofs.SystemDarts.{edge_at_row, get_there}
-use Rattle.topo_core.proofs.WithoutTurns.{GoesRound, two_orders}
+use Rattle.topo_core.proofs.WithoutTurns.{two_orders}
 use Rattle.topo_perm.specs.Edits.{IsApart}
 use Rattle.topo_perm.specs.Live.{IsSlab}
 use Rattle.topo_perm.proofs.Connecting.{walked_by}
@@ -31,7 +30,7 @@ use Rattle.topo_perm.proofs.Faces.{twin-other}
 use Rattle.topo_perm.proofs.Points.{cycle_count-same}
 use Rattle.topo_perm.proofs.Stages.{IsOpening, left_after, left_of, left_twin, out_of}
 use Rattle.topo_perm.proofs.Walks.{Joined-refl, Joined-turned, face_next-permutation, twin-within}
-use Rattle.topo_picture.proofs.InsertedNumbers.{even_count, number_less, numbers_apart, segment_apart, turn_number}
+use Rattle.topo_picture.proofs.InsertedNumbers.{even_count, number_less, segment_apart, turn_number}
 
 module _ (q : Rows) (e : ℕ) (row : EdgeRow) (good : IsWellFormed q) (known : edge_row q e ≡ Some row) (p : Rows) (hides : HidesTurns q e p) where
   -- the last segment of e, and how many there are

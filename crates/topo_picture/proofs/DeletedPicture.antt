@@ -1,12 +1,12 @@
 -- What a deletion makes of a picture within its limits.
-use Rattle.std.proofs.Common.{◌≡◌, ℕ, ◌+◌, ◌*◌, ◌<◌, ◌≤◌, ◌==◌, Bool, true, false, ◌||◌, cond, List, [], ◌∷◌, length, Option, Some, None, is_some, refl, sym, ◌∙◌, ap, subst, arith}
+use Rattle.std.proofs.Common.{◌≡◌, ℕ, ◌≤◌, ◌==◌, Bool, true, false, ◌||◌, cond, List, [], ◌∷◌, length, Option, Some, None, is_some, refl, sym, subst, arith}
 use Rattle.std.specs.Prelude.{find, MatchOption}
 use Rattle.std.specs.List.{list_any}
 use Rattle.topo_core.specs.declared.limits.Limits.{Limits}
 use Rattle.topo_core.specs.declared.rows.EdgeRow.{EdgeRow}
 use Rattle.topo_core.specs.declared.rows.Rows.{Rows}
 use Rattle.topo_core.specs.Changes.{HasOneFace, IsCut, IsLocalCut, without}
-use Rattle.topo_core.specs.Picture.{edge_at, edge_row, segment_count}
+use Rattle.topo_core.specs.Picture.{edge_at, edge_row}
 use Rattle.topo_core.proofs.SystemDarts.{some_of}
 use Rattle.topo_picture.specs.Shown.{IsPicture, Shown}
 use Rattle.topo_picture.proofs.DeletedLawful.{cut_by_faces, cut_is_by_faces, no_cut, whole_without}

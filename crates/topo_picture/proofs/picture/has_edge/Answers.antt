@@ -1,4 +1,4 @@
-use Rattle.std.proofs.Common.{◌≡◌, sym, ap, ◌∙◌, subst}
+use Rattle.std.proofs.Common.{sym, ap, ◌∙◌}
 use Rattle.std.specs.Prelude.{List, ◌==◌}
 use Rattle.std.specs.List.{list_any}
 use Rattle.topo_core.specs.declared.rows.EdgeRow.{EdgeRow}
