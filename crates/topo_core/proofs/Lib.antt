@@ -32,6 +32,7 @@ pub mod SimpleRoutes
 pub mod Standing
 pub mod SystemDarts
 pub mod Turning
+pub mod UndoneInsertions
 pub mod Weaving
 pub mod WithoutForm
 pub mod WithoutPlaces

@@ -7,13 +7,14 @@ use Rattle.topo_core.specs.declared.darts.Way.{Way}
 use Rattle.topo_core.specs.declared.darts.Way.TheVariants.{Forward, Back}
 use Rattle.topo_core.specs.declared.rows.Rows.{Rows}
 use Rattle.topo_core.specs.declared.rows.CrossRow.{CrossRow}
+use Rattle.topo_core.specs.declared.routes.Route.{Route}
 use Rattle.topo_core.specs.Items.{has_id, IsIn}
 use Rattle.topo_core.specs.Darts.{dart_twin, reversed}
 use Rattle.topo_core.specs.Systems.{has_dart, turn}
 use Rattle.topo_core.specs.Picture.{darts, edge_at, edge_row, segment_count, system, ahead, behind}
 use Rattle.topo_core.specs.Lawful.{IsWellFormed}
-use Rattle.topo_core.specs.Changes.{without}
-use Rattle.topo_core.specs.Insertions.{FollowsBut, lifted, onward_by}
+use Rattle.topo_core.specs.Changes.{shown, without}
+use Rattle.topo_core.specs.Insertions.{FollowsBut, IsInsertable, lifted, onward_by}
 
 -- the picture without an edge is well formed
 abbrev pub DeletionKeepsForm : Type 0
@@ -93,3 +94,10 @@ pub record HidesTurns (q : Rows) (e : ℕ) (p : Rows) : Type 0 where
 -- a deletion changes the turn along the edge and nowhere else
 abbrev pub DeletionShowsTurns : Type 0
 DeletionShowsTurns = (rows : Rows) (e : ℕ) → IsWellFormed rows → is_some (edge_row rows e) ≡ true → HidesTurns rows e (without rows e)
+
+-- ---- Undone insertions
+
+-- taking out the edge that was just shown gives the picture back, but for the ids that were given
+abbrev pub InsertionIsUndone : Type 0
+InsertionIsUndone = (rows : Rows) (u v kind : ℕ) (r : Route) → IsWellFormed rows → IsInsertable rows u v kind r
+    → without (shown rows u v kind r) rows.next_edge ≡ record rows { next_edge = rows.next_edge + 1; next_crossing = rows.next_crossing + length r.crossed }

@@ -1,6 +1,6 @@
 //! Laws of the definitions. The functions do nothing: their contracts are the laws.
 
-ghost use Rattle.topo_core.specs.Deletions.{DeletionKeepsForm, DeletionShowsTurns};
+ghost use Rattle.topo_core.specs.Deletions.{DeletionKeepsForm, DeletionShowsTurns, InsertionIsUndone};
 ghost use Rattle.topo_core.specs.Insertions.{InsertionKeepsForm, InsertionShowsTurns, SimpleRoutesAreInsertable};
 ghost use Rattle.topo_core.specs.Openings.{OpeningBares, OpeningUnchords, OpeningsKeepConnection, OpeningsKeepFaces};
 ghost use Rattle.topo_core.specs.Laws.{DartsAreNumbered, DartsStandOnce, GrowthKeepsEmbedding, GrowthKeepsFaces, GrowthKeepsGenus, NumbersKeepConnection, NumbersKeepFaces, TurnIsAPermutation};
@@ -66,6 +66,11 @@ pub fn deletion_keeps_form()
 /// and at each crossing of the edge the segments of the other edge that meet there are one.
 pub fn deletion_shows_turns()
     ensures { DeletionShowsTurns }
+{}
+
+/// A deletion undoes an insertion: without the edge that was just shown the picture is as before, but for the ids that were given.
+pub fn insertion_is_undone()
+    ensures { InsertionIsUndone }
 {}
 
 /// An edge can be shown along a route that meets no face twice: such a route crosses no segment twice.

@@ -1,0 +1,5 @@
+use Rattle.topo_core.proofs.UndoneInsertions.{insertion_undone}
+use Rattle.topo_core.proofs.laws.insertion_is_undone.Goals as goal
+
+pub returns : goal.returns
+returns c = insertion_undone
