@@ -14,6 +14,7 @@ pub mod NewDarts
 pub mod Numbering
 pub mod Orbits
 pub mod Renumbering
+pub mod Replaying
 pub mod RouteDarts
 pub mod RouteOrder
 pub mod ShownForm
