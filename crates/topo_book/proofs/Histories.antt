@@ -25,11 +25,6 @@ module _ (price : Pricing) (limits : Limits) where
   steps_on [] p q next entry way step good = (next, way.1, subst (λ (r : Rows). Step price limits r entry.call entry.reply next) way.0 step, (refl, good))
   steps_on (first ∷ entries) p q next entry way step good = (way.0, way.1, way.2, steps_on entries way.0 q next entry way.3 step good)
 
-  pub replays_on : (entries : List Entry) (p q next : Rows) (entry : Entry) → Replays price limits p entries q → Step price limits q entry.call entry.reply next
-      → Replays price limits p (entries ++ entry ∷ []) next
-  replays_on [] p q next entry way step = (next, subst (λ (r : Rows). Step price limits r entry.call entry.reply next) way step, refl)
-  replays_on (first ∷ entries) p q next entry way step = (way.0, way.1, replays_on entries way.0 q next entry way.2 step)
-
 module _ (price : Pricing) (start picture : Shown) (history : List Entry) (book : IsBook price start history picture) where
   pub book_replays : Replays price start.limits start.rows history picture.rows
   book_replays = replays price start.limits history start.rows picture.rows book.replayed

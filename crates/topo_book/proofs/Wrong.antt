@@ -9,8 +9,8 @@ use Rattle.topo_core.specs.Routes.{Pricing}
 use Rattle.topo_core.specs.Steps.{Step}
 use Rattle.topo_core.specs.History.{IsLegal, Replays}
 use Rattle.topo_core.proofs.Determined.{one_step}
+use Rattle.topo_core.proofs.Replaying.{replays_on}
 use Rattle.topo_book.specs.Faults.{IsFirstWrong}
-use Rattle.topo_book.proofs.Histories.{replays_on}
 
 take_one_more : (entries : List Entry) (i : ℕ) (entry : Entry) → slice_get entries i ≡ Some entry → take (suc i) entries ≡ take i entries ++ entry ∷ []
 take_one_more [] i entry there = cc

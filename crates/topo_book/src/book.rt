@@ -95,6 +95,7 @@ impl<F: Asks> Book<F> {
     /// The picture now, the replay of the history.
     pub fn picture(&self) -> &Picture
         ensures picture { result.now ≡ self.now.picture }
+        ensures replay { Replays (prices_of (F.answers self.now.tariff)) self.now.start.limits self.now.start.rows self.now.history self.now.picture.rows }
         ensures lawful { IsPicture self.now.picture.limits self.now.picture.rows }
         ensures same_limits { self.now.picture.limits ≡ self.now.start.limits }
     {

@@ -21,6 +21,7 @@ pub mod Orbits
 pub mod Points
 pub mod Renumbering
 pub mod RoundPoints
+pub mod Replaying
 pub mod RouteDarts
 pub mod RouteOrder
 pub mod ShownForm

@@ -1,6 +1,6 @@
-//! Laws of steps. The functions do nothing: their contracts are the laws.
+//! Laws of steps and replays. The functions do nothing: their contracts are the laws.
 
-ghost use Rattle.topo_core.specs.StepLaws.{FirstIsOne, StepsAreDetermined};
+ghost use Rattle.topo_core.specs.StepLaws.{FirstIsOne, ReplaysGoOn, StepsAreDetermined, VersionsReplay};
 
 use crate::prices::Prices;
 
@@ -12,4 +12,14 @@ pub fn first_is_one<P: Prices>()
 /// From a picture a call has at most one reply, and leads to one picture.
 pub fn steps_are_determined<P: Prices>()
     ensures { StepsAreDetermined P.price }
+{}
+
+/// A list of entries with one more, a step from where they lead, leads on by that step.
+pub fn replays_go_on<P: Prices>()
+    ensures { ReplaysGoOn P.price }
+{}
+
+/// A refused call changes nothing, so the accepted entries alone lead to the same picture.
+pub fn versions_replay<P: Prices>()
+    ensures { VersionsReplay P.price }
 {}

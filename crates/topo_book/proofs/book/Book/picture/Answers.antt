@@ -1,8 +1,16 @@
 use Rattle.std.proofs.Common.{subst}
+use Rattle.topo_core.specs.History.{Replays}
 use Rattle.topo_picture.specs.Shown.{IsPicture}
+use Rattle.topo_price.specs.Prices.{prices_of}
 use Rattle.topo_book.specs.Books.{BookState}
-use Rattle.topo_book.proofs.Histories.{book_lawful}
+use Rattle.topo_book.proofs.Histories.{book_lawful, book_replays}
 use Rattle.topo_book.proofs.book.Book.picture.Goals as goal
+
+pub returns-clause-replay : goal.returns-clause-replay
+returns-clause-replay g c =
+    let f = c.self.inside in
+    subst (λ (b : BookState _). Replays (prices_of (g.F.Asks.answers b.tariff)) b.start.limits b.start.rows b.history b.picture.rows) c.self.view_is
+    (book_replays _ f.start f.picture f.history.items c.self.invariant)
 
 pub returns-clause-lawful : goal.returns-clause-lawful
 returns-clause-lawful g c =

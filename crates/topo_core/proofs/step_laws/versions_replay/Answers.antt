@@ -1,0 +1,5 @@
+use Rattle.topo_core.proofs.Replaying.{versions_replay}
+use Rattle.topo_core.proofs.step_laws.versions_replay.Goals as goal
+
+pub returns : goal.returns
+returns g c limits = versions_replay g.P.Prices.price limits
