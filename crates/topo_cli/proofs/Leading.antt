@@ -19,11 +19,11 @@ use Rattle.topo_core.specs.Changes.{grown}
 use Rattle.topo_core.specs.Steps.{Step, grow_refusal}
 use Rattle.topo_core.specs.History.{IsRun, Replays, entries_of, call_of}
 use Rattle.topo_cli.specs.Growths.{command_path, first_other, growths_of, is_growth, lists_path, unless_other}
-use Rattle.topo_script.specs.Paths.{element_of, member_of, whole}
-use Rattle.topo_script.specs.declared.path.Key.TheVariants.{Workers}
-use Rattle.topo_script.specs.declared.path.Path.{Path}
-use Rattle.topo_script.specs.declared.fault.ScriptFault.TheVariants.{BadShape}
-use Rattle.topo_script.specs.declared.scripts.Script.{Script}
+use Rattle.topo_forms.specs.Paths.{element_of, member_of, whole}
+use Rattle.topo_forms.specs.declared.path.Key.TheVariants.{Workers}
+use Rattle.topo_forms.specs.declared.path.Path.{Path}
+use Rattle.topo_forms.specs.declared.fault.ScriptFault.TheVariants.{BadShape}
+use Rattle.topo_forms.specs.declared.scripts.Script.{Script}
 use Rattle.topo_cli.specs.Runs.{IsGrownLine, IsRunLine, IsSound, LeadsBy, priced, start_of}
 
 -- ---- One growth

@@ -8,9 +8,9 @@ use Rattle.topo_picture.specs.declared.load.LoadFault.{LoadFault}
 use Rattle.topo_picture.specs.Loading.{FailsFirst}
 use Rattle.topo_picture.specs.Shown.{IsPicture}
 use Rattle.topo_picture.specs.Totals.{AreCountsOf}
-use Rattle.topo_script.specs.Reads.{IsFirstFault}
-use Rattle.topo_script.specs.RowForms.{rows_of}
-use Rattle.topo_script.specs.declared.fault.ScriptFault.{ScriptFault}
+use Rattle.topo_forms.specs.Reads.{IsFirstFault}
+use Rattle.topo_forms.specs.RowForms.{rows_of}
+use Rattle.topo_forms.specs.declared.fault.ScriptFault.{ScriptFault}
 use Rattle.topo_cli.specs.declared.fault.RunFault.{RunFault}
 use Rattle.topo_cli.specs.declared.fault.RunFault.TheVariants.{Memory, Script, BadLimits, Price, Load, ReadFault, WriteFault}
 use Rattle.topo_cli.specs.Limiting.{AreGreatest}

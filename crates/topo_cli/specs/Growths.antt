@@ -3,13 +3,13 @@ use Rattle.std.specs.Prelude.{ℕ, Bool, true, false, not, List, [], ◌∷◌, 
 use Rattle.topo_core.specs.declared.calls.Call.TheVariants.{Grow, Insert, Delete}
 use Rattle.topo_core.specs.declared.calls.Command.{Command}
 use Rattle.topo_core.specs.declared.calls.Command.TheVariants.{Plain, Planned}
-use Rattle.topo_script.specs.declared.path.Key.TheVariants.{Workers}
-use Rattle.topo_script.specs.declared.path.Path.{Path}
-use Rattle.topo_script.specs.declared.scripts.Script.{Script}
-use Rattle.topo_script.specs.declared.fault.ScriptFault.TheVariants.{BadShape}
-use Rattle.topo_script.specs.Paths.{whole, member_of, element_of}
-use Rattle.topo_script.specs.Reads.{Read, ◌>>=◌}
-use Rattle.topo_script.specs.Scripts.{script_of}
+use Rattle.topo_forms.specs.declared.path.Key.TheVariants.{Workers}
+use Rattle.topo_forms.specs.declared.path.Path.{Path}
+use Rattle.topo_forms.specs.declared.scripts.Script.{Script}
+use Rattle.topo_forms.specs.declared.fault.ScriptFault.TheVariants.{BadShape}
+use Rattle.topo_forms.specs.Paths.{whole, member_of, element_of}
+use Rattle.topo_forms.specs.Reads.{Read, ◌>>=◌}
+use Rattle.topo_forms.specs.Scripts.{script_of}
 
 abbrev pub is_growth : Command → Bool
 is_growth (Plain (Grow u position kind)) = true

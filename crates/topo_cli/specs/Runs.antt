@@ -16,11 +16,11 @@ use Rattle.topo_picture.specs.Shown.{IsPicture}
 use Rattle.topo_price.specs.declared.table.PriceFault.{PriceFault}
 use Rattle.topo_price.specs.declared.table.PriceFault.TheVariants.{BadPrice}
 use Rattle.topo_price.specs.Prices.{first_bad}
-use Rattle.topo_script.specs.declared.fault.ScriptFault.{ScriptFault}
-use Rattle.topo_script.specs.declared.scripts.LimitRows.{LimitRows}
-use Rattle.topo_script.specs.declared.scripts.Script.{Script}
+use Rattle.topo_forms.specs.declared.fault.ScriptFault.{ScriptFault}
+use Rattle.topo_forms.specs.declared.scripts.LimitRows.{LimitRows}
+use Rattle.topo_forms.specs.declared.scripts.Script.{Script}
 use Rattle.topo_script.specs.Pictures.{rows_text}
-use Rattle.topo_script.specs.Reads.{IsFirstFault}
+use Rattle.topo_forms.specs.Reads.{IsFirstFault}
 use Rattle.topo_cli.specs.declared.fault.RunFault.{RunFault}
 use Rattle.topo_cli.specs.declared.fault.RunFault.TheVariants.{Memory, Script as OfScript, BadLimits, Price, Load, ReadFault, WriteFault}
 use Rattle.topo_cli.specs.Growths.{growths_script_of}

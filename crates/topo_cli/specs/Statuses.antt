@@ -1,7 +1,7 @@
 -- How the program ends.
 use Rattle.std.specs.Prelude.{ℕ}
 use Rattle.topo_picture.specs.declared.load.LoadFault.TheVariants.{Memory as LoadMemory}
-use Rattle.topo_script.specs.declared.fault.ScriptFault.TheVariants.{Memory as ScriptMemory}
+use Rattle.topo_forms.specs.declared.fault.ScriptFault.TheVariants.{Memory as ScriptMemory}
 use Rattle.topo_cli.specs.declared.fault.RunFault.{RunFault}
 use Rattle.topo_cli.specs.declared.fault.RunFault.TheVariants.{Memory, Script, Load}
 

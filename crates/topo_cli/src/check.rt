@@ -10,9 +10,9 @@ use crate::writing::write_text;
 use std::alloc::{AllocError, Global};
 use std::io::{Read, Write};
 use topo_core::limits::Limits;
+use topo_forms::read_rows;
+use topo_forms::row_forms::MAX_PICTURE_BYTES;
 use topo_picture::{Counts, Picture};
-use topo_script::read_rows;
-use topo_script::row_forms::MAX_PICTURE_BYTES;
 
 /// Reads a picture, and writes how large it is where it is a lawful one under the greatest limits.
 /// The reader is read until its end, or until it has given one byte more than a picture may have: in

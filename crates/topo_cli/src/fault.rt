@@ -1,9 +1,9 @@
 //! What can go wrong with a command.
 
 use thiserror::Error;
+use topo_forms::ScriptFault;
 use topo_picture::LoadFault;
 use topo_price::table::PriceFault;
-use topo_script::ScriptFault;
 
 /// Why a command has no answer. Each fault is printed as its number, its name and its value.
 #[derive(Clone, Copy, Debug, PartialEq, Eq, Error)]

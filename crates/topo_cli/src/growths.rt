@@ -1,16 +1,16 @@
 //! The commands that a run carries out so far: growths, in one list.
 
 ghost use Rattle.std.specs.Prelude.{◌≡◌, Ok, slice_index_or, [], None, true, ℕ, List, Option, OnOk, ◌∷◌, IfOk};
-ghost use Rattle.topo_script.specs.Reads.{read_map, Gives};
+ghost use Rattle.topo_forms.specs.Reads.{read_map, Gives};
 ghost use Rattle.topo_cli.specs.Growths.{growths_of, growths_script_of, is_growth, first_other};
 ghost use Rattle.topo_cli.specs.Runs.{LeadsBy};
 
 use std::alloc::{AllocError, Global};
 use topo_core::calls::{Call, Command, Refusal};
 use topo_core::listed::Listed;
+use topo_forms::path::{Key, Path};
+use topo_forms::{Script, ScriptFault, read_script};
 use topo_picture::Picture;
-use topo_script::path::{Key, Path};
-use topo_script::{Script, ScriptFault, read_script};
 
 /// Whether a command is a growth.
 fn is_growth(command: &Command) -> bool

@@ -13,18 +13,19 @@ use std::alloc::{AllocError, Global};
 use std::io::{Read, Write};
 use topo_core::calls::Command;
 use topo_core::limits::Limits;
+use topo_forms::Script;
+use topo_forms::script_forms::MAX_SCRIPT_BYTES;
 use topo_picture::Picture;
 use topo_price::table::{PriceFault, PriceTable};
-use topo_script::script_forms::MAX_SCRIPT_BYTES;
-use topo_script::{Script, picture_text};
+use topo_script::picture_text;
 
 /// Reads a script, carries out its commands on its start under its limits, and writes the text of
 /// the picture and a line feed. A refused command changes nothing, and the run goes on. So far a
-/// script may ask for growths alone, in one list: another one is a fault of shape. The reader is read
-/// until its end, or until it has given one byte more than a script may have: in at most twice as many
-/// calls as a script may have bytes, and two; an interrupted call is one of them. ReadFault comes
-/// where a call fails otherwise or there are too few of them, WriteFault where a call of the writer
-/// fails.
+/// script may ask for growths alone, in one list: more lists, or another command, are a fault of
+/// shape. The reader is read until its end, or until it has given one byte more than a script may
+/// have: in at most twice as many calls as a script may have bytes, and two; an interrupted call is
+/// one of them. ReadFault comes where a call fails otherwise or there are too few of them, WriteFault
+/// where a call of the writer fails.
 pub fn run_io<R: Read, W: Write>(
     alloc: Global,
     reader: &mut R,

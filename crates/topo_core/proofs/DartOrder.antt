@@ -20,12 +20,13 @@ way_cmp_self : (w : Way) → way_cmp w w ≡ Equal
 way_cmp_self Forward = refl
 way_cmp_self Back = refl
 
-then_equal : (o p : Ordering) → ordering_then o p ≡ Equal → (o ≡ Equal) × (p ≡ Equal)
+-- an order of two parts that holds two values equal holds both parts equal
+pub then_equal : (o p : Ordering) → ordering_then o p ≡ Equal → (o ≡ Equal) × (p ≡ Equal)
 then_equal Less p e = cc
 then_equal Equal p e = (refl, e)
 then_equal Greater p e = cc
 
-nat_cmp_equal : (m n : ℕ) → nat_cmp m n ≡ Equal → m ≡ n
+pub nat_cmp_equal : (m n : ℕ) → nat_cmp m n ≡ Equal → m ≡ n
 nat_cmp_equal m n e = grind (arith, nat_tests)
 
 -- a number compares equal to itself

@@ -6,9 +6,11 @@ pub mod Connection
 pub mod Counting
 pub mod DartLaws
 pub mod DartOrder
+pub mod Determined
 pub mod Growing
 pub mod GonePaths
 pub mod GrownFaces
+pub mod LeastRoutes
 pub mod Lengthening
 pub mod Members
 pub mod NewDarts
@@ -20,6 +22,7 @@ pub mod Points
 pub mod Renumbering
 pub mod RoundPoints
 pub mod RouteDarts
+pub mod RouteOrder
 pub mod ShownForm
 pub mod ShownPlaces
 pub mod ShownPoints

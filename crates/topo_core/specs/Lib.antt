@@ -16,5 +16,6 @@ pub mod Pictures
 pub mod Rotations
 pub mod RouteLaws
 pub mod Routes
+pub mod StepLaws
 pub mod Steps
 pub mod Systems

@@ -8,7 +8,7 @@ use Rattle.topo_core.specs.Darts.{dart_twin, dart_cmp}
 use Rattle.topo_core.specs.Systems.{SameFace, has_dart}
 use Rattle.topo_core.specs.Picture.{darts, corner, system}
 use Rattle.topo_core.specs.Lawful.{IsWellFormed}
-use Rattle.topo_core.specs.Routes.{Pricing, KeepsPromise, Price, Costs, IsPricedRoute, IsFirst, IsCertificate}
+use Rattle.topo_core.specs.Routes.{Pricing, KeepsPromise, Price, Costs, IsPricedRoute, IsLeast, IsFirst, IsSimpleRoute, IsCertificate}
 
 -- ---- Routes by heights
 
@@ -62,3 +62,7 @@ CostsAtLeastLength price = (rows : Rows) → KeepsPromise price → (ds : List D
 -- an edge has at most one price, so a walk has at most one cost
 abbrev pub HasOneCost : Pricing → Type 0
 HasOneCost price = (rows : Rows) → KeepsPromise price → (ds : List Dart) (m n : ℕ) → Costs price rows ds m → Costs price rows ds n → m ≡ n
+
+-- between two visits of one face a walk can be cut short, so a least route meets no face twice
+abbrev pub LeastIsSimple : Pricing → Type 0
+LeastIsSimple price = (rows : Rows) → KeepsPromise price → IsWellFormed rows → (u v : ℕ) (r : Route) (n : ℕ) → IsLeast price rows u v r n → IsSimpleRoute rows u v r

@@ -19,5 +19,6 @@ pub mod prices;
 pub mod route_laws;
 pub mod routes;
 pub mod rows;
+pub mod step_laws;
 #[cfg(test)]
 mod tests;

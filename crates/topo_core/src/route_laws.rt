@@ -1,6 +1,6 @@
 //! Laws of routes, prices and certificates. The functions do nothing: their contracts are the laws.
 
-ghost use Rattle.topo_core.specs.RouteLaws.{CertificateBounds, CornersAreDarts, CostsAtLeastLength, FirstByHeightsIsFirst, HasOneCost};
+ghost use Rattle.topo_core.specs.RouteLaws.{CertificateBounds, CornersAreDarts, CostsAtLeastLength, FirstByHeightsIsFirst, HasOneCost, LeastIsSimple};
 
 use crate::prices::Prices;
 
@@ -27,4 +27,9 @@ pub fn costs_at_least_length<P: Prices>()
 /// A walk has at most one cost.
 pub fn has_one_cost<P: Prices>()
     ensures { HasOneCost P.price }
+{}
+
+/// A least route meets no face twice.
+pub fn least_is_simple<P: Prices>()
+    ensures { LeastIsSimple P.price }
 {}

@@ -8,7 +8,7 @@ use Rattle.topo_core.specs.declared.darts.Way.{Way}
 use Rattle.topo_core.specs.declared.darts.Way.TheVariants.{Forward, Back}
 use Rattle.topo_core.specs.declared.rows.EdgeRow.{EdgeRow}
 use Rattle.topo_core.specs.declared.rows.Rows.{Rows}
-use Rattle.topo_core.specs.Cycles.{IsPermutation, SameCycle, cycle_count, map_of}
+use Rattle.topo_core.specs.Cycles.{IsPermutation, SameCycle, is_met, cycle_count, map_of}
 use Rattle.topo_core.specs.Rotations.{Joined, face_next, twin}
 use Rattle.topo_core.specs.Systems.{Connected, SameFace, darts_in, has_dart, turn}
 use Rattle.topo_core.specs.Picture.{darts, edge_at, edge_row, end_dart, face_count, index_of, rotation, system, turn_images}
@@ -18,7 +18,7 @@ use Rattle.topo_core.specs.Deletions.{HidesTurns}
 use Rattle.topo_core.specs.Openings.{Bares, JoinsOpened, is_opened, opened_turn}
 use Rattle.topo_core.proofs.BarePoints.{bares}
 use Rattle.topo_core.proofs.OpenedDarts.{joins_opened, rest_face_darts, rest_face_numbers}
-use Rattle.topo_core.proofs.Orbits.{SameCycle-sym}
+use Rattle.topo_core.proofs.Orbits.{SameCycle-is_met, SameCycle-sym, is_met-SameCycle, search_below}
 use Rattle.topo_core.proofs.Renumbering.{darts_connected, numbers_connected}
 use Rattle.topo_core.proofs.SystemDarts.{edge_at_row}
 use Rattle.topo_perm.specs.Cuts.{IsElsewhere}
@@ -68,7 +68,7 @@ module _ (q : Rows) (e : ℕ) (row : EdgeRow) (good : IsWellFormed q) (known : e
   o = is_opening q e row good known p hides connected genus
 
   not_less : (i : ℕ) → nat_lt i i ≡ false
-  not_less i = elim (cases_Bool (nat_lt i i)) [ | inl t ↦ absurd (let l : i < i = ltb-true i i t in omega arith) | inr u ↦ u ]
+  not_less i = elim (cases_Bool (nat_lt i i)) [ inl t ↦ absurd (let l : i < i = ltb-true i i t in omega arith) | inr u ↦ u ]
 
   still_in : (i : ℕ) (way : Way) → is_opened e i (seg i way) ≡ false
   still_in i way = ap (λ (b : Bool). b && nat_lt i i) (eq-eqb e e refl) ∙ not_less i
@@ -166,9 +166,16 @@ module _ (q : Rows) (e : ℕ) (row : EdgeRow) (good : IsWellFormed q) (known : e
           | inl back ↦
               let at_a : at i (half i) ≡ index_of q on.to = left_turn q e row good known p hides i i Forward (omega arith) hi ∙ ap (index_of q) on.leads in
               let at_b : at i (twin (half i)) ≡ index_of q back.to = ap (at i) (other_half q e row good known p hides i hi) ∙ left_turn q e row good known p hides i i Back (omega arith) hi ∙ ap (index_of q) back.leads in
-              inr (on.to, back.to, on.there, on.other, back.there, back.other,
+              inr (
+                on.to,
+                back.to,
+                on.there,
+                on.other,
+                back.there,
+                back.other,
                 parted at size half (final + 1) o i (omega (arith, hi)) st (one_face i hi one) (index_of q on.to) (index_of q back.to) (elsewhere on.to on.there on.other i hi) (elsewhere back.to back.there back.other i hi)
-                (record { steps = 1; leads = at_a }) (record { steps = 1; leads = at_b }))
+                    (record { steps = 1; leads = at_a }) (record { steps = 1; leads = at_b }),
+              )
         ]
       ]
 
@@ -212,10 +219,10 @@ module _ (q : Rows) (e : ℕ) (row : EdgeRow) (good : IsWellFormed q) (known : e
   falls_apart i hi (inl (v, lv, only, out)) whole_p = false≢true (sym whole_p.no_bare_point ∙ bare_points p ∙ ends.bare_without v lv only)
   falls_apart i hi (inr (b, d, hb, nb, hd, nd, parts)) whole_p =
       let above : IsConnectedAmong (left_after half (final + 1)) (at (final + 1)) size = collapsed_back (at (final + 1)) size (left_after half (final + 1)) (map_of (turn_images p)) (length (turn_images p)) name onto c
-          (numbers_connected p good_p.paths good_p.crossings good_p.rotations whole_p.joined) in
+      (numbers_connected p good_p.paths good_p.crossings good_p.rotations whole_p.joined) in
       let all : final + 1 ≤ final + 1 = omega arith in
       let joined : Joined (at (final + 1)) twin (index_of q b) (index_of q d) = above (index_of q b) (index_of q d) (number_less q good b hb) (number_less q good d hd)
-          (off_left q e row good known p hides b hb nb (final + 1) all) (off_left q e row good known p hides d hd nd (final + 1) all) in
+      (off_left q e row good known p hides b hb nb (final + 1) all) (off_left q e row good known p hides d hd nd (final + 1) all) in
       let sum : suc i + (final - i) ≡ final + 1 = omega (arith, hi) in
       parts (put_all_back (final - i) (suc i) (omega (arith, hi)) b d hb nb hd nd (subst (λ (w : ℕ). Joined (at w) twin (index_of q b) (index_of q d)) (sym sum) joined))
 
@@ -233,13 +240,14 @@ module _ (q : Rows) (e : ℕ) (row : EdgeRow) (good : IsWellFormed q) (known : e
             let (dq, ds) = left_stands (j + 1) d hd in
             ((joins (j + 1)).joined b d bq bs dq ds).1 (st.connected (index_of q b) (index_of q d) (number_less q good b bq) (number_less q good d dq) (left_number (j + 1) (omega (arith, hi, lj)) b bq bs) (left_number (j + 1) (omega (arith, hi, lj)) d dq ds));
       } where
-    kept_last : (j : ℕ) → j < final → is_opened e (j + 1) (seg final Back) ≡ false
-    kept_last j less = elim (cases_Bool (nat_lt final (j + 1))) [
-      | inl t ↦ absurd (let l : final < j + 1 = ltb-true final (j + 1) t in omega (arith, less, l))
-      | inr u ↦ ap (λ (b : Bool). b && nat_lt final (j + 1)) (eq-eqb e e refl) ∙ u
-    ]
-    left_number : (i : ℕ) → i ≤ final + 1 → (d : Dart) → has_dart (darts q) d ≡ true → is_opened e i d ≡ false → left_after half i (index_of q d) ≡ true
-    left_number i hi d h stays = left_dart q e row good known p hides i hi d h stays
+        kept_last : (j : ℕ) → j < final → is_opened e (j + 1) (seg final Back) ≡ false
+        kept_last j less = elim (cases_Bool (nat_lt final (j + 1))) [
+          | inl t ↦ absurd (let l : final < j + 1 = ltb-true final (j + 1) t in omega (arith, less, l))
+          | inr u ↦ ap (λ (b : Bool). b && nat_lt final (j + 1)) (eq-eqb e e refl) ∙ u
+        ]
+
+        left_number : (i : ℕ) → i ≤ final + 1 → (d : Dart) → has_dart (darts q) d ≡ true → is_opened e i d ≡ false → left_after half i (index_of q d) ≡ true
+        left_number i hi d h stays = left_dart q e row good known p hides i hi d h stays
 
   -- the first segment with one face is the cut
   pub local_cut_is_cut : (i : ℕ) → (Connected (system (without q e)) → Connected (system p)) → IsLocalCut q e i → IsCut q e i
@@ -250,3 +258,27 @@ module _ (q : Rows) (e : ℕ) (row : EdgeRow) (good : IsWellFormed q) (known : e
         apart_after = apart_after i which;
         whole_before = whole_before i cut.on_path cut.two_faces_before;
       }
+
+  -- ---- A cut by faces, or none
+
+  same_face_test : (i : ℕ) → i ≤ final → (is_met (face_next (at i)) size (half i) (twin (half i)) ≡ true → HasOneFace q e i) × (is_met (face_next (at i)) size (half i) (twin (half i)) ≡ false → HasOneFace q e i → ⊥)
+  same_face_test i hi = (
+    λ w. has_one_face i hi (is_met-SameCycle (face_next (at i)) size (half i) (twin (half i)) w),
+    λ w s. false≢true (sym w ∙ SameCycle-is_met (face_next (at i)) size (face_next-permutation (at i) size (o.permutation i) o.even) (half i) (twin (half i))
+        (number_less q good (seg i Forward) (segment_in q e row good known p hides i Forward hi)) (one_face i hi s)),
+  )
+
+  pub local_or_none : ((i : ℕ) × IsLocalCut q e i) ⊎ ((i : ℕ) → i ≤ final → HasOneFace q e i → ⊥)
+  local_or_none = elim (search_below (λ i. is_met (face_next (at i)) size (half i) (twin (half i))) (final + 1)) [
+    | inl w ↦
+        let hi : w.0 ≤ final = (let k = w.1 in omega arith) in
+        inl (
+          w.0,
+          record {
+            on_path = hi;
+            one_face = (same_face_test w.0 hi).0 w.2.here;
+            two_faces_before = λ j lj s. (same_face_test j (omega (arith, hi, lj))).1 (w.2.before j lj) s;
+          },
+        )
+    | inr none ↦ inr (λ i hi s. (same_face_test i hi).1 (none i (omega (arith, hi))) s)
+  ]

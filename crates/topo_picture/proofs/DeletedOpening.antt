@@ -118,10 +118,10 @@ module _ (q : Rows) (e : ℕ) (row : EdgeRow) (good : IsWellFormed q) (known : e
   }
 
   pub first_end : IsAloneOrOff 0 Forward
-  first_end = elim hides.first_end [ | inl alone ↦ inr alone | inr w ↦ inl (lifted_off (segment 0 Forward) w) ]
+  first_end = elim hides.first_end [ inl alone ↦ inr alone | inr w ↦ inl (lifted_off (segment 0 Forward) w) ]
 
   pub last_end : IsAloneOrOff last Back
-  last_end = elim hides.last_end [ | inl alone ↦ inr alone | inr w ↦ inl (lifted_off (segment last Back) w) ]
+  last_end = elim hides.last_end [ inl alone ↦ inr alone | inr w ↦ inl (lifted_off (segment last Back) w) ]
 
   pub turns_on : (i : ℕ) (way : Way) → i ≤ last → IsAloneOrOff i way
   turns_on zero Forward h = first_end
@@ -177,9 +177,9 @@ module _ (q : Rows) (e : ℕ) (row : EdgeRow) (good : IsWellFormed q) (known : e
         | inr alone ↦ step_off i li (index_of q (segment j way)) (index_of q (turn (system q) (segment j way))) self.within self.not_self self.not_twin
             (λ w. self.not_self (ap (index_of q) (sym alone) ∙ w)) (λ w. self.not_twin (ap (index_of q) (sym alone) ∙ w)) before
       ] where
-    on_others : (i j : ℕ) (way : Way) → i < j → i ≤ last → j ≤ last → IsApart n (index_of q (segment j way)) (first_half i)
-    on_others i j way less hi hj = segment_apart q good (segment j way) (segment i Forward) (segment_in j way hj) (segment_in i Forward hi)
-        (λ w. (let s : j ≡ i = ap (λ (d : Dart). d.seg) w in omega (arith, s, less))) (λ w. (let s : j ≡ i = ap (λ (d : Dart). d.seg) w in omega (arith, s, less)))
+        on_others : (i j : ℕ) (way : Way) → i < j → i ≤ last → j ≤ last → IsApart n (index_of q (segment j way)) (first_half i)
+        on_others i j way less hi hj = segment_apart q good (segment j way) (segment i Forward) (segment_in j way hj) (segment_in i Forward hi)
+            (λ w. (let s : j ≡ i = ap (λ (d : Dart). d.seg) w in omega (arith, s, less))) (λ w. (let s : j ≡ i = ap (λ (d : Dart). d.seg) w in omega (arith, s, less)))
 
   pub off_left : (d : Dart) → Is d → d.edge ≢ e → (i : ℕ) → i ≤ count → left_after first_half i (index_of q d) ≡ true
   off_left d h ne i hi = left_of first_half i (index_of q d) (λ j lj.
@@ -243,8 +243,9 @@ module _ (q : Rows) (e : ℕ) (row : EdgeRow) (good : IsWellFormed q) (known : e
   -- a dart that is left has a number that is left
   pub left_dart : (i : ℕ) → i ≤ count → (d : Dart) → Is d → is_opened e i d ≡ false → left_after first_half i (index_of q d) ≡ true
   left_dart i hi d h stays = left_of first_half i (index_of q d) (λ j lj.
-      let hj : j ≤ last = (let k = hi in let l = lj in omega arith) in
-      (λ w. opened_there j lj Forward (index_apart q good.paths d (segment j Forward) h (segment_in j Forward hj) w),
-        λ w. opened_there j lj Back (index_apart q good.paths d (segment j Back) h (segment_in j Back hj) (w ∙ other_half j hj)))) where
-    opened_there : (j : ℕ) → j < i → (way : Way) → d ≡ segment j way → ⊥
-    opened_there j lj way same = false≢true (sym stays ∙ ap (is_opened e i) same ∙ ap (λ (b : Bool). b && nat_lt j i) (eq-eqb e e refl) ∙ lt-ltb j i lj)
+      let hj : j ≤ last = (let k = hi in let l = lj in omega arith) in (
+        λ w. opened_there j lj Forward (index_apart q good.paths d (segment j Forward) h (segment_in j Forward hj) w),
+        λ w. opened_there j lj Back (index_apart q good.paths d (segment j Back) h (segment_in j Back hj) (w ∙ other_half j hj)),
+      )) where
+        opened_there : (j : ℕ) → j < i → (way : Way) → d ≡ segment j way → ⊥
+        opened_there j lj way same = false≢true (sym stays ∙ ap (is_opened e i) same ∙ ap (λ (b : Bool). b && nat_lt j i) (eq-eqb e e refl) ∙ lt-ltb j i lj)

@@ -23,3 +23,11 @@ pub mod InsertedPassage
 pub mod InsertedLawful
 pub mod DeletedOpening
 pub mod DeletedCuts
+pub mod AlonePoints
+pub mod WithoutCounts
+pub mod PointCycles
+pub mod DeletedTurns
+pub mod DeletedSegments
+pub mod DeletedCollapse
+pub mod DeletedLawful
+pub mod DeletedPicture

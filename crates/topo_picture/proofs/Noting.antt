@@ -60,13 +60,13 @@ paths_step crossings n i edges row ahead inside at =
     ∙ written_append ahead (path_notes crossings row.id n row.crossings) (notes_from crossings (n + 2 * segment_count row) (drop (i + 1) edges))
 
 -- where a note of a crossing that is there goes
-pub note_place_read : (crossings : List CrossRow) (ids : List ℕ) (e x place : ℕ) (row : CrossRow) → ids ≡ map (λ c. c.id) crossings → place ≡ position_or_len (λ y. y == x) ids → place < length ids → row ≡ get_or crossings place row
-    → note_place crossings e x ≡ 2 * place + cond {A = ℕ} (e == row.crossed) 0 1
-note_place_read crossings ids e x place row are is within at =
+pub note_place_read : (crossings : List CrossRow) (ids : List ℕ) (e x place : ℕ) (cross : CrossRow) → ids ≡ map (λ c. c.id) crossings → place ≡ position_or_len (λ y. y == x) ids → place < length ids → cross ≡ get_or crossings place cross
+    → note_place crossings e x ≡ 2 * place + cond {A = ℕ} (e == cross.crossed) 0 1
+note_place_read crossings ids e x place cross are is within at =
     let p_is : crossing_place crossings x ≡ place = sym (place_among (λ c. c.id) x crossings) ∙ sym (is ∙ ap (position_or_len (λ y. y == x)) are) in
     let as_many : length ids ≡ length crossings = ap length are ∙ length-map crossings (λ (c : CrossRow). c.id) in
     ap (λ p. 2 * p + cond {A = ℕ} (e == slice_index (map (λ c. c.crossed) crossings) p) 0 1) p_is
-    ∙ ap (λ z. 2 * place + cond {A = ℕ} (e == z) 0 1) (get_or-map (λ c. c.crossed) crossings place row 0 (omega arith) ∙ ap (λ (c : CrossRow). c.crossed) (sym at))
+    ∙ ap (λ z. 2 * place + cond {A = ℕ} (e == z) 0 1) (get_or-map (λ c. c.crossed) crossings place cross 0 (omega arith) ∙ ap (λ (c : CrossRow). c.crossed) (sym at))
 
 pub noted_at_crossed : (crossings : List CrossRow) (ids : List ℕ) (e x place : ℕ) (d : CrossRow) → ids ≡ map (λ c. c.id) crossings → place ≡ position_or_len (λ y. y == x) ids → place < length ids → e ≡ (get_or crossings place d).crossed
     → 2 * place ≡ note_place crossings e x

@@ -57,7 +57,7 @@ less_one-count x k (y ∷ ys) h =
       ]
     ]
 
-equally_long : (xs ys : List ℕ) → ((k : ℕ) → occurrences k xs ≡ occurrences k ys) → length xs ≡ length ys
+pub equally_long : (xs ys : List ℕ) → ((k : ℕ) → occurrences k xs ≡ occurrences k ys) → length xs ≡ length ys
 equally_long [] [] same = refl
 equally_long [] (y ∷ ys) same = absurd (let h = in_counted y (y ∷ ys) (inl refl) in let e = same y in omega arith)
 equally_long (x ∷ xs) ys same =

@@ -7,3 +7,4 @@ pub mod Pairs
 pub mod Recovering
 pub mod Shown
 pub mod Totals
+pub mod Laws

@@ -18,6 +18,7 @@ mod flat;
 pub mod frozen;
 mod growth;
 mod insertion;
+pub mod laws;
 pub mod load;
 mod numbers;
 mod pairs;

@@ -2,6 +2,8 @@
 
 use crate::copies::copy_rows;
 use crate::counts::Counts;
+use crate::cuts::first_cut;
+use crate::deletion::delete_rows;
 use crate::frozen::Frozen;
 use crate::growth::grow_rows;
 use crate::insertion::apply_rows;
@@ -33,10 +35,11 @@ impl Model for Picture {
 }
 
 impl Picture {
-    ghost use Rattle.std.specs.Prelude.{◌≡◌, ◌⊎◌, ◌+◌, ◌<◌, IfOk, IfErr, OnErr, length, Some, None};
+    ghost use Rattle.std.specs.Prelude.{◌≡◌, ◌⊎◌, ◌+◌, ◌<◌, ℕ, true, IfOk, IfErr, OnErr, length, is_some, Some, None};
     ghost use Rattle.topo_core.specs.Pictures.{seed};
     ghost use Rattle.topo_core.specs.Routes.{IsSimpleRoute};
-    ghost use Rattle.topo_core.specs.Changes.{grown, shown};
+    ghost use Rattle.topo_core.specs.Changes.{IsCut, grown, shown, without};
+    ghost use Rattle.topo_core.specs.Picture.{edge_row};
     ghost use Rattle.topo_core.specs.Steps.{HasRoomFor, grow_refusal, insert_refusal};
     ghost use Rattle.topo_picture.specs.Loading.{FailsFirst};
     ghost use Rattle.topo_picture.specs.Shown.{IsPicture};
@@ -113,7 +116,8 @@ impl Picture {
 
     /// An equal picture: the same rows and limits.
     pub fn copy(&self, alloc: Global) -> Result<Self, AllocError>
-        ensures { IfOk result (λ p. p ≡ self.now) }
+        ensures equal { IfOk result (λ p. p ≡ self.now) }
+        ensures lawful { IsPicture self.now.limits self.now.rows }
     {
         let rows = copy_rows(alloc, &self.rows)?;
         Ok(Picture {
@@ -207,9 +211,41 @@ impl Picture {
             Err(_) => Err(Refusal::Memory),
         }
     }
+
+    /// Takes an edge out, with its crossings. It is refused as NoEdge where there is no such edge, and
+    /// as Cut with a segment where the picture would fall apart: the first segment of the edge such
+    /// that the picture falls apart when it and those before it are out. Memory is answered only where
+    /// the edge is there.
+    pub fn delete(&mut self, alloc: Global, edge: u32) -> Result<(), Refusal>
+        ensures there { IfOk result (λ _. is_some (edge_row self.old.rows edge) ≡ true) }
+        ensures whole { IfOk result (λ _. (i : ℕ) → IsCut self.old.rows edge i → ⊥) }
+        ensures without { IfOk result (λ _. self.new.rows ≡ without self.old.rows edge) }
+
+        ensures refused { IfErr result (λ why. ((why ≡ Refusal.NoEdge) × (edge_row self.old.rows edge ≡ None))
+            ⊎ (((i : ℕ) × (why ≡ Refusal.Cut i) × (is_some (edge_row self.old.rows edge) ≡ true) × IsCut self.old.rows edge i)
+            ⊎ ((why ≡ Refusal.Memory) × (is_some (edge_row self.old.rows edge) ≡ true)))) }
+        ensures unchanged { OnErr result (self.new ≡ self.old) }
+
+        ensures same_limits { self.new.limits ≡ self.old.limits }
+        ensures lawful { IsPicture self.new.limits self.new.rows }
+    {
+        if !has_edge(&self.rows, edge) {
+            return Err(Refusal::NoEdge);
+        }
+        match first_cut(alloc, &self.rows, edge) {
+            Ok(Some(segment)) => Err(Refusal::Cut(segment)),
+            Ok(None) => {
+                delete_rows(alloc, &mut self.rows, edge);
+                Ok(())
+            }
+            Err(_) => Err(Refusal::Memory),
+        }
+    }
 }
 
-ghost use Rattle.std.specs.Prelude.{◌≡◌, IfOk, [], ◌∷◌};
+ghost use Rattle.std.specs.Prelude.{◌≡◌, ◌==◌, IfOk, is_some, [], ◌∷◌};
+ghost use Rattle.std.specs.List.{list_any};
+ghost use Rattle.topo_core.specs.Picture.{edge_row};
 ghost use Rattle.topo_core.specs.Pictures.{seed};
 ghost use Rattle.topo_core.specs.Steps.{grow_refusal, insert_refusal};
 
@@ -244,6 +280,20 @@ pub(crate) fn one_listed(alloc: Global, x: u32) -> Result<Listed<u32>, AllocErro
     let mut items = Vec::new(alloc);
     items.push(x)?;
     Ok(Listed::from_vec(items))
+}
+
+/// Whether there is an edge with this id.
+fn has_edge(rows: &Rows, e: u32) -> bool
+    ensures { result ≡ is_some (edge_row rows.now e) }
+{
+    is_listed(rows.edges.as_slice(), e)
+}
+
+/// Whether one of the rows has this id.
+fn is_listed(edges: &[EdgeRow], e: u32) -> bool
+    ensures { result ≡ list_any (λ row. row.id == e) edges.now }
+{
+    edges.iter().any(|row| row.id == e)
 }
 
 /// The first reason to refuse a growth.

@@ -70,4 +70,11 @@ impl<F: Asks> Tariff<F> {
     {
         self.ask.answer(facts)
     }
+
+    /// The promise holds of every tariff. This asks nothing: its contract is the fact.
+    pub fn keeps_promise(&self)
+        ensures { KeepsPromise (prices_of (F.answers self.now)) }
+    {
+        let _ = &self.ask;
+    }
 }

@@ -1,10 +1,5 @@
-pub mod Bytes
-pub mod Items
-pub mod Lookups
 pub mod Members
-pub mod PriceLists
 pub mod ReportBack
 pub mod ReportTextBack
 pub mod RowsBack
-pub mod Steps
 pub mod Texts

@@ -1,10 +1,3 @@
-pub mod CallForms
-pub mod Paths
 pub mod Pictures
-pub mod Prices
 pub mod Ranges
-pub mod Reads
-pub mod ReplyForms
 pub mod ReportTexts
-pub mod RowForms
-pub mod Scripts

@@ -7,14 +7,11 @@ ghost use Rattle.topo_core.specs.declared.calls.Call.TheVariants.{Grow, Insert, 
 ghost use Rattle.topo_core.specs.declared.calls.Reply.TheVariants.{Grown, Deleted, Refused};
 ghost use Rattle.topo_core.specs.declared.calls.Refusal.TheVariants.{Cut};
 ghost use Rattle.topo_script.specs.Pictures.{number_data};
-ghost use Rattle.topo_script.specs.Prices.{without_ones};
+ghost use Rattle.topo_forms.specs.Prices.{without_ones};
 ghost use Rattle.topo_script.specs.Ranges.{ReportFits};
-ghost use Rattle.topo_script.specs.Scripts.{report_of};
+ghost use Rattle.topo_forms.specs.Scripts.{report_of};
 ghost use Rattle.topo_script.specs.ReportTexts.{limits_data, price_data, prices_data, has_null, version_of, way_data, dart_data, call_data, refusal_data, inserted_data, reply_data, entry_data, report_data, report_text};
 
-use crate::prices::kept_len;
-use crate::reports::Report;
-use crate::scripts::LimitRows;
 use crate::written::{Written, write_after, write_list};
 use std::alloc::{AllocError, Global};
 use std::fmt::Write;
@@ -23,6 +20,8 @@ use topo_core::darts::{Dart, Way};
 use topo_core::ids::{EdgeId, VertexId};
 use topo_core::listed::Listed;
 use topo_core::routes::Inserted;
+use topo_forms::prices::kept_len;
+use topo_forms::{LimitRows, Report};
 
 impl Written for u64 {
     ghost value = { λ n. number (unsigned n) };

@@ -1,14 +1,13 @@
 //! The forms on texts.
 
-use crate::fault::ScriptFault;
 use crate::picture_text;
 use crate::report_rows::{REPORT, REPORT_ROWS};
 use crate::report_text::report;
-use crate::row_forms::read_rows;
-use crate::script_forms::{MAX_SCRIPT_BYTES, read_report, read_script};
 use crate::script_rows::{SCRIPT, SCRIPT_ROWS, SCRIPTS};
 use std::alloc::{AllocError, Global};
 use std::test::Fail;
+use topo_forms::script_forms::MAX_SCRIPT_BYTES;
+use topo_forms::{ScriptFault, read_report, read_rows, read_script};
 
 const FIRST_SCRIPT: &str =
     r#"{"version":1,"workers":[[["insert",0,0,0],["insert",0,1,3],["delete",0]]]}"#;

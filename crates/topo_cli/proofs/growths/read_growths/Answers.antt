@@ -1,6 +1,6 @@
 use Rattle.std.proofs.Common.{◌∙◌, Ok, ap, sym}
-use Rattle.topo_script.specs.Scripts.{script_of}
-use Rattle.topo_script.proofs.Steps.{past, stopped, told, went}
+use Rattle.topo_forms.specs.Scripts.{script_of}
+use Rattle.topo_forms.proofs.Steps.{past, stopped, told, went}
 use Rattle.topo_cli.specs.Growths.{growths_of}
 use Rattle.topo_cli.proofs.growths.read_growths.Goals as goal
 

@@ -1,0 +1,12 @@
+use Rattle.std.proofs.Common.{◌≡◌, take}
+use Rattle.topo_core.specs.History.{Replays}
+use Rattle.topo_picture.specs.Shown.{IsPicture}
+use Rattle.topo_price.specs.Prices.{prices_of}
+use Rattle.topo_book.proofs.replaying.replay.Given as goal
+
+abbrev pub invariant-loop-index : goal.invariant-loop-index
+invariant-loop-index g l = record {
+  same_limits : l.picture.limits ≡ l.start.limits;
+  lawful : IsPicture l.picture.limits l.picture.rows;
+  before : Replays (prices_of (g.F.Asks.answers l.tariff)) l.start.limits l.start.rows (take l.index l.entries) l.picture.rows;
+}

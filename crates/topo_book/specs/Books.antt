@@ -1,0 +1,61 @@
+-- What a book is, and what is true of it at all times.
+use Rattle.std.specs.Prelude.{◌≡◌, ◌≢◌, ◌<◌, ℕ, IfSome, List, [], ◌∷◌, Option, Some, None, is_some}
+use Rattle.topo_core.specs.declared.rows.Rows.{Rows}
+use Rattle.topo_core.specs.declared.limits.Limits.{Limits}
+use Rattle.topo_core.specs.declared.calls.Entry.{Entry}
+use Rattle.topo_core.specs.declared.calls.Refusal.TheVariants.{Memory}
+use Rattle.topo_core.specs.declared.calls.Reply.TheVariants.{Refused}
+use Rattle.topo_core.specs.Routes.{Pricing}
+use Rattle.topo_core.specs.Steps.{Step}
+use Rattle.topo_core.specs.History.{is_accepted}
+use Rattle.topo_picture.specs.Shown.{Shown, IsPicture}
+
+-- a book: what answers its prices, the picture that it began with, its history, the picture now, and how many entries more the
+-- history has room for
+pub record BookState (F : Type 0) : Type 0 where
+  pub tariff : F
+  pub start : Shown
+  pub history : List Entry
+  pub picture : Shown
+  pub spare : ℕ
+
+-- from p the entries lead to q, each by a step, and every picture on the way is lawful and within the limits
+abbrev pub ReplaysLawfully : Pricing → Limits → Rows → List Entry → Rows → Type 0
+ReplaysLawfully price limits p [] q = (q ≡ p) × IsPicture limits p
+ReplaysLawfully price limits p (entry ∷ entries) q = (next : Rows) × IsPicture limits p × Step price limits p entry.call entry.reply next
+    × ReplaysLawfully price limits next entries q
+
+-- the history leads from the start to the picture
+pub record IsBook (price : Pricing) (start : Shown) (history : List Entry) (picture : Shown) : Type 0 where
+  pub same_limits : picture.limits ≡ start.limits
+  pub replayed : ReplaysLawfully price start.limits start.rows history picture.rows
+
+-- the tariff, the start and the limits are as they were
+abbrev pub IsSameBook : {F : Type 0} → BookState F → BookState F → Type 0
+IsSameBook old new = (new.tariff ≡ old.tariff) × (new.start ≡ old.start) × (new.picture.limits ≡ old.picture.limits)
+
+-- the history and the picture are as they were
+abbrev pub IsUnchanged : {F : Type 0} → BookState F → BookState F → Type 0
+IsUnchanged old new = (new.history ≡ old.history) × (new.picture ≡ old.picture)
+
+-- a call made ready: its entry, and the picture after it where it is accepted
+pub record NextState : Type 0 where
+  pub entry : Entry
+  pub picture : Option Shown
+
+-- the picture after a call that was made ready from this picture: a refused call leaves it
+abbrev pub picture_after : Option Shown → Shown → Shown
+picture_after (Some next) picture = next
+picture_after None picture = picture
+
+-- entering what was made ready is a step from the picture, within its limits, and the history has room for the entry
+pub record CanFollow {F : Type 0} (price : Pricing) (book : BookState F) (next : NextState) : Type 0 where
+  pub step : Step price book.picture.limits book.picture.rows next.entry.call next.entry.reply (picture_after next.picture book.picture).rows
+  pub same_limits : (picture_after next.picture book.picture).limits ≡ book.picture.limits
+  pub room : 0 < book.spare
+
+-- there is a picture just where the reply is accepted, and it is lawful. The reply is never want of memory
+pub record IsNext (entry : Entry) (picture : Option Shown) : Type 0 where
+  pub accepted : is_some picture ≡ is_accepted entry.reply
+  pub lawful : IfSome picture (λ p. IsPicture p.limits p.rows)
+  pub no_memory : entry.reply ≢ Refused Memory

@@ -1,0 +1,5 @@
+use Rattle.topo_core.proofs.Determined.{one_step}
+use Rattle.topo_core.proofs.step_laws.steps_are_determined.Goals as goal
+
+pub returns : goal.returns
+returns g c limits p = one_step g.P.Prices.price limits p

@@ -1,0 +1,5 @@
+pub mod Bytes
+pub mod Items
+pub mod Lookups
+pub mod PriceLists
+pub mod Steps

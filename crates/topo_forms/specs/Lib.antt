@@ -1,0 +1,7 @@
+pub mod CallForms
+pub mod Paths
+pub mod Prices
+pub mod Reads
+pub mod ReplyForms
+pub mod RowForms
+pub mod Scripts

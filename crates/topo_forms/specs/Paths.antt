@@ -1,0 +1,59 @@
+-- Places in a text, and the names of keys.
+use Rattle.std.specs.Prelude.{ℕ, List, codes, Some, None, is_none, if◌then◌else◌}
+use Rattle.topo_forms.specs.declared.path.Key.{Key}
+use Rattle.topo_forms.specs.declared.path.Key.TheVariants.{A, B, Call, Caller, Crossed, Crossings, Deleted, Edge, Edges, End, History, Id, Kind, Limits, Newcomer, NextCrossing, NextEdge, Picture, Price, Prices, Refused, Reply, Rotations, Sign, Start, Version, Vertex, Vertices, Workers}
+use Rattle.topo_forms.specs.declared.path.Step.{Step}
+use Rattle.topo_forms.specs.declared.path.Step.TheVariants.{Member, Element}
+use Rattle.topo_forms.specs.declared.path.Path.{Path}
+
+-- a key as it stands in a text
+abbrev pub key_name : Key → List ℕ
+key_name A = codes "a"
+key_name B = codes "b"
+key_name Call = codes "call"
+key_name Caller = codes "caller"
+key_name Crossed = codes "crossed"
+key_name Crossings = codes "crossings"
+key_name Deleted = codes "deleted"
+key_name Edge = codes "edge"
+key_name Edges = codes "edges"
+key_name End = codes "end"
+key_name History = codes "history"
+key_name Id = codes "id"
+key_name Kind = codes "kind"
+key_name Limits = codes "limits"
+key_name Newcomer = codes "newcomer"
+key_name NextCrossing = codes "next_crossing"
+key_name NextEdge = codes "next_edge"
+key_name Picture = codes "picture"
+key_name Price = codes "price"
+key_name Prices = codes "prices"
+key_name Refused = codes "refused"
+key_name Reply = codes "reply"
+key_name Rotations = codes "rotations"
+key_name Sign = codes "sign"
+key_name Start = codes "start"
+key_name Version = codes "version"
+key_name Vertex = codes "vertex"
+key_name Vertices = codes "vertices"
+key_name Workers = codes "workers"
+
+-- the whole text
+abbrev pub whole : Path
+whole = record { first = None; second = None; third = None; fourth = None; fifth = None; sixth = None }
+
+-- one step further: the first place that is free takes it
+unfoldable pub under : Path → Step → Path
+under path step =
+    if is_none path.first then record path { first = Some step } else (
+    if is_none path.second then record path { second = Some step } else (
+    if is_none path.third then record path { third = Some step } else (
+    if is_none path.fourth then record path { fourth = Some step } else (
+    if is_none path.fifth then record path { fifth = Some step } else
+    record path { sixth = Some step }))))
+
+abbrev pub member_of : Path → Key → Path
+member_of path key = under path (Member key)
+
+abbrev pub element_of : Path → ℕ → Path
+element_of path i = under path (Element i)

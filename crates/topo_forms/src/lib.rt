@@ -1,0 +1,22 @@
+//! The JSON forms of the project, read: scripts, pictures and reports.
+//!
+//! `read_script`, `read_rows` and `read_report` give what the definitions of `specs/` give on the value
+//! of a text: the form, or its first fault with its path. `docs/FORMATS.md` has the forms in words.
+#![tactic(auto)]
+
+mod calls;
+pub mod fault;
+pub mod form;
+pub mod path;
+pub mod prices;
+mod replies;
+pub mod reports;
+pub mod row_forms;
+pub mod script_forms;
+pub mod scripts;
+
+pub use fault::ScriptFault;
+pub use reports::Report;
+pub use row_forms::read_rows;
+pub use script_forms::{read_report, read_script};
+pub use scripts::{LimitRows, Script};

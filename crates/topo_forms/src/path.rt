@@ -1,0 +1,206 @@
+//! Places in a JSON text.
+
+ghost use Rattle.std.specs.Prelude.{◌≡◌};
+ghost use Rattle.topo_forms.specs.Paths.{key_name};
+
+use std::fmt;
+
+/// A key that the forms know.
+#[derive(Clone, Copy, Debug, PartialEq, Eq)]
+pub enum Key {
+    A,
+    B,
+    Call,
+    Caller,
+    Crossed,
+    Crossings,
+    Deleted,
+    Edge,
+    Edges,
+    End,
+    History,
+    Id,
+    Kind,
+    Limits,
+    Newcomer,
+    NextCrossing,
+    NextEdge,
+    Picture,
+    Price,
+    Prices,
+    Refused,
+    Reply,
+    Rotations,
+    Sign,
+    Start,
+    Version,
+    Vertex,
+    Vertices,
+    Workers,
+}
+
+impl Key {
+    /// The key as it stands in a text.
+    pub fn name(self) -> &'static str
+        ensures { result.now ≡ key_name self }
+    {
+        match self {
+            Key::A => "a",
+            Key::B => "b",
+            Key::Call => "call",
+            Key::Caller => "caller",
+            Key::Crossed => "crossed",
+            Key::Crossings => "crossings",
+            Key::Deleted => "deleted",
+            Key::Edge => "edge",
+            Key::Edges => "edges",
+            Key::End => "end",
+            Key::History => "history",
+            Key::Id => "id",
+            Key::Kind => "kind",
+            Key::Limits => "limits",
+            Key::Newcomer => "newcomer",
+            Key::NextCrossing => "next_crossing",
+            Key::NextEdge => "next_edge",
+            Key::Picture => "picture",
+            Key::Price => "price",
+            Key::Prices => "prices",
+            Key::Refused => "refused",
+            Key::Reply => "reply",
+            Key::Rotations => "rotations",
+            Key::Sign => "sign",
+            Key::Start => "start",
+            Key::Version => "version",
+            Key::Vertex => "vertex",
+            Key::Vertices => "vertices",
+            Key::Workers => "workers",
+        }
+    }
+}
+
+/// One step into a value: to a member by its key, or to an element by its index from 0.
+#[derive(Clone, Copy, Debug, PartialEq, Eq)]
+pub enum Step {
+    Member(Key),
+    Element(usize),
+}
+
+/// A place in a text: the steps that lead there from the whole. It is printed as `$` and then, for
+/// each step, `/` and the key or the index. No form nests deeper than six steps, and a path holds no
+/// more.
+#[derive(Clone, Copy, Debug, PartialEq, Eq)]
+pub struct Path {
+    pub first: Option<Step>,
+    pub second: Option<Step>,
+    pub third: Option<Step>,
+    pub fourth: Option<Step>,
+    pub fifth: Option<Step>,
+    pub sixth: Option<Step>,
+}
+
+impl Path {
+    ghost use Rattle.topo_forms.specs.Paths.{under};
+
+    /// The path of the whole text, `$`.
+    pub const WHOLE: Path = Path {
+        first: None,
+        second: None,
+        third: None,
+        fourth: None,
+        fifth: None,
+        sixth: None,
+    };
+
+    /// The path of what one step leads to.
+    #[tactic(auto, unfolding(crate::specs::Paths::under))]
+    pub fn then(self, step: Step) -> Self
+        ensures { result ≡ under self step }
+    {
+        let step = Some(step);
+        let Path {
+            first,
+            second,
+            third,
+            fourth,
+            fifth,
+            sixth: _,
+        } = self;
+        if first.is_none() {
+            Path {
+                first: step,
+                ..self
+            }
+        } else if second.is_none() {
+            Path {
+                second: step,
+                ..self
+            }
+        } else if third.is_none() {
+            Path {
+                third: step,
+                ..self
+            }
+        } else if fourth.is_none() {
+            Path {
+                fourth: step,
+                ..self
+            }
+        } else if fifth.is_none() {
+            Path {
+                fifth: step,
+                ..self
+            }
+        } else {
+            Path {
+                sixth: step,
+                ..self
+            }
+        }
+    }
+
+    ghost use Rattle.topo_forms.specs.Paths.{member_of, element_of};
+
+    /// The path of a member.
+    pub fn member(self, key: Key) -> Self
+        ensures { result ≡ member_of self key }
+    {
+        self.then(Step::Member(key))
+    }
+
+    /// The path of an element.
+    pub fn element(self, index: usize) -> Self
+        ensures { result ≡ element_of self index }
+    {
+        self.then(Step::Element(index))
+    }
+}
+
+impl fmt::Display for Step {
+    fn fmt<W: fmt::Write>(&self, f: &mut fmt::Formatter<W>) -> fmt::Result {
+        match self {
+            Step::Member(key) => {
+                let name = key.name();
+                write!(f, "/{name}")
+            }
+            Step::Element(index) => write!(f, "/{index}"),
+        }
+    }
+}
+
+impl fmt::Display for Path {
+    fn fmt<W: fmt::Write>(&self, f: &mut fmt::Formatter<W>) -> fmt::Result {
+        write!(f, "$")?;
+        let steps = [
+            self.first,
+            self.second,
+            self.third,
+            self.fourth,
+            self.fifth,
+            self.sixth,
+        ];
+        for step in steps.iter().flatten() {
+            write!(f, "{step}")?;
+        }
+        Ok(())
+    }
+}

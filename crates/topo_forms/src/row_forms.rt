@@ -1,0 +1,106 @@
+//! Rows, read from their JSON form.
+
+ghost use Rattle.std.specs.Prelude.{◌≡◌};
+ghost use Rattle.topo_forms.specs.Reads.{Gives};
+ghost use Rattle.topo_forms.specs.RowForms.{sign_form, edge_form, crossing_form, rows_form, rows_of};
+
+use crate::fault::ScriptFault;
+use crate::form::{Form, check_keys, is_text, parse, read_member};
+use crate::path::{Key, Path};
+use serde_json::Value;
+use std::alloc::Global;
+use topo_core::darts::Sign;
+use topo_core::rows::{CrossRow, EdgeRow, Rows};
+
+/// The greatest number of bytes that a picture or a report may have.
+pub const MAX_PICTURE_BYTES: usize = 268_435_456;
+
+impl Form for Sign {
+    ghost form = { sign_form };
+
+    #[tactic(auto, unfolding(crate::specs::RowForms::sign_form))]
+    fn read(_alloc: Global, path: Path, value: &Value) -> Result<Self, ScriptFault> {
+        if is_text("ltr", value) {
+            Ok(Sign::LeftToRight)
+        } else if is_text("rtl", value) {
+            Ok(Sign::RightToLeft)
+        } else {
+            Err(ScriptFault::BadShape(path))
+        }
+    }
+}
+
+impl Form for EdgeRow {
+    ghost form = { edge_form };
+
+    fn read(alloc: Global, path: Path, value: &Value) -> Result<Self, ScriptFault> {
+        let keys = [Key::A, Key::B, Key::Crossings, Key::Id, Key::Kind];
+        check_keys(path, &keys, &[], value)?;
+        let a = read_member(alloc, path, Key::A, value)?;
+        let b = read_member(alloc, path, Key::B, value)?;
+        let crossings = read_member(alloc, path, Key::Crossings, value)?;
+        let id = read_member(alloc, path, Key::Id, value)?;
+        let kind = read_member(alloc, path, Key::Kind, value)?;
+        Ok(EdgeRow {
+            id,
+            a,
+            b,
+            kind,
+            crossings,
+        })
+    }
+}
+
+impl Form for CrossRow {
+    ghost form = { crossing_form };
+
+    fn read(alloc: Global, path: Path, value: &Value) -> Result<Self, ScriptFault> {
+        let keys = [Key::Crossed, Key::Id, Key::Newcomer, Key::Sign];
+        check_keys(path, &keys, &[], value)?;
+        let crossed = read_member(alloc, path, Key::Crossed, value)?;
+        let id = read_member(alloc, path, Key::Id, value)?;
+        let newcomer = read_member(alloc, path, Key::Newcomer, value)?;
+        let sign = read_member(alloc, path, Key::Sign, value)?;
+        Ok(CrossRow {
+            id,
+            crossed,
+            newcomer,
+            sign,
+        })
+    }
+}
+
+impl Form for Rows {
+    ghost form = { rows_form };
+
+    fn read(alloc: Global, path: Path, value: &Value) -> Result<Self, ScriptFault> {
+        let keys = [
+            Key::Crossings,
+            Key::Edges,
+            Key::NextCrossing,
+            Key::NextEdge,
+            Key::Rotations,
+        ];
+        check_keys(path, &keys, &[], value)?;
+        let crossings = read_member(alloc, path, Key::Crossings, value)?;
+        let edges = read_member(alloc, path, Key::Edges, value)?;
+        let next_crossing = read_member(alloc, path, Key::NextCrossing, value)?;
+        let next_edge = read_member(alloc, path, Key::NextEdge, value)?;
+        let rotations = read_member(alloc, path, Key::Rotations, value)?;
+        Ok(Rows {
+            rotations,
+            edges,
+            crossings,
+            next_edge,
+            next_crossing,
+        })
+    }
+}
+
+/// The rows that the text of a picture spells.
+pub fn read_rows(alloc: Global, bytes: &[u8]) -> Result<Rows, ScriptFault>
+    ensures { Gives result (rows_of bytes.now) }
+{
+    let value = parse(alloc, MAX_PICTURE_BYTES, bytes)?;
+    Rows::read(alloc, Path::WHOLE, &value)
+}

@@ -1,0 +1,237 @@
+//! Scripts and reports, read from their JSON forms.
+
+ghost use Rattle.std.specs.Prelude.{◌≡◌, ◌&&◌, [], nat_lt, nat_le, is_some};
+ghost use Rattle.serde_json.specs.View.{view};
+ghost use Rattle.serde_json.specs.Find.{as_object};
+ghost use Rattle.topo_forms.specs.declared.fault.ScriptFault.TheVariants.{BadShape};
+ghost use Rattle.topo_forms.specs.Reads.{Gives, passes, element_count, member_form, member_or};
+ghost use Rattle.topo_forms.specs.Paths.{whole};
+ghost use Rattle.topo_forms.specs.declared.path.Key.TheVariants.{Prices, Workers};
+ghost use Rattle.topo_forms.specs.Scripts.{limits_form, nulls_of, nulls_in, prices_form, picture_form, start_form, workers_form, script_form, script_of, report_form, report_of};
+
+use crate::fault::ScriptFault;
+use crate::form::{
+    Form, check_keys, element_count, has_key, is_text, parse, read_member, read_member_or,
+};
+use crate::path::{Key, Path};
+use crate::prices::read_prices;
+use crate::reports::Report;
+use crate::row_forms::MAX_PICTURE_BYTES;
+use crate::scripts::{LimitRows, Script};
+use serde_json::Value;
+use std::alloc::Global;
+use topo_core::calls::Command;
+use topo_core::listed::Listed;
+use topo_core::rows::Rows;
+
+/// The greatest number of bytes that a script may have.
+pub const MAX_SCRIPT_BYTES: usize = 1_048_576;
+
+/// The greatest number of lists in a script.
+const MAX_WORKERS: usize = 16;
+
+impl Form for LimitRows {
+    ghost form = { limits_form };
+
+    fn read(alloc: Global, path: Path, value: &Value) -> Result<Self, ScriptFault> {
+        let keys = [Key::Crossings, Key::Edges, Key::Vertices];
+        check_keys(path, &keys, &[], value)?;
+        let crossings = read_member(alloc, path, Key::Crossings, value)?;
+        let edges = read_member(alloc, path, Key::Edges, value)?;
+        let vertices = read_member(alloc, path, Key::Vertices, value)?;
+        Ok(LimitRows {
+            vertices,
+            edges,
+            crossings,
+        })
+    }
+}
+
+/// Tests that a value is an object.
+fn check_object(path: Path, value: &Value) -> Result<(), ScriptFault>
+    ensures { result ≡ passes (BadShape path) (is_some (as_object (view value.now))) }
+{
+    if value.is_object() {
+        Ok(())
+    } else {
+        Err(ScriptFault::BadShape(path))
+    }
+}
+
+/// Whether a version lets a price be null.
+#[tactic(auto, unfolding(crate::specs::Scripts::nulls_of))]
+fn nulls_of(version: u32) -> Result<bool, ScriptFault>
+    ensures { result ≡ nulls_of version }
+{
+    match version {
+        1 => Ok(false),
+        2 => Ok(true),
+        _ => Err(ScriptFault::BadVersion),
+    }
+}
+
+/// Whether the version of a script or a report lets a price be null.
+fn read_nulls(alloc: Global, value: &Value) -> Result<bool, ScriptFault>
+    ensures { Gives result (nulls_in (view value.now)) }
+{
+    check_object(Path::WHOLE, value)?;
+    let version = read_member(alloc, Path::WHOLE, Key::Version, value)?;
+    nulls_of(version)
+}
+
+/// The greatest limits.
+const GREATEST_LIMITS: LimitRows = LimitRows {
+    vertices: 65_536,
+    edges: 65_536,
+    crossings: 1_048_576,
+};
+
+/// The prices of a report.
+fn read_price_member(
+    alloc: Global,
+    nulls: bool,
+    value: &Value,
+) -> Result<Listed<Option<u32>>, ScriptFault>
+    ensures { Gives result (member_form (prices_form nulls) whole Prices (view value.now)) }
+{
+    let path = Path::WHOLE.member(Key::Prices);
+    match value.get(Key::Prices.name()) {
+        Some(prices) => read_prices(alloc, nulls, path, prices),
+        None => Err(ScriptFault::BadShape(path)),
+    }
+}
+
+/// The prices of a script, which may be missing.
+fn read_prices_or_none(
+    alloc: Global,
+    nulls: bool,
+    value: &Value,
+) -> Result<Listed<Option<u32>>, ScriptFault>
+    ensures { Gives result (member_or [] (prices_form nulls) whole Prices (view value.now)) }
+{
+    if has_key(Key::Prices, value) {
+        read_price_member(alloc, nulls, value)
+    } else {
+        Ok(Listed::from_vec(Vec::new(alloc)))
+    }
+}
+
+fn read_picture(alloc: Global, path: Path, value: &Value) -> Result<Option<Rows>, ScriptFault>
+    ensures { Gives result (picture_form path (view value.now)) }
+{
+    let rows = Rows::read(alloc, path, value)?;
+    Ok(Some(rows))
+}
+
+impl Form for Option<Rows> {
+    ghost form = { start_form };
+
+    #[tactic(auto, unfolding(crate::specs::Scripts::start_form))]
+    fn read(alloc: Global, path: Path, value: &Value) -> Result<Self, ScriptFault> {
+        if is_text("seed", value) {
+            Ok(None)
+        } else {
+            read_picture(alloc, path, value)
+        }
+    }
+}
+
+/// Tests that there are 1 to 16 lists of commands.
+fn check_workers(path: Path, value: &Value) -> Result<(), ScriptFault>
+    ensures { result ≡ passes (BadShape path) (nat_lt 0 (element_count (view value.now)) && nat_le (element_count (view value.now)) 16) }
+{
+    let count = element_count(value);
+    if 0 < count && count <= MAX_WORKERS {
+        Ok(())
+    } else {
+        Err(ScriptFault::BadShape(path))
+    }
+}
+
+/// 1 to 16 lists of commands.
+fn read_workers(
+    alloc: Global,
+    path: Path,
+    value: &Value,
+) -> Result<Listed<Listed<Command>>, ScriptFault>
+    ensures { Gives result (workers_form path (view value.now)) }
+{
+    check_workers(path, value)?;
+    Listed::read(alloc, path, value)
+}
+
+/// The lists of commands of a script.
+fn read_workers_member(alloc: Global, value: &Value) -> Result<Listed<Listed<Command>>, ScriptFault>
+    ensures { Gives result (member_form workers_form whole Workers (view value.now)) }
+{
+    let path = Path::WHOLE.member(Key::Workers);
+    match value.get(Key::Workers.name()) {
+        Some(workers) => read_workers(alloc, path, workers),
+        None => Err(ScriptFault::BadShape(path)),
+    }
+}
+
+/// The script that a value is.
+fn script_in(alloc: Global, value: &Value) -> Result<Script, ScriptFault>
+    ensures { Gives result (script_form (view value.now)) }
+{
+    let nulls = read_nulls(alloc, value)?;
+    let whole = Path::WHOLE;
+    let optional = [Key::Limits, Key::Prices, Key::Start];
+    check_keys(whole, &[Key::Version, Key::Workers], &optional, value)?;
+    let limits = read_member_or(alloc, whole, Key::Limits, value, GREATEST_LIMITS)?;
+    let prices = read_prices_or_none(alloc, nulls, value)?;
+    let start = read_member_or(alloc, whole, Key::Start, value, None)?;
+    let workers = read_workers_member(alloc, value)?;
+    Ok(Script {
+        limits,
+        prices,
+        start,
+        workers,
+    })
+}
+
+/// The script that bytes spell.
+pub fn read_script(alloc: Global, bytes: &[u8]) -> Result<Script, ScriptFault>
+    ensures { Gives result (script_of bytes.now) }
+{
+    let value = parse(alloc, MAX_SCRIPT_BYTES, bytes)?;
+    script_in(alloc, &value)
+}
+
+/// The report that a value is.
+fn report_in(alloc: Global, value: &Value) -> Result<Report, ScriptFault>
+    ensures { Gives result (report_form (view value.now)) }
+{
+    let nulls = read_nulls(alloc, value)?;
+    let whole = Path::WHOLE;
+    let keys = [
+        Key::History,
+        Key::Limits,
+        Key::Picture,
+        Key::Prices,
+        Key::Start,
+        Key::Version,
+    ];
+    check_keys(whole, &keys, &[], value)?;
+    let history = read_member(alloc, whole, Key::History, value)?;
+    let limits = read_member(alloc, whole, Key::Limits, value)?;
+    let picture = read_member(alloc, whole, Key::Picture, value)?;
+    let prices = read_price_member(alloc, nulls, value)?;
+    let start = read_member(alloc, whole, Key::Start, value)?;
+    Ok(Report {
+        limits,
+        prices,
+        start,
+        history,
+        picture,
+    })
+}
+
+/// The report that bytes spell.
+pub fn read_report(alloc: Global, bytes: &[u8]) -> Result<Report, ScriptFault>
+    ensures { Gives result (report_of bytes.now) }
+{
+    let value = parse(alloc, MAX_PICTURE_BYTES, bytes)?;
+    report_in(alloc, &value)
+}

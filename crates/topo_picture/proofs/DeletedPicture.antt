@@ -1,0 +1,54 @@
+-- What a deletion makes of a picture within its limits.
+use Rattle.std.proofs.Common.{◌≡◌, ℕ, ◌+◌, ◌*◌, ◌<◌, ◌≤◌, ◌==◌, Bool, true, false, ◌||◌, cond, List, [], ◌∷◌, length, Option, Some, None, is_some, refl, sym, ◌∙◌, ap, subst, arith}
+use Rattle.std.specs.Prelude.{find, MatchOption}
+use Rattle.std.specs.List.{list_any}
+use Rattle.topo_core.specs.declared.limits.Limits.{Limits}
+use Rattle.topo_core.specs.declared.rows.EdgeRow.{EdgeRow}
+use Rattle.topo_core.specs.declared.rows.Rows.{Rows}
+use Rattle.topo_core.specs.Changes.{HasOneFace, IsCut, IsLocalCut, without}
+use Rattle.topo_core.specs.Picture.{edge_at, edge_row, segment_count}
+use Rattle.topo_core.proofs.SystemDarts.{some_of}
+use Rattle.topo_picture.specs.Shown.{IsPicture, Shown}
+use Rattle.topo_picture.proofs.DeletedLawful.{cut_by_faces, cut_is_by_faces, no_cut, whole_without}
+use Rattle.topo_picture.proofs.WithoutCounts.{vertices_without}
+
+pub found_listed : (e : ℕ) (edges : List EdgeRow) → is_some (find (λ row. row.id == e) edges) ≡ list_any (λ row. row.id == e) edges
+found_listed e [] = refl
+found_listed e (row ∷ rows) = by_test (row.id == e) (found_listed e rows) where
+  by_test : (b : Bool) → is_some (find (λ row. row.id == e) rows) ≡ list_any (λ row. row.id == e) rows → is_some (cond b (Some row) (find (λ row. row.id == e) rows)) ≡ (b || list_any (λ row. row.id == e) rows)
+  by_test true h = refl
+  by_test false h = h
+
+module _ (limits : Limits) (rows : Rows) (e : ℕ) (is : IsPicture limits rows) (there : is_some (edge_row rows e) ≡ true) where
+  small : rows.next_crossing ≤ 4294967296
+  small = omega (arith, is.crossings, limits.crossings_in_range)
+
+  -- with no cut by faces the picture without the edge is a picture
+  pub deletion_of_picture : (new : Rows) → new ≡ without rows e → ((i : ℕ) → i ≤ length (edge_at rows e).crossings → HasOneFace rows e i → ⊥) → IsPicture limits new
+  deletion_of_picture new same none = subst (IsPicture limits) (sym same) (record {
+    lawful = whole_without rows is.lawful.embedding.well_formed e (some_of (edge_row rows e) there).0 (some_of (edge_row rows e) there).1 is.lawful.embedding.connected is.lawful.genus_zero small none;
+    vertices = subst (λ (k : ℕ). k ≤ limits.vertices) (sym (vertices_without rows e)) is.vertices;
+    edges = is.edges;
+    crossings = is.crossings;
+  })
+
+  pub whole_of_picture : ((i : ℕ) → i ≤ length (edge_at rows e).crossings → HasOneFace rows e i → ⊥) → (i : ℕ) → IsCut rows e i → ⊥
+  whole_of_picture none = no_cut rows is.lawful.embedding.well_formed e (some_of (edge_row rows e) there).0 (some_of (edge_row rows e) there).1 is.lawful.embedding.connected is.lawful.genus_zero none
+
+  pub cut_of_picture : (i : ℕ) → IsLocalCut rows e i → IsCut rows e i
+  cut_of_picture = cut_by_faces rows is.lawful.embedding.well_formed e (some_of (edge_row rows e) there).0 (some_of (edge_row rows e) there).1 is.lawful.embedding.connected is.lawful.genus_zero
+
+  pub local_of_picture : (i : ℕ) → IsCut rows e i → IsLocalCut rows e i
+  local_of_picture = cut_is_by_faces rows is.lawful.embedding.well_formed e (some_of (edge_row rows e) there).0 (some_of (edge_row rows e) there).1 is.lawful.embedding.connected is.lawful.genus_zero
+
+-- ---- What is found
+
+pub found_none : (o : Option ℕ) (A : Type 0) (B : ℕ → Type 0) → MatchOption o A B → o ≡ None → A
+found_none o A B f e = subst (λ (o : Option ℕ). MatchOption o A B) e f
+
+pub found_some : (o : Option ℕ) (A : Type 0) (B : ℕ → Type 0) (i : ℕ) → MatchOption o A B → o ≡ Some i → B i
+found_some o A B i f e = subst (λ (o : Option ℕ). MatchOption o A B) e f
+
+-- what holds of the rows inside holds of the rows that are seen
+pub in_view : (limits : Limits) (rows : Rows) (s : Shown) → record { limits = limits; rows = rows } ≡ s → (P : Rows → Type 0) → P rows → P s.rows
+in_view limits rows s seen P h = subst (λ (s : Shown). P s.rows) seen h

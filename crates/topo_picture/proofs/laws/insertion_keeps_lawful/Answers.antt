@@ -1,0 +1,5 @@
+use Rattle.topo_picture.proofs.InsertedLawful.{insertion_keeps_lawful}
+use Rattle.topo_picture.proofs.laws.insertion_keeps_lawful.Goals as goal
+
+pub returns : goal.returns
+returns c = insertion_keeps_lawful
