@@ -1,14 +1,18 @@
 -- What a deletion makes of a picture within its limits.
-use Rattle.std.proofs.Common.{◌≡◌, ℕ, ◌≤◌, ◌==◌, Bool, true, false, ◌||◌, cond, List, [], ◌∷◌, length, Option, Some, None, is_some, refl, sym, subst, arith}
+use Rattle.std.proofs.Common.{◌≡◌, ℕ, ◌≤◌, ◌==◌, Bool, true, false, ◌||◌, cond, List, [], ◌∷◌, length, Option, Some, None, is_some, refl, sym, subst, arith, ◌+◌, ap, ◌∙◌, inl, inr}
 use Rattle.std.specs.Prelude.{find, MatchOption}
 use Rattle.std.specs.List.{list_any}
 use Rattle.topo_core.specs.declared.limits.Limits.{Limits}
 use Rattle.topo_core.specs.declared.rows.EdgeRow.{EdgeRow}
 use Rattle.topo_core.specs.declared.rows.Rows.{Rows}
-use Rattle.topo_core.specs.Changes.{HasOneFace, IsCut, IsLocalCut, without}
-use Rattle.topo_core.specs.Picture.{edge_at, edge_row}
+use Rattle.topo_core.specs.Changes.{HasOneFace, IsCut, IsLocalCut, shown, without}
+use Rattle.topo_core.specs.Picture.{edge_at, edge_row, system}
+use Rattle.topo_core.specs.Systems.{Connected}
 use Rattle.topo_core.proofs.SystemDarts.{some_of}
+use Rattle.topo_core.proofs.ShownRows.{shown_new_row}
+use Rattle.topo_core.proofs.UndoneInsertions.{insertion_undone}
 use Rattle.topo_picture.specs.Shown.{IsPicture, Shown}
+use Rattle.topo_picture.specs.Undoing.{IsShownOn}
 use Rattle.topo_picture.proofs.DeletedLawful.{cut_by_faces, cut_is_by_faces, no_cut, whole_without}
 use Rattle.topo_picture.proofs.WithoutCounts.{vertices_without}
 
@@ -52,3 +56,30 @@ found_some o A B i f e = subst (λ (o : Option ℕ). MatchOption o A B) e f
 -- what holds of the rows inside holds of the rows that are seen
 pub in_view : (limits : Limits) (rows : Rows) (s : Shown) → record { limits = limits; rows = rows } ≡ s → (P : Rows → Type 0) → P rows → P s.rows
 in_view limits rows s seen P h = subst (λ (s : Shown). P s.rows) seen h
+
+-- ---- The edge that was shown last
+
+-- without it the rows are those before, but for the ids that were given
+pub undone_rows : (p rows new : Rows) (e : ℕ) → IsShownOn p rows e → new ≡ without rows e → new ≡ record p { next_edge = rows.next_edge; next_crossing = rows.next_crossing }
+undone_rows p rows new e s w =
+    let given : without rows e ≡ record p { next_edge = p.next_edge + 1; next_crossing = p.next_crossing + length s.route.crossed } =
+    ap (λ (r : Rows). without r e) s.rows_are ∙ ap (without (shown p s.u s.v s.kind s.route)) s.newest ∙ insertion_undone p s.u s.v s.kind s.route s.lawful.embedding.well_formed s.insertable in
+    w ∙ given ∙ ap (λ (r : Rows). (let q : Rows = record p { next_edge = r.next_edge; next_crossing = r.next_crossing } in q)) (sym s.rows_are)
+
+pub shown_there : (p rows : Rows) (e : ℕ) → IsShownOn p rows e → edge_row rows e ≡ None → ⊥
+shown_there p rows e s w =
+    let found = shown_new_row p s.u s.v s.kind s.route s.lawful.embedding.well_formed.paths in
+    let none : edge_row (shown p s.u s.v s.kind s.route) p.next_edge ≡ None = ap (λ (r : Rows). edge_row r p.next_edge) (sym s.rows_are) ∙ ap (edge_row rows) (sym s.newest) ∙ w in
+    some_none (sym found ∙ none) where
+      some_none : {X : Type 0} {x : X} → Some x ≡ None → ⊥
+      some_none h = cc
+
+pub shown_no_cut : (p rows : Rows) (e i : ℕ) → IsShownOn p rows e → IsCut rows e i → ⊥
+shown_no_cut p rows e i s cut =
+    cut.falls_apart (subst (λ (r : Rows). Connected (system r)) (sym (undone_rows p rows (without rows e) e s refl)) s.lawful.embedding.connected)
+
+pub none_of : {X : Type 0} (o : Option X) → is_some o ≡ false → o ≡ None
+none_of None h = refl
+none_of (Some x) h = absurd (true_is_not h) where
+  true_is_not : true ≡ false → ⊥
+  true_is_not h = cc

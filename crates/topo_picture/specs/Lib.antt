@@ -8,3 +8,4 @@ pub mod Recovering
 pub mod Shown
 pub mod Totals
 pub mod Laws
+pub mod Undoing

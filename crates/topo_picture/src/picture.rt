@@ -44,6 +44,8 @@ impl Picture {
     ghost use Rattle.topo_picture.specs.Loading.{FailsFirst};
     ghost use Rattle.topo_picture.specs.Shown.{IsPicture};
     ghost use Rattle.topo_picture.specs.Totals.{AreCountsOf};
+    ghost use Rattle.topo_picture.specs.Undoing.{IsShownOn};
+    ghost use Rattle.topo_core.specs.declared.rows.Rows.{Rows};
 
     /// The picture of two vertices, 0 and 1, and edge 0 of kind 0 from the one to the other.
     pub fn seed(alloc: Global, limits: Limits) -> Result<Self, AllocError>
@@ -215,11 +217,14 @@ impl Picture {
     /// Takes an edge out, with its crossings. It is refused as NoEdge where there is no such edge, and
     /// as Cut with a segment where the picture would fall apart: the first segment of the edge such
     /// that the picture falls apart when it and those before it are out. Memory is answered only where
-    /// the edge is there.
+    /// the edge is there. The edge that was shown last can always go, and then the picture is as before
+    /// but for the ids that were given.
     pub fn delete(&mut self, alloc: Global, edge: u32) -> Result<(), Refusal>
         ensures there { IfOk result (λ _. is_some (edge_row self.old.rows edge) ≡ true) }
         ensures whole { IfOk result (λ _. (i : ℕ) → IsCut self.old.rows edge i → ⊥) }
         ensures without { IfOk result (λ _. self.new.rows ≡ without self.old.rows edge) }
+        ensures undoes { IfOk result (λ _. (p : Rows) → IsShownOn p self.old.rows edge → self.new.rows ≡ record p { next_edge = self.old.rows.next_edge; next_crossing = self.old.rows.next_crossing }) }
+        ensures can_undo { IfErr result (λ why. (p : Rows) → IsShownOn p self.old.rows edge → why ≡ Refusal.Memory) }
 
         ensures refused { IfErr result (λ why. ((why ≡ Refusal.NoEdge) × (edge_row self.old.rows edge ≡ None))
             ⊎ (((i : ℕ) × (why ≡ Refusal.Cut i) × (is_some (edge_row self.old.rows edge) ≡ true) × IsCut self.old.rows edge i)

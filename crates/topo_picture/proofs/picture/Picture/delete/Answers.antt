@@ -2,7 +2,9 @@ use Rattle.std.proofs.Common.{◌≡◌, ℕ, ◌≤◌, true, inl, inr, is_some
 use Rattle.topo_core.specs.Changes.{HasOneFace, IsCut, IsLocalCut}
 use Rattle.topo_core.specs.Picture.{edge_at, edge_row}
 use Rattle.topo_core.specs.declared.rows.Rows.{Rows}
-use Rattle.topo_picture.proofs.DeletedPicture.{cut_of_picture, deletion_of_picture, found_none, found_some, in_view, whole_of_picture}
+use Rattle.topo_picture.proofs.DeletedPicture.{cut_of_picture, deletion_of_picture, found_none, found_some, in_view, none_of, shown_no_cut, shown_there, undone_rows, whole_of_picture}
+use Rattle.topo_core.specs.declared.calls.Refusal.TheVariants.{Cut, Memory, NoEdge}
+use Rattle.topo_picture.specs.Undoing.{IsShownOn}
 use Rattle.topo_picture.proofs.RowCounts.{picture_small}
 use Rattle.topo_picture.proofs.picture.Picture.delete.Goals as goal
 
@@ -45,3 +47,20 @@ returns-in-Ok-Some-clause-refused c =
       in_view c.self.inside.limits c.self.inside.rows c.args.self.now c.self.view_is (λ rows. is_some (edge_row rows c.args.edge) ≡ true) there,
       in_view c.self.inside.limits c.self.inside.rows c.args.self.now c.self.view_is (λ rows. IsCut rows c.args.edge c.in-Ok-Some.segment) (cut_of_picture c.self.inside.limits c.self.inside.rows c.args.edge c.self.invariant there c.in-Ok-Some.segment cut),
     ))
+
+pub returns-then-not-has_edge-clause-can_undo : goal.returns-then-not-has_edge-clause-can_undo
+returns-then-not-has_edge-clause-can_undo c p = in_view c.self.inside.limits c.self.inside.rows c.args.self.now c.self.view_is (λ rows. IsShownOn p rows c.args.edge → NoEdge ≡ Memory)
+    (λ s. absurd (shown_there p c.self.inside.rows c.args.edge s (none_of (edge_row c.self.inside.rows c.args.edge) (sym c.has_edge.ensures ∙ c.if-not-has_edge.true))))
+
+pub returns-in-Ok-Some-clause-can_undo : goal.returns-in-Ok-Some-clause-can_undo
+returns-in-Ok-Some-clause-can_undo c p =
+    let there : is_some (edge_row c.self.inside.rows c.args.edge) ≡ true = sym c.has_edge.ensures ∙ c.if-not-has_edge.false in
+    let cut : IsLocalCut c.self.inside.rows c.args.edge c.in-Ok-Some.segment =
+        found_some c.in-Ok-Some.field-0 (HasNoCut c.self.inside.rows c.args.edge) (IsLocalCut c.self.inside.rows c.args.edge) c.in-Ok-Some.segment c.in-Ok-Some.ensures c.in-Ok-Some.field-0-is in
+    in_view c.self.inside.limits c.self.inside.rows c.args.self.now c.self.view_is (λ rows. IsShownOn p rows c.args.edge → Cut c.in-Ok-Some.segment ≡ Memory)
+    (λ s. absurd (shown_no_cut p c.self.inside.rows c.args.edge c.in-Ok-Some.segment s (cut_of_picture c.self.inside.limits c.self.inside.rows c.args.edge c.self.invariant there c.in-Ok-Some.segment cut)))
+
+pub returns-in-Ok-None-clause-undoes : goal.returns-in-Ok-None-clause-undoes
+returns-in-Ok-None-clause-undoes c p = in_view c.self.inside.limits c.self.inside.rows c.args.self.now c.self.view_is
+    (λ rows. IsShownOn p rows c.args.edge → c.delete_rows.new.rows ≡ record p { next_edge = rows.next_edge; next_crossing = rows.next_crossing })
+    (λ s. undone_rows p c.self.inside.rows c.delete_rows.new.rows c.args.edge s c.delete_rows.ensures)
