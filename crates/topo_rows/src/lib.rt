@@ -2,6 +2,8 @@
 #![tactic(auto)]
 
 #[cfg(test)]
+mod changes;
+#[cfg(test)]
 mod checks;
 #[cfg(test)]
 mod first_path;
@@ -13,5 +15,7 @@ mod pictures;
 mod routes;
 #[cfg(test)]
 mod settings;
+#[cfg(test)]
+mod stories;
 #[cfg(test)]
 mod streams;
