@@ -16,8 +16,9 @@ use topo_core::calls::{Call, Reply};
 use topo_core::darts::Way;
 use topo_core::ids::{EdgeId, VertexId};
 use topo_core::limits::Limits;
+use topo_core::listed::Listed;
 use topo_core::routes::Inserted;
-use topo_core::rows::{Facts, Rows};
+use topo_core::rows::{EdgeRow, Facts, Rows};
 use topo_picture::Picture;
 use topo_price::tariff::{Asks, Tariff};
 
@@ -72,7 +73,11 @@ fn call_of(ask: Ask) -> Call {
 }
 
 /// Makes a call.
-fn made<F: Asks>(alloc: Global, book: &mut Book<F>, call: Call) -> Result<Reply, AllocError> {
+pub(crate) fn made<F: Asks>(
+    alloc: Global,
+    book: &mut Book<F>,
+    call: Call,
+) -> Result<Reply, AllocError> {
     match call {
         Call::Grow { u, position, kind } => book.grow(alloc, 0, u, position, kind),
         Call::Insert { u, v, kind } => book.insert(alloc, 0, u, v, kind),
@@ -80,23 +85,41 @@ fn made<F: Asks>(alloc: Global, book: &mut Book<F>, call: Call) -> Result<Reply,
     }
 }
 
+/// Whether two lists of rotations are equal.
+fn same_rotations(a: &[Listed<u32>], b: &[Listed<u32>]) -> bool {
+    a.len() == b.len() && a.iter().zip(b).all(|(x, y)| x.as_slice() == y.as_slice())
+}
+
+/// Whether two edges are equal, with their paths.
+fn same_edge(a: &EdgeRow, b: &EdgeRow) -> bool {
+    let same_path = a.crossings.as_slice() == b.crossings.as_slice();
+    same_path && a.id == b.id && a.a == b.a && a.b == b.b && a.kind == b.kind
+}
+
+/// Whether two lists of edges are equal.
+fn same_edges(a: &[EdgeRow], b: &[EdgeRow]) -> bool {
+    a.len() == b.len() && a.iter().zip(b).all(|(x, y)| same_edge(x, y))
+}
+
 /// Whether two pictures have the same rows.
-fn same_rows(alloc: Global, a: &Rows, b: &Rows) -> Result<bool, Fail> {
-    let first = format!(in alloc; "{a:?}")?;
-    let second = format!(in alloc; "{b:?}")?;
-    Ok(first.as_str() == second.as_str())
+pub(crate) fn same_rows(a: &Rows, b: &Rows) -> bool {
+    same_rotations(a.rotations.as_slice(), b.rotations.as_slice())
+        && same_edges(a.edges.as_slice(), b.edges.as_slice())
+        && a.crossings.as_slice() == b.crossings.as_slice()
+        && a.next_edge == b.next_edge
+        && a.next_crossing == b.next_crossing
 }
 
 /// Whether a picture's rows are loaded under its limits and given back.
-fn is_loaded_again(alloc: Global, picture: &Picture) -> Result<bool, Fail> {
+pub(crate) fn is_loaded_again(alloc: Global, picture: &Picture) -> Result<bool, Fail> {
     let rows = picture.rows(alloc)?;
     let again = Picture::load(alloc, picture.limits(), &rows)?;
     let back = again.rows(alloc)?;
-    same_rows(alloc, &rows, &back)
+    Ok(same_rows(&rows, &back))
 }
 
 /// The book that begins with a table's picture.
-fn book_of<F: Asks + Drop>(
+pub(crate) fn book_of<F: Asks + Drop>(
     rt: &impl Abort,
     alloc: Global,
     table: &Table,
@@ -146,7 +169,7 @@ fn is_table(
         had.segments,
         had.faces,
     ] == counts;
-    Ok(same_rows(alloc, &rows, &wanted)? && same_counts)
+    Ok(same_rows(&rows, &wanted) && same_counts)
 }
 
 /// A story with the prices of a closure.
