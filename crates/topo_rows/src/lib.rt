@@ -2,6 +2,8 @@
 #![tactic(auto)]
 
 #[cfg(test)]
+mod changes;
+#[cfg(test)]
 mod checks;
 #[cfg(test)]
 mod first_path;
@@ -12,6 +14,10 @@ mod pictures;
 #[cfg(test)]
 mod routes;
 #[cfg(test)]
+mod runs;
+#[cfg(test)]
 mod settings;
+#[cfg(test)]
+mod stories;
 #[cfg(test)]
 mod streams;

@@ -35,7 +35,7 @@ pub(crate) enum Edit {
     None,
 }
 
-const SEED: Table = Table {
+pub(crate) const SEED: Table = Table {
     rotations: &[&[0], &[0]],
     edges: &[(0, 0, 1, 0, &[])],
     crossings: &[],
@@ -111,7 +111,7 @@ pub(crate) const BARRIER: Table = Table {
 };
 
 /// Two edges that only their crossing joins.
-const CROSS: Table = Table {
+pub(crate) const CROSS: Table = Table {
     rotations: &[&[0], &[0], &[1], &[1]],
     edges: &[(0, 0, 1, 0, &[0]), (1, 2, 3, 0, &[0])],
     crossings: &[(0, 0, 1, true)],

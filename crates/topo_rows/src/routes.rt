@@ -83,7 +83,11 @@ fn asked_of<F: Asks + Drop>(
 }
 
 /// A table of prices with these entries for kinds, and one price for all other kinds.
-fn table_of(rt: &impl Abort, rest: Option<u32>, entries: &[(usize, Option<u32>)]) -> PriceTable {
+pub(crate) fn table_of(
+    rt: &impl Abort,
+    rest: Option<u32>,
+    entries: &[(usize, Option<u32>)],
+) -> PriceTable {
     let mut prices = [rest; 64];
     for (kind, price) in entries {
         assert!(rt; *kind < 64);
@@ -99,7 +103,7 @@ fn frozen_of(rt: &impl Abort, alloc: Global, table: &Table) -> Result<Frozen, Al
     picture.freeze(alloc)
 }
 
-fn dart(edge: u32, seg: u32, way: Way) -> Dart {
+pub(crate) fn dart(edge: u32, seg: u32, way: Way) -> Dart {
     Dart {
         edge: EdgeId::new(edge),
         seg,
@@ -126,12 +130,16 @@ struct Answer {
 }
 
 /// Prices 5, 2 and 9 for the edges of the triangle.
-const FIVE_TWO_NINE: &[(usize, Option<u32>)] = &[(1, Some(5)), (2, Some(2)), (3, Some(9))];
+pub(crate) const FIVE_TWO_NINE: &[(usize, Option<u32>)] = &[
+    (1, Some(5)),
+    (2, Some(2)),
+    (3, Some(9)),
+];
 
 /// The same, but the second edge is dear, or must not be crossed.
 const SECOND_DEAR: &[(usize, Option<u32>)] = &[(1, Some(5)), (2, Some(1000)), (3, Some(9))];
 
-const SECOND_CLOSED: &[(usize, Option<u32>)] = &[(1, Some(5)), (2, None), (3, Some(9))];
+pub(crate) const SECOND_CLOSED: &[(usize, Option<u32>)] = &[(1, Some(5)), (2, None), (3, Some(9))];
 
 const APEXES: (u32, u32) = (3, 4);
 
