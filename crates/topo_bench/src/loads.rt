@@ -26,7 +26,7 @@ impl Grid {
     }
 
     /// The smallest grid with that many darts, or the largest that the limits let.
-    fn with_darts(darts: u32) -> Grid {
+    pub(crate) fn with_darts(darts: u32) -> Grid {
         for side in 2..181u32 {
             if side.wrapping_sub(1).wrapping_mul(side).wrapping_mul(4) >= darts {
                 return Grid { side };

@@ -7,6 +7,7 @@ use std::alloc::Global;
 use std::time::Clock;
 use std::{env, io};
 
+mod books;
 mod forms;
 mod loads;
 mod meshes;
@@ -22,6 +23,8 @@ const USAGE: &str = "usage: topo_bench NAME SIZE..
 NAME is cycles, is_connected, euler or load; each SIZE is a number of darts, even and from 2 to
 100000000. For load it is that of a square grid, and at most about 130000.
 A line for each size: nanoseconds a call, and a dart.
+Or NAME is book; each SIZE is a number of darts, as for load. Four lines for each size: to freeze and
+to copy a picture, to insert an edge between two vertices with its search, to grow a vertex.
 Or NAME is load_mesh; each SIZE is a number of lines, at most 1024, of which each crosses as many.
 Or NAME is search; each SIZE is the number of vertices on each side of a square grid, at most 180.
 A line for each size: nanoseconds a search between random ends, and a dart.
@@ -61,6 +64,9 @@ fn time_at<R: Clock + Print + AllocGlobal>(rt: &R, name: &str, word: &str) -> io
     }
     if name == "load_mesh" {
         return loads::time_mesh(rt, size);
+    }
+    if name == "book" {
+        return books::time(rt, size);
     }
     if name == "search" {
         return searches::time(rt, size);

@@ -18,7 +18,7 @@ use topo_route::search::search;
 const DARTS_IN_ALL: u32 = 20_000_000;
 
 /// The next number of a simple generator.
-fn next_number(state: u64) -> u64 {
+pub(crate) fn next_number(state: u64) -> u64 {
     state
         .wrapping_mul(6_364_136_223_846_793_005)
         .wrapping_add(1_442_695_040_888_963_407)
@@ -64,7 +64,7 @@ fn time_with<R: Clock + Print + AllocGlobal, F: Asks + Drop>(
 }
 
 /// Prices 1 to 9 for the kinds 1 to 9.
-fn prices() -> Option<PriceTable> {
+pub(crate) fn prices() -> Option<PriceTable> {
     let mut prices = [Some(1); 64];
     for kind in 1..10u32 {
         prices[kind as usize] = Some(kind);

@@ -62,6 +62,23 @@ const THRICE: Table = Table {
     next_crossing: 0,
 };
 
+/// Four edges side by side, two of them crossed on the way between two vertices that hang at one end.
+const PARALLEL_CROSSED: Table = Table {
+    rotations: &[&[0, 1, 5, 2, 3, 4], &[0, 3, 2, 1], &[4, 6], &[5, 6]],
+    edges: &[
+        (0, 0, 1, 0, &[0]),
+        (1, 0, 1, 0, &[1]),
+        (2, 0, 1, 0, &[]),
+        (3, 0, 1, 0, &[]),
+        (4, 0, 2, 0, &[]),
+        (5, 0, 3, 0, &[]),
+        (6, 2, 3, 0, &[0, 1]),
+    ],
+    crossings: &[(0, 0, 6, true), (1, 1, 6, true)],
+    next_edge: 7,
+    next_crossing: 2,
+};
+
 /// A vertex on two edges that hangs at the end of the first edge.
 const HANGING: Table = Table {
     rotations: &[&[0], &[0, 1, 2], &[1, 2]],
@@ -385,6 +402,26 @@ pub(crate) const SEED_STORIES: &[Story] = &[
         ],
         end: SEED,
         counts: [2, 0, 1, 1, 1],
+    },
+    // across two of four edges at the greatest price
+    Story {
+        limits: WIDE,
+        start: SEED,
+        rest: Some(1000),
+        entries: &[],
+        steps: &[
+            BESIDE,
+            (Ask::Join(0, 1), Due::Inserted(0, &[], 1, 0, 2)),
+            (Ask::Join(0, 1), Due::Inserted(0, &[], 1, 0, 3)),
+            (Ask::Grow(0, 0), Due::Grown(2, 4)),
+            (Ask::Grow(0, 2), Due::Grown(3, 5)),
+            (
+                Ask::Join(2, 3),
+                Due::Inserted(0, &[(0, 0, Way::Forward), (1, 0, Way::Forward)], 0, 2000, 6),
+            ),
+        ],
+        end: PARALLEL_CROSSED,
+        counts: [4, 2, 7, 11, 7],
     },
     // the last edge of two parts of three finds no free way
     Story {
