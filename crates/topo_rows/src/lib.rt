@@ -12,6 +12,8 @@ mod pictures;
 #[cfg(test)]
 mod routes;
 #[cfg(test)]
+mod runs;
+#[cfg(test)]
 mod settings;
 #[cfg(test)]
 mod streams;
