@@ -102,6 +102,17 @@ impl<F: Asks> Book<F> {
         &self.picture
     }
 
+    /// The entries, the oldest first. The book ends.
+    pub fn into_history(self) -> Vec<Entry>
+    where
+        F: Drop,
+        ensures entries { result.items ≡ self.history }
+        ensures legal { Replays (prices_of (F.answers self.tariff)) self.start.limits self.start.rows self.history self.picture.rows }
+    {
+        let Book { history, .. } = self;
+        history
+    }
+
     /// Inserts an edge of this kind from `u` to `v` along the first of the cheapest routes, or answers
     /// the first reason why not. Both are entered. Want of memory may stand in place of any answer,
     /// and leaves history and picture as they were.

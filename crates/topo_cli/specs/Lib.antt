@@ -1,5 +1,5 @@
 pub mod Checks
-pub mod Growths
+pub mod Lists
 pub mod Limiting
 pub mod Reading
 pub mod Runs

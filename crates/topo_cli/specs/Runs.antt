@@ -7,7 +7,7 @@ use Rattle.topo_core.specs.declared.limits.Limits.{Limits}
 use Rattle.topo_core.specs.declared.calls.Command.{Command}
 use Rattle.topo_core.specs.declared.calls.Entry.{Entry}
 use Rattle.topo_core.specs.Routes.{Pricing}
-use Rattle.topo_core.specs.History.{IsRun, Replays, call_of}
+use Rattle.topo_core.specs.History.{IsRun, call_of}
 use Rattle.topo_core.specs.Limits.{InRange}
 use Rattle.topo_core.specs.Pictures.{seed}
 use Rattle.topo_picture.specs.declared.load.LoadFault.{LoadFault}
@@ -19,11 +19,12 @@ use Rattle.topo_price.specs.Prices.{first_bad}
 use Rattle.topo_forms.specs.declared.fault.ScriptFault.{ScriptFault}
 use Rattle.topo_forms.specs.declared.scripts.LimitRows.{LimitRows}
 use Rattle.topo_forms.specs.declared.scripts.Script.{Script}
-use Rattle.topo_script.specs.Pictures.{rows_text}
+use Rattle.topo_forms.specs.declared.reports.Report.{Report}
+use Rattle.topo_script.specs.ReportTexts.{report_text}
 use Rattle.topo_forms.specs.Reads.{IsFirstFault}
 use Rattle.topo_cli.specs.declared.fault.RunFault.{RunFault}
 use Rattle.topo_cli.specs.declared.fault.RunFault.TheVariants.{Memory, Script as OfScript, BadLimits, Price, Load, ReadFault, WriteFault}
-use Rattle.topo_cli.specs.Growths.{growths_script_of}
+use Rattle.topo_cli.specs.Lists.{one_list_script_of}
 use Rattle.topo_cli.specs.Limiting.{AreLimits}
 use Rattle.topo_cli.specs.Reading.{IsRead}
 
@@ -67,7 +68,7 @@ pub record HasBadStart (script : Script) (fault : LoadFault) : Type 0 where
   pub start : script.start ≡ Some rows
   pub first : FailsFirst limits rows fault
 
--- what is told of a script that asks for growths: the first of limits, prices and start that is at fault
+-- what is told of a script with one list: the first of limits, prices and start that is at fault
 abbrev pub IsUnsound : Script → RunFault → Type 0
 IsUnsound script Memory = ⊤
 IsUnsound script BadLimits = HasLimits script.limits → ⊥
@@ -79,41 +80,41 @@ IsUnsound script WriteFault = ⊥
 
 -- ---- What a run makes
 
--- the commands lead from p to q: a history of their calls, in order, all of caller 0
-pub record LeadsBy (prices : List (Option ℕ)) (limits : Limits) (p : Rows) (commands : List Command) (q : Rows) : Type 0 where
-  pub history : List Entry
-  pub replayed : Replays (priced prices) limits p history q
-  pub calls : map (λ entry. entry.call) history ≡ map call_of commands
-  pub callers : AllByRecursion (λ entry. entry.caller ≡ 0) history
+-- the history goes on with the calls of the commands, in order, all of caller 0
+pub record Enters (before : List Entry) (commands : List Command) (after : List Entry) : Type 0 where
+  pub more : List Entry
+  pub appended : after ≡ before ++ more
+  pub calls : map (λ entry. entry.call) more ≡ map call_of commands
+  pub callers : AllByRecursion (λ entry. entry.caller ≡ 0) more
 
--- the text is that of the rows to which the commands lead, with a line feed
-pub record IsGrownLine (prices : List (Option ℕ)) (limits : Limits) (p : Rows) (commands : List Command) (text : List ℕ) : Type 0 where
-  pub rows : Rows
-  pub led : LeadsBy prices limits p commands rows
-  pub line : text ≡ rows_text rows ++ 10 ∷ []
-
--- the text is that of the rows after a run of the script from its start, with a line feed
-pub record IsRunLine (script : Script) (text : List ℕ) : Type 0 where
+-- the report is that of a run of the script from its start, under its limits and at its prices
+pub record IsReportOf (script : Script) (report : Report) : Type 0 where
   pub limits : Limits
   pub sound : IsSound script limits
-  pub history : List Entry
-  pub rows : Rows
-  pub run : IsRun (priced script.prices) limits (start_of script.start) script.workers history rows
-  pub line : text ≡ rows_text rows ++ 10 ∷ []
+  pub same_limits : AreLimits report.limits limits
+  pub same_prices : report.prices ≡ script.prices
+  pub same_start : report.start ≡ start_of script.start
+  pub run : IsRun (priced script.prices) limits report.start script.workers report.history report.picture
+
+-- the text is that of such a report, with a line feed
+pub record IsRunLine (script : Script) (text : List ℕ) : Type 0 where
+  pub report : Report
+  pub made : IsReportOf script report
+  pub line : text ≡ report_text report ++ 10 ∷ []
 
 -- ---- What a run reads and writes
 
--- what was read is this script, which asks for growths alone
+-- what was read is this script, which has one list
 pub record Asks (old_left new_left : Option (List ℕ)) (script : Script) : Type 0 where
   pub input : List ℕ
   pub read : IsRead 1048576 old_left new_left input
-  pub spelled : growths_script_of input ≡ Ok script
+  pub spelled : one_list_script_of input ≡ Ok script
 
 -- what was read is no such script: this is its first fault
 pub record HasFault (old_left new_left : Option (List ℕ)) (fault : ScriptFault) : Type 0 where
   pub input : List ℕ
   pub read : IsRead 1048576 old_left new_left input
-  pub first : IsFirstFault (growths_script_of input) fault
+  pub first : IsFirstFault (one_list_script_of input) fault
 
 -- what was read is a script with this fault after reading
 pub record AsksUnsoundly (old_left new_left : Option (List ℕ)) (fault : RunFault) : Type 0 where
@@ -121,7 +122,7 @@ pub record AsksUnsoundly (old_left new_left : Option (List ℕ)) (fault : RunFau
   pub asked : Asks old_left new_left script
   pub unsound : IsUnsound script fault
 
--- what was read is a script, and the line that shows what it makes is written
+-- what was read is a script, and the text of the report of a run of it is written
 pub record IsDone (old_left new_left old_held new_held : Option (List ℕ)) : Type 0 where
   pub script : Script
   pub asked : Asks old_left new_left script

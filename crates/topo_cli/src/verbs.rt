@@ -19,7 +19,7 @@ edges, and each crossing as a dummy vertex of degree four.";
 const AFTER: &str = "\
 Examples:
   echo '{\"version\":1,\"workers\":[[[\"grow\",1,0,0],[\"grow\",1,1,7]]]}' > script.json
-  planar run < script.json > picture.json
+  planar run < script.json > report.json
   planar check < picture.json
 
 Statuses:
@@ -28,19 +28,22 @@ Statuses:
   2  these words were refused, or asked for help
   3  not enough memory";
 
-const RUN: &str = "Reads a script and prints the picture that it makes";
+const RUN: &str = "Reads a script and prints the report of its run";
 
 const RUN_LONG: &str = "\
 Reads a script from standard input, carries out its commands one after another,
-and prints the picture on one line of standard output.
+and prints the report on one line of standard output: the start, each call with
+its reply, and the picture at the end.
 
 A script is a JSON object with a version and one list of commands:
 
-  {\"version\":1,\"workers\":[[[\"grow\",1,0,0],[\"grow\",1,1,7]]]}
+  {\"version\":1,\"workers\":[[[\"grow\",1,0,0],[\"insert\",0,2,7],[\"delete\",0]]]}
 
 [\"grow\",U,POSITION,KIND] puts a new vertex on a new edge, of a kind from 0 to
 63, into a corner of vertex U: the one before the edge at POSITION of its
-clockwise list. A command that is refused changes nothing, and the run goes on.
+clockwise list. [\"insert\",U,V,KIND] draws a new edge from U to V along the first
+of the cheapest routes, and [\"delete\",E] takes edge E out. A command that is
+refused changes nothing, and the run goes on.
 
 A script may also have \"start\", a picture; without it the run begins with the
 vertices 0 and 1, and edge 0 between them. \"limits\" says how large the picture
@@ -60,7 +63,7 @@ const CHECK_LONG: &str = "\
 Reads a picture from standard input. Where it is a lawful one, a connected
 embedding of genus zero, prints how large it is on one line of standard output.
 
-A picture is what run prints:
+A picture stands in a report, as its start and at its end:
 
   {\"crossings\":[],\"edges\":[{\"a\":0,\"b\":1,\"crossings\":[],\"id\":0,\"kind\":0}],
    \"next_crossing\":0,\"next_edge\":1,\"rotations\":[[0],[0]]}

@@ -1,4 +1,4 @@
-//! The first path: scripts of growths, from bytes to bytes.
+//! Scripts of growths, from bytes to bytes.
 
 use crate::streams::{FailingWriter, NeverReader, SlowReader};
 use std::alloc::Global;
@@ -14,24 +14,30 @@ use topo_script::picture_text;
 
 const FIRST: &str = "{\"version\":1,\"workers\":[[[\"grow\",1,0,0],[\"grow\",1,1,7]]]}";
 
-const FIRST_PICTURE: &str = "\
-{\"crossings\":[],\"edges\":[\
-{\"a\":0,\"b\":1,\"crossings\":[],\"id\":0,\"kind\":0},\
-{\"a\":1,\"b\":2,\"crossings\":[],\"id\":1,\"kind\":0},\
-{\"a\":1,\"b\":3,\"crossings\":[],\"id\":2,\"kind\":7}],\
-\"next_crossing\":0,\"next_edge\":3,\"rotations\":[[0],[0,2,1],[1],[2]]}\n";
+const FIRST_REPORT: &str = concat!(
+    r#"{"history":[{"call":["grow",1,0,0],"caller":0,"reply":{"edge":1,"vertex":2}},{"call":["grow",1,1,7],"caller":0,"reply":{"edge":2,"vertex":3}}],"limits":{"crossings":1048576,"edges":65536,"vertices":65536},"picture":{"crossings":[],"edges":[{"a":0,"b":1,"crossings":[],"id":0,"kind":0},{"a":1,"b":2,"crossings":[],"id":1,"kind":0},{"a":1,"b":3,"crossings":[],"id":2,"kind":7}],"next_crossing":0,"next_edge":3,"rotations":[[0],[0,2,1],[1],[2]]},"prices":[],"start":{"crossings":[],"edges":[{"a":0,"b":1,"crossings":[],"id":0,"kind":0}],"next_crossing":0,"next_edge":1,"rotations":[[0],[0]]},"version":1}"#,
+    "\n"
+);
 
-const ONE_GROWN: &str = "\
-{\"crossings\":[],\"edges\":[\
-{\"a\":0,\"b\":1,\"crossings\":[],\"id\":0,\"kind\":0},\
-{\"a\":1,\"b\":2,\"crossings\":[],\"id\":1,\"kind\":2}],\
-\"next_crossing\":0,\"next_edge\":2,\"rotations\":[[0],[0,1],[1]]}\n";
+/// A growth in place of a missing vertex, and one that is carried out.
+const AFTER_NO_VERTEX: &str = concat!(
+    r#"{"history":[{"call":["grow",5,0,0],"caller":0,"reply":{"refused":[1,"NoVertex"]}},{"call":["grow",1,0,2],"caller":0,"reply":{"edge":1,"vertex":2}}],"limits":{"crossings":1048576,"edges":65536,"vertices":65536},"picture":{"crossings":[],"edges":[{"a":0,"b":1,"crossings":[],"id":0,"kind":0},{"a":1,"b":2,"crossings":[],"id":1,"kind":2}],"next_crossing":0,"next_edge":2,"rotations":[[0],[0,1],[1]]},"prices":[],"start":{"crossings":[],"edges":[{"a":0,"b":1,"crossings":[],"id":0,"kind":0}],"next_crossing":0,"next_edge":1,"rotations":[[0],[0]]},"version":1}"#,
+    "\n"
+);
 
-const SEED: &str = "\
-{\"crossings\":[],\"edges\":[{\"a\":0,\"b\":1,\"crossings\":[],\"id\":0,\"kind\":0}],\
-\"next_crossing\":0,\"next_edge\":1,\"rotations\":[[0],[0]]}\n";
+/// Two refused growths, and one that is carried out.
+const AFTER_TWO_REFUSALS: &str = concat!(
+    r#"{"history":[{"call":["grow",1,1,0],"caller":0,"reply":{"refused":[3,"NoPosition"]}},{"call":["grow",1,0,64],"caller":0,"reply":{"refused":[5,"BadKind"]}},{"call":["grow",1,0,2],"caller":0,"reply":{"edge":1,"vertex":2}}],"limits":{"crossings":1048576,"edges":65536,"vertices":65536},"picture":{"crossings":[],"edges":[{"a":0,"b":1,"crossings":[],"id":0,"kind":0},{"a":1,"b":2,"crossings":[],"id":1,"kind":2}],"next_crossing":0,"next_edge":2,"rotations":[[0],[0,1],[1]]},"prices":[],"start":{"crossings":[],"edges":[{"a":0,"b":1,"crossings":[],"id":0,"kind":0}],"next_crossing":0,"next_edge":1,"rotations":[[0],[0]]},"version":1}"#,
+    "\n"
+);
 
-/// What a run prints on these bytes: the picture, or the fault.
+/// The report of a run without commands.
+pub(crate) const NO_COMMANDS: &str = concat!(
+    r#"{"history":[],"limits":{"crossings":1048576,"edges":65536,"vertices":65536},"picture":{"crossings":[],"edges":[{"a":0,"b":1,"crossings":[],"id":0,"kind":0}],"next_crossing":0,"next_edge":1,"rotations":[[0],[0]]},"prices":[],"start":{"crossings":[],"edges":[{"a":0,"b":1,"crossings":[],"id":0,"kind":0}],"next_crossing":0,"next_edge":1,"rotations":[[0],[0]]},"version":1}"#,
+    "\n"
+);
+
+/// What a run prints on these bytes: the report, or the fault.
 pub(crate) fn printed(alloc: Global, script: &[u8]) -> Result<String, Fail> {
     let mut reader = script;
     let mut written: Vec<u8> = Vec::new(alloc);
@@ -60,22 +66,31 @@ pub(crate) fn check_table(
 }
 
 #[test]
-fn pictures(rt: HostRuntime) -> Result<(), Fail> {
+fn reports(rt: HostRuntime) -> Result<(), Fail> {
     let table = [
-        (FIRST, FIRST_PICTURE),
+        (FIRST, FIRST_REPORT),
         (
             "{\"version\":1,\"workers\":[[[\"grow\",5,0,0],[\"grow\",1,0,2]]]}",
-            ONE_GROWN,
+            AFTER_NO_VERTEX,
         ),
         (
             "{\"version\":1,\"workers\":[[[\"grow\",1,1,0],[\"grow\",1,0,64],[\"grow\",1,0,2]]]}",
-            ONE_GROWN,
+            AFTER_TWO_REFUSALS,
         ),
-        ("{\"version\":1,\"workers\":[[]]}", SEED),
-        (" { \"workers\" : [ [ ] ] , \"version\" : 1 } \n", SEED),
-        ("{\"version\":0,\"version\":1,\"workers\":[[]]}", SEED),
-        ("{\"version\":2,\"workers\":[[]]}", SEED),
-        ("{\"start\":\"seed\",\"version\":1,\"workers\":[[]]}", SEED),
+        ("{\"version\":1,\"workers\":[[]]}", NO_COMMANDS),
+        (
+            " { \"workers\" : [ [ ] ] , \"version\" : 1 } \n",
+            NO_COMMANDS,
+        ),
+        (
+            "{\"version\":0,\"version\":1,\"workers\":[[]]}",
+            NO_COMMANDS,
+        ),
+        ("{\"version\":2,\"workers\":[[]]}", NO_COMMANDS),
+        (
+            "{\"start\":\"seed\",\"version\":1,\"workers\":[[]]}",
+            NO_COMMANDS,
+        ),
     ];
     check_table(&rt, rt.alloc(), table.as_slice())
 }
@@ -125,11 +140,11 @@ fn shapes(rt: HostRuntime) -> Result<(), Fail> {
 fn commands(rt: HostRuntime) -> Result<(), Fail> {
     let table = [
         (
-            "{\"version\":1,\"workers\":[[[\"delete\",0]]]}",
+            "{\"version\":1,\"workers\":[[[\"delete\"]]]}",
             "52 BadShape $/workers/0/0",
         ),
         (
-            "{\"version\":1,\"workers\":[[[\"insert\",0,1,0]]]}",
+            "{\"version\":1,\"workers\":[[[\"insert\",0,1]]]}",
             "52 BadShape $/workers/0/0",
         ),
         (
@@ -197,7 +212,7 @@ fn padded(alloc: Global, len: usize) -> Result<Vec<u8>, Fail> {
 fn lengths(rt: HostRuntime) -> Result<(), Fail> {
     let alloc = rt.alloc();
     let longest = printed(alloc, padded(alloc, 1_048_576)?.as_slice())?;
-    assert!(rt; longest.as_str() == FIRST_PICTURE);
+    assert!(rt; longest.as_str() == FIRST_REPORT);
     let too_long = printed(alloc, padded(alloc, 1_048_577)?.as_slice())?;
     assert!(rt; too_long.as_str() == "51 TooLong");
     let cut = printed(alloc, FIRST.as_bytes().split_last().ok_or("empty")?.1)?;
@@ -240,7 +255,7 @@ fn slow_readers(rt: HostRuntime) -> Result<(), Fail> {
     };
     assert!(rt; run_io(alloc, &mut slow, &mut written) == Ok(()));
     assert_eq!(rt; slow.calls, 2 * 1_048_576 + 2);
-    assert!(rt; written.as_slice() == FIRST_PICTURE.as_bytes());
+    assert!(rt; written.as_slice() == FIRST_REPORT.as_bytes());
     Ok(())
 }
 
@@ -255,7 +270,7 @@ fn failing_writers(rt: HostRuntime) -> Result<(), Fail> {
     }
     let mut reader = FIRST.as_bytes();
     let mut writer = FailingWriter {
-        room: FIRST_PICTURE.len(),
+        room: FIRST_REPORT.len(),
         taken: 0,
     };
     assert!(rt; run_io(alloc, &mut reader, &mut writer) == Ok(()));

@@ -12,6 +12,8 @@ mod loading;
 #[cfg(test)]
 mod pictures;
 #[cfg(test)]
+mod reports;
+#[cfg(test)]
 mod routes;
 #[cfg(test)]
 mod runs;

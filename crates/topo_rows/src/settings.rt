@@ -1,22 +1,21 @@
 //! What a script sets beside its commands: limits, prices and a start.
 
-use crate::first_path::{check_table, printed};
+use crate::first_path::{NO_COMMANDS, check_table, printed};
 use std::test::Fail;
-
-const SEED: &str = "\
-{\"crossings\":[],\"edges\":[{\"a\":0,\"b\":1,\"crossings\":[],\"id\":0,\"kind\":0}],\
-\"next_crossing\":0,\"next_edge\":1,\"rotations\":[[0],[0]]}\n";
 
 #[test]
 fn limits(rt: HostRuntime) -> Result<(), Fail> {
     let table = [
         (
             "{\"limits\":{\"crossings\":0,\"edges\":1,\"vertices\":2},\"version\":1,\"workers\":[[[\"grow\",0,0,0]]]}",
-            SEED,
+            concat!(
+                r#"{"history":[{"call":["grow",0,0,0],"caller":0,"reply":{"refused":[7,"Full"]}}],"limits":{"crossings":0,"edges":1,"vertices":2},"picture":{"crossings":[],"edges":[{"a":0,"b":1,"crossings":[],"id":0,"kind":0}],"next_crossing":0,"next_edge":1,"rotations":[[0],[0]]},"prices":[],"start":{"crossings":[],"edges":[{"a":0,"b":1,"crossings":[],"id":0,"kind":0}],"next_crossing":0,"next_edge":1,"rotations":[[0],[0]]},"version":1}"#,
+                "\n"
+            ),
         ),
         (
             "{\"limits\":{\"crossings\":1048576,\"edges\":65536,\"vertices\":65536},\"version\":1,\"workers\":[[]]}",
-            SEED,
+            NO_COMMANDS,
         ),
         (
             "{\"limits\":{\"crossings\":0,\"edges\":1,\"vertices\":1},\"version\":1,\"workers\":[[]]}",
@@ -45,8 +44,20 @@ fn limits(rt: HostRuntime) -> Result<(), Fail> {
 #[test]
 fn prices(rt: HostRuntime) -> Result<(), Fail> {
     let table = [
-        ("{\"prices\":[1,1000],\"version\":1,\"workers\":[[]]}", SEED),
-        ("{\"prices\":[null,2],\"version\":2,\"workers\":[[]]}", SEED),
+        (
+            "{\"prices\":[1,1000,1],\"version\":1,\"workers\":[[]]}",
+            concat!(
+                r#"{"history":[],"limits":{"crossings":1048576,"edges":65536,"vertices":65536},"picture":{"crossings":[],"edges":[{"a":0,"b":1,"crossings":[],"id":0,"kind":0}],"next_crossing":0,"next_edge":1,"rotations":[[0],[0]]},"prices":[1,1000],"start":{"crossings":[],"edges":[{"a":0,"b":1,"crossings":[],"id":0,"kind":0}],"next_crossing":0,"next_edge":1,"rotations":[[0],[0]]},"version":1}"#,
+                "\n"
+            ),
+        ),
+        (
+            "{\"prices\":[null,2],\"version\":2,\"workers\":[[]]}",
+            concat!(
+                r#"{"history":[],"limits":{"crossings":1048576,"edges":65536,"vertices":65536},"picture":{"crossings":[],"edges":[{"a":0,"b":1,"crossings":[],"id":0,"kind":0}],"next_crossing":0,"next_edge":1,"rotations":[[0],[0]]},"prices":[null,2],"start":{"crossings":[],"edges":[{"a":0,"b":1,"crossings":[],"id":0,"kind":0}],"next_crossing":0,"next_edge":1,"rotations":[[0],[0]]},"version":2}"#,
+                "\n"
+            ),
+        ),
         (
             "{\"prices\":[null,2],\"version\":1,\"workers\":[[]]}",
             "52 BadShape $/prices/0",
@@ -68,7 +79,10 @@ fn starts(rt: HostRuntime) -> Result<(), Fail> {
     let table = [
         (
             "{\"start\":{\"crossings\":[],\"edges\":[{\"a\":0,\"b\":1,\"crossings\":[],\"id\":4,\"kind\":3}],\"next_crossing\":7,\"next_edge\":5,\"rotations\":[[4],[4]]},\"version\":1,\"workers\":[[[\"grow\",0,0,9]]]}",
-            "{\"crossings\":[],\"edges\":[{\"a\":0,\"b\":1,\"crossings\":[],\"id\":4,\"kind\":3},{\"a\":0,\"b\":2,\"crossings\":[],\"id\":5,\"kind\":9}],\"next_crossing\":7,\"next_edge\":6,\"rotations\":[[4,5],[4],[5]]}\n",
+            concat!(
+                r#"{"history":[{"call":["grow",0,0,9],"caller":0,"reply":{"edge":5,"vertex":2}}],"limits":{"crossings":1048576,"edges":65536,"vertices":65536},"picture":{"crossings":[],"edges":[{"a":0,"b":1,"crossings":[],"id":4,"kind":3},{"a":0,"b":2,"crossings":[],"id":5,"kind":9}],"next_crossing":7,"next_edge":6,"rotations":[[4,5],[4],[5]]},"prices":[],"start":{"crossings":[],"edges":[{"a":0,"b":1,"crossings":[],"id":4,"kind":3}],"next_crossing":7,"next_edge":5,"rotations":[[4],[4]]},"version":1}"#,
+                "\n"
+            ),
         ),
         (
             "{\"start\":{\"crossings\":[],\"edges\":[],\"next_crossing\":0,\"next_edge\":0,\"rotations\":[[],[]]},\"version\":1,\"workers\":[[]]}",
@@ -99,12 +113,12 @@ fn the_first_of_several_faults(rt: HostRuntime) -> Result<(), Fail> {
             "52 BadShape $/workers",
         ),
         (
-            "{\"version\":1,\"workers\":[[[\"grow\",1,0,0],[\"planned\",0,1,0],[\"delete\",0]]]}",
+            "{\"version\":1,\"workers\":[[[\"grow\",1,0,0],[\"planned\",0,1],[\"delete\",0]]]}",
             "52 BadShape $/workers/0/1",
         ),
         (
             "{\"limits\":{\"crossings\":0,\"edges\":0,\"vertices\":2},\"version\":1,\"workers\":[[[\"insert\",0,1,0]]]}",
-            "52 BadShape $/workers/0/0",
+            "11 BadLimits",
         ),
         (
             "{\"limits\":{\"crossings\":0,\"edges\":0,\"vertices\":2},\"prices\":[0],\"version\":1,\"workers\":[[]]}",
@@ -118,11 +132,15 @@ fn the_first_of_several_faults(rt: HostRuntime) -> Result<(), Fail> {
     check_table(&rt, rt.alloc(), table.as_slice())
 }
 
-/// A script whose prices end with kind 63, at this price.
+/// A script whose prices end with kind 63, at this price, and none where it is 1.
 #[test]
 fn the_last_price(rt: HostRuntime) -> Result<(), Fail> {
     let alloc = rt.alloc();
-    for (last, wanted) in [("0", "10 BadPrice 63"), ("2", SEED)] {
+    for (last, wanted) in [
+        ("0", "10 BadPrice 63"),
+        ("1", NO_COMMANDS),
+        ("2", LAST_PRICED),
+    ] {
         let mut script = String::from_str(alloc, "{\"prices\":[")?;
         for _ in 0..63 {
             script.push_str("1,")?;
@@ -134,3 +152,9 @@ fn the_last_price(rt: HostRuntime) -> Result<(), Fail> {
     }
     Ok(())
 }
+
+/// The report of a run without commands, where edges of kind 63 cost 2.
+const LAST_PRICED: &str = concat!(
+    r#"{"history":[],"limits":{"crossings":1048576,"edges":65536,"vertices":65536},"picture":{"crossings":[],"edges":[{"a":0,"b":1,"crossings":[],"id":0,"kind":0}],"next_crossing":0,"next_edge":1,"rotations":[[0],[0]]},"prices":[1,1,1,1,1,1,1,1,1,1,1,1,1,1,1,1,1,1,1,1,1,1,1,1,1,1,1,1,1,1,1,1,1,1,1,1,1,1,1,1,1,1,1,1,1,1,1,1,1,1,1,1,1,1,1,1,1,1,1,1,1,1,1,2],"start":{"crossings":[],"edges":[{"a":0,"b":1,"crossings":[],"id":0,"kind":0}],"next_crossing":0,"next_edge":1,"rotations":[[0],[0]]},"version":1}"#,
+    "\n"
+);
