@@ -56,7 +56,7 @@ pub returns-in-Ok-Some-clause-can_undo : goal.returns-in-Ok-Some-clause-can_undo
 returns-in-Ok-Some-clause-can_undo c p =
     let there : is_some (edge_row c.self.inside.rows c.args.edge) ≡ true = sym c.has_edge.ensures ∙ c.if-not-has_edge.false in
     let cut : IsLocalCut c.self.inside.rows c.args.edge c.in-Ok-Some.segment =
-        found_some c.in-Ok-Some.field-0 (HasNoCut c.self.inside.rows c.args.edge) (IsLocalCut c.self.inside.rows c.args.edge) c.in-Ok-Some.segment c.in-Ok-Some.ensures c.in-Ok-Some.field-0-is in
+    found_some c.in-Ok-Some.field-0 (HasNoCut c.self.inside.rows c.args.edge) (IsLocalCut c.self.inside.rows c.args.edge) c.in-Ok-Some.segment c.in-Ok-Some.ensures c.in-Ok-Some.field-0-is in
     in_view c.self.inside.limits c.self.inside.rows c.args.self.now c.self.view_is (λ rows. IsShownOn p rows c.args.edge → Cut c.in-Ok-Some.segment ≡ Memory)
     (λ s. absurd (shown_no_cut p c.self.inside.rows c.args.edge c.in-Ok-Some.segment s (cut_of_picture c.self.inside.limits c.self.inside.rows c.args.edge c.self.invariant there c.in-Ok-Some.segment cut)))
 
