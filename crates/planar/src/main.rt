@@ -7,12 +7,12 @@ use std::process::ExitCode;
 use std::rt::Env;
 use std::{env, io};
 use topo_cli::verbs::verb;
-use topo_cli::{RunFault, Verb, check_io, run_io};
+use topo_cli::{RunFault, Verb, check_io, replay_io, run_io};
 
 /// The status of a run without a fault.
 const DONE: u8 = 0;
 
-/// The status where the words were refused, asked for help, or name a command that is not here yet.
+/// The status where the words were refused or asked for help.
 const REFUSED: u8 = 2;
 
 fn main(rt: HostRuntime) -> ExitCode {
@@ -58,10 +58,12 @@ fn run<R: Input + Print + Eprint + AllocGlobal>(rt: &R) -> u8 {
     }
 }
 
-/// Tells that a replay cannot be done yet.
-fn replay<R: Eprint>(rt: &R) -> u8 {
-    let _ = eprintln!(rt; "planar: replay comes with a later version");
-    REFUSED
+/// Replays the report on standard input.
+fn replay<R: Input + Print + Eprint + AllocGlobal>(rt: &R) -> u8 {
+    match replay_io(rt.alloc(), &mut rt.reader(), &mut io::writer(rt)) {
+        Ok(()) => DONE,
+        Err(fault) => tell(rt, &fault),
+    }
 }
 
 /// Checks the picture on standard input.

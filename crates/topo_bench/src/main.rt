@@ -13,6 +13,7 @@ mod loads;
 mod meshes;
 mod permutations;
 mod report;
+mod runs;
 mod searches;
 
 use forms::Form;
@@ -29,7 +30,9 @@ Or NAME is load_mesh; each SIZE is a number of lines, at most 1024, of which eac
 Or NAME is search; each SIZE is the number of vertices on each side of a square grid, at most 180.
 A line for each size: nanoseconds a search between random ends, and a dart.
 Or NAME is read_script, read_report or report; each SIZE is a number of calls in the text.
-A line for each size: megabytes a second.";
+A line for each size: megabytes a second.
+Or NAME is run; each SIZE is a number of commands, at most about 40000. Two lines for each size:
+milliseconds to run a script of that many mixed commands, and to replay its report.";
 
 /// The size that a word stands for, if it is one.
 fn size_of(word: &str) -> Option<u32>
@@ -67,6 +70,9 @@ fn time_at<R: Clock + Print + AllocGlobal>(rt: &R, name: &str, word: &str) -> io
     }
     if name == "book" {
         return books::time(rt, size);
+    }
+    if name == "run" {
+        return runs::time(rt, size);
     }
     if name == "search" {
         return searches::time(rt, size);

@@ -5,7 +5,7 @@ ghost use Rattle.topo_core.specs.History.{is_accepted};
 ghost use Rattle.topo_core.specs.Steps.{Step};
 ghost use Rattle.topo_core.specs.declared.calls.Refusal.TheVariants.{Memory};
 ghost use Rattle.topo_core.specs.declared.calls.Reply.TheVariants.{Refused};
-ghost use Rattle.topo_picture.specs.Shown.{IsPicture, Shown};
+ghost use Rattle.topo_frozen.specs.Shown.{IsPicture, Shown};
 ghost use Rattle.topo_price.specs.Prices.{prices_of};
 ghost use Rattle.topo_book.specs.Books.{picture_after};
 
@@ -27,7 +27,7 @@ pub struct Next {
 impl Model for Next {
     ghost use Rattle.std.specs.Prelude.{◌≡◌, is_some, IfSome};
     ghost use Rattle.topo_core.specs.History.{is_accepted};
-    ghost use Rattle.topo_picture.specs.Shown.{IsPicture};
+    ghost use Rattle.topo_frozen.specs.Shown.{IsPicture};
     ghost use Rattle.topo_book.specs.Books.{NextState, IsNext};
 
     ghost Value = { NextState };
@@ -42,7 +42,7 @@ impl Next {
     ghost use Rattle.topo_core.specs.History.{is_accepted};
     ghost use Rattle.topo_core.specs.declared.calls.Refusal.TheVariants.{Memory};
     ghost use Rattle.topo_core.specs.declared.calls.Reply.TheVariants.{Refused};
-    ghost use Rattle.topo_picture.specs.Shown.{IsPicture};
+    ghost use Rattle.topo_frozen.specs.Shown.{IsPicture};
     ghost use Rattle.topo_book.specs.Books.{IsNext, NextState};
 
     /// The entry.

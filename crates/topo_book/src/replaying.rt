@@ -2,7 +2,7 @@
 
 ghost use Rattle.std.specs.Prelude.{◌≡◌, IfErr, IfOk};
 ghost use Rattle.topo_core.specs.History.{Replays};
-ghost use Rattle.topo_picture.specs.Shown.{IsPicture};
+ghost use Rattle.topo_frozen.specs.Shown.{IsPicture};
 ghost use Rattle.topo_price.specs.Prices.{prices_of};
 ghost use Rattle.topo_book.specs.Faults.{IsFaultOf, IsIllegalAt};
 

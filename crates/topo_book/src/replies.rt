@@ -44,18 +44,16 @@ pub(crate) fn growth_answer(made: Result<(VertexId, EdgeId), Refusal>) -> Result
 }
 
 /// What a deletion is answered.
-pub(crate) fn deletion_answer(edge: u32, made: Result<(), Refusal>) -> Result<Answer, AllocError>
-    ensures deleted { IfOk made (λ _. IfOk result (λ answer. answer.entered ≡ Reply.Deleted edge)) }
-    ensures refused { IfErr made (λ why. IfOk result (λ answer. answer.entered ≡ Reply.Refused why)) }
-    ensures memory { IsErr result ↔ (made ≡ Err Refusal.Memory) }
+pub(crate) fn deletion_answer(edge: u32, made: Result<(), Refusal>) -> Answer
+    ensures deleted { IfOk made (λ _. result.entered ≡ Reply.Deleted edge) }
+    ensures refused { IfErr made (λ why. result.entered ≡ Reply.Refused why) }
 {
     match made {
-        Ok(()) => Ok(Answer {
+        Ok(()) => Answer {
             told: Reply::Deleted(EdgeId::new(edge)),
             entered: Reply::Deleted(EdgeId::new(edge)),
-        }),
-        Err(Refusal::Memory) => Err(AllocError),
-        Err(why) => Ok(refused(why)),
+        },
+        Err(why) => refused(why),
     }
 }
 

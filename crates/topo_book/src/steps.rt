@@ -1,11 +1,11 @@
 //! One step of a picture, in place.
 
-ghost use Rattle.std.specs.Prelude.{◌≡◌, IfOk, OnErr, None};
-ghost use Rattle.topo_core.specs.Routes.{IsFirst};
+ghost use Rattle.std.specs.Prelude.{◌≡◌, ◌≢◌, ◌<◌, IfOk, MatchOption, OnErr, None, length};
+ghost use Rattle.topo_core.specs.Routes.{HasNoRoute, IsFirst};
 ghost use Rattle.topo_core.specs.Steps.{Step, insert_refusal};
 ghost use Rattle.topo_core.specs.declared.calls.Call.TheVariants.{Insert};
 ghost use Rattle.topo_price.specs.Prices.{prices_of};
-ghost use Rattle.topo_picture.specs.Shown.{IsPicture};
+ghost use Rattle.topo_frozen.specs.Shown.{IsPicture};
 
 use crate::replies::{Answer, copy_route, deletion_answer, growth_answer, refused};
 use std::alloc::{AllocError, Global};
@@ -14,10 +14,10 @@ use topo_core::routes::Inserted;
 use topo_picture::Picture;
 use topo_price::tariff::{Asks, Tariff};
 use topo_route::check::check;
-use topo_route::plan::Plan;
-use topo_route::search::search;
+use topo_route::plan::{Plan, PricedRoute};
+use topo_route::search::first_route;
 
-/// Puts an edge in along the first route, which the plan has.
+/// Puts an edge in along the first route.
 fn apply_first<F: Asks>(
     alloc: Global,
     picture: &mut Picture,
@@ -25,21 +25,20 @@ fn apply_first<F: Asks>(
     u: u32,
     v: u32,
     kind: u32,
-    plan: &Plan,
+    first: PricedRoute,
 ) -> Result<Answer, AllocError>
     requires lawful { IsPicture picture.old.limits picture.old.rows }
     requires admitted { insert_refusal picture.old.limits picture.old.rows u v kind ≡ None }
-    requires first { IsFirst (prices_of (F.answers tariff.now)) picture.old.rows u v plan.now.route plan.now.price }
+    requires first { IsFirst (prices_of (F.answers tariff.now)) picture.old.rows u v first.route first.price }
     ensures step { IfOk result (λ answer. Step (prices_of (F.answers tariff.now)) picture.old.limits picture.old.rows (Insert u v kind) answer.entered picture.new.rows) }
     ensures same_limits { picture.new.limits ≡ picture.old.limits }
     ensures lawful { IsPicture picture.new.limits picture.new.rows }
     ensures unchanged { OnErr result (picture.new ≡ picture.old) }
 {
     tariff.keeps_promise();
-    let told = copy_route(alloc, &plan.route)?;
-    let entered = copy_route(alloc, &plan.route)?;
-    let price = plan.price;
-    match picture.apply(alloc, u, v, kind, plan) {
+    let told = copy_route(alloc, &first.route)?;
+    let price = first.price;
+    match picture.apply_route(alloc, u, v, kind, &first.route) {
         Ok(id) => Ok(Answer {
             told: Reply::Inserted(Inserted {
                 id,
@@ -48,7 +47,7 @@ fn apply_first<F: Asks>(
             }),
             entered: Reply::Inserted(Inserted {
                 id,
-                route: entered,
+                route: first.route,
                 price,
             }),
         }),
@@ -57,8 +56,34 @@ fn apply_first<F: Asks>(
     }
 }
 
-/// Inserts an edge along the first route: the plan's where it passes the check, and else the one that
-/// a search finds.
+/// The first route: the plan's where it passes the check, and else the one that a search finds.
+fn find_first<F: Asks>(
+    alloc: Global,
+    picture: &Picture,
+    tariff: &Tariff<F>,
+    u: u32,
+    v: u32,
+    plan: Option<&Plan>,
+) -> Result<Option<PricedRoute>, AllocError>
+    requires u_there { u < length picture.now.rows.rotations }
+    requires v_there { v < length picture.now.rows.rotations }
+    requires apart { u ≢ v }
+    ensures { IfOk result (λ found. MatchOption found
+        (HasNoRoute (prices_of (F.answers tariff.now)) picture.now.rows u v)
+        (λ r. IsFirst (prices_of (F.answers tariff.now)) picture.now.rows u v r.route r.price)) }
+{
+    let dual = picture.dual(alloc)?;
+    if let Some(plan) = plan {
+        if let Ok(()) = check(&dual, tariff, u, v, plan) {
+            let route = copy_route(alloc, &plan.route)?;
+            let price = plan.price;
+            return Ok(Some(PricedRoute { route, price }));
+        }
+    }
+    first_route(alloc, &dual, tariff, u, v)
+}
+
+/// Inserts an edge along the first route, for which a plan may spare the search.
 fn insert_first<F: Asks>(
     alloc: Global,
     picture: &mut Picture,
@@ -77,14 +102,8 @@ fn insert_first<F: Asks>(
     if let Err(why) = picture.admit(u, v, kind) {
         return Ok(refused(why));
     }
-    let frozen = picture.freeze(alloc)?;
-    if let Some(plan) = plan {
-        if check(&frozen, tariff, u, v, plan).is_ok() {
-            return apply_first(alloc, picture, tariff, u, v, kind, plan);
-        }
-    }
-    match search(alloc, &frozen, tariff, u, v)? {
-        Some(found) => apply_first(alloc, picture, tariff, u, v, kind, &found),
+    match find_first(alloc, picture, tariff, u, v, plan)? {
+        Some(first) => apply_first(alloc, picture, tariff, u, v, kind, first),
         None => Ok(refused(Refusal::NoRoute)),
     }
 }
@@ -107,6 +126,6 @@ pub(crate) fn take_step<F: Asks>(
     match call {
         Call::Grow { u, position, kind } => growth_answer(picture.grow(alloc, u, position, kind)),
         Call::Insert { u, v, kind } => insert_first(alloc, picture, tariff, u, v, kind, plan),
-        Call::Delete { edge } => deletion_answer(edge, picture.delete(alloc, edge)),
+        Call::Delete { edge } => Ok(deletion_answer(edge, picture.delete(alloc, edge))),
     }
 }

@@ -1,5 +1,5 @@
 -- Two prices that agree on every edge allow the same runs.
-use Rattle.std.proofs.Common.{◌≡◌, ℕ, ◌≤◌, ◌<◌, List, [], ◌∷◌, Option, Some, None, sym, ap, subst, ◌∙◌, inl, inr, arith, get_or, length, slice_get, Result, Ok, Err, IfOk, IfSome}
+use Rattle.std.proofs.Common.{◌≡◌, ℕ, ◌≤◌, ◌<◌, List, [], ◌∷◌, Option, Some, None, sym, ap, subst, ◌∙◌, inl, inr, arith, get_or, length, take, slice_get, Result, Ok, Err, IfOk, IfErr, IfSome}
 use Rattle.std.proofs.lemmas.List.FromFn.{get_or-map-range_with_len, length-map-range_with_len}
 use Rattle.std.proofs.lemmas.Option.{get_or_from_slice_get, slice_get-get_or}
 use Rattle.topo_core.specs.declared.darts.Dart.{Dart}
@@ -17,7 +17,10 @@ use Rattle.topo_core.specs.declared.calls.Reply.TheVariants.{Grown, Inserted, De
 use Rattle.topo_core.specs.Routes.{Pricing, Costs, IsPricedRoute, IsFirst}
 use Rattle.topo_core.specs.Steps.{IsRefused, Step}
 use Rattle.topo_core.specs.History.{IsRun, Replays}
-use Rattle.topo_cli.specs.Runs.{price_of_kind, price_table, priced}
+use Rattle.topo_book.specs.Faults.{IsFaultOf, IsIllegalAt}
+use Rattle.topo_book.specs.declared.replaying.ReplayFault.{ReplayFault}
+use Rattle.topo_book.specs.declared.replaying.ReplayFault.TheVariants.{WrongReply, Memory}
+use Rattle.topo_cli.specs.Settings.{price_of_kind, price_table, priced}
 use Rattle.topo_price.specs.Prices.{first_bad}
 use Rattle.topo_price.proofs.Tables.{price_in_range}
 
@@ -84,6 +87,21 @@ module _ (a b : Pricing) (allows : Allows a b) (back : Allows b a) where
     callers = is.callers;
   }
 
+module _ (a b : Pricing) (allows : Allows a b) (back : Allows b a) where
+  fault_so : (limits : Limits) (start : Rows) (entries : List Entry) (fault : ReplayFault) → IsFaultOf a limits start entries fault → IsFaultOf b limits start entries fault
+  fault_so limits start entries (WrongReply i) is = record {
+    picture = is.picture;
+    before = replays_so a b allows back limits start (take i entries) is.picture is.before;
+    entry = is.entry;
+    there = is.there;
+    wrong = λ next step. is.wrong next (step_so b a back allows limits is.picture is.entry.call is.entry.reply next step);
+  }
+  fault_so limits start entries Memory is = is
+
+  illegal_so : (limits : Limits) (start : Rows) (entries : List Entry) (fault : ReplayFault) → IsIllegalAt a limits start entries fault → IsIllegalAt b limits start entries fault
+  illegal_so limits start entries (WrongReply i) is = λ legal. is (legal.0, replays_so b a back allows limits start entries legal.0 legal.1)
+  illegal_so limits start entries Memory is = is
+
 -- ---- The prices of all kinds
 
 pub table_price : (prices table : List (Option ℕ)) (kind : ℕ) (answer : Option ℕ) → table ≡ price_table prices → kind < 64 → slice_get table kind ≡ Some answer → answer ≡ price_of_kind prices kind
@@ -113,6 +131,15 @@ module _ (price : Pricing) (prices table : List (Option ℕ)) (is : table ≡ pr
       → IsRun (priced prices) limits p lists history q
   run_by_table = run_so price (priced prices) there back
 
+  pub replays_by_table : (limits : Limits) (p : Rows) (history : List Entry) (q : Rows) → Replays price limits p history q → Replays (priced prices) limits p history q
+  replays_by_table = replays_so price (priced prices) there back
+
+  pub fault_by_table : (limits : Limits) (start : Rows) (entries : List Entry) (fault : ReplayFault) → IsFaultOf price limits start entries fault → IsFaultOf (priced prices) limits start entries fault
+  fault_by_table = fault_so price (priced prices) there back
+
+  pub illegal_by_table : (limits : Limits) (start : Rows) (entries : List Entry) (fault : ReplayFault) → IsIllegalAt price limits start entries fault → IsIllegalAt (priced prices) limits start entries fault
+  illegal_by_table = illegal_so price (priced prices) there back
+
 -- a price of a table without a bad one
 pub good_there : (prices table : List (Option ℕ)) (kind n : ℕ) → table ≡ price_table prices → first_bad (price_table prices) ≡ None → slice_get table kind ≡ Some (Some n) → (1 ≤ n) × (n ≤ 1000)
 good_there prices table kind n is good there =
@@ -122,3 +149,7 @@ good_there prices table kind n is good there =
 pub ok_so : {A E : Type 0} (r : Result A E) (P Q : A → Type 0) → ((a : A) → P a → Q a) → IfOk r P → IfOk r Q
 ok_so (Ok a) P Q f h = f a h
 ok_so (Err e) P Q f h = h
+
+pub err_so : {A E : Type 0} (r : Result A E) (P Q : E → Type 0) → ((e : E) → P e → Q e) → IfErr r P → IfErr r Q
+err_so (Ok a) P Q f h = h
+err_so (Err e) P Q f h = f e h

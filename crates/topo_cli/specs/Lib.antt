@@ -1,7 +1,9 @@
 pub mod Checks
-pub mod Lists
 pub mod Limiting
+pub mod Lists
 pub mod Reading
+pub mod Replays
 pub mod Runs
+pub mod Settings
 pub mod Statuses
 pub mod Words

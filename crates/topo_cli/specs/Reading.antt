@@ -1,6 +1,8 @@
 -- What is read of a reader.
-use Rattle.std.specs.Prelude.{◌≡◌, ◌≤◌, ◌+◌, ℕ, List, ◌++◌, length, Option, ⊤}
+use Rattle.std.specs.Prelude.{◌≡◌, ◌≤◌, ◌+◌, ℕ, List, ◌++◌, length, Option, Ok, ⊤}
 use Rattle.std.specs.Io.KnownBytes.{Consumes, IsAtEnd}
+use Rattle.topo_forms.specs.Reads.{Read, IsFirstFault}
+use Rattle.topo_forms.specs.declared.fault.ScriptFault.{ScriptFault}
 use Rattle.topo_cli.specs.declared.fault.RunFault.{RunFault}
 use Rattle.topo_cli.specs.declared.fault.RunFault.TheVariants.{Memory, ReadFault}
 
@@ -21,3 +23,15 @@ abbrev pub IsOfReading : RunFault → Type 0
 IsOfReading Memory = ⊤
 IsOfReading ReadFault = ⊤
 IsOfReading _ = ⊥
+
+-- what was read, within the limit, spells this
+pub record Spells {A : Type 0} (form : List ℕ → Read A) (limit : ℕ) (old_left new_left : Option (List ℕ)) (made : A) : Type 0 where
+  pub input : List ℕ
+  pub read : IsRead limit old_left new_left input
+  pub spelled : form input ≡ Ok made
+
+-- what was read, within the limit, is not of the form: this is its first fault
+pub record SpellsNone {A : Type 0} (form : List ℕ → Read A) (limit : ℕ) (old_left new_left : Option (List ℕ)) (fault : ScriptFault) : Type 0 where
+  pub input : List ℕ
+  pub read : IsRead limit old_left new_left input
+  pub first : IsFirstFault (form input) fault

@@ -1,8 +1,9 @@
 //! What can go wrong with a command.
 
 use thiserror::Error;
+use topo_book::ReplayFault;
 use topo_forms::ScriptFault;
-use topo_picture::LoadFault;
+use topo_frozen::LoadFault;
 use topo_price::table::PriceFault;
 
 /// Why a command has no answer. Each fault is printed as its number, its name and its value.
@@ -14,15 +15,21 @@ pub enum RunFault {
     /// The bytes are not of the form that the command reads.
     #[error(transparent)]
     Script(ScriptFault),
-    /// A limit of the script lies outside its range.
+    /// A limit of the script or report lies outside its range.
     #[error("11 BadLimits")]
     BadLimits,
-    /// A price of the script lies outside its range.
+    /// A price of the script or report lies outside its range.
     #[error(transparent)]
     Price(PriceFault),
     /// The rows are no picture within the limits.
     #[error(transparent)]
     Load(LoadFault),
+    /// An entry of the report has another reply than the one due.
+    #[error(transparent)]
+    Replay(ReplayFault),
+    /// The history of the report leads to another picture than the report's.
+    #[error("61 WrongPicture")]
+    WrongPicture,
     /// The reader failed, or gave neither its end nor enough bytes in the turns that it has.
     #[error("55 ReadFault")]
     ReadFault,
@@ -42,7 +49,8 @@ impl RunFault {
         match self {
             RunFault::Memory
             | RunFault::Script(ScriptFault::Memory)
-            | RunFault::Load(LoadFault::Memory) => 3,
+            | RunFault::Load(LoadFault::Memory)
+            | RunFault::Replay(ReplayFault::Memory) => 3,
             _ => 1,
         }
     }

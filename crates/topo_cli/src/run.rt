@@ -1,22 +1,20 @@
 //! The command `run`.
 
-ghost use Rattle.std.specs.Prelude.{◌≡◌, ℕ, List, Option, IfOk, IfErr, None, ◌++◌, ◌∷◌, [], length, slice_index_or, string_bytes};
-ghost use Rattle.topo_cli.specs.Runs.{FailsBy, IsBadPrice, IsDone, IsRunLine, IsSound, IsUnsound, price_of_kind, price_table, start_of};
-ghost use Rattle.topo_price.specs.Prices.{first_bad};
+ghost use Rattle.std.specs.Prelude.{◌≡◌, IfOk, IfErr, ◌++◌, ◌∷◌, [], length, string_bytes};
+ghost use Rattle.topo_cli.specs.Runs.{FailsBy, IsDone, IsRunLine};
+ghost use Rattle.topo_cli.specs.Settings.{IsUnsound};
 ghost use Rattle.topo_script.specs.ReportTexts.{report_text};
 
 use crate::fault::RunFault;
 use crate::lists::read_one_list;
 use crate::reading::read_bytes;
 use crate::scripts::priced_report;
+use crate::settings::setting;
 use crate::writing::write_text;
 use std::alloc::{AllocError, Global};
 use std::io::{Read, Write};
-use topo_core::limits::Limits;
 use topo_forms::script_forms::MAX_SCRIPT_BYTES;
 use topo_forms::{Report, Script};
-use topo_picture::Picture;
-use topo_price::table::{PriceFault, PriceTable};
 use topo_script::report;
 
 /// Reads a script, carries out its commands on its start under its limits and at its prices, and
@@ -50,9 +48,10 @@ pub fn run_io<R: Read, W: Write>(
 fn run_line(alloc: Global, script: &Script) -> Result<String, RunFault>
     requires { length script.now.workers ≡ 1 }
     ensures line { IfOk result (λ line. IsRunLine script.now (string_bytes line)) }
-    ensures fault { IfErr result (IsUnsound script.now) }
+    ensures fault { IfErr result (IsUnsound script.now.limits script.now.prices script.now.start) }
 {
-    let (table, start) = setting(alloc, script)?;
+    let prices = script.prices.as_slice();
+    let (table, start) = setting(alloc, script.limits, prices, script.start.as_ref())?;
     let report = match priced_report(alloc, script, start, &table) {
         Ok(report) => report,
         Err(_) => return Err(RunFault::Memory),
@@ -70,63 +69,4 @@ fn report_line(alloc: Global, made: &Report) -> Result<String, AllocError>
     let mut text = report(alloc, made)?;
     text.push_str("\n")?;
     Ok(text)
-}
-
-/// The prices and the picture that a run begins with, or the first fault of the limits, the prices and
-/// the start.
-fn setting(alloc: Global, script: &Script) -> Result<(PriceTable, Picture), RunFault>
-    ensures prices { IfOk result (λ set. set.0 ≡ price_table script.now.prices) }
-    ensures sound { IfOk result (λ set. IsSound script.now set.1.limits) }
-    ensures rows { IfOk result (λ set. set.1.rows ≡ start_of script.now.start) }
-    ensures fault { IfErr result (IsUnsound script.now) }
-{
-    let numbers = script.limits;
-    let limits = match Limits::new(numbers.vertices, numbers.edges, numbers.crossings) {
-        Ok(limits) => limits,
-        Err(_) => return Err(RunFault::BadLimits),
-    };
-    let table = match table_of(script.prices.as_slice()) {
-        Ok(table) => table,
-        Err(fault) => return Err(RunFault::Price(fault)),
-    };
-    match &script.start {
-        Some(rows) => match Picture::load(alloc, limits, rows) {
-            Ok(picture) => Ok((table, picture)),
-            Err(fault) => Err(RunFault::Load(fault)),
-        },
-        None => match Picture::seed(alloc, limits) {
-            Ok(picture) => Ok((table, picture)),
-            Err(_) => Err(RunFault::Memory),
-        },
-    }
-}
-
-/// The table of the prices of all kinds, where each is one.
-fn table_of(prices: &[Option<u32>]) -> Result<PriceTable, PriceFault>
-    ensures table { IfOk result (λ table. table ≡ price_table prices.now) }
-    ensures good { IfOk result (λ _. first_bad (price_table prices.now) ≡ None) }
-    ensures bad { IfErr result (IsBadPrice prices.now) }
-{
-    PriceTable::new(price_table(prices))
-}
-
-/// The prices of all kinds.
-fn price_table(prices: &[Option<u32>]) -> [Option<u32>; 64]
-    ensures { result ≡ price_table prices.now }
-{
-    let mut table = [Some(1); 64];
-    for kind in 0..64 {
-        table[kind] = price_of_kind(prices, kind);
-    }
-    table
-}
-
-/// The price of a kind: 1 past the end of the list.
-fn price_of_kind(prices: &[Option<u32>], kind: usize) -> Option<u32>
-    ensures { result ≡ price_of_kind prices.now kind }
-{
-    match prices.get(kind) {
-        Some(price) => *price,
-        None => Some(1),
-    }
 }

@@ -5,7 +5,8 @@ ghost use Rattle.std.specs.Arc.{arc_value};
 ghost use Rattle.topo_core.specs.History.{IsRun, call_of};
 ghost use Rattle.topo_price.specs.Prices.{IsPromise, first_bad, prices_of};
 ghost use Rattle.topo_cli.specs.Limiting.{AreLimits};
-ghost use Rattle.topo_cli.specs.Runs.{Enters, priced, price_table};
+ghost use Rattle.topo_cli.specs.Runs.{Enters};
+ghost use Rattle.topo_cli.specs.Settings.{priced, price_table};
 
 use std::alloc::{AllocError, Global};
 use std::sync::Arc;

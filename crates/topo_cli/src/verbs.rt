@@ -20,6 +20,7 @@ const AFTER: &str = "\
 Examples:
   echo '{\"version\":1,\"workers\":[[[\"grow\",1,0,0],[\"grow\",1,1,7]]]}' > script.json
   planar run < script.json > report.json
+  planar replay < report.json
   planar check < picture.json
 
 Statuses:
@@ -51,11 +52,21 @@ may grow, and \"prices\" what it costs to cross edges of each kind.
 
 A fault is one line on standard error, as: planar: 52 BadShape $/workers";
 
-const REPLAY: &str = "Reads a report and carries out its history again (not yet)";
+const REPLAY: &str = "Reads a report and carries out its history again";
 
 const REPLAY_LONG: &str = "\
-Will read a report from standard input, carry out its history again from its
-start, and print how many calls it has. It comes with a later version.";
+Reads a report from standard input, as planar run prints it, and carries out its
+history again from its start, under its limits and at its prices. Where each
+reply is the one due and the picture at the end is the report's, prints how many
+calls there are, on one line of standard output:
+
+  replayed 3 calls
+
+Who made a call is not judged.
+
+A fault is one line on standard error. planar: 60 WrongReply 1 says that entry 1
+of the history, counted from 0, is the first whose reply is not the one due, and
+planar: 61 WrongPicture that the history leads to another picture.";
 
 const CHECK: &str = "Reads a picture and prints how large it is, where it is a lawful one";
 

@@ -18,7 +18,7 @@ use Rattle.topo_core.proofs.Counting.{eqb_symm, ids_above, lt_of_test}
 use Rattle.topo_core.proofs.Members.{in_map, right_true, test_of_each}
 use Rattle.topo_picture.specs.Inserting.{AreOnPaths, IdsRise, IsPlaceOf, crossed_by, crossed_path, crossings_on, paths_below, repathed}
 use Rattle.topo_picture.proofs.CrossedPaths.{crossed_woven, crossings_below, crossings_from, crossings_more, filter_all, filter_woven, woven_none, woven_same}
-use Rattle.topo_picture.proofs.Sorting.{rises_strictly, rising}
+use Rattle.topo_frozen.proofs.Sorting.{rises_strictly, rising}
 
 -- ---- Lists
 

@@ -1,157 +1,250 @@
--- The turn of the rows while an edge is opened, as images on the numbers of the darts.
-use Rattle.std.proofs.Common.{◌≡◌, ◌↔◌, ◌+◌, ◌*◌, ◌<◌, ◌%◌, ◌&&◌, ◌==◌, ap, arith, false, get_or, inl, inr, length, List, refl, Some, subst, suc, sym, true, zero, ℕ, ◌∙◌}
-use Rattle.std.specs.Prelude.{is_some, map, nat_lt, slice_get, slice_index}
-use Rattle.std.proofs.lemmas.Bool.{cases_eq}
+-- Walks along the faces of the rows while an edge is opened.
+use Rattle.std.proofs.Common.{◌≡◌, ◌≢◌, ◌↔◌, ◌+◌, ◌<◌, ◌≤◌, ◌%◌, ◌&&◌, ◌||◌, ◌==◌, ap, arith, Bool, false, inl, inr, length, List, refl, Some, subst, suc, [], sym, true, zero, ℕ, ◌∙◌}
+use Rattle.std.specs.Prelude.{map, nat_lt, slice_get, slice_index}
+use Rattle.std.specs.List.{position_or_len}
+use Rattle.std.proofs.lemmas.Bool.{cases_Bool, cases_eq, eq-eqb, false≢true, ne_eqb}
 use Rattle.std.proofs.lemmas.Bool.Decides.{nat_tests}
-use Rattle.std.proofs.lemmas.Option.{slice_get-get_or}
+use Rattle.std.proofs.lemmas.Option.{get_or_from_slice_get, slice_get_within}
+use Rattle.std.proofs.lemmas.List.{get_or-map, length-map}
+use Rattle.topo_core.specs.declared.darts.Dart.{Dart}
+use Rattle.topo_core.specs.declared.darts.Way.{Way}
+use Rattle.topo_core.specs.declared.darts.Way.TheVariants.{Back, Forward}
 use Rattle.topo_core.specs.declared.rows.EdgeRow.{EdgeRow}
 use Rattle.topo_core.specs.declared.rows.Rows.{Rows}
 use Rattle.topo_core.specs.Changes.{HasOneFace}
-use Rattle.topo_core.specs.Cycles.{after, IsBypass, IsPermutation, IsPermutationList, map_of, SameCycle}
+use Rattle.topo_core.specs.Cycles.{after, IsPermutation, SameCycle}
 use Rattle.topo_core.specs.Edits.{IsUnchord}
+use Rattle.topo_core.specs.Darts.{dart_twin, same_dart, same_way}
 use Rattle.topo_core.specs.Lawful.{IsWellFormed}
-use Rattle.topo_core.specs.Openings.{is_opened, opened_turn}
-use Rattle.topo_core.specs.Picture.{darts, edge_row, index_of, segment_count, turn_images}
+use Rattle.topo_core.specs.Openings.{dart_numbered, is_opened, opened_turn}
+use Rattle.topo_core.specs.Picture.{darts, edge_row, index_of, segment_count, system, turn_images}
 use Rattle.topo_core.specs.Pictures.{back, forward}
 use Rattle.topo_core.specs.Rotations.{face_next, twin}
-use Rattle.topo_core.specs.Systems.{has_dart}
-use Rattle.topo_core.proofs.Numbering.{even_images, images_length, index_twin, place_less, turn_permutes}
+use Rattle.topo_core.specs.Systems.{has_dart, turn}
+use Rattle.topo_core.proofs.DartLaws.{same_dart_self, same_dart_true}
+use Rattle.topo_core.proofs.Numbering.{even_images, image_of, images_length, index_apart, index_twin, place_less, twin_in}
 use Rattle.topo_core.proofs.OpenedDarts.{rest_face_darts, rest_face_numbers}
-use Rattle.topo_core.proofs.Openings.{opens}
-use Rattle.topo_core.proofs.Orbits.{after-within}
-use Rattle.topo_core.proofs.SystemDarts.{edge_at_row, some_of}
-use Rattle.topo_perm.proofs.Walks.{face_next-permutation, twin-within}
-use Rattle.topo_picture.specs.Cutting.{AreNumbered}
-use Rattle.topo_picture.specs.Flats.{begins_from}
-use Rattle.topo_picture.proofs.Deleting.{row_read}
-use Rattle.topo_picture.proofs.Lookups.{dart_there, number_told}
-
--- ---- Maps that agree below n
-
--- a number is taken out of both
-bypassed_alike : (f h g k : ℕ → ℕ) (n i : ℕ) → i < n → ((a : ℕ) → a < n → f a ≡ h a) → IsBypass f g n i → IsBypass h k n i → (a : ℕ) → a < n → g a ≡ k a
-bypassed_alike f h g k n i inside same of_f of_h a l = elim (cases_eq a i) [
-  | inl e ↦ ap g e ∙ of_f.alone ∙ sym (ap k e ∙ of_h.alone)
-  | inr away ↦ elim (cases_eq (f a) i) [
-    | inl leads ↦ of_f.onward a l away leads ∙ same i inside ∙ sym (of_h.onward a l away (sym (same a l) ∙ leads))
-    | inr passes ↦ of_f.elsewhere a l away passes ∙ same a l ∙ sym (of_h.elsewhere a l away (λ e. passes (same a l ∙ e)))
-  ]
-]
-
--- a segment is taken out of both
-pub unchorded_alike : (f h g k : ℕ → ℕ) (n d : ℕ) → d < n → twin d < n → ((a : ℕ) → a < n → f a ≡ h a) → IsUnchord f g n d → IsUnchord h k n d → (a : ℕ) → a < n → g a ≡ k a
-unchorded_alike f h g k n d inside other same of_f of_h =
-    bypassed_alike of_f.half of_h.half g k n (twin d) other (bypassed_alike f h of_f.half of_h.half n d inside same of_f.first of_h.first) of_f.second of_h.second
-
--- steps lead to the same
-after_alike : (f g : ℕ → ℕ) (n : ℕ) → IsPermutation f n → ((a : ℕ) → a < n → f a ≡ g a) → (k a : ℕ) → a < n → after f k a ≡ after g k a
-after_alike f g n perm same zero a l = refl
-after_alike f g n perm same (suc k) a l = same (after f k a) (after-within f n perm k a l) ∙ ap g (after_alike f g n perm same k a l)
-
-pub cycles_alike : (f g : ℕ → ℕ) (n : ℕ) → IsPermutation f n → ((a : ℕ) → a < n → f a ≡ g a) → (a b : ℕ) → a < n → (SameCycle f a b ↔ SameCycle g a b)
-cycles_alike f g n perm same a b l = (
-  λ c. record { steps = c.steps; leads = sym (after_alike f g n perm same c.steps a l) ∙ c.leads },
-  λ c. record { steps = c.steps; leads = after_alike f g n perm same c.steps a l ∙ c.leads },
-)
-
--- ---- An edge opened segment by segment
+use Rattle.topo_core.proofs.Openings.{index_numbered, numbered_here, numbered_index, opens}
+use Rattle.topo_core.proofs.SystemDarts.{row_id}
+use Rattle.topo_perm.proofs.Walks.{face_next-permutation}
+use Rattle.topo_route.proofs.Rounds.{unmet_all, unmet_home}
+use Rattle.topo_frozen.proofs.Begins.{edge_ids_climb}
+use Rattle.topo_frozen.proofs.Sorting.{place_is}
+use Rattle.topo_frozen.proofs.Lookups.{dart_there, row_found}
+use Rattle.topo_frozen.specs.declared.placed.PlacedDart.{PlacedDart}
+use Rattle.topo_frozen.specs.Placed.{IsPlaced, placed_dart}
+use Rattle.topo_picture.proofs.Skipping.{or_at, Skips, skips_alike, skips_ends, skips_here, unchord_skips}
 
 not_opened : (e i : ℕ) → (e == e && nat_lt i i) ≡ false
 not_opened e i = grind (arith, nat_tests)
 
-module _ (rows : Rows) (good : IsWellFormed rows) (e : ℕ) (row : EdgeRow) (there : edge_row rows e ≡ Some row) where
-  here_forward : (i : ℕ) → i < segment_count row → has_dart (darts rows) (forward e i) ≡ true
-  here_forward i less = dart_there rows good.paths (forward e i) row there less
+-- what is out with one segment more
+opened_one_more : (e i : ℕ) (d : Dart) → is_opened e (suc i) d ≡ ((is_opened e i d || same_dart (forward e i) d) || same_dart (back e i) d)
+opened_one_more e i d = by_way d.way where
+  by_way : (w : Way) → (d.edge == e && nat_lt d.seg (suc i)) ≡ (((d.edge == e && nat_lt d.seg i) || (e == d.edge && i == d.seg && same_way Forward w)) || (e == d.edge && i == d.seg && same_way Back w))
+  by_way Forward = grind (arith, nat_tests)
+  by_way Back = grind (arith, nat_tests)
 
-  here_back : (i : ℕ) → i < segment_count row → has_dart (darts rows) (back e i) ≡ true
-  here_back i less = dart_there rows good.paths (back e i) row there less
+a_dart : ℕ → ℕ → Way → PlacedDart
+a_dart place segment way = record { place = place; segment = segment; way = way }
 
-  -- the images tell whether a segment has one face on both sides
-  pub face_told : (images : List ℕ) (i d : ℕ) → IsPermutationList images → length images % 2 ≡ 0 → length images ≡ length (darts rows) → ((a : ℕ) → a < length images → map_of images a ≡ opened_turn rows e i a)
-      → i < segment_count row → index_of rows (forward e i) ≡ d → (SameCycle (face_next (map_of images)) d (twin d) ↔ HasOneFace rows e i)
-  face_told images i d perm even as_many opened less is =
-      let n = length images in
-      let below : index_of rows (forward e i) < length (darts rows) = place_less (darts rows) (forward e i) (here_forward i less) in
-      let inside : d < n = omega arith in
-      let alike : (a : ℕ) → a < n → face_next (map_of images) a ≡ face_next (opened_turn rows e i) a = λ a l. opened (twin a) (twin-within n a even l) in
-      let other : index_of rows (back e i) ≡ twin d = index_twin rows (forward e i) (here_forward i less) ∙ ap twin is in
-      let cycles = cycles_alike (face_next (map_of images)) (face_next (opened_turn rows e i)) n (face_next-permutation (map_of images) n perm even) alike d (twin d) inside in (
-        λ same. rest_face_darts rows good.paths good.crossings good.rotations (is_opened e i) (λ d. refl) (forward e i) (back e i)
-            (record { here = here_forward i less; stays = not_opened e i }) (record { here = here_back i less; stays = not_opened e i })
-            (subst (λ a. SameCycle (face_next (opened_turn rows e i)) a (index_of rows (back e i))) (sym is) (subst (SameCycle (face_next (opened_turn rows e i)) d) (sym other) (cycles.0 same))),
-        λ face. cycles.1 (subst (λ a. SameCycle (face_next (opened_turn rows e i)) a (twin d)) is (subst (SameCycle (face_next (opened_turn rows e i)) (index_of rows (forward e i))) other
-            (rest_face_numbers rows good.paths good.crossings good.rotations (is_opened e i) (λ d. refl) (forward e i) (back e i)
-            (record { here = here_forward i less; stays = not_opened e i }) face))),
-      )
+module _ (rows : Rows) (good : IsWellFormed rows) (e : ℕ) where
+  -- the turn on numbers when nothing is out
+  abbrev pub whole_turn : ℕ → ℕ
+  whole_turn = opened_turn rows e 0
 
-  -- one more segment is out
-  pub opened_more : (images next : List ℕ) (i d : ℕ) → length images % 2 ≡ 0 → length images ≡ length (darts rows) → ((a : ℕ) → a < length images → map_of images a ≡ opened_turn rows e i a)
-      → i < segment_count row → index_of rows (forward e i) ≡ d → IsUnchord (map_of images) (map_of next) (length images) d → (a : ℕ) → a < length images → map_of next a ≡ opened_turn rows e (i + 1) a
-  opened_more images next i d even as_many opened less is unchord =
-      let below : index_of rows (forward e i) < length (darts rows) = place_less (darts rows) (forward e i) (here_forward i less) in
-      let inside : d < length images = omega arith in
-      unchorded_alike (map_of images) (opened_turn rows e i) (map_of next) (opened_turn rows e (i + 1)) (length images) d inside (twin-within (length images) d even inside) opened unchord
-      (subst (λ n. IsUnchord (opened_turn rows e i) (opened_turn rows e (i + 1)) n d) (sym as_many)
-      (subst (IsUnchord (opened_turn rows e i) (opened_turn rows e (i + 1)) (length (darts rows))) is ((opens rows good.paths good.crossings good.rotations e).unchords row there i less)))
+  -- the test on numbers
+  abbrev pub is_gone : ℕ → ℕ → Bool
+  is_gone i a = is_opened e i (dart_numbered rows a)
 
--- nothing is out at first
-pub opened_first : (rows : Rows) → IsWellFormed rows → (e : ℕ) (images : List ℕ) → images ≡ turn_images rows → length images ≡ length (darts rows) → (a : ℕ) → a < length images → map_of images a ≡ opened_turn rows e 0 a
-opened_first rows good e images is as_many a l =
-    ap (λ (xs : List ℕ). map_of xs a) is ∙ sym ((opens rows good.paths good.crossings good.rotations e).shut a (omega arith))
+  pub turned_number : (d : Dart) → has_dart (darts rows) d ≡ true → index_of rows (turn (system rows) d) ≡ whole_turn (index_of rows d)
+  turned_number d here = sym ((opens rows good.paths good.crossings good.rotations e).shut (index_of rows d) (place_less (darts rows) d here) ∙ image_of rows good.paths d here)
 
--- ---- The numbers on an edge
+  pub gone_number : (i : ℕ) (d : Dart) → has_dart (darts rows) d ≡ true → is_gone i (index_of rows d) ≡ is_opened e i d
+  gone_number i d here = ap (is_opened e i) (numbered_index rows good.paths good.crossings good.rotations d here)
 
-pub are_numbered : (rows : Rows) → IsWellFormed rows → (e place : ℕ) (row : EdgeRow) → slice_get rows.edges place ≡ Some row → edge_row rows e ≡ Some row
-    → AreNumbered rows e (slice_index (begins_from 0 rows.edges) place) (length row.crossings + 1)
-are_numbered rows good e place row at there = record {
-  counted = ap (λ (r : EdgeRow). length r.crossings + 1) (sym (edge_at_row rows e row there));
-  forward = λ i less. (number_told rows good.paths (forward e i) place row at there less).forward refl;
-  listed = let last = (number_told rows good.paths (forward e (length row.crossings)) place row at there (omega arith)).below in omega arith;
-}
+  -- the id at a place
+  id_placed : (place : ℕ) (row : EdgeRow) → slice_get rows.edges place ≡ Some row → slice_index (map (λ (row : EdgeRow). row.id) rows.edges) place ≡ row.id
+  id_placed place row at =
+      let none : EdgeRow = record { id = 0; a = 0; b = 0; kind = 0; crossings = [] } in
+      get_or-map (λ (row : EdgeRow). row.id) rows.edges place none 0 (slice_get_within rows.edges place row at) ∙ ap (λ (r : EdgeRow). r.id) (get_or_from_slice_get rows.edges place row none at)
 
-pub numbers_read : (rows : Rows) → IsWellFormed rows → (e place : ℕ) (read : List EdgeRow) (row : EdgeRow) (begins path : List ℕ) → read ≡ rows.edges → place < length read → slice_index (map (λ row. row.id) read) place ≡ e
-    → begins ≡ begins_from 0 rows.edges → row ≡ get_or read place row → path ≡ (get_or read place row).crossings → AreNumbered rows e (slice_index begins place) (length path + 1)
-numbers_read rows good e place read row begins path is within at from now stands =
-    let there : edge_row rows e ≡ Some row = row_read rows good e read read place row is refl within at now in
-    let get : slice_get rows.edges place ≡ Some row = ap (λ (es : List EdgeRow). slice_get es place) (sym is) ∙ slice_get-get_or read place row within ∙ ap Some (sym now) in
-    let same : path ≡ row.crossings = stands ∙ ap (λ (r : EdgeRow). r.crossings) (sym now) in
-    subst (λ (xs : List ℕ). AreNumbered rows e (slice_index begins place) (length xs + 1)) (sym same)
-    (subst (λ (xs : List ℕ). AreNumbered rows e (slice_index xs place) (length row.crossings + 1)) (sym from) (are_numbered rows good e place row get there))
+  pub placed_here : (at : PlacedDart) → IsPlaced rows at → has_dart (darts rows) (placed_dart rows at) ≡ true
+  placed_here at placed = dart_there rows good.paths (placed_dart rows at) placed.row (ap (edge_row rows) (id_placed at.place placed.row placed.stands) ∙ row_found rows good.paths at.place placed.row placed.stands) placed.within
 
--- ---- The walk along an edge
+  -- darts at two places are two
+  placed_apart : (a b : PlacedDart) → IsPlaced rows a → IsPlaced rows b → placed_dart rows a ≡ placed_dart rows b → a ≡ b
+  unfolding a_dart
+  placed_apart a b a_placed b_placed same =
+      let ids : List ℕ = map (λ (row : EdgeRow). row.id) rows.edges in
+      let as_many : length ids ≡ length rows.edges = length-map rows.edges (λ (row : EdgeRow). row.id) in
+      let up = edge_ids_climb rows ids good.paths refl in
+      let id_at : (p : PlacedDart) → IsPlaced rows p → position_or_len (λ y. y == slice_index ids p.place) ids ≡ p.place = λ p placed.
+      let inside : p.place < length rows.edges = slice_get_within rows.edges p.place placed.row placed.stands in
+      place_is ids p.place (slice_index ids p.place) up (omega arith) refl in
+      let places : a.place ≡ b.place = sym (id_at a a_placed) ∙ ap (λ (d : Dart). position_or_len (λ y. y == d.edge) ids) same ∙ id_at b b_placed in
+      let segments : a.segment ≡ b.segment = ap (λ (d : Dart). d.seg) same in
+      let ways : a.way ≡ b.way = ap (λ (d : Dart). d.way) same in
+      ap (λ p. a_dart p a.segment a.way) places ∙ ap (λ s. a_dart b.place s a.way) segments ∙ ap (λ w. a_dart b.place b.segment w) ways
 
-module _ (rows : Rows) (good : IsWellFormed rows) (e : ℕ) (known : is_some (edge_row rows e) ≡ true) (begin segments : ℕ) (numbered : AreNumbered rows e begin segments)
-    (first : List ℕ) (turns : first ≡ turn_images rows) where
-  pub record IsOpened (images : List ℕ) (i : ℕ) : Type 0 where
-    pub as_many : length images ≡ length first
-    pub permutation : IsPermutationList images
-    pub opened : (a : ℕ) → a < length images → map_of images a ≡ opened_turn rows e i a
+  number_is : (c : Dart) (b : ℕ) → has_dart (darts rows) c ≡ true → b < length (darts rows) → (b == index_of rows c) ≡ same_dart c (dart_numbered rows b)
+  number_is c b here less = elim (cases_Bool (same_dart c (dart_numbered rows b))) [
+    | inl same ↦ eq-eqb b (index_of rows c) (sym (ap (index_of rows) (same_dart_true c (dart_numbered rows b) same) ∙ index_numbered rows good.paths good.crossings good.rotations b less)) ∙ sym same
+    | inr other ↦ ne_eqb b (index_of rows c) (λ k. false≢true (sym other ∙ ap (same_dart c) (ap (dart_numbered rows) k ∙ numbered_index rows good.paths good.crossings good.rotations c here) ∙ same_dart_self c)) ∙ sym other
+  ]
 
-  pub counted_darts : length first ≡ length (darts rows)
-  counted_darts = ap length turns ∙ images_length rows
+  module _ (row : EdgeRow) (there : edge_row rows e ≡ Some row) where
+    here_forward : (i : ℕ) → i < segment_count row → has_dart (darts rows) (forward e i) ≡ true
+    here_forward i less = dart_there rows good.paths (forward e i) row there less
 
-  pub even_many : (images : List ℕ) → length images ≡ length first → length images % 2 ≡ 0
-  even_many images same = ap (λ n. n % 2) (same ∙ ap length turns) ∙ even_images rows
+    here_back : (i : ℕ) → i < segment_count row → has_dart (darts rows) (back e i) ≡ true
+    here_back i less = dart_there rows good.paths (back e i) row there less
 
-  row_of : (row : EdgeRow) × (edge_row rows e ≡ Some row)
-  row_of = some_of (edge_row rows e) known
+    -- the turn that is left leads to the first that is not out
+    pub opened_skips : (i : ℕ) → i ≤ segment_count row → (a : ℕ) → a < length (darts rows) → is_gone i a ≡ false → Skips whole_turn (is_gone i) a (opened_turn rows e i a)
+    opened_skips zero few a l left = record { passed = 0; lands = refl; stays = grind (arith, nat_tests); over = λ j some none. absurd (omega arith) }
+    opened_skips (suc i) few a l left =
+        let all = opens rows good.paths good.crossings good.rotations e in
+        let n = length (darts rows) in
+        let f_here = here_forward i (omega arith) in
+        let b_here = here_back i (omega arith) in
+        let d = index_of rows (forward e i) in
+        let d_twin : index_of rows (back e i) ≡ twin d = index_twin rows (forward e i) f_here in
+        let less : d < n = place_less (darts rows) (forward e i) f_here in
+        let less_twin : twin d < n = subst (λ k. k < n) d_twin (place_less (darts rows) (back e i) b_here) in
+        let alike : (b : ℕ) → b < n → or_at (or_at (is_gone i) d) (twin d) b ≡ is_gone (suc i) b = λ b inside.
+        ap (λ (t : Bool). (is_gone i b || t) || b == twin d) (number_is (forward e i) b f_here inside)
+        ∙ ap (λ (t : Bool). (is_gone i b || same_dart (forward e i) (dart_numbered rows b)) || t) (ap (λ k. b == k) (sym d_twin) ∙ number_is (back e i) b b_here inside)
+        ∙ sym (opened_one_more e i (dart_numbered rows b)) in
+        skips_alike whole_turn n (all.permutes 0) (or_at (or_at (is_gone i) d) (twin d)) (is_gone (suc i)) alike a (opened_turn rows e (suc i) a) l
+        (unchord_skips whole_turn (opened_turn rows e i) (opened_turn rows e (suc i)) n (is_gone i) d less less_twin (λ k. grind arith) (all.permutes i)
+        (gone_number i (forward e i) f_here ∙ not_opened e i) (ap (is_gone i) (sym d_twin) ∙ gone_number i (back e i) b_here ∙ not_opened e i)
+        (subst (λ (k : ℕ). IsUnchord (opened_turn rows e i) (opened_turn rows e k) n d) (let one : i + 1 ≡ suc i = omega arith in one) (all.unchords row there i (omega arith)))
+        (opened_skips i (omega arith)) a l (alike a l ∙ left))
 
-  segments_of : segments ≡ segment_count row_of.0
-  segments_of = numbered.counted ∙ ap (λ (r : EdgeRow). length r.crossings + 1) (edge_at_row rows e row_of.0 row_of.1)
+    -- a walk that has passed so many darts that are out, from where it starts to turn
+    pub record Passes (out start : ℕ) (next : PlacedDart) (passed : ℕ) : Type 0 where
+      pub placed : IsPlaced rows next
+      pub place : index_of rows (placed_dart rows next) ≡ after whole_turn (suc passed) start
+      pub over : (j : ℕ) → 0 < j → j ≤ passed → is_gone out (after whole_turn j start) ≡ true
 
-  pub opens_shut : (a : ℕ) → a < length first → map_of first a ≡ opened_turn rows e 0 a
-  opens_shut = opened_first rows good e first turns counted_darts
+    pub passes_none : (out : ℕ) (from : Dart) (next : PlacedDart) → has_dart (darts rows) from ≡ true → IsPlaced rows next → placed_dart rows next ≡ turn (system rows) from
+        → Passes out (index_of rows from) next 0
+    passes_none out from next here placed is = record { placed = placed; place = ap (index_of rows) is ∙ turned_number from here; over = λ j some none. absurd (omega arith) }
 
-  pub first_permutes : IsPermutationList first
-  first_permutes = subst IsPermutationList (sym turns) (turn_permutes rows good.paths good.crossings good.rotations)
+    pub passes_more : (out start : ℕ) (next more : PlacedDart) (passed : ℕ) → Passes out start next passed → is_opened e out (placed_dart rows next) ≡ true → IsPlaced rows more
+        → placed_dart rows more ≡ turn (system rows) (placed_dart rows next) → Passes out start more (suc passed)
+    passes_more out start next more passed h gone placed is =
+        let here = placed_here next h.placed in
+        record {
+          placed = placed;
+          place = ap (index_of rows) is ∙ turned_number (placed_dart rows next) here ∙ ap whole_turn h.place;
+          over = λ j some few. elim (cases_eq j (suc passed)) [
+            | inl last ↦ ap (λ i. is_gone out (after whole_turn i start)) last ∙ ap (is_gone out) (sym h.place) ∙ gone_number out (placed_dart rows next) here ∙ gone
+            | inr before ↦ h.over j some (omega arith)
+          ];
+        }
 
-  pub told : (images : List ℕ) (i : ℕ) → IsOpened images i → i < segments → (SameCycle (face_next (map_of images)) (begin + 2 * i) (twin (begin + 2 * i)) ↔ HasOneFace rows e i)
-  told images i is less =
-      let enough = segments_of in
-      face_told rows good e row_of.0 row_of.1 images i (begin + 2 * i) is.permutation (even_many images is.as_many) (is.as_many ∙ counted_darts) is.opened (omega arith) (numbered.forward i less)
+    module _ (out : ℕ) (few : out ≤ segment_count row) (from : Dart) (here : has_dart (darts rows) from ≡ true) (left : is_opened e out from ≡ false) where
+      abbrev pub other : Dart
+      other = dart_twin from
 
-  pub more : (images next : List ℕ) (i : ℕ) → IsOpened images i → i < segments → length next ≡ length images → IsUnchord (map_of images) (map_of next) (length images) (begin + 2 * i)
-      → (a : ℕ) → a < length next → map_of next a ≡ opened_turn rows e (i + 1) a
-  more images next i is less same unchord a l =
-      let enough = segments_of in
-      opened_more rows good e row_of.0 row_of.1 images next i (begin + 2 * i) (even_many images is.as_many) (is.as_many ∙ counted_darts) is.opened (omega arith) (numbered.forward i less) unchord a (omega arith)
+      other_here : has_dart (darts rows) other ≡ true
+      other_here = twin_in rows from here
+
+      pub other_left : is_gone out (index_of rows other) ≡ false
+      other_left = gone_number out other other_here ∙ left
+
+      pub passes_to : (next : PlacedDart) (passed : ℕ) → Passes out (index_of rows other) next passed → is_opened e out (placed_dart rows next) ≡ false
+          → index_of rows (placed_dart rows next) ≡ face_next (opened_turn rows e out) (index_of rows from)
+      passes_to next passed h stays =
+          let less = place_less (darts rows) other other_here in
+          let is_left : is_gone out (after whole_turn (suc passed) (index_of rows other)) ≡ false =
+          ap (is_gone out) (sym h.place) ∙ gone_number out (placed_dart rows next) (placed_here next h.placed) ∙ stays in
+          h.place
+          ∙ sym (skips_here whole_turn (is_gone out) (index_of rows other) (opened_turn rows e out (index_of rows other)) passed (opened_skips out few (index_of rows other) less other_left) h.over is_left)
+          ∙ ap (opened_turn rows e out) (index_twin rows from here)
+
+      pub passes_few : (next : PlacedDart) (passed : ℕ) → Passes out (index_of rows other) next passed → length (darts rows) ≤ passed → ⊥
+      passes_few next passed h many =
+          skips_ends whole_turn (is_gone out) (length (darts rows)) (index_of rows other) passed ((opens rows good.paths good.crossings good.rotations e).permutes 0) (place_less (darts rows) other other_here) many other_left h.over
+
+    -- one cycle of numbers is one face
+    pub face_told : (i : ℕ) → i < segment_count row → (SameCycle (face_next (opened_turn rows e i)) (index_of rows (forward e i)) (index_of rows (back e i)) ↔ HasOneFace rows e i)
+    face_told i less = (
+      λ same. rest_face_darts rows good.paths good.crossings good.rotations (is_opened e i) (λ d. refl) (forward e i) (back e i)
+          (record { here = here_forward i less; stays = not_opened e i }) (record { here = here_back i less; stays = not_opened e i }) same,
+      λ face. rest_face_numbers rows good.paths good.crossings good.rotations (is_opened e i) (λ d. refl) (forward e i) (back e i)
+          (record { here = here_forward i less; stays = not_opened e i }) face,
+    )
+
+    -- ---- A walk round the face of a segment
+
+    module _ (place : ℕ) (at_place : slice_get rows.edges place ≡ Some row) (i : ℕ) (less : i < segment_count row) where
+      abbrev pub first : PlacedDart
+      first = record { place = place; segment = i; way = Forward }
+
+      abbrev face : ℕ → ℕ
+      face = face_next (opened_turn rows e i)
+
+      abbrev number : ℕ
+      number = index_of rows (forward e i)
+
+      pub first_is : placed_dart rows first ≡ forward e i
+      first_is = ap (λ (id : ℕ). forward id i) (id_placed place row at_place ∙ row_id rows e row there)
+
+      pub first_placed : IsPlaced rows first
+      first_placed = record { row = row; stands = at_place; within = less }
+
+      is_even : length (darts rows) % 2 ≡ 0
+      is_even = ap (λ n. n % 2) (sym (images_length rows)) ∙ even_images rows
+
+      permutes : IsPermutation face (length (darts rows))
+      permutes = face_next-permutation (opened_turn rows e i) (length (darts rows)) ((opens rows good.paths good.crossings good.rotations e).permutes i) is_even
+
+      number_twin : index_of rows (back e i) ≡ twin number
+      number_twin = index_twin rows (forward e i) (here_forward i less)
+
+      pub record Walks (at : PlacedDart) (steps : ℕ) : Type 0 where
+        pub placed : IsPlaced rows at
+        pub left : is_opened e i (placed_dart rows at) ≡ false
+        pub stands : index_of rows (placed_dart rows at) ≡ after face steps number
+        pub unmet : (j : ℕ) → j < steps → after face j number ≢ twin number
+
+      pub walks_none : Walks first 0
+      walks_none = record { placed = first_placed; left = ap (is_opened e i) first_is ∙ not_opened e i; stands = ap (index_of rows) first_is; unmet = λ j none. absurd (omega arith) }
+
+      -- what is not the twin has another number
+      pub apart : (at twinned : PlacedDart) → IsPlaced rows at → IsPlaced rows twinned → placed_dart rows twinned ≡ dart_twin (placed_dart rows first) → at ≢ twinned → index_of rows (placed_dart rows at) ≢ twin number
+      apart at twinned at_placed twin_placed is differ same = differ (placed_apart at twinned at_placed twin_placed
+          (index_apart rows good.paths (placed_dart rows at) (placed_dart rows twinned) (placed_here at at_placed) (placed_here twinned twin_placed)
+          (same ∙ sym number_twin ∙ ap (λ (d : Dart). index_of rows (dart_twin d)) (sym first_is) ∙ ap (index_of rows) (sym is))))
+
+      pub walks_more : (at next : PlacedDart) (steps : ℕ) → Walks at steps → index_of rows (placed_dart rows at) ≢ twin number → IsPlaced rows next → is_opened e i (placed_dart rows next) ≡ false
+          → index_of rows (placed_dart rows next) ≡ face (index_of rows (placed_dart rows at)) → Walks next (suc steps)
+      walks_more at next steps h met placed left is = record {
+        placed = placed;
+        left = left;
+        stands = is ∙ ap face h.stands;
+        unmet = λ j few. elim (cases_eq j steps) [
+          | inl last ↦ λ same. met (h.stands ∙ ap (λ k. after face k number) (sym last) ∙ same)
+          | inr before ↦ h.unmet j (omega arith)
+        ];
+      }
+
+      -- the twin is met
+      pub met : (at twinned : PlacedDart) (steps : ℕ) → Walks at steps → placed_dart rows twinned ≡ dart_twin (placed_dart rows first) → at ≡ twinned → HasOneFace rows e i
+      met at twinned steps h is same = (face_told i less).0 (record {
+        steps = steps;
+        leads = sym h.stands ∙ ap (λ (p : PlacedDart). index_of rows (placed_dart rows p)) same ∙ ap (index_of rows) is ∙ ap (λ (d : Dart). index_of rows (dart_twin d)) first_is;
+      })
+
+      -- back at the start without it
+      pub home : (next : PlacedDart) (steps : ℕ) → Walks next (suc steps) → next ≡ first → HasOneFace rows e i → ⊥
+      home next steps h same one = unmet_home face number (twin number) steps (sym h.stands ∙ ap (λ (p : PlacedDart). index_of rows (placed_dart rows p)) same ∙ ap (index_of rows) first_is) (λ j few. h.unmet j (omega arith))
+          (subst (SameCycle face number) number_twin ((face_told i less).1 one))
+
+      -- as many steps as there are darts without it
+      pub never : (at : PlacedDart) (steps : ℕ) → Walks at steps → length (darts rows) ≤ steps → HasOneFace rows e i → ⊥
+      never at steps h many one = unmet_all face number (twin number) (length (darts rows)) permutes (place_less (darts rows) (forward e i) (here_forward i less)) (λ j few. h.unmet j (omega arith))
+          (subst (SameCycle face number) number_twin ((face_told i less).1 one))

@@ -11,7 +11,7 @@ use Rattle.topo_core.specs.Systems.{Connected}
 use Rattle.topo_core.proofs.SystemDarts.{some_of}
 use Rattle.topo_core.proofs.ShownRows.{shown_new_row}
 use Rattle.topo_core.proofs.UndoneInsertions.{insertion_undone}
-use Rattle.topo_picture.specs.Shown.{IsPicture, Shown}
+use Rattle.topo_frozen.specs.Shown.{IsPicture, Shown}
 use Rattle.topo_picture.specs.Undoing.{IsShownOn}
 use Rattle.topo_picture.proofs.DeletedLawful.{cut_by_faces, cut_is_by_faces, no_cut, whole_without}
 use Rattle.topo_picture.proofs.WithoutCounts.{vertices_without}
@@ -45,13 +45,7 @@ module _ (limits : Limits) (rows : Rows) (e : ℕ) (is : IsPicture limits rows) 
   pub local_of_picture : (i : ℕ) → IsCut rows e i → IsLocalCut rows e i
   local_of_picture = cut_is_by_faces rows is.lawful.embedding.well_formed e (some_of (edge_row rows e) there).0 (some_of (edge_row rows e) there).1 is.lawful.embedding.connected is.lawful.genus_zero
 
--- ---- What is found
-
-pub found_none : (o : Option ℕ) (A : Type 0) (B : ℕ → Type 0) → MatchOption o A B → o ≡ None → A
-found_none o A B f e = subst (λ (o : Option ℕ). MatchOption o A B) e f
-
-pub found_some : (o : Option ℕ) (A : Type 0) (B : ℕ → Type 0) (i : ℕ) → MatchOption o A B → o ≡ Some i → B i
-found_some o A B i f e = subst (λ (o : Option ℕ). MatchOption o A B) e f
+-- ---- What is seen
 
 -- what holds of the rows inside holds of the rows that are seen
 pub in_view : (limits : Limits) (rows : Rows) (s : Shown) → record { limits = limits; rows = rows } ≡ s → (P : Rows → Type 0) → P rows → P s.rows

@@ -5,6 +5,7 @@ use Rattle.std.specs.List.{list_all, list_any, remove}
 use Rattle.std.specs.List.Sorted.{IsStrictlyIncreasing}
 use Rattle.std.proofs.lemmas.Bool.{cases_Bool, eq-eqb, eqb-true, false≢true}
 use Rattle.std.proofs.lemmas.Bool.Decides.{nat_tests}
+use Rattle.std.proofs.lemmas.Option.{get_or_from_slice_get}
 use Rattle.topo_core.specs.declared.darts.Sign.TheVariants.{LeftToRight}
 use Rattle.topo_core.specs.declared.rows.CrossRow.{CrossRow}
 use Rattle.topo_core.specs.declared.rows.EdgeRow.{EdgeRow}
@@ -20,21 +21,20 @@ use Rattle.topo_core.proofs.SystemDarts.{crossing_there, edge_at_row, path_facts
 use Rattle.topo_core.proofs.Weaving.{in_filter}
 use Rattle.topo_core.proofs.WithoutRows.{filter_passes, find_passing, has_id_in, in_has_id, left_apart, rises_passing}
 use Rattle.topo_picture.specs.Deleting.{IsCrossed, left_by, other_edge, rotation_without}
-use Rattle.topo_picture.proofs.Begins.{edge_ids_climb, id_there}
-use Rattle.topo_picture.proofs.Leaving.{filter_alike, filter_all, found_by_place, got_in, least_first, removed_is}
-use Rattle.topo_picture.proofs.PairTests.{named}
-use Rattle.topo_picture.proofs.Rounds.{cross_ids_climb}
-use Rattle.topo_picture.proofs.Sorting.{in_counted, rises_strictly}
+use Rattle.topo_frozen.specs.Ids.{IdsRise, IsPlaceOf}
+use Rattle.topo_frozen.proofs.Begins.{edge_ids_climb}
+use Rattle.topo_picture.proofs.Leaving.{filter_alike, filter_all, got_in, least_first, place_named, removed_is}
+use Rattle.topo_frozen.proofs.Sorting.{in_counted}
 
 -- ---- The other edge of a crossing
 
 pub across : (crossings : List CrossRow) (e x : ℕ) (row : CrossRow) → find (λ row. row.id == x) crossings ≡ Some row → other_edge crossings e x ≡ cond {A = ℕ} (row.crossed == e) row.newcomer row.crossed
 across crossings e x row there = ap (λ (o : Option CrossRow). cond {A = ℕ} ((unwrap_or o (record { id = x; crossed = 0; newcomer = 0; sign = LeftToRight })).crossed == e) (unwrap_or o (record { id = x; crossed = 0; newcomer = 0; sign = LeftToRight })).newcomer (unwrap_or o (record { id = x; crossed = 0; newcomer = 0; sign = LeftToRight })).crossed) there
 
-pub across_read : (crossings : List CrossRow) (e x place : ℕ) (d : CrossRow) (t : Bool) → IsStrictlyIncreasing (map (λ row. row.id) crossings) → place < length crossings → slice_index (map (λ row. row.id) crossings) place ≡ x
-    → ((get_or crossings place d).crossed == e) ≡ t → other_edge crossings e x ≡ cond {A = ℕ} t (get_or crossings place d).newcomer (get_or crossings place d).crossed
-across_read crossings e x place d t up inside at is =
-    across crossings e x (get_or crossings place d) (found_by_place (λ (row : CrossRow). row.id) crossings place x d up inside at)
+pub across_read : (crossings : List CrossRow) (e x place : ℕ) (d : CrossRow) (t : Bool) → IsPlaceOf crossings (λ row. row.id) x place → ((get_or crossings place d).crossed == e) ≡ t
+    → other_edge crossings e x ≡ cond {A = ℕ} t (get_or crossings place d).newcomer (get_or crossings place d).crossed
+across_read crossings e x place d t placed is =
+    across crossings e x (get_or crossings place d) (placed.found ∙ ap Some (sym (get_or_from_slice_get crossings place placed.row d placed.at)))
     ∙ ap (λ (b : Bool). cond {A = ℕ} b (get_or crossings place d).newcomer (get_or crossings place d).crossed) is
 
 -- of two different edges the one that is not e, which is one of them
@@ -103,26 +103,20 @@ module _ (rows : Rows) (good : IsWellFormed rows) (e : ℕ) where
   pub edges_climb : IsStrictlyIncreasing (map (λ row. row.id) rows.edges)
   edges_climb = edge_ids_climb rows (map (λ row. row.id) rows.edges) good.paths refl
 
-  pub crossings_climb : IsStrictlyIncreasing (map (λ row. row.id) rows.crossings)
-  crossings_climb = cross_ids_climb rows good (map (λ row. row.id) rows.crossings) refl
-
-  pub rest_climbs : IsStrictlyIncreasing (map (λ row. row.id) (filter is_left rows.edges))
-  rest_climbs = rises_strictly rows.next_edge (map (λ row. row.id) (filter is_left rows.edges)) (rises_passing (λ row. row.id) is_left rows.next_edge rows.edges (left_true _ (list_all (has_good_path rows) rows.edges) good.paths))
-
-  pub edge_there : is_some (edge_row rows e) ≡ true → list_any (λ y. y == e) (map (λ row. row.id) rows.edges) ≡ true
-  edge_there known = id_there e rows.edges (map (λ row. row.id) rows.edges) known refl
+  pub rest_rises : IdsRise (map (λ row. row.id) (filter is_left rows.edges))
+  rest_rises = (rows.next_edge, rises_passing (λ row. row.id) is_left rows.next_edge rows.edges (left_true _ (list_all (has_good_path rows) rows.edges) good.paths))
 
   -- the edges without the row at the place of e
-  pub rest_is : (list read after : List EdgeRow) (place : ℕ) → list ≡ rows.edges → read ≡ list → place < length read → slice_index (map (λ row. row.id) read) place ≡ e → after ≡ remove list place → after ≡ filter is_left rows.edges
-  rest_is list read after place is same within at now =
-      now ∙ ap (λ (es : List EdgeRow). remove es place) is
-      ∙ removed_is (λ (row : EdgeRow). row.id) rows.edges place e edges_climb (subst (λ (es : List EdgeRow). place < length es) (same ∙ is) within) (subst (λ (es : List EdgeRow). slice_index (map (λ row. row.id) es) place ≡ e) (same ∙ is) at)
+  pub rest_is : (list read after : List EdgeRow) (place : ℕ) → list ≡ rows.edges → read ≡ list → IsPlaceOf read (λ row. row.id) e place → after ≡ remove list place → after ≡ filter is_left rows.edges
+  rest_is list read after place is same placed now =
+      let here = subst (λ (es : List EdgeRow). IsPlaceOf es (λ row. row.id) e place) (same ∙ is) placed in
+      now ∙ ap (λ (es : List EdgeRow). remove es place) is ∙ removed_is (λ (row : EdgeRow). row.id) rows.edges place e edges_climb here.within (place_named (λ (row : EdgeRow). row.id) rows.edges e place here)
 
   -- and that row
-  pub row_read : (list read : List EdgeRow) (place : ℕ) (row : EdgeRow) → list ≡ rows.edges → read ≡ list → place < length read → slice_index (map (λ row. row.id) read) place ≡ e → row ≡ get_or list place row → edge_row rows e ≡ Some row
-  row_read list read place row is same within at now =
-      found_by_place (λ (row : EdgeRow). row.id) rows.edges place e row edges_climb (subst (λ (es : List EdgeRow). place < length es) (same ∙ is) within) (subst (λ (es : List EdgeRow). slice_index (map (λ row. row.id) es) place ≡ e) (same ∙ is) at)
-      ∙ ap Some (sym (now ∙ ap (λ (es : List EdgeRow). get_or es place row) is))
+  pub row_read : (list read : List EdgeRow) (place : ℕ) (row : EdgeRow) → list ≡ rows.edges → read ≡ list → IsPlaceOf read (λ row. row.id) e place → row ≡ get_or list place row → edge_row rows e ≡ Some row
+  row_read list read place row is same placed now =
+      let here = subst (λ (es : List EdgeRow). IsPlaceOf es (λ row. row.id) e place) (same ∙ is) placed in
+      here.found ∙ ap Some (sym (now ∙ ap (λ (es : List EdgeRow). get_or es place row) is ∙ get_or_from_slice_get rows.edges place here.row row here.at))
 
   module _ (row : EdgeRow) (there : edge_row rows e ≡ Some row) where
     row_there : IsIn row rows.edges
@@ -150,8 +144,8 @@ module _ (rows : Rows) (good : IsWellFormed rows) (e : ℕ) where
         let known : is_some (edge_row rows o) ≡ true = elim other.one_of [ inl k ↦ ap (λ n. is_some (edge_row rows n)) k ∙ facts.crossed | inr k ↦ ap (λ n. is_some (edge_row rows n)) k ∙ facts.newcomer ] in
         let still : is_some (find (λ row. row.id == o) (filter is_left rows.edges)) ≡ true = ap is_some (find_passing (λ row. row.id == o) is_left rows.edges (λ r h. passes r.id o h other.apart)) ∙ known in
         record {
-          known = named rows.crossings x ∙ ap is_some pick.1;
-          there = subst (λ n. list_any (λ y. y == n) (map (λ row. row.id) (filter is_left rows.edges)) ≡ true) (sym is) (id_there o (filter is_left rows.edges) (map (λ row. row.id) (filter is_left rows.edges)) still refl);
+          known = ap is_some pick.1;
+          there = subst (λ (n : ℕ). is_some (find (λ row. row.id == n) (filter is_left rows.edges)) ≡ true) (sym is) still;
           elsewhere = λ r h differs.
               let counted = facts.counted r (in_filter is_left r rows.edges h) in
               let none = other.neither r.id (left_differs r.id (filter_passes is_left r rows.edges h)) (λ k. differs (k ∙ sym is)) in

@@ -32,7 +32,7 @@ use Rattle.topo_perm.proofs.Links.{Link}
 use Rattle.topo_perm.proofs.Passing.{Passed, passed}
 use Rattle.topo_picture.proofs.InsertedPassage.{IsPath, is_passage, links_of, name, path_bends, path_links, path_of}
 use Rattle.topo_picture.proofs.Totals.{segments_total}
-use Rattle.topo_picture.proofs.Verdicts.{bare_points}
+use Rattle.topo_frozen.proofs.Verdicts.{bare_points}
 
 -- ---- No vertex becomes bare
 

@@ -24,7 +24,7 @@ use Rattle.topo_core.proofs.SimpleRoutes.{simple_is_insertable}
 use Rattle.topo_core.proofs.Standing.{good_rotation, listed_test, of_rows_is_dart}
 use Rattle.topo_core.proofs.SystemDarts.{crossing_there}
 use Rattle.topo_picture.specs.Inserting.{AreOnPaths, IdsRise, crossed_by, paths_below}
-use Rattle.topo_picture.specs.Shown.{IsPicture}
+use Rattle.topo_frozen.specs.Shown.{IsPicture}
 use Rattle.topo_picture.proofs.InsertedLawful.{insertion_keeps_lawful}
 
 -- a test that each item passes

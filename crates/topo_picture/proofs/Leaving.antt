@@ -1,12 +1,11 @@
 -- What a deletion does to lists: a row found by its id, an id taken out, and a list begun again at its least id.
-use Rattle.std.proofs.Common.{◌≡◌, ◌≢◌, ℕ, zero, suc, ◌+◌, ◌<◌, ◌≤◌, Bool, true, false, cond, not, ◌||◌, ◌&&◌, List, [], ◌∷◌, ◌++◌, length, take, drop, get_or, set, refl, sym, ap, subst, ◌∙◌, arith, inl, inr, Result, Ok, Err, Some}
-use Rattle.std.specs.Prelude.{◌==◌, filter, find, fold, map, min, slice_index}
-use Rattle.std.specs.List.{list_any, position_or_len, remove}
-use Rattle.std.specs.List.Sorted.{IsBinarySearchResult, IsSearchInRange, IsStrictlyIncreasing}
-use Rattle.std.specs.Ordering.{nat_cmp, ordering_index}
+use Rattle.std.proofs.Common.{◌≡◌, ◌≢◌, ℕ, zero, suc, ◌+◌, ◌<◌, ◌≤◌, Bool, true, false, cond, not, ◌||◌, ◌&&◌, List, [], ◌∷◌, ◌++◌, length, take, drop, get_or, set, refl, sym, ap, subst, ◌∙◌, arith, inl, inr, Some}
+use Rattle.std.specs.Prelude.{◌==◌, filter, find, fold, is_some, map, min, slice_index}
+use Rattle.std.specs.List.{position_or_len, remove}
+use Rattle.std.specs.List.Sorted.{IsStrictlyIncreasing}
 use Rattle.std.proofs.lemmas.Bool.{cases_Bool, eq-eqb, eqb-true, false≢true}
 use Rattle.std.proofs.lemmas.List.{get_or-map, length-map}
-use Rattle.std.proofs.Math.ListN.{get_or-map as default_map}
+use Rattle.std.proofs.lemmas.Option.{get_or_from_slice_get}
 use Rattle.std.proofs.lemmas.List.Sums.{position_or_len_is}
 use Rattle.topo_core.specs.Items.{has_id, IsIn}
 use Rattle.topo_core.specs.declared.rows.EdgeRow.{EdgeRow}
@@ -19,7 +18,8 @@ use Rattle.topo_core.proofs.ShownPlaces.{at_its_place}
 use Rattle.topo_core.proofs.ShownRows.{in_images}
 use Rattle.topo_core.proofs.Weaving.{in_filter}
 use Rattle.topo_picture.specs.Deleting.{IsCrossed, other_edge}
-use Rattle.topo_picture.proofs.Sorting.{apart, finds, found_none, rising, up_tail}
+use Rattle.topo_frozen.specs.Ids.{IsPlaceOf}
+use Rattle.topo_frozen.proofs.Sorting.{apart, up_tail}
 
 -- ---- Items that pass a test
 
@@ -69,37 +69,12 @@ above_first z (x ∷ xs) up y (inr h) =
     let first : z < x = up 0 (omega arith) in
     let rest = above_first x xs (up_tail z (x ∷ xs) up) y h in omega arith
 
--- ---- A row found by its id
+-- ---- A row at its place
 
 module _ {X : Type 0} (id : X → ℕ) where
-  -- a search by ids is a search of the ids
-  pub search_of_ids : (xs : List X) (x : ℕ) (r : Result ℕ ℕ) → IsSearchInRange r (length xs) → IsBinarySearchResult (λ y. nat_cmp (id y) x) xs r → IsBinarySearchResult (λ y. nat_cmp y x) (map id xs) r
-  search_of_ids [] x (Ok i) inside h = absurd (omega arith)
-  search_of_ids (z ∷ zs) x (Ok i) inside h = λ d. rw (get_or-map id (z ∷ zs) i z d inside) (h z)
-  search_of_ids [] x (Err i) inside h = λ up. ((λ k d low high. absurd (omega arith)), λ k d low high. absurd (omega arith))
-  search_of_ids (z ∷ zs) x (Err i) inside h = λ up.
-      let as_many : length (map id (z ∷ zs)) ≡ length (z ∷ zs) = length-map (z ∷ zs) id in
-      let said = h (λ a b d below within.
-      subst (λ n. ordering_index (nat_cmp n x) ≤ ordering_index (nat_cmp (id (get_or (z ∷ zs) b d)) x)) (default_map id (z ∷ zs) a d)
-      (subst (λ n. ordering_index (nat_cmp (get_or (map id (z ∷ zs)) a (id d)) x) ≤ ordering_index (nat_cmp n x)) (default_map id (z ∷ zs) b d) (up a b (id d) below (omega arith)))) in (
-        (λ k d low high. rw (get_or-map id (z ∷ zs) k z d (omega arith)) (said.0 k z low high)),
-        λ k d low high. rw (get_or-map id (z ∷ zs) k z d (omega arith)) (said.1 k z low (omega arith)),
-      )
-
-  pub found_place : (xs : List X) (x i : ℕ) → IsStrictlyIncreasing (map id xs) → i < length xs → IsBinarySearchResult (λ y. nat_cmp (id y) x) xs (Ok i) → slice_index (map id xs) i ≡ x
-  found_place xs x i up inside h = (finds (map id xs) x i (rising (map id xs) up) (search_of_ids xs x (Ok i) inside h)).1
-
-  pub found_nowhere : (xs : List X) (x i : ℕ) → IsStrictlyIncreasing (map id xs) → list_any (λ y. y == x) (map id xs) ≡ true → i ≤ length xs → IsBinarySearchResult (λ y. nat_cmp (id y) x) xs (Err i) → ⊥
-  found_nowhere xs x i up there inside h = false≢true (sym (found_none (map id xs) x i (rising (map id xs) up) (search_of_ids xs x (Err i) inside h)) ∙ there)
-
-  -- the row at the place of an id is found by it
-  pub found_by_place : (xs : List X) (i x : ℕ) (d : X) → IsStrictlyIncreasing (map id xs) → i < length xs → slice_index (map id xs) i ≡ x → find (λ y. id y == x) xs ≡ Some (get_or xs i d)
-  found_by_place [] i x d up inside at = absurd (omega arith)
-  found_by_place (z ∷ zs) zero x d up inside at = ap (λ (b : Bool). cond b (Some z) (find (λ y. id y == x) zs)) (eq-eqb (id z) x at)
-  found_by_place (z ∷ zs) (suc i) x d up inside at =
-      let as_many = length-map zs id in
-      let less = above_first (id z) (map id zs) up x (subst (λ y. IsIn y (map id zs)) at (got_in (map id zs) i 0 (omega arith))) in
-      ap (λ (b : Bool). cond b (Some z) (find (λ y. id y == x) zs)) (apart (id z) x less) ∙ found_by_place zs i x d (up_tail (id z) (map id zs) up) (omega arith) at
+  -- the id at the place of an id
+  pub place_named : (xs : List X) (x place : ℕ) → IsPlaceOf xs id x place → slice_index (map id xs) place ≡ x
+  place_named xs x place h = get_or-map id xs place h.row 0 h.within ∙ ap id (get_or_from_slice_get xs place h.row h.row h.at) ∙ h.named
 
   -- the rows but the one at its place
   pub removed_is : (xs : List X) (i x : ℕ) → IsStrictlyIncreasing (map id xs) → i < length xs → slice_index (map id xs) i ≡ x → remove xs i ≡ filter (λ y. not (id y == x)) xs
@@ -204,11 +179,24 @@ more_out path i x was edges after inside is before now =
       twice [] = refl
       twice (row ∷ edges) = ap (λ r. r ∷ map (uncrossed_row (x ∷ [])) (map (uncrossed_row (take i path)) edges)) (row_twice row) ∙ ap (λ rows. uncrossed_row (take i path ++ x ∷ []) row ∷ rows) (twice edges)
 
+-- an edge that was there still is
+still_found : (o : ℕ) (gone : List ℕ) (was : List EdgeRow) → is_some (find (λ row. row.id == o) (map (uncrossed_row gone) was)) ≡ is_some (find (λ row. row.id == o) was)
+still_found o gone [] = refl
+still_found o gone (row ∷ was) = elim (cases_Bool (row.id == o)) [
+  | inl is ↦
+      ap (λ (b : Bool). is_some (cond b (Some (uncrossed_row gone row)) (find (λ row. row.id == o) (map (uncrossed_row gone) was)))) is
+      ∙ sym (ap (λ (b : Bool). is_some (cond b (Some row) (find (λ row. row.id == o) was))) is)
+  | inr other ↦
+      ap (λ (b : Bool). is_some (cond b (Some (uncrossed_row gone row)) (find (λ row. row.id == o) (map (uncrossed_row gone) was)))) other
+      ∙ still_found o gone was
+      ∙ sym (ap (λ (b : Bool). is_some (cond b (Some row) (find (λ row. row.id == o) was))) other)
+]
+
 -- a crossing that was on its other edge's path alone still is
 pub crossed_still : (crossings : List CrossRow) (e x : ℕ) (gone : List ℕ) (was edges : List EdgeRow) → edges ≡ map (uncrossed_row gone) was → IsCrossed crossings e was x → IsCrossed crossings e edges x
 crossed_still crossings e x gone was edges is h = subst (λ edges. IsCrossed crossings e edges x) (sym is) (record {
   known = h.known;
-  there = subst (λ ids. list_any (λ y. y == other_edge crossings e x) ids ≡ true) (sym (ids_stay gone was)) h.there;
+  there = still_found (other_edge crossings e x) gone was ∙ h.there;
   elsewhere = λ row k differs. (
       let image = in_images (uncrossed_row gone) row was k in
       let none = h.elsewhere image.0 image.1 (λ same. differs (ap (λ (r : EdgeRow). r.id) image.2 ∙ same)) in

@@ -14,12 +14,12 @@ use Rattle.topo_core.specs.Lawful.{has_good_path, is_good_crossing, IsWellFormed
 use Rattle.topo_core.specs.Picture.{face_count, segment_count}
 use Rattle.topo_core.proofs.Counting.{one}
 use Rattle.topo_core.proofs.Members.{left_true}
-use Rattle.topo_picture.specs.Pairs.{crossing_pairs, path_pairs}
-use Rattle.topo_picture.specs.Shown.{IsPicture}
+use Rattle.topo_frozen.specs.Pairs.{crossing_pairs, path_pairs}
+use Rattle.topo_frozen.specs.Shown.{IsPicture}
 use Rattle.topo_picture.specs.Totals.{AreCountsOf}
-use Rattle.topo_picture.proofs.PairTests.{same_from_good, two_pairs_each}
-use Rattle.topo_picture.proofs.Sorting.{counted_in, few_rise, in_counted}
-use Rattle.topo_picture.proofs.Verdicts.{segments_by_pairs}
+use Rattle.topo_frozen.proofs.PairTests.{same_from_good, two_pairs_each}
+use Rattle.topo_frozen.proofs.Sorting.{counted_in, few_rise, in_counted}
+use Rattle.topo_frozen.proofs.Verdicts.{segments_by_pairs}
 
 -- ---- Lists that hold each number equally often are equally long
 

@@ -1,6 +1,5 @@
 -- What a deletion reads of the rows while it takes an edge out.
-use Rattle.std.specs.Prelude.{◌≡◌, ◌≢◌, ℕ, ◌==◌, true, false, if◌then◌else◌, not, List, [], map, filter, find, unwrap_or, slice_index_or, slice_set}
-use Rattle.std.specs.List.{list_any}
+use Rattle.std.specs.Prelude.{◌≡◌, ◌≢◌, ℕ, ◌==◌, true, false, if◌then◌else◌, not, List, [], filter, find, is_some, unwrap_or, slice_index_or, slice_set}
 use Rattle.topo_core.specs.declared.darts.Sign.TheVariants.{LeftToRight}
 use Rattle.topo_core.specs.declared.rows.EdgeRow.{EdgeRow}
 use Rattle.topo_core.specs.declared.rows.CrossRow.{CrossRow}
@@ -17,8 +16,8 @@ other_edge crossings e x = let row = crossing_at crossings x in if row.crossed =
 
 -- crossing x has a row, and stands on the path of its other edge alone
 pub record IsCrossed (crossings : List CrossRow) (e : ℕ) (edges : List EdgeRow) (x : ℕ) : Type 0 where
-  pub known : list_any (λ y. y == x) (map (λ row. row.id) crossings) ≡ true
-  pub there : list_any (λ y. y == other_edge crossings e x) (map (λ row. row.id) edges) ≡ true
+  pub known : is_some (find (λ row. row.id == x) crossings) ≡ true
+  pub there : is_some (find (λ row. row.id == other_edge crossings e x) edges) ≡ true
   pub elsewhere : (row : EdgeRow) → IsIn row edges → row.id ≢ other_edge crossings e x → has_id row.crossings x ≡ false
 
 -- a rotation without e, from its least id on

@@ -1,11 +1,6 @@
 pub mod Cutting
 pub mod Deleting
-pub mod Flats
 pub mod Inserting
-pub mod Loading
-pub mod Pairs
-pub mod Recovering
-pub mod Shown
 pub mod Totals
 pub mod Laws
 pub mod Undoing

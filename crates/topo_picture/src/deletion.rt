@@ -1,44 +1,18 @@
 //! Deletion on plain rows. It takes no memory, so it cannot fail.
 
-ghost use Rattle.std.specs.Prelude.{Some, ◌&&◌, ◌≡◌, ◌<◌, ◌≤◌, ◌==◌, ℕ, true, not, filter, is_some, length, map, slice_index, slice_index_or, slice_set, [], ◌∷◌};
-ghost use Rattle.std.specs.List.{list_any};
-ghost use Rattle.std.specs.List.Sorted.{IsStrictlyIncreasing};
+ghost use Rattle.std.specs.Prelude.{Some, ◌&&◌, ◌≡◌, ◌<◌, ◌≤◌, ◌==◌, ℕ, true, not, filter, find, is_some, length, map, slice_index, slice_index_or, slice_set, [], ◌∷◌};
 ghost use Rattle.topo_core.specs.Changes.{from_least, uncrossed_row, without};
 ghost use Rattle.topo_core.specs.Items.{IsIn};
 ghost use Rattle.topo_core.specs.Lawful.{IsWellFormed};
 ghost use Rattle.topo_core.specs.Picture.{edge_at, edge_row};
+ghost use Rattle.topo_frozen.specs.Ids.{IdsRise};
 ghost use Rattle.topo_picture.specs.Deleting.{IsCrossed, rotation_without, left_by, other_edge};
 
 use std::alloc::Global;
 use std::mem;
 use topo_core::listed::Listed;
 use topo_core::rows::{CrossRow, EdgeRow, Rows};
-
-/// The place of an edge that is there.
-pub(crate) fn place_of_edge(edges: &[EdgeRow], e: u32) -> usize
-    requires rise { IsStrictlyIncreasing (map (λ row. row.id) edges.now) }
-    requires there { list_any (λ y. y == e) (map (λ row. row.id) edges.now) ≡ true }
-    ensures within { result < length edges.now }
-    ensures place { slice_index (map (λ row. row.id) edges.now) result ≡ e }
-{
-    match edges.binary_search_by_key(&e, |row| row.id) {
-        Ok(place) => place,
-        Err(place) => place,
-    }
-}
-
-/// The place of a crossing that is there.
-fn place_of_crossing(crossings: &[CrossRow], x: u32) -> usize
-    requires rise { IsStrictlyIncreasing (map (λ row. row.id) crossings.now) }
-    requires there { list_any (λ y. y == x) (map (λ row. row.id) crossings.now) ≡ true }
-    ensures within { result < length crossings.now }
-    ensures place { slice_index (map (λ row. row.id) crossings.now) result ≡ x }
-{
-    match crossings.binary_search_by_key(&x, |row| row.id) {
-        Ok(place) => place,
-        Err(place) => place,
-    }
-}
+use topo_frozen::by_id::{place_of_crossing, place_of_edge};
 
 /// Takes an id out of a list.
 fn take_id(alloc: Global, list: &mut Listed<u32>, id: u32)
@@ -93,8 +67,8 @@ fn leave_vertex(alloc: Global, rotations: &mut Vec<Listed<u32>>, v: u32, e: u32)
 
 /// The other edge of a crossing of `e`.
 fn edge_across(crossings: &[CrossRow], e: u32, x: u32) -> u32
-    requires rise { IsStrictlyIncreasing (map (λ row. row.id) crossings.now) }
-    requires there { list_any (λ y. y == x) (map (λ row. row.id) crossings.now) ≡ true }
+    requires rise { IdsRise (map (λ row. row.id) crossings.now) }
+    requires there { is_some (find (λ row. row.id == x) crossings.now) ≡ true }
     ensures { result ≡ other_edge crossings.now e x }
 {
     let row = &crossings[place_of_crossing(crossings, x)];
@@ -107,8 +81,8 @@ fn edge_across(crossings: &[CrossRow], e: u32, x: u32) -> u32
 
 /// Takes a crossing of `e` out of the path of the other edge.
 fn leave_path(alloc: Global, edges: &mut Vec<EdgeRow>, crossings: &[CrossRow], e: u32, x: u32)
-    requires crossings_rise { IsStrictlyIncreasing (map (λ row. row.id) crossings.now) }
-    requires edges_rise { IsStrictlyIncreasing (map (λ row. row.id) edges.old.items) }
+    requires crossings_rise { IdsRise (map (λ row. row.id) crossings.now) }
+    requires edges_rise { IdsRise (map (λ row. row.id) edges.old.items) }
     requires crossed { IsCrossed crossings.now e edges.old.items x }
     ensures { edges.new.items ≡ map (uncrossed_row (x ∷ [])) edges.old.items }
 {
@@ -124,8 +98,8 @@ fn leave_paths(
     e: u32,
     path: &[u32],
 )
-    requires crossings_rise { IsStrictlyIncreasing (map (λ row. row.id) crossings.now) }
-    requires edges_rise { IsStrictlyIncreasing (map (λ row. row.id) edges.old.items) }
+    requires crossings_rise { IdsRise (map (λ row. row.id) crossings.now) }
+    requires edges_rise { IdsRise (map (λ row. row.id) edges.old.items) }
     requires crossed { (x : ℕ) → IsIn x path.now → IsCrossed crossings.now e edges.old.items x }
     ensures { edges.new.items ≡ map (uncrossed_row path.now) edges.old.items }
 {

@@ -4,17 +4,19 @@ use crate::copies::copy_rows;
 use crate::counts::Counts;
 use crate::cuts::first_cut;
 use crate::deletion::delete_rows;
-use crate::frozen::Frozen;
 use crate::growth::grow_rows;
 use crate::insertion::apply_rows;
-use crate::load::{LoadFault, first_fault};
 use std::alloc::{AllocError, Global};
 use std::marker::Model;
 use topo_core::calls::Refusal;
 use topo_core::ids::{EdgeId, VertexId};
 use topo_core::limits::Limits;
 use topo_core::listed::Listed;
+use topo_core::routes::Route;
 use topo_core::rows::{EdgeRow, Rows};
+use topo_frozen::by_id::edge_place;
+use topo_frozen::load::{LoadFault, first_fault};
+use topo_frozen::{Frozen, RowDual};
 use topo_route::plan::Plan;
 
 /// A connected embedding of a graph of genus zero, within limits.
@@ -25,7 +27,7 @@ pub struct Picture {
 }
 
 impl Model for Picture {
-    ghost use Rattle.topo_picture.specs.Shown.{Shown, IsPicture};
+    ghost use Rattle.topo_frozen.specs.Shown.{Shown, IsPicture};
 
     ghost Value = { Shown };
 
@@ -41,8 +43,8 @@ impl Picture {
     ghost use Rattle.topo_core.specs.Changes.{IsCut, grown, shown, without};
     ghost use Rattle.topo_core.specs.Picture.{edge_row};
     ghost use Rattle.topo_core.specs.Steps.{HasRoomFor, grow_refusal, insert_refusal};
-    ghost use Rattle.topo_picture.specs.Loading.{FailsFirst};
-    ghost use Rattle.topo_picture.specs.Shown.{IsPicture};
+    ghost use Rattle.topo_frozen.specs.Loading.{FailsFirst};
+    ghost use Rattle.topo_frozen.specs.Shown.{IsPicture};
     ghost use Rattle.topo_picture.specs.Totals.{AreCountsOf};
     ghost use Rattle.topo_picture.specs.Undoing.{IsShownOn};
     ghost use Rattle.topo_core.specs.declared.rows.Rows.{Rows};
@@ -116,6 +118,14 @@ impl Picture {
         Frozen::new(alloc, rows)
     }
 
+    /// The dual graph of its rows, read off them as it is asked: soon made, for a search that asks of few
+    /// darts.
+    pub fn dual(&self, alloc: Global) -> Result<RowDual<'_>, AllocError>
+        ensures { IfOk result (λ d. d.rows ≡ self.now.rows) }
+    {
+        RowDual::new(alloc, &self.rows)
+    }
+
     /// An equal picture: the same rows and limits.
     pub fn copy(&self, alloc: Global) -> Result<Self, AllocError>
         ensures equal { IfOk result (λ p. p ≡ self.now) }
@@ -178,9 +188,43 @@ impl Picture {
         }
     }
 
-    /// Puts a new edge of the given kind from `u` to `v` along the plan's route, with a crossing on
-    /// each segment that the route crosses, and answers its number. It is refused as Full where the
-    /// crossing ids left are fewer than the route crosses. Memory is answered only where they suffice.
+    /// Puts a new edge of the given kind from `u` to `v` along the route, with a crossing on each
+    /// segment that it crosses, and answers its number. It is refused as Full where the crossing ids
+    /// left are fewer than the route crosses. Memory is answered only where they suffice.
+    pub fn apply_route(
+        &mut self,
+        alloc: Global,
+        u: u32,
+        v: u32,
+        kind: u32,
+        route: &Route,
+    ) -> Result<EdgeId, Refusal>
+        requires admitted { insert_refusal self.old.limits self.old.rows u v kind ≡ None }
+        requires simple { IsSimpleRoute self.old.rows u v route.now }
+        ensures room { IfOk result (λ _. HasRoomFor self.old.limits self.old.rows route.now) }
+        ensures number { IfOk result (λ made. made ≡ self.old.rows.next_edge) }
+        ensures shown { IfOk result (λ _. self.new.rows ≡ shown self.old.rows u v kind route.now) }
+
+        ensures refused { IfErr result (λ why. ((why ≡ Refusal.Full) × (self.old.limits.crossings < self.old.rows.next_crossing + length route.now.crossed))
+            ⊎ ((why ≡ Refusal.Memory) × HasRoomFor self.old.limits self.old.rows route.now)) }
+        ensures unchanged { OnErr result (self.new ≡ self.old) }
+
+        ensures same_limits { self.new.limits ≡ self.old.limits }
+        ensures lawful { IsPicture self.new.limits self.new.rows }
+    {
+        let needed = route.crossed.as_slice().len();
+        let left = self.limits.crossings - self.rows.next_crossing;
+        if needed > left as usize {
+            return Err(Refusal::Full);
+        }
+        let made = EdgeId::new(self.rows.next_edge);
+        match apply_rows(alloc, &mut self.rows, u, v, kind, route) {
+            Ok(()) => Ok(made),
+            Err(_) => Err(Refusal::Memory),
+        }
+    }
+
+    /// As `apply_route`, along the plan's route.
     pub fn apply(
         &mut self,
         alloc: Global,
@@ -202,33 +246,23 @@ impl Picture {
         ensures same_limits { self.new.limits ≡ self.old.limits }
         ensures lawful { IsPicture self.new.limits self.new.rows }
     {
-        let needed = plan.route.crossed.as_slice().len();
-        let left = self.limits.crossings - self.rows.next_crossing;
-        if needed > left as usize {
-            return Err(Refusal::Full);
-        }
-        let made = EdgeId::new(self.rows.next_edge);
-        match apply_rows(alloc, &mut self.rows, u, v, kind, &plan.route) {
-            Ok(()) => Ok(made),
-            Err(_) => Err(Refusal::Memory),
-        }
+        self.apply_route(alloc, u, v, kind, &plan.route)
     }
 
     /// Takes an edge out, with its crossings. It is refused as NoEdge where there is no such edge, and
     /// as Cut with a segment where the picture would fall apart: the first segment of the edge such
-    /// that the picture falls apart when it and those before it are out. Memory is answered only where
-    /// the edge is there. The edge that was shown last can always go, and then the picture is as before
-    /// but for the ids that were given.
+    /// that the picture falls apart when it and those before it are out. It takes no memory. The edge
+    /// that was shown last can always go, and then the picture is as before but for the ids that were
+    /// given.
     pub fn delete(&mut self, alloc: Global, edge: u32) -> Result<(), Refusal>
         ensures there { IfOk result (λ _. is_some (edge_row self.old.rows edge) ≡ true) }
         ensures whole { IfOk result (λ _. (i : ℕ) → IsCut self.old.rows edge i → ⊥) }
         ensures without { IfOk result (λ _. self.new.rows ≡ without self.old.rows edge) }
         ensures undoes { IfOk result (λ _. (p : Rows) → IsShownOn p self.old.rows edge → self.new.rows ≡ record p { next_edge = self.old.rows.next_edge; next_crossing = self.old.rows.next_crossing }) }
-        ensures can_undo { IfErr result (λ why. (p : Rows) → IsShownOn p self.old.rows edge → why ≡ Refusal.Memory) }
+        ensures can_undo { OnErr result ((p : Rows) → IsShownOn p self.old.rows edge → ⊥) }
 
         ensures refused { IfErr result (λ why. ((why ≡ Refusal.NoEdge) × (edge_row self.old.rows edge ≡ None))
-            ⊎ (((i : ℕ) × (why ≡ Refusal.Cut i) × (is_some (edge_row self.old.rows edge) ≡ true) × IsCut self.old.rows edge i)
-            ⊎ ((why ≡ Refusal.Memory) × (is_some (edge_row self.old.rows edge) ≡ true)))) }
+            ⊎ ((i : ℕ) × (why ≡ Refusal.Cut i) × (is_some (edge_row self.old.rows edge) ≡ true) × IsCut self.old.rows edge i)) }
         ensures unchanged { OnErr result (self.new ≡ self.old) }
 
         ensures same_limits { self.new.limits ≡ self.old.limits }
@@ -237,19 +271,18 @@ impl Picture {
         if !has_edge(&self.rows, edge) {
             return Err(Refusal::NoEdge);
         }
-        match first_cut(alloc, &self.rows, edge) {
-            Ok(Some(segment)) => Err(Refusal::Cut(segment)),
-            Ok(None) => {
+        match first_cut(&self.rows, edge) {
+            Some(segment) => Err(Refusal::Cut(segment)),
+            None => {
                 delete_rows(alloc, &mut self.rows, edge);
                 Ok(())
             }
-            Err(_) => Err(Refusal::Memory),
         }
     }
 }
 
-ghost use Rattle.std.specs.Prelude.{◌≡◌, ◌==◌, IfOk, is_some, [], ◌∷◌};
-ghost use Rattle.std.specs.List.{list_any};
+ghost use Rattle.std.specs.Prelude.{◌≡◌, true, IfOk, is_some, [], ◌∷◌};
+ghost use Rattle.topo_core.specs.Lawful.{has_good_paths};
 ghost use Rattle.topo_core.specs.Picture.{edge_row};
 ghost use Rattle.topo_core.specs.Pictures.{seed};
 ghost use Rattle.topo_core.specs.Steps.{grow_refusal, insert_refusal};
@@ -289,16 +322,10 @@ pub(crate) fn one_listed(alloc: Global, x: u32) -> Result<Listed<u32>, AllocErro
 
 /// Whether there is an edge with this id.
 fn has_edge(rows: &Rows, e: u32) -> bool
+    requires { has_good_paths rows.now ≡ true }
     ensures { result ≡ is_some (edge_row rows.now e) }
 {
-    is_listed(rows.edges.as_slice(), e)
-}
-
-/// Whether one of the rows has this id.
-fn is_listed(edges: &[EdgeRow], e: u32) -> bool
-    ensures { result ≡ list_any (λ row. row.id == e) edges.now }
-{
-    edges.iter().any(|row| row.id == e)
+    edge_place(rows.edges.as_slice(), e).is_some()
 }
 
 /// The first reason to refuse a growth.

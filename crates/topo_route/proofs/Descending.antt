@@ -1,6 +1,6 @@
 -- Down the heights across the first tight darts.
-use Rattle.std.proofs.Common.{◌≡◌, ◌≢◌, ℕ, zero, suc, ◌+◌, ◌<◌, ◌≤◌, ◌||◌, ◌==◌, Bool, true, false, List, [], ◌∷◌, ◌++◌, length, Some, inl, inr, refl, sym, ap, subst, ◌∙◌, arith, append_assoc}
-use Rattle.std.specs.Prelude.{map, slice_get}
+use Rattle.std.proofs.Common.{◌≡◌, ℕ, zero, suc, ◌+◌, ◌<◌, ◌≤◌, ◌||◌, ◌==◌, Bool, true, false, List, [], ◌∷◌, ◌++◌, length, Some, inl, inr, refl, sym, ap, subst, ◌∙◌, arith, append_assoc}
+use Rattle.std.specs.Prelude.{map, min, slice_get}
 use Rattle.std.specs.List.{list_any, range_with_len}
 use Rattle.std.proofs.lemmas.List.Folds.{list_any-append}
 use Rattle.std.proofs.lemmas.Bool.{cases_eq}
@@ -13,46 +13,66 @@ use Rattle.topo_core.specs.Lawful.{Lawful}
 use Rattle.topo_core.specs.Picture.{around_crossing, around_vertex, corner, darts, index_of, system, vertices}
 use Rattle.topo_core.specs.Rotations.{twin}
 use Rattle.topo_core.specs.RouteLaws.{IsFirstByHeights, IsTight, TakesFirstDarts, arrival}
-use Rattle.topo_core.specs.Routes.{Costs, Crosses, HasNoRoute, IsFirst, IsHeight, IsPricedRoute, KeepsPromise, Pricing, Reaches, unreached}
+use Rattle.topo_core.specs.Routes.{Costs, Crosses, HasNoRoute, IsFirst, IsPricedRoute, KeepsPromise, Pricing}
 use Rattle.topo_core.specs.Systems.{SameFace, has_dart}
 use Rattle.topo_core.proofs.Certificates.{face_height, face_in, first_by_heights, height_bounds}
 use Rattle.topo_core.proofs.Numbering.{twin_in}
 use Rattle.topo_core.proofs.RouteDarts.{certified}
 use Rattle.topo_route.specs.declared.plan.Plan.{Plan}
-use Rattle.topo_route.specs.Descents.{Descends, HasNoStart, IsDescent, IsEnd, IsFirstOf, IsFirstTight, IsStart}
+use Rattle.topo_route.specs.declared.plan.PricedRoute.{PricedRoute}
+use Rattle.topo_route.specs.Descents.{Descends, HasNoStart, IsDescent, IsEnd, IsFirstOf, IsFirstRoute, IsFirstTight, IsStart}
 use Rattle.topo_route.specs.Numbers.{HasTightBefore, dart_of, next_of}
-use Rattle.topo_route.specs.Plans.{AreHeights, IsPlan, height_in}
+use Rattle.topo_route.specs.Plans.{AreHeights, AreHeightsBelow, IsPlan, capped, height_in}
+use Rattle.topo_route.proofs.Levels.{capped_at}
 use Rattle.topo_route.proofs.Numbers.{corner_below, dart_in, dart_of_number, face_of_numbers, face_stays, next_permutes, number_below, number_of, numbers_of_face, twin_below, twin_dart}
 use Rattle.topo_route.proofs.Walking.{first_holds, none_before}
 use Rattle.topo_route.proofs.Rounds.{round_all}
 
-module _ (price : Pricing) (rows : Rows) (lawful : Lawful rows) (v : ℕ) (heights : List ℕ) (are : AreHeights price rows v heights) where
+module _ (price : Pricing) (rows : Rows) (lawful : Lawful rows) (v bound : ℕ) (heights : List ℕ) (known : AreHeightsBelow price rows v bound heights) where
   abbrev height : Dart → ℕ
   height = height_in rows heights
 
-  one_height : (c d : Dart) → has_dart (darts rows) c ≡ true → SameFace (system rows) c d → height d ≡ height c
-  one_height = face_height price rows (system rows) (darts rows) height (face_stays rows lawful) (twin_in rows) are.certificate.even are.certificate.gentle
+  -- the height up to the bound: a certificate
+  abbrev level : Dart → ℕ
+  level = height_in rows (capped bound heights)
 
-  -- a reached dart has a walk of the cost of its height
-  walk_of : (d : Dart) → has_dart (darts rows) d ≡ true → height d ≢ unreached → Reaches price rows v d (height d)
-  walk_of d h some = by_height (are.exact d h) where
-    by_height : IsHeight price rows v d (height d) → Reaches price rows v d (height d)
-    by_height (inl found) = found.0
-    by_height (inr none) = absurd (some none.0)
+  level_is : (d : Dart) → level d ≡ min (height d) bound
+  level_is d = capped_at bound heights (index_of rows d)
 
-  -- above the target the face of a reached dart has a tight one
-  tight_there : (at : ℕ) (xs : List Dart) (to : Dart) (n : ℕ) → at < length (darts rows) → Crosses (system rows) (dart_of rows at) xs to → Costs price rows xs n → height to ≡ 0
-      → height (dart_of rows at) ≡ n → 0 < n → HasTightBefore price rows heights at (length (darts rows))
-  tight_there at [] to n l walk cost down same above = let zero_cost : n ≡ 0 = cost in absurd (omega arith)
-  tight_there at (x ∷ xs) to n l walk cost down same above =
+  one_level : (c d : Dart) → has_dart (darts rows) c ≡ true → SameFace (system rows) c d → level d ≡ level c
+  one_level = face_height price rows (system rows) (darts rows) level (face_stays rows lawful) (twin_in rows) known.certificate.even known.certificate.gentle
+
+  level_bounds : (xs : List Dart) (c to : Dart) (n : ℕ) → has_dart (darts rows) c ≡ true → Crosses (system rows) c xs to → Costs price rows xs n → level to ≡ 0 → level c ≤ n
+  level_bounds = height_bounds price rows (system rows) (darts rows) level (face_stays rows lawful) (twin_in rows) known.certificate.even known.certificate.gentle
+
+  in_face : (c d : Dart) → has_dart (darts rows) c ≡ true → SameFace (system rows) c d → has_dart (darts rows) d ≡ true
+  in_face = face_in price rows (system rows) (darts rows) level (face_stays rows lawful) (twin_in rows) known.certificate.even known.certificate.gentle
+
+  -- a face below the bound has one height
+  one_height : (c d : Dart) → has_dart (darts rows) c ≡ true → height c < bound → SameFace (system rows) c d → height d ≡ height c
+  one_height c d h below same = omega (arith, one_level c d h same, level_is c, level_is d)
+
+  -- below the bound a walk at the cost of its face goes down by just the prices
+  goes_down : (x : Dart) (xs : List Dart) (c to : Dart) (n : ℕ) → has_dart (darts rows) c ≡ true → Crosses (system rows) c (x ∷ xs) to → (cost : Costs price rows (x ∷ xs) n) → level to ≡ 0 → level c ≡ n
+      → (level x ≡ n) × (level (dart_twin x) ≡ cost.1)
+  goes_down x xs c to n h walk cost down same =
+      let there = in_face c x h walk.0 in
+      let one = one_level c x h walk.0 in
+      let climb = known.certificate.gentle x cost.0 there cost.2 in
+      let rest = level_bounds xs (dart_twin x) to cost.1 (twin_in rows x there) walk.1 cost.3 down in
+      let total = cost.4 in (omega arith, omega arith)
+
+  -- above the target the face of a dart below the bound has a tight one
+  tight_there : (at : ℕ) (xs : List Dart) (to : Dart) (n : ℕ) → at < length (darts rows) → Crosses (system rows) (dart_of rows at) xs to → Costs price rows xs n → level to ≡ 0
+      → height (dart_of rows at) ≡ n → n < bound → 0 < n → HasTightBefore price rows heights at (length (darts rows))
+  tight_there at [] to n l walk cost down same below above = let zero_cost : n ≡ 0 = cost in absurd (omega arith)
+  tight_there at (x ∷ xs) to n l walk cost down same below above =
       let here = dart_in rows lawful at l in
-      let there = face_in price rows (system rows) (darts rows) height (face_stays rows lawful) (twin_in rows) are.certificate.even are.certificate.gentle (dart_of rows at) x here walk.0 in
-      let one = one_height (dart_of rows at) x here walk.0 in
-      let climb = are.certificate.gentle x cost.0 there cost.2 in
-      let rest = height_bounds price rows (system rows) (darts rows) height (face_stays rows lawful) (twin_in rows) are.certificate.even are.certificate.gentle
-      xs (dart_twin x) to cost.1 (twin_in rows x there) walk.1 cost.3 down in
+      let there = in_face (dart_of rows at) x here walk.0 in
+      let start : level (dart_of rows at) ≡ n = omega (arith, level_is (dart_of rows at)) in
+      let (from, next) = goes_down x xs (dart_of rows at) to n here walk cost down start in
       let total = cost.4 in
-      let tight : IsTight price rows height x = record { cost = cost.0; asked = cost.2; drop = omega arith } in
+      let tight : IsTight price rows height x = record { cost = cost.0; asked = cost.2; drop = omega (arith, level_is x, level_is (dart_twin x)) } in
       record {
         dart = index_of rows x;
         face = numbers_of_face rows lawful at x l walk.0;
@@ -60,15 +80,30 @@ module _ (price : Pricing) (rows : Rows) (lawful : Lawful rows) (v : ℕ) (heigh
         tight = subst (IsTight price rows height) (sym (dart_of_number rows lawful x there)) tight;
       }
 
-  pub has_tight : (at : ℕ) → at < length (darts rows) → height (dart_of rows at) ≢ unreached → 0 < height (dart_of rows at) → HasTightBefore price rows heights at (length (darts rows))
-  has_tight at l some above =
-      let walk = walk_of (dart_of rows at) (dart_in rows lawful at l) some in
-      tight_there at walk.crossed walk.to (height (dart_of rows at)) l walk.walk walk.cost (are.certificate.target walk.position walk.to walk.ends) refl above
+  pub has_tight : (at : ℕ) → at < length (darts rows) → height (dart_of rows at) < bound → 0 < height (dart_of rows at) → HasTightBefore price rows heights at (length (darts rows))
+  has_tight at l below above =
+      let walk = known.reaches (dart_of rows at) (dart_in rows lawful at l) below in
+      tight_there at walk.crossed walk.to (height (dart_of rows at)) l walk.walk walk.cost (known.certificate.target walk.position walk.to walk.ends) refl below above
+
+  -- the first tight darts are those by the levels too
+  first_levels : (c : Dart) (xs : List Dart) (to : Dart) (n : ℕ) → has_dart (darts rows) c ≡ true → Crosses (system rows) c xs to → Costs price rows xs n → level to ≡ 0 → level c ≡ n → n < bound
+      → TakesFirstDarts price rows height c xs → TakesFirstDarts price rows level c xs
+  first_levels c [] to n h walk cost down same below takes = tt
+  first_levels c (x ∷ xs) to n h walk cost down same below takes =
+      let (from, next) = goes_down x xs c to n h walk cost down same in
+      let total = cost.4 in (
+        (λ y y_in face tight. takes.0 y y_in face (record {
+          cost = tight.cost;
+          asked = tight.asked;
+          drop = omega (arith, tight.drop, one_level c y h face, level_is y, level_is (dart_twin y));
+        })),
+        first_levels (dart_twin x) xs to cost.1 (twin_in rows x (in_face c x h walk.0)) walk.1 cost.3 down next (omega arith) takes.1,
+      )
 
   -- ---- One step down
 
   module _ (promise : KeepsPromise price) (from at dart next : ℕ) (crossed : List Dart) (x : Dart) (far : Descends price rows heights from crossed at) (first : IsFirstTight price rows heights at dart)
-      (is : dart_of rows dart ≡ x) (lands : next ≡ twin dart) where
+      (is : dart_of rows dart ≡ x) (lands : next ≡ twin dart) (below : height (dart_of rows from) < bound) where
     x_in : has_dart (darts rows) x ≡ true
     x_in = subst (λ d. has_dart (darts rows) d ≡ true) is (dart_in rows lawful dart first.within)
 
@@ -83,17 +118,18 @@ module _ (price : Pricing) (rows : Rows) (lawful : Lawful rows) (v : ℕ) (heigh
 
     drop_here : height (dart_of rows at) ≡ tight.cost + height (dart_of rows next)
     drop_here =
-        let one = one_height (dart_of rows at) x (dart_in rows lawful at far.within) face in
+        let low : height (dart_of rows at) < bound = let far_low = far.low in omega arith in
+        let one = one_height (dart_of rows at) x (dart_in rows lawful at far.within) low face in
         let there : height (dart_of rows next) ≡ height (dart_twin x) = ap height lands_on in
         let drop = tight.drop in omega arith
 
     pub lower : height (dart_of rows next) < height (dart_of rows at)
     lower = let drop = drop_here in let one = promise.positive tight.asked.facts tight.cost tight.asked.asked in omega arith
 
-    pub descends_on : height (dart_of rows at) ≤ unreached → Descends price rows heights from (crossed ++ x ∷ []) next
-    descends_on capped = record {
+    pub descends_on : Descends price rows heights from (crossed ++ x ∷ []) next
+    descends_on = record {
       within = subst (λ k. k < length (darts rows)) (sym lands) (twin_below rows lawful dart first.within);
-      reached = λ e. let less = lower in omega arith;
+      low = let less = lower in let far_low = far.low in omega arith;
       walk = λ rest to walk.
           let onward : Crosses (system rows) (dart_of rows at) (x ∷ rest) to = (face, subst (λ c. Crosses (system rows) c rest to) lands_on walk) in
           subst (λ xs. Crosses (system rows) (dart_of rows from) xs to) (sym (append_assoc crossed (x ∷ []) rest)) (far.walk (x ∷ rest) to onward);
@@ -111,8 +147,8 @@ module _ (price : Pricing) (rows : Rows) (lawful : Lawful rows) (v : ℕ) (heigh
 
   -- ---- From the start to the target
 
-  pub at_start : (from : ℕ) → from < length (darts rows) → height (dart_of rows from) ≢ unreached → Descends price rows heights from [] from
-  at_start from l some = record { within = l; reached = some; walk = λ rest to walk. walk; cost = λ rest cost. cost; first_darts = λ rest takes. takes; arrives = λ rest. refl }
+  pub at_start : (from : ℕ) → from < length (darts rows) → Descends price rows heights from [] from
+  at_start from l = record { within = l; low = omega arith; walk = λ rest to walk. walk; cost = λ rest cost. cost; first_darts = λ rest takes. takes; arrives = λ rest. refl }
 
   pub at_target : (from at : ℕ) (crossed : List Dart) → Descends price rows heights from crossed at → height (dart_of rows at) ≡ 0 → IsDescent price rows heights from crossed at
   at_target from at crossed far down = record {
@@ -131,41 +167,62 @@ module _ (price : Pricing) (rows : Rows) (lawful : Lawful rows) (v : ℕ) (heigh
   no_end promise c (x ∷ xs) to n p walk cost nothing at none = let one = promise.positive cost.2.facts cost.0 cost.2.asked in let total = cost.4 in omega arith
 
   -- a face of height 0 has a corner of the target
-  pub has_end : (promise : KeepsPromise price) (last : ℕ) → last < length (darts rows) → height (dart_of rows last) ≡ 0
+  pub has_end : (promise : KeepsPromise price) (last : ℕ) → last < length (darts rows) → height (dart_of rows last) ≡ 0 → 0 < bound
       → ((p : ℕ) (c : Dart) → corner rows v p ≡ Some c → SameFace (system rows) (dart_of rows last) c → ⊥) → ⊥
-  has_end promise last l down none =
-      let walk = walk_of (dart_of rows last) (dart_in rows lawful last l) (λ e. omega arith) in
+  has_end promise last l down above none =
+      let walk = known.reaches (dart_of rows last) (dart_in rows lawful last l) (omega arith) in
       no_end promise (dart_of rows last) walk.crossed walk.to (height (dart_of rows last)) walk.position walk.walk walk.cost down walk.ends none
 
-  -- no corner of u is reached, so there is no route
-  pub no_route : (u : ℕ) → HasNoStart rows u heights → HasNoRoute price rows u v
-  no_route u none r n priced =
-      let from = priced.route.from in
-      are.unreached_none from (corner_below rows lawful u r.start from priced.route.starts) (none r.start from priced.route.starts) n
-      (record { crossed = r.crossed; position = r.end; to = priced.route.to; ends = priced.route.ends; walk = priced.route.walk; cost = priced.cost })
-
-  pub is_plan : (promise : KeepsPromise price) (u : ℕ) (plan : Plan) (from last : ℕ) → plan.heights ≡ heights → IsStart rows u heights plan.route.start from → plan.price ≡ height (dart_of rows from)
-      → IsDescent price rows heights from plan.route.crossed last → IsEnd rows v last plan.route.end → IsPlan price rows u v plan
-  is_plan promise u plan from last same start cost descent end =
+  -- a route from the first lowest corner down to its end is the first
+  pub is_first : (promise : KeepsPromise price) (u : ℕ) (found : PricedRoute) (from last : ℕ) → IsStart rows u heights found.route.start from → found.price ≡ height (dart_of rows from)
+      → height (dart_of rows from) < bound → IsDescent price rows heights from found.route.crossed last → IsEnd rows v last found.route.end → IsFirstRoute price rows u v heights found
+  is_first promise u found from last start cost below descent end =
       let n = height (dart_of rows from) in
-      let priced : IsPricedRoute price rows u v plan.route n = record {
-        route = record { from = dart_of rows from; to = end.to; starts = start.there; ends = end.there; walk = descent.walk end.to end.face };
+      let c = dart_of rows from in
+      let walk = descent.walk end.to end.face in
+      let priced : IsPricedRoute price rows u v found.route n = record {
+        route = record { from = c; to = end.to; starts = start.there; ends = end.there; walk = walk };
         cost = descent.cost;
       } in
-      let by_heights : IsFirstByHeights price rows u v height plan.route n = record {
+      let first_end = subst (λ c. (p : ℕ) (d : Dart) → p < found.route.end → corner rows v p ≡ Some d → SameFace (system rows) c d → ⊥) (sym descent.arrives) end.first in
+      let by_heights : IsFirstByHeights price rows u v height found.route n = record {
         priced = priced;
         least_height = start.least;
         first_start = start.first;
         first_darts = descent.first_darts;
-        first_end = subst (λ c. (p : ℕ) (d : Dart) → p < plan.route.end → corner rows v p ≡ Some d → SameFace (system rows) c d → ⊥) (sym descent.arrives) end.first;
+        first_end = first_end;
       } in
-      let first = first_by_heights price rows u v height (certified price rows u v height lawful.embedding.well_formed are.certificate)
-      (λ d p asked. promise.positive asked.facts p asked.asked) plan.route n by_heights in
+      let at_level : level c ≡ n = omega (arith, level_is c) in
+      let by_levels : IsFirstByHeights price rows u v level found.route n = record {
+        priced = priced;
+        least_height = λ p d at. omega (arith, start.least p d at, level_is d);
+        first_start = λ p d less at same. start.first p d less at (omega (arith, level_is d));
+        first_darts = first_levels c found.route.crossed end.to n (dart_in rows lawful from start.within) walk descent.cost (known.certificate.target found.route.end end.to end.there) at_level below descent.first_darts;
+        first_end = first_end;
+      } in
+      let first = first_by_heights price rows u v level (certified price rows u v level lawful.embedding.well_formed known.certificate)
+      (λ d p asked. promise.positive asked.facts p asked.asked) found.route n by_levels in
       record {
-        heights = subst (AreHeights price rows v) (sym same) are;
-        first = subst (IsFirst price rows u v plan.route) (sym cost) first;
-        by_heights = subst (λ hs. IsFirstByHeights price rows u v (height_in rows hs) plan.route plan.price) (sym same) (subst (IsFirstByHeights price rows u v height plan.route) (sym cost) by_heights);
+        first = subst (IsFirst price rows u v found.route) (sym cost) first;
+        by_heights = subst (IsFirstByHeights price rows u v height found.route) (sym cost) by_heights;
       }
+
+-- no corner of u is reached, so there is no route
+pub no_route : (price : Pricing) (rows : Rows) → Lawful rows → (v : ℕ) (heights : List ℕ) → AreHeights price rows v heights → (u : ℕ) → HasNoStart rows u heights → HasNoRoute price rows u v
+no_route price rows lawful v heights are u none r n priced =
+    let from = priced.route.from in
+    are.unreached_none from (corner_below rows lawful u r.start from priced.route.starts) (none r.start from priced.route.starts) n
+    (record { crossed = r.crossed; position = r.end; to = priced.route.to; ends = priced.route.ends; walk = priced.route.walk; cost = priced.cost })
+
+-- the first route by the heights of a search is its plan
+pub is_plan : (price : Pricing) (rows : Rows) (u v : ℕ) (heights : List ℕ) (found : PricedRoute) (plan : Plan) → AreHeights price rows v heights → IsFirstRoute price rows u v heights found
+    → plan.route ≡ found.route → plan.price ≡ found.price → plan.heights ≡ heights → IsPlan price rows u v plan
+is_plan price rows u v heights found plan are is route cost same = record {
+  heights = subst (AreHeights price rows v) (sym same) are;
+  first = subst (λ r. IsFirst price rows u v r plan.price) (sym route) (subst (IsFirst price rows u v found.route) (sym cost) is.first);
+  by_heights = subst (λ hs. IsFirstByHeights price rows u v (height_in rows hs) plan.route plan.price) (sym same)
+      (subst (λ r. IsFirstByHeights price rows u v (height_in rows heights) r plan.price) (sym route) (subst (IsFirstByHeights price rows u v (height_in rows heights) found.route) (sym cost) is.by_heights));
+}
 
 -- ---- The first tight dart of a face
 

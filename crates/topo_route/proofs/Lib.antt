@@ -8,6 +8,9 @@ pub mod Verdicts
 pub mod Settled
 pub mod Buckets
 pub mod Reaching
+pub mod Crossings
 pub mod Segments
 pub mod Descending
+pub mod Levels
+pub mod Known
 pub mod Marking

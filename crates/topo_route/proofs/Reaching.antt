@@ -85,8 +85,8 @@ reached_most (h ∷ heights) = elim (cases_Bool (h == unreached)) [
   | inr e ↦ let one : counts h ≡ 1 = ap (λ (b : Bool). cond {A = ℕ} b 0 1) e in omega (arith, sum_by-cons counts h heights, reached_most heights)
 ]
 
-module _ (price : Pricing) (rows : Rows) (lawful : Lawful rows) (v : ℕ) (heights : List ℕ) (promise : KeepsPromise price) (costs : AreCosts price rows v heights)
-    (small : length (darts rows) < 2 ^ 32) (meets : MeetsTarget rows v heights) (settled : (k : ℕ) → k < length (darts rows) → IsSettled price rows heights k) where
+module _ (price : Pricing) (rows : Rows) (lawful : Lawful rows) (v : ℕ) (bound : ℕ) (heights : List ℕ) (top : (k : ℕ) → slice_index heights k ≤ bound) (meets : MeetsTarget rows v heights)
+    (settled : (k : ℕ) → k < length (darts rows) → IsSettled price rows bound heights k) where
   abbrev n : ℕ
   n = length (darts rows)
 
@@ -112,43 +112,45 @@ module _ (price : Pricing) (rows : Rows) (lawful : Lawful rows) (v : ℕ) (heigh
       let other : Price price rows (dart_twin (dart_of rows k)) p = record { facts = asked.facts; known = asked.known; asked = asked.asked } in
       let there = subst (λ c. Price price rows c p) (sym (twin_dart rows lawful k l)) other in
       let climb = (settled (twin k) (twin_below rows lawful k l)).1 p there in
-      let back : slice_index heights (twin (twin k)) ≡ slice_index heights k = ap (slice_index heights) (twin_twin k) in omega arith
+      let back : slice_index heights (twin (twin k)) ≡ slice_index heights k = ap (slice_index heights) (twin_twin k) in
+      let low = top (twin (twin k)) in omega arith
 
-  certificate : IsCertificate price rows v height
+  pub certificate : IsCertificate price rows v height
   certificate = record { even = even_darts rows lawful heights even; gentle = gentle_darts rows lawful heights price gentle; target = meets }
 
-  cap : (d : Dart) → has_dart (darts rows) d ≡ true → height d ≢ unreached → height d ≤ 1000 * 4294967296
-  cap d h ne =
-      let bound = costs.bounded (index_of rows d) (number_below rows lawful d h) ne in
-      let most = reached_most heights in
-      let each = costs.one_each in omega arith
+  module _ (promise : KeepsPromise price) (costs : AreCosts price rows v heights) (small : n < 2 ^ 32) where
+    cap : (d : Dart) → has_dart (darts rows) d ≡ true → height d ≢ unreached → height d ≤ 1000 * 4294967296
+    cap d h ne =
+        let bound = costs.bounded (index_of rows d) (number_below rows lawful d h) ne in
+        let most = reached_most heights in
+        let each = costs.one_each in omega arith
 
-  -- a face from which a walk leads to the target is reached
-  is_reached : (xs : List Dart) (c to : Dart) (m : ℕ) → has_dart (darts rows) c ≡ true → Crosses (system rows) c xs to → Costs price rows xs m → height to ≡ 0 → height c ≢ unreached
-  is_reached [] c to m h walk cost zero_there e =
-      let one = face_height price rows (system rows) (darts rows) height (face_stays rows lawful) (twin_in rows) certificate.even certificate.gentle c to h walk in omega arith
-  is_reached (x ∷ xs) c to m h walk cost zero_there e =
-      let one = face_height price rows (system rows) (darts rows) height (face_stays rows lawful) (twin_in rows) certificate.even certificate.gentle c x h walk.0 in
-      let there = face_in price rows (system rows) (darts rows) height (face_stays rows lawful) (twin_in rows) certificate.even certificate.gentle c x h walk.0 in
-      let other = is_reached xs (dart_twin x) to cost.1 (twin_in rows x there) walk.1 cost.3 zero_there in
-      let low = cap (dart_twin x) (twin_in rows x there) other in
-      let climb = certificate.gentle x cost.0 there cost.2 in
-      let most = promise.at_most cost.2.facts cost.0 cost.2.asked in omega arith
+    -- a face from which a walk leads to the target is reached
+    is_reached : (xs : List Dart) (c to : Dart) (m : ℕ) → has_dart (darts rows) c ≡ true → Crosses (system rows) c xs to → Costs price rows xs m → height to ≡ 0 → height c ≢ unreached
+    is_reached [] c to m h walk cost zero_there e =
+        let one = face_height price rows (system rows) (darts rows) height (face_stays rows lawful) (twin_in rows) certificate.even certificate.gentle c to h walk in omega arith
+    is_reached (x ∷ xs) c to m h walk cost zero_there e =
+        let one = face_height price rows (system rows) (darts rows) height (face_stays rows lawful) (twin_in rows) certificate.even certificate.gentle c x h walk.0 in
+        let there = face_in price rows (system rows) (darts rows) height (face_stays rows lawful) (twin_in rows) certificate.even certificate.gentle c x h walk.0 in
+        let other = is_reached xs (dart_twin x) to cost.1 (twin_in rows x there) walk.1 cost.3 zero_there in
+        let low = cap (dart_twin x) (twin_in rows x there) other in
+        let climb = certificate.gentle x cost.0 there cost.2 in
+        let most = promise.at_most cost.2.facts cost.0 cost.2.asked in omega arith
 
-  exact : (d : Dart) → has_dart (darts rows) d ≡ true → IsHeight price rows v d (height d)
-  exact d h = elim (cases_eq (height d) unreached) [
-    | inl e ↦ inr (e, λ m walk. is_reached walk.crossed d walk.to m h walk.walk walk.cost (meets walk.position walk.to walk.ends) e)
-    | inr ne ↦ inl (
-      subst (λ c. Reaches price rows v c (height d)) (dart_of_number rows lawful d h) (costs.costs (index_of rows d) (number_below rows lawful d h) ne),
-      λ m walk. height_bounds price rows (system rows) (darts rows) height (face_stays rows lawful) (twin_in rows) certificate.even certificate.gentle
-          walk.crossed d walk.to m h walk.walk walk.cost (meets walk.position walk.to walk.ends),
-    )
-  ]
+    exact : (d : Dart) → has_dart (darts rows) d ≡ true → IsHeight price rows v d (height d)
+    exact d h = elim (cases_eq (height d) unreached) [
+      | inl e ↦ inr (e, λ m walk. is_reached walk.crossed d walk.to m h walk.walk walk.cost (meets walk.position walk.to walk.ends) e)
+      | inr ne ↦ inl (
+        subst (λ c. Reaches price rows v c (height d)) (dart_of_number rows lawful d h) (costs.costs (index_of rows d) (number_below rows lawful d h) ne),
+        λ m walk. height_bounds price rows (system rows) (darts rows) height (face_stays rows lawful) (twin_in rows) certificate.even certificate.gentle
+            walk.crossed d walk.to m h walk.walk walk.cost (meets walk.position walk.to walk.ends),
+      )
+    ]
 
-  pub are_heights : AreHeights price rows v heights
-  are_heights = record {
-    one_each = costs.one_each;
-    exact = exact;
-    certificate = certificate;
-    unreached_none = λ d h e m walk. is_reached walk.crossed d walk.to m h walk.walk walk.cost (meets walk.position walk.to walk.ends) e;
-  }
+    pub are_heights : AreHeights price rows v heights
+    are_heights = record {
+      one_each = costs.one_each;
+      exact = exact;
+      certificate = certificate;
+      unreached_none = λ d h e m walk. is_reached walk.crossed d walk.to m h walk.walk walk.cost (meets walk.position walk.to walk.ends) e;
+    }

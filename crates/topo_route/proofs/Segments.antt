@@ -60,8 +60,7 @@ pub all_prices : (price : Pricing) (rows : Rows) → Lawful rows → (prices : L
 all_prices price rows lawful prices s whole are =
     let even : length (darts rows) % 2 ≡ 0 = ap (λ n. n % 2) (sym (images_length rows)) ∙ even_images rows in
     record {
-      half = let e = are.one_each in omega arith;
-      right = λ k l.
+      right = λ k l kept.
           let at = are.right (k / 2) (omega arith) in
           elim (cases_eq k (2 * (k / 2))) [
             | inl e ↦ subst (λ i. IsPriceAt price rows i (slice_index_or prices (k / 2) None)) (sym e) at

@@ -2,7 +2,7 @@
 use Rattle.std.proofs.Common.{◌≡◌, ◌≢◌, ℕ, ◌+◌, ◌*◌, ◌<◌, ◌≤◌, ◌||◌, ◌==◌, Bool, true, false, cond, List, [], length, Some, inl, inr, refl, sym, ap, subst, ◌∙◌, arith, get_or-set_same, get_or-set_other}
 use Rattle.std.specs.Prelude.{◌⊎◌, slice_index, sum_by}
 use Rattle.std.proofs.Math.ListN.{set}
-use Rattle.std.proofs.lemmas.Bool.{cases_eq, eqb-true, eq-eqb, ne_eqb, false≢true}
+use Rattle.std.proofs.lemmas.Bool.{cases_eq, cases_lt, eqb-true, eq-eqb, ne_eqb, false≢true}
 use Rattle.std.proofs.lemmas.List.{length-set}
 use Rattle.std.proofs.Math.Bool.{or-true}
 use Rattle.std.proofs.lemmas.List.Sums.{sum_by-set}
@@ -13,9 +13,9 @@ use Rattle.topo_core.specs.Picture.{corner, darts, index_of}
 use Rattle.topo_core.specs.Rotations.{twin}
 use Rattle.topo_core.specs.Routes.{Pricing, Reaches, unreached}
 use Rattle.topo_route.specs.Numbers.{dart_of, next_of}
-use Rattle.topo_route.specs.Plans.{height_in}
+use Rattle.topo_route.specs.Plans.{MeetsTarget, height_in}
 use Rattle.topo_route.proofs.Tests.{before_some, height_at}
-use Rattle.topo_route.specs.Settling.{AreCosts, IsCrossed, IsSettled, Spreads, effort, is_waiting, reached}
+use Rattle.topo_route.specs.Settling.{AreCosts, AreLowered, IsCrossed, IsSettled, Spreads, effort, is_waiting, reached}
 
 abbrev pub counts : ℕ → ℕ
 counts h = cond {A = ℕ} (h == unreached) 0 1
@@ -106,21 +106,23 @@ module _ (price : Pricing) (rows : Rows) (v : ℕ) (heights : List ℕ) (costs :
   pub lowered_stays : (k : ℕ) → slice_index heights k ≢ unreached → slice_index (set heights t x) k ≢ unreached
   lowered_stays k was now = let less = lowered_less heights t x inside k (omega arith) in let cap = costs.capped k in was (omega arith)
 
-  pub lowered_settled : (k : ℕ) → k ≢ t → IsSettled price rows heights k → IsSettled price rows (set heights t x) k
-  lowered_settled k ne (face, crossed) =
+  pub lowered_settled : (bound k : ℕ) → k ≢ t → IsSettled price rows bound heights k → IsSettled price rows bound (set heights t x) k
+  lowered_settled bound k ne (face, crossed) =
       let same = lowered_other heights t x inside k ne in (
         (let less = lowered_less heights t x inside (next_of rows k) (omega arith) in omega arith),
         (λ p e. let bound = crossed p e in let less = lowered_less heights t x inside (twin k) (omega arith) in omega arith),
       )
 
   -- t is lowered and waits
-  pub lowered_waits : (waiting after : List ℕ) (in_hand : ℕ) → Spreads price rows v heights waiting in_hand
-      → ((k : ℕ) → is_waiting after k ≡ (t == k || is_waiting waiting k)) → Spreads price rows v (set heights t x) after in_hand
-  lowered_waits waiting after in_hand spreads added = record {
+  pub lowered_waits : (bound : ℕ) (waiting after : List ℕ) (in_hand : ℕ) → Spreads price rows v bound heights waiting in_hand
+      → ((k : ℕ) → is_waiting after k ≡ (t == k || is_waiting waiting k)) → Spreads price rows v bound (set heights t x) after in_hand
+  lowered_waits bound waiting after in_hand spreads added = record {
     costs = lowered_costs;
-    others = λ k l ne idle.
+    others = λ k l ne less idle.
         let both = either_false (t == k) (is_waiting waiting k) (sym (added k) ∙ idle) in
-        lowered_settled k (λ e. false≢true (sym both.0 ∙ eq-eqb t k (sym e))) (spreads.others k l ne both.1);
+        let apart : k ≢ t = λ e. false≢true (sym both.0 ∙ eq-eqb t k (sym e)) in
+        let same = lowered_other heights t x inside k apart in
+        lowered_settled bound k apart (spreads.others k l ne (omega arith) both.1);
     reached_waits = λ k waits. elim (either_true (t == k) (is_waiting waiting k) (sym (added k) ∙ waits)) [
       | inl here ↦
           let is : t ≡ k = eqb-true t k here in (
@@ -132,61 +134,86 @@ module _ (price : Pricing) (rows : Rows) (v : ℕ) (heights : List ℕ) (costs :
   }
 
 -- t is the next along the face of the dart in hand, and is lowered to its height: now it is in hand
-pub passed_on : (price : Pricing) (rows : Rows) (v : ℕ) (heights waiting : List ℕ) (d t : ℕ) → Spreads price rows v heights waiting d
-    → t ≡ next_of rows d → t < length (darts rows) → slice_index heights d < slice_index heights t → IsCrossed price rows heights d
+pub passed_on : (price : Pricing) (rows : Rows) (v bound : ℕ) (heights waiting : List ℕ) (d t : ℕ) → Spreads price rows v bound heights waiting d
+    → t ≡ next_of rows d → t < length (darts rows) → slice_index heights d < slice_index heights t → IsCrossed price rows bound heights d
     → Reaches price rows v (dart_of rows t) (slice_index heights d) → slice_index heights d ≤ 1000 * reached heights
-    → Spreads price rows v (set heights t (slice_index heights d)) waiting t
-passed_on price rows v heights waiting d t spreads is there low crossed walk near =
+    → Spreads price rows v bound (set heights t (slice_index heights d)) waiting t
+passed_on price rows v bound heights waiting d t spreads is there low crossed walk near =
     let x = slice_index heights d in
     let costs = spreads.costs in
     let within : t < length heights = let e = costs.one_each in omega arith in
     let near' : x ≤ 1000 * reached heights + 1000 = omega arith in
     record {
       costs = lowered_costs price rows v heights costs t x there low walk near';
-      others = λ k l ne idle. elim (cases_eq k d) [
+      others = λ k l ne less idle. elim (cases_eq k d) [
         | inl e ↦
             let same : slice_index (set heights t x) k ≡ x = lowered_other heights t x within k ne ∙ ap (slice_index heights) e in
             let now : slice_index (set heights t x) (next_of rows k) ≡ x = ap (λ j. slice_index (set heights t x) (next_of rows j)) e ∙ ap (slice_index (set heights t x)) (sym is) ∙ lowered_there heights t x within in (
               (omega arith),
               (λ p priced.
-                  let bound = subst (IsCrossed price rows heights) (sym e) crossed p priced in
+                  let bound = subst (IsCrossed price rows bound heights) (sym e) crossed p priced in
                   let was : slice_index heights k ≡ x = ap (slice_index heights) e in
                   let less = lowered_less heights t x within (twin k) (omega arith) in omega arith),
             )
-        | inr other ↦ lowered_settled price rows v heights costs t x there low walk near' k ne (spreads.others k l other idle)
+        | inr other ↦
+            let same = lowered_other heights t x within k ne in
+            lowered_settled price rows v heights costs t x there low walk near' bound k ne (spreads.others k l other (omega arith) idle)
       ];
       reached_waits = λ k waits. let was = spreads.reached_waits k waits in (was.0, lowered_stays price rows v heights costs t x there low walk near' k was.1);
     }
 
 -- the dart in hand is settled
-pub put_down : (price : Pricing) (rows : Rows) (v : ℕ) (heights waiting : List ℕ) (d : ℕ) → Spreads price rows v heights waiting d
-    → IsSettled price rows heights d → Spreads price rows v heights waiting (length (darts rows))
-put_down price rows v heights waiting d spreads settled = record {
+pub put_down : (price : Pricing) (rows : Rows) (v bound : ℕ) (heights waiting : List ℕ) (d : ℕ) → Spreads price rows v bound heights waiting d
+    → IsSettled price rows bound heights d → Spreads price rows v bound heights waiting (length (darts rows))
+put_down price rows v bound heights waiting d spreads settled = record {
   costs = spreads.costs;
-  others = λ k l ne idle. elim (cases_eq k d) [
-    | inl e ↦ subst (IsSettled price rows heights) (sym e) settled
-    | inr other ↦ spreads.others k l other idle
+  others = λ k l ne less idle. elim (cases_eq k d) [
+    | inl e ↦ subst (IsSettled price rows bound heights) (sym e) settled
+    | inr other ↦ spreads.others k l other less idle
   ];
   reached_waits = spreads.reached_waits;
 }
 
--- a dart is taken from those that wait
-pub taken_up : (price : Pricing) (rows : Rows) (v : ℕ) (heights waiting after : List ℕ) (d : ℕ) → Spreads price rows v heights waiting (length (darts rows))
-    → ((k : ℕ) → is_waiting waiting k ≡ (d == k || is_waiting after k)) → Spreads price rows v heights after d
-taken_up price rows v heights waiting after d spreads taken = record {
+-- the dart in hand is not below the bound
+pub put_aside : (price : Pricing) (rows : Rows) (v bound : ℕ) (heights waiting : List ℕ) (d : ℕ) → Spreads price rows v bound heights waiting d
+    → bound ≤ slice_index heights d → Spreads price rows v bound heights waiting (length (darts rows))
+put_aside price rows v bound heights waiting d spreads high = record {
   costs = spreads.costs;
-  others = λ k l ne idle. spreads.others k l (omega arith) (taken k ∙ ap (λ (b : Bool). b || is_waiting after k) (ne_eqb d k (λ e. ne (sym e))) ∙ idle);
+  others = λ k l ne less idle. elim (cases_eq k d) [
+    | inl e ↦ let same : slice_index heights k ≡ slice_index heights d = ap (slice_index heights) e in absurd (omega arith)
+    | inr other ↦ spreads.others k l other less idle
+  ];
+  reached_waits = spreads.reached_waits;
+}
+
+-- a lower bound
+pub narrowed : (price : Pricing) (rows : Rows) (v bound lower : ℕ) (heights waiting : List ℕ) (in_hand : ℕ) → Spreads price rows v bound heights waiting in_hand
+    → lower ≤ bound → Spreads price rows v lower heights waiting in_hand
+narrowed price rows v bound lower heights waiting in_hand spreads low = record {
+  costs = spreads.costs;
+  others = λ k l ne less idle.
+      let (face, crossed) = spreads.others k l ne (omega arith) idle in
+      (face, λ p asked. let climb = crossed p asked in omega arith);
+  reached_waits = spreads.reached_waits;
+}
+
+-- a dart is taken from those that wait
+pub taken_up : (price : Pricing) (rows : Rows) (v bound : ℕ) (heights waiting after : List ℕ) (d : ℕ) → Spreads price rows v bound heights waiting (length (darts rows))
+    → ((k : ℕ) → is_waiting waiting k ≡ (d == k || is_waiting after k)) → Spreads price rows v bound heights after d
+taken_up price rows v bound heights waiting after d spreads taken = record {
+  costs = spreads.costs;
+  others = λ k l ne less idle. spreads.others k l (omega arith) less (taken k ∙ ap (λ (b : Bool). b || is_waiting after k) (ne_eqb d k (λ e. ne (sym e))) ∙ idle);
   reached_waits = λ k waits. spreads.reached_waits k (taken k ∙ ap (λ (b : Bool). d == k || b) waits ∙ or-true (d == k));
 }
 
 -- a corner of the target gets height 0 and waits
-module _ (price : Pricing) (rows : Rows) (lawful : Lawful rows) (v : ℕ) (heights waiting after : List ℕ) (in_hand i c : ℕ) (spreads : Spreads price rows v heights waiting in_hand)
+module _ (price : Pricing) (rows : Rows) (lawful : Lawful rows) (v bound : ℕ) (heights waiting after : List ℕ) (in_hand i c : ℕ) (spreads : Spreads price rows v bound heights waiting in_hand)
     (there : c < length (darts rows)) (at : corner rows v i ≡ Some (dart_of rows c)) (high : 0 < slice_index heights c)
     (added : (k : ℕ) → is_waiting after k ≡ (c == k || is_waiting waiting k)) where
-  pub started : Spreads price rows v (set heights c 0) after in_hand
+  pub started : Spreads price rows v bound (set heights c 0) after in_hand
   started =
       let walk : Reaches price rows v (dart_of rows c) 0 = record { crossed = []; position = i; to = dart_of rows c; ends = at; walk = record { steps = 0; leads = refl }; cost = refl } in
-      lowered_waits price rows v heights spreads.costs c 0 there high walk (omega arith) waiting after in_hand spreads added
+      lowered_waits price rows v heights spreads.costs c 0 there high walk (omega arith) bound waiting after in_hand spreads added
 
   pub started_zero : ((p : ℕ) (d : Dart) → p < i → corner rows v p ≡ Some d → height_in rows heights d ≡ 0)
       → (p : ℕ) (d : Dart) → p < i + 1 → corner rows v p ≡ Some d → height_in rows (set heights c 0) d ≡ 0
@@ -196,10 +223,22 @@ module _ (price : Pricing) (rows : Rows) (lawful : Lawful rows) (v : ℕ) (heigh
       (height_at rows lawful (set heights c 0) c there ∙ lowered_there heights c 0 within)
       (λ p d l here. let was = before p d l here in let less = lowered_less heights c 0 within (index_of rows d) (omega arith) in omega arith)
 
--- nothing waits, so all are settled
-pub all_settled : (price : Pricing) (rows : Rows) (v : ℕ) (heights waiting : List ℕ) → Spreads price rows v heights waiting (length (darts rows)) → waiting ≡ []
-    → (k : ℕ) → k < length (darts rows) → IsSettled price rows heights k
-all_settled price rows v heights waiting spreads none k l = spreads.others k l (omega arith) (ap (λ w. is_waiting w k) none)
+-- nothing waits, so all below the bound are settled
+pub all_settled : (price : Pricing) (rows : Rows) (v bound : ℕ) (heights waiting : List ℕ) → Spreads price rows v bound heights waiting (length (darts rows)) → waiting ≡ []
+    → (k : ℕ) → k < length (darts rows) → slice_index heights k < bound → IsSettled price rows bound heights k
+all_settled price rows v bound heights waiting spreads none k l less = spreads.others k l (omega arith) less (ap (λ w. is_waiting w k) none)
+
+-- what is not reached is settled
+pub every_settled : (price : Pricing) (rows : Rows) (v : ℕ) (heights : List ℕ) → AreCosts price rows v heights
+    → ((k : ℕ) → k < length (darts rows) → slice_index heights k < unreached → IsSettled price rows unreached heights k) → (k : ℕ) → k < length (darts rows) → IsSettled price rows unreached heights k
+every_settled price rows v heights costs settled k l = elim (cases_lt (slice_index heights k) unreached) [
+  | inl less ↦ settled k l less
+  | inr high ↦ ((let cap = costs.capped (next_of rows k) in omega arith), (λ p e. let cap = costs.capped (twin k) in omega arith))
+]
+
+-- lower heights meet the target where higher ones did
+pub meets_lower : (rows : Rows) (v : ℕ) (before after : List ℕ) → AreLowered before after → MeetsTarget rows v before → MeetsTarget rows v after
+meets_lower rows v before after lower meets p c at = omega (arith, lower (index_of rows c), meets p c at)
 
 -- a step falls
 pub passed_effort : (heights waiting : List ℕ) (t x : ℕ) → t < length heights → x < slice_index heights t → effort (set heights t x) waiting < effort heights waiting

@@ -1,14 +1,15 @@
 -- The parts of a search's route.
-use Rattle.std.specs.Prelude.{◌≡◌, ◌≢◌, ℕ, ◌<◌, ◌≤◌, Bool, true, false, List, length, Some, ◌++◌, ◌⊎◌, slice_index_or}
+use Rattle.std.specs.Prelude.{◌≡◌, ◌≢◌, ℕ, ◌<◌, ◌≤◌, Bool, true, false, List, length, Some, ◌++◌, ◌⊎◌, slice_index, slice_index_or}
 use Rattle.topo_core.specs.declared.darts.Dart.{Dart}
 use Rattle.topo_core.specs.declared.rows.Rows.{Rows}
 use Rattle.topo_core.specs.Cycles.{SameCycle}
 use Rattle.topo_core.specs.Picture.{corner, darts, index_of, system}
-use Rattle.topo_core.specs.RouteLaws.{IsTight, TakesFirstDarts, arrival}
-use Rattle.topo_core.specs.Routes.{Costs, Crosses, Pricing, unreached}
+use Rattle.topo_core.specs.RouteLaws.{IsFirstByHeights, IsTight, TakesFirstDarts, arrival}
+use Rattle.topo_core.specs.Routes.{Costs, Crosses, HasNoRoute, IsFirst, Pricing, unreached}
 use Rattle.topo_core.specs.Systems.{SameFace}
 use Rattle.topo_route.specs.Numbers.{HasTightBefore, dart_of, next_of}
-use Rattle.topo_route.specs.Plans.{HasFirstEnd, HasFirstStart, height_in}
+use Rattle.topo_route.specs.Plans.{AreHeightsBelow, HasFirstEnd, HasFirstStart, height_in}
+use Rattle.topo_route.specs.declared.plan.PricedRoute.{PricedRoute}
 
 -- no corner of u is reached
 abbrev pub HasNoStart : Rows → ℕ → List ℕ → Type 0
@@ -21,6 +22,31 @@ pub record IsStart (rows : Rows) (u : ℕ) (heights : List ℕ) (position from :
   pub reached : height_in rows heights (dart_of rows from) ≢ unreached
   pub least : (p : ℕ) (c : Dart) → corner rows u p ≡ Some c → height_in rows heights (dart_of rows from) ≤ height_in rows heights c
   pub first : HasFirstStart rows u heights position (height_in rows heights (dart_of rows from))
+
+-- heights that are known as far up as a dart
+pub record AreHeightsUpTo (price : Pricing) (rows : Rows) (v : ℕ) (heights : List ℕ) (at : ℕ) : Type 0 where
+  pub bound : ℕ
+  pub known : AreHeightsBelow price rows v bound heights
+  pub below : slice_index heights at < bound
+
+-- heights that are known as far up as the first corner of u with the least height, and where no corner of u is reached there is no route
+pub record AreHeightsFor (price : Pricing) (rows : Rows) (u v : ℕ) (heights : List ℕ) : Type 0 where
+  pub bound : ℕ
+  pub known : AreHeightsBelow price rows v bound heights
+  pub start : (position from : ℕ) → IsStart rows u heights position from → slice_index heights from < bound
+  pub none : HasNoStart rows u heights → HasNoRoute price rows u v
+
+-- a corner of u lies lower than the bound
+pub record HasCornerBelow (rows : Rows) (u : ℕ) (heights : List ℕ) (bound : ℕ) : Type 0 where
+  pub position : ℕ
+  pub from : Dart
+  pub there : corner rows u position ≡ Some from
+  pub below : height_in rows heights from < bound
+
+-- a route down the heights is first by them, and so it is the first route
+pub record IsFirstRoute (price : Pricing) (rows : Rows) (u v : ℕ) (heights : List ℕ) (found : PricedRoute) : Type 0 where
+  pub first : IsFirst price rows u v found.route found.price
+  pub by_heights : IsFirstByHeights price rows u v (height_in rows heights) found.route found.price
 
 -- the first tight dart of the face of `at`
 pub record IsFirstTight (price : Pricing) (rows : Rows) (heights : List ℕ) (at dart : ℕ) : Type 0 where
@@ -41,7 +67,7 @@ pub record IsDescent (price : Pricing) (rows : Rows) (heights : List ℕ) (from 
 -- a walk so far: what leads on from `at` leads on from the start
 pub record Descends (price : Pricing) (rows : Rows) (heights : List ℕ) (from : ℕ) (crossed : List Dart) (at : ℕ) : Type 0 where
   pub within : at < length (darts rows)
-  pub reached : height_in rows heights (dart_of rows at) ≢ unreached
+  pub low : height_in rows heights (dart_of rows at) ≤ height_in rows heights (dart_of rows from)
   pub walk : (rest : List Dart) (to : Dart) → Crosses (system rows) (dart_of rows at) rest to → Crosses (system rows) (dart_of rows from) (crossed ++ rest) to
   pub cost : (rest : List Dart) → Costs price rows rest (height_in rows heights (dart_of rows at)) → Costs price rows (crossed ++ rest) (height_in rows heights (dart_of rows from))
   pub first_darts : (rest : List Dart) → TakesFirstDarts price rows (height_in rows heights) (dart_of rows at) rest → TakesFirstDarts price rows (height_in rows heights) (dart_of rows from) (crossed ++ rest)

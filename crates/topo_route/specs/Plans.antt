@@ -1,5 +1,5 @@
 -- What a plan has to be, and what the check says of one.
-use Rattle.std.specs.Prelude.{◌≡◌, ◌≢◌, ℕ, ◌<◌, ◌≤◌, ◌+◌, true, List, length, Some, slice_index}
+use Rattle.std.specs.Prelude.{◌≡◌, ◌≢◌, ℕ, ◌<◌, ◌≤◌, ◌+◌, true, List, length, map, min, Some, slice_index}
 use Rattle.topo_core.specs.declared.darts.Dart.{Dart}
 use Rattle.topo_core.specs.declared.rows.Rows.{Rows}
 use Rattle.topo_core.specs.Darts.{dart_twin}
@@ -21,6 +21,16 @@ pub record AreHeights (price : Pricing) (rows : Rows) (v : ℕ) (heights : List 
   pub exact : (d : Dart) → has_dart (darts rows) d ≡ true → IsHeight price rows v d (height_in rows heights d)
   pub certificate : IsCertificate price rows v (height_in rows heights)
   pub unreached_none : (d : Dart) → has_dart (darts rows) d ≡ true → height_in rows heights d ≡ unreached → (n : ℕ) → Reaches price rows v d n → ⊥
+
+-- heights as far as a bound, and the bound in place of those above it
+abbrev pub capped : ℕ → List ℕ → List ℕ
+capped bound heights = map (λ h. min h bound) heights
+
+-- heights of which those below a bound are the least costs to the target: a walk costs as much, and capped they are a certificate
+pub record AreHeightsBelow (price : Pricing) (rows : Rows) (v bound : ℕ) (heights : List ℕ) : Type 0 where
+  pub one_each : length heights ≡ length (darts rows)
+  pub reaches : (d : Dart) → has_dart (darts rows) d ≡ true → height_in rows heights d < bound → Reaches price rows v d (height_in rows heights d)
+  pub certificate : IsCertificate price rows v (height_in rows (capped bound heights))
 
 -- a plan as a search makes it
 pub record IsPlan (price : Pricing) (rows : Rows) (u v : ℕ) (plan : Plan) : Type 0 where

@@ -1,5 +1,5 @@
 -- Heights while a search spreads them.
-use Rattle.std.specs.Prelude.{◌≡◌, ◌≢◌, ℕ, ◌+◌, ◌*◌, ◌/◌, ◌<◌, ◌≤◌, ◌==◌, Bool, true, false, cond, List, length, Option, None, slice_index, slice_index_or, sum_by}
+use Rattle.std.specs.Prelude.{◌≡◌, ◌≢◌, ℕ, ◌+◌, ◌*◌, ◌/◌, ◌<◌, ◌≤◌, ◌==◌, Bool, true, false, cond, List, length, min, Option, None, slice_index, slice_index_or, sum_by}
 use Rattle.std.specs.List.{list_any}
 use Rattle.topo_core.specs.declared.rows.Rows.{Rows}
 use Rattle.topo_core.specs.Picture.{darts}
@@ -16,10 +16,9 @@ pub record ArePricesOf (price : Pricing) (rows : Rows) (prices : List (Option �
   pub right : (s : ℕ) → s < segments → IsPriceAt price rows (2 * s) (slice_index_or prices s None)
   pub promise : 0 < segments → KeepsPromise price
 
--- the prices of all segments
+-- the prices that are kept are those of their segments
 pub record ArePrices (price : Pricing) (rows : Rows) (prices : List (Option ℕ)) : Type 0 where
-  pub half : 2 * length prices ≡ length (darts rows)
-  pub right : (k : ℕ) → k < length (darts rows) → IsPriceAt price rows k (slice_index_or prices (k / 2) None)
+  pub right : (k : ℕ) → k < length (darts rows) → k / 2 < length prices → IsPriceAt price rows k (slice_index_or prices (k / 2) None)
   pub promise : 0 < length (darts rows) → KeepsPromise price
 
 -- ---- What waits
@@ -41,23 +40,27 @@ pub record AreCosts (price : Pricing) (rows : Rows) (v : ℕ) (heights : List �
   pub costs : (k : ℕ) → k < length (darts rows) → slice_index heights k ≢ unreached → Reaches price rows v (dart_of rows k) (slice_index heights k)
   pub bounded : (k : ℕ) → k < length (darts rows) → slice_index heights k ≢ unreached → slice_index heights k ≤ 1000 * reached heights
 
--- where the dart has a price, its twin stands no higher above it than that
-abbrev pub IsCrossed : Pricing → Rows → List ℕ → ℕ → Type 0
-IsCrossed price rows heights k = (p : ℕ) → Price price rows (dart_of rows k) p → slice_index heights (twin k) ≤ p + slice_index heights k
+-- where the dart has a price, its twin stands no higher above it than that, as far as the bound
+abbrev pub IsCrossed : Pricing → Rows → ℕ → List ℕ → ℕ → Type 0
+IsCrossed price rows bound heights k = (p : ℕ) → Price price rows (dart_of rows k) p → min (slice_index heights (twin k)) bound ≤ p + slice_index heights k
 
 -- and the next along the face no higher than the dart
-abbrev pub IsSettled : Pricing → Rows → List ℕ → ℕ → Type 0
-IsSettled price rows heights k = (slice_index heights (next_of rows k) ≤ slice_index heights k) × IsCrossed price rows heights k
+abbrev pub IsSettled : Pricing → Rows → ℕ → List ℕ → ℕ → Type 0
+IsSettled price rows bound heights k = (slice_index heights (next_of rows k) ≤ slice_index heights k) × IsCrossed price rows bound heights k
 
--- Heights are costs, and each dart but the one in hand is settled or waits.
-pub record Spreads (price : Pricing) (rows : Rows) (v : ℕ) (heights waiting : List ℕ) (in_hand : ℕ) : Type 0 where
+-- Heights are costs, and each dart lower than the bound, but the one in hand, is settled or waits.
+pub record Spreads (price : Pricing) (rows : Rows) (v bound : ℕ) (heights waiting : List ℕ) (in_hand : ℕ) : Type 0 where
   pub costs : AreCosts price rows v heights
-  pub others : (k : ℕ) → k < length (darts rows) → k ≢ in_hand → is_waiting waiting k ≡ false → IsSettled price rows heights k
+  pub others : (k : ℕ) → k < length (darts rows) → k ≢ in_hand → slice_index heights k < bound → is_waiting waiting k ≡ false → IsSettled price rows bound heights k
   pub reached_waits : (k : ℕ) → is_waiting waiting k ≡ true → (k < length (darts rows)) × (slice_index heights k ≢ unreached)
 
 -- a dart of the picture that has been reached
 abbrev pub IsReached : Rows → List ℕ → ℕ → Type 0
 IsReached rows heights k = (k < length (darts rows)) × (slice_index heights k ≢ unreached)
+
+-- no height is above what it was
+abbrev pub AreLowered : List ℕ → List ℕ → Type 0
+AreLowered before after = (k : ℕ) → slice_index after k ≤ slice_index before k
 
 -- what falls with each step: the heights, and then how many wait
 abbrev pub effort : List ℕ → List ℕ → ℕ

@@ -8,9 +8,9 @@ ghost use Rattle.topo_core.specs.RouteLaws.{IsTight};
 ghost use Rattle.topo_core.specs.Routes.{unreached};
 ghost use Rattle.topo_core.specs.Systems.{SameFace};
 ghost use Rattle.topo_price.specs.Prices.{prices_of};
-ghost use Rattle.topo_route.specs.Descents.{HasNoStart, IsDescent, IsEnd, IsFirstOf, IsFirstTight, IsMarked, IsStart};
+ghost use Rattle.topo_route.specs.Descents.{AreHeightsUpTo, HasNoStart, IsDescent, IsEnd, IsFirstOf, IsFirstTight, IsMarked, IsStart};
 ghost use Rattle.topo_route.specs.Numbers.{dart_of, next_of};
-ghost use Rattle.topo_route.specs.Plans.{AreHeights, HasFirstStart, HasOneEach, IsLeastHeight, height_in};
+ghost use Rattle.topo_route.specs.Plans.{HasFirstStart, HasOneEach, IsLeastHeight, height_in};
 ghost use Rattle.topo_route.specs.Settling.{ArePrices};
 
 use crate::dual::Dual;
@@ -21,7 +21,7 @@ use topo_core::darts::Dart;
 use topo_price::tariff::Asks;
 
 /// The least height of a corner, and the greatest number where there is none.
-fn least_corner<D: Dual>(dual: &D, u: u32, heights: &[u64]) -> u64
+pub(crate) fn least_corner<D: Dual>(dual: &D, u: u32, heights: &[u64]) -> u64
     requires { HasOneEach (D.shows dual.now) heights.now }
     ensures low { (p : ℕ) → (c : Dart) → corner (D.shows dual.now) u p ≡ Some c → result ≤ height_in (D.shows dual.now) heights.now c }
     ensures attained { result ≢ unreached → IsLeastHeight (D.shows dual.now) u heights.now result }
@@ -137,13 +137,11 @@ fn is_tight<D: Dual, F: Asks>(graph: &Graph<D, F>, heights: &[u64], dart: u32) -
 {
     let other = heights[across(graph.dual, dart) as usize];
     let height = heights[dart as usize];
+    if height <= other {
+        return false;
+    }
     match graph.price(dart) {
-        Some(price) => {
-            if height < other {
-                return false;
-            }
-            height - other == price as u64
-        }
+        Some(price) => height - other == price as u64,
         None => false,
     }
 }
@@ -163,12 +161,11 @@ fn first_of<D: Dual, F: Asks>(graph: &Graph<D, F>, heights: &[u64], first: u32, 
     first
 }
 
-/// The first tight dart of the face of `at`, which is reached and above the target.
+/// The first tight dart of the face of `at`, whose height is known and above 0.
 fn first_tight<D: Dual, F: Asks>(graph: &Graph<D, F>, heights: &[u64], v: u32, at: u32) -> u32
     requires right { ArePrices (prices_of (F.answers graph.now.tariff.now)) (D.shows graph.now.dual.now) graph.now.prices.items }
-    requires are_heights { AreHeights (prices_of (F.answers graph.now.tariff.now)) (D.shows graph.now.dual.now) v heights.now }
+    requires known { AreHeightsUpTo (prices_of (F.answers graph.now.tariff.now)) (D.shows graph.now.dual.now) v heights.now at }
     requires within { at < length (darts (D.shows graph.now.dual.now)) }
-    requires reached { height_in (D.shows graph.now.dual.now) heights.now (dart_of (D.shows graph.now.dual.now) at) ≢ unreached }
     requires above { 0 < height_in (D.shows graph.now.dual.now) heights.now (dart_of (D.shows graph.now.dual.now) at) }
     ensures { IsFirstTight (prices_of (F.answers graph.now.tariff.now)) (D.shows graph.now.dual.now) heights.now at result }
 {
@@ -194,9 +191,8 @@ pub(crate) fn descend<D: Dual, F: Asks>(
     from: u32,
 ) -> Result<(Vec<Dart>, u32), AllocError>
     requires right { ArePrices (prices_of (F.answers graph.now.tariff.now)) (D.shows graph.now.dual.now) graph.now.prices.items }
-    requires are_heights { AreHeights (prices_of (F.answers graph.now.tariff.now)) (D.shows graph.now.dual.now) v heights.now }
+    requires known { AreHeightsUpTo (prices_of (F.answers graph.now.tariff.now)) (D.shows graph.now.dual.now) v heights.now from }
     requires within { from < length (darts (D.shows graph.now.dual.now)) }
-    requires reached { height_in (D.shows graph.now.dual.now) heights.now (dart_of (D.shows graph.now.dual.now) from) ≢ unreached }
     ensures { IfOk result (λ r. IsDescent (prices_of (F.answers graph.now.tariff.now)) (D.shows graph.now.dual.now) heights.now from r.0.items r.1) }
 {
     let mut crossed = Vec::new(alloc);

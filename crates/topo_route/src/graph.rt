@@ -12,7 +12,8 @@ use crate::faces::price_at;
 use std::alloc::{AllocError, Global};
 use topo_price::tariff::{Asks, Tariff};
 
-/// A picture with the price of each segment, asked for once.
+/// A picture with prices: those of the first segments are kept, and the others are asked for each
+/// time.
 #[derive(Drop)]
 pub(crate) struct Graph<'a, D: Dual, F: Asks> {
     pub dual: &'a D,
@@ -28,7 +29,11 @@ impl<D: Dual, F: Asks> Graph<'_, D, F> {
         ensures price { IsPriceAt (prices_of (F.answers self.now.tariff.now)) (D.shows self.now.dual.now) dart result }
         ensures promise { KeepsPromise (prices_of (F.answers self.now.tariff.now)) }
     {
-        self.prices[(dart / 2) as usize]
+        let segment = (dart / 2) as usize;
+        if segment < self.prices.len() {
+            return self.prices[segment];
+        }
+        price_at(self.dual, self.tariff, dart)
     }
 }
 

@@ -3,7 +3,8 @@
 //!
 //! `Dual` is what a picture has to answer: its darts by their numbers in canonical order. `search`
 //! gives the first of the least routes with its price and, as a certificate, the least cost from
-//! each face to the target. `check` says of any plan whether it is that, and which test it fails
+//! each face to the target; `first_route` gives the route and its price alone, and walks no further
+//! than to the start. `check` says of any plan whether it is that, and which test it fails
 //! first: its Ok means that the route is the first of the least, whoever made the plan.
 #![tactic(auto)]
 

@@ -4,6 +4,13 @@ use thiserror::Error;
 use topo_core::listed::Listed;
 use topo_core::routes::Route;
 
+/// A route and its price: the sum of the prices of the edges that it crosses.
+#[derive(Drop, Debug)]
+pub struct PricedRoute {
+    pub route: Route,
+    pub price: u64,
+}
+
 /// A route, its price, and for each dart in canonical order its height: the least price from its
 /// face to a face at the target, the greatest number where no route leads there.
 #[derive(Drop, Debug)]

@@ -2,40 +2,41 @@
 
 ghost use Rattle.std.specs.Prelude.{◌≢◌, ◌<◌, IfOk, MatchOption, length};
 ghost use Rattle.topo_core.specs.Picture.{darts};
-ghost use Rattle.topo_core.specs.Routes.{HasNoRoute};
+ghost use Rattle.topo_core.specs.Routes.{HasNoRoute, IsFirst};
 ghost use Rattle.topo_price.specs.Prices.{prices_of};
-ghost use Rattle.topo_route.specs.Plans.{AreHeights, IsPlan};
+ghost use Rattle.topo_route.specs.Descents.{AreHeightsFor, IsFirstRoute};
+ghost use Rattle.topo_route.specs.Plans.{IsPlan};
 ghost use Rattle.topo_route.specs.Settling.{ArePrices};
 
 use crate::descent::{descend, end_corner, start_corner};
 use crate::dual::Dual;
 use crate::graph::{Graph, segment_prices};
-use crate::plan::Plan;
-use crate::spread::least_heights;
+use crate::plan::{Plan, PricedRoute};
+use crate::spread::{heights_for, least_heights};
 use std::alloc::{AllocError, Global};
 use topo_core::listed::Listed;
 use topo_core::routes::Route;
 use topo_price::tariff::{Asks, Tariff};
 
 /// Down the heights from `u` to `v`; none where no corner of `u` is reached.
-fn plan_by_heights<D: Dual, F: Asks>(
+fn route_by_heights<D: Dual, F: Asks>(
     alloc: Global,
     graph: &Graph<D, F>,
     u: u32,
     v: u32,
-    heights: Vec<u64>,
-) -> Result<Option<Plan>, AllocError>
+    heights: &[u64],
+) -> Result<Option<PricedRoute>, AllocError>
     requires right { ArePrices (prices_of (F.answers graph.now.tariff.now)) (D.shows graph.now.dual.now) graph.now.prices.items }
-    requires are_heights { AreHeights (prices_of (F.answers graph.now.tariff.now)) (D.shows graph.now.dual.now) v heights.items }
+    requires known { AreHeightsFor (prices_of (F.answers graph.now.tariff.now)) (D.shows graph.now.dual.now) u v heights.now }
     requires some { 0 < length (darts (D.shows graph.now.dual.now)) }
     ensures { IfOk result (λ found. MatchOption found
         (HasNoRoute (prices_of (F.answers graph.now.tariff.now)) (D.shows graph.now.dual.now) u v)
-        (IsPlan (prices_of (F.answers graph.now.tariff.now)) (D.shows graph.now.dual.now) u v)) }
+        (IsFirstRoute (prices_of (F.answers graph.now.tariff.now)) (D.shows graph.now.dual.now) u v heights.now)) }
 {
-    match start_corner(graph.dual, u, heights.as_slice()) {
+    match start_corner(graph.dual, u, heights) {
         Some((start, from)) => {
             let price = heights[from as usize];
-            let (crossed, last) = descend(alloc, graph, heights.as_slice(), v, from)?;
+            let (crossed, last) = descend(alloc, graph, heights, v, from)?;
             let corner = end_corner(alloc, graph.dual, v, last)?;
             match corner {
                 Some(end) => {
@@ -44,11 +45,7 @@ fn plan_by_heights<D: Dual, F: Asks>(
                         crossed: Listed::from_vec(crossed),
                         end,
                     };
-                    Ok(Some(Plan {
-                        route,
-                        price,
-                        heights: Listed::from_vec(heights),
-                    }))
+                    Ok(Some(PricedRoute { route, price }))
                 }
                 None => unreachable!(),
             }
@@ -81,6 +78,50 @@ pub fn search<D: Dual, F: Asks>(
         prices,
     };
     let heights = least_heights(alloc, &graph, v)?;
-    let found = plan_by_heights(alloc, &graph, u, v, heights)?;
+    let found = route_by_heights(alloc, &graph, u, v, heights.as_slice())?;
+    match found {
+        Some(PricedRoute { route, price }) => Ok(Some(Plan {
+            route,
+            price,
+            heights: Listed::from_vec(heights),
+        })),
+        None => Ok(None),
+    }
+}
+
+/// The first of the least routes from `u` to `v`, two different vertices, with its price; none where
+/// no route crosses only edges that have a price.
+///
+/// As `search`, for a call that hands out no heights: it spreads them only as far up as to `u`, so
+/// its time follows the darts that are nearer to `v` than `u` is, and the degrees of both. For the
+/// whole picture it only makes two lists, of a number and of a mark for each dart. An edge is asked
+/// for its price each time that it is needed.
+///
+/// Shortest paths in the dual graph (Dijkstra 1959) from `v`, by buckets of equal height (Dial 1969),
+/// stopped at `u`. Heights that are cut off at any bound are still a certificate, since a minimum
+/// with a constant keeps their inequalities: this is what proves the route, whatever the order in
+/// which darts were taken.
+pub fn first_route<D: Dual, F: Asks>(
+    alloc: Global,
+    dual: &D,
+    tariff: &Tariff<F>,
+    u: u32,
+    v: u32,
+) -> Result<Option<PricedRoute>, AllocError>
+    requires u_there { u < length (D.shows dual.now).rotations }
+    requires v_there { v < length (D.shows dual.now).rotations }
+    requires apart { u ≢ v }
+    ensures { IfOk result (λ found. MatchOption found
+        (HasNoRoute (prices_of (F.answers tariff.now)) (D.shows dual.now) u v)
+        (λ r. IsFirst (prices_of (F.answers tariff.now)) (D.shows dual.now) u v r.route r.price)) }
+{
+    tariff.keeps_promise();
+    let graph = Graph {
+        dual,
+        tariff,
+        prices: Vec::new(alloc),
+    };
+    let heights = heights_for(alloc, &graph, u, v)?;
+    let found = route_by_heights(alloc, &graph, u, v, heights.as_slice())?;
     Ok(found)
 }

@@ -1,11 +1,14 @@
 //! Heights spread from the target over the picture.
 
-ghost use Rattle.std.specs.Prelude.{◌≡◌, ◌≢◌, ◌<◌, ◌≤◌, IfOk, length, slice_index};
+ghost use Rattle.std.specs.Prelude.{◌≡◌, ◌≢◌, ◌<◌, ◌≤◌, ℕ, IfOk, length, slice_index};
 ghost use Rattle.topo_core.specs.Picture.{darts};
 ghost use Rattle.topo_price.specs.Prices.{prices_of};
-ghost use Rattle.topo_route.specs.Plans.{AreHeights, MeetsTarget};
-ghost use Rattle.topo_route.specs.Settling.{ArePrices, IsCrossed, IsReached, Spreads, effort};
+ghost use Rattle.topo_core.specs.Routes.{unreached};
+ghost use Rattle.topo_route.specs.Descents.{AreHeightsFor, HasCornerBelow};
+ghost use Rattle.topo_route.specs.Plans.{AreHeights, HasOneEach, MeetsTarget};
+ghost use Rattle.topo_route.specs.Settling.{AreLowered, ArePrices, IsCrossed, IsReached, Spreads, effort};
 
+use crate::descent::least_corner;
 use crate::dual::Dual;
 use crate::faces::{across, corner_at, next_along};
 use crate::graph::Graph;
@@ -13,29 +16,35 @@ use crate::waiting::Waiting;
 use std::alloc::{AllocError, Global};
 use topo_price::tariff::Asks;
 
-/// Crosses a dart backwards: its twin reaches the target over it. A lower height waits.
+/// Crosses a dart backwards: its twin reaches the target over it. A height that this lowers, and
+/// brings below the bound, waits. The price is not asked where not even 1 would do so.
 fn cross_back<D: Dual, F: Asks>(
     graph: &Graph<D, F>,
     heights: &mut [u64],
     waiting: &mut Waiting,
     v: u32,
+    bound: u64,
     dart: u32,
 ) -> Result<(), AllocError>
     requires right { ArePrices (prices_of (F.answers graph.now.tariff.now)) (D.shows graph.now.dual.now) graph.now.prices.items }
-    requires spreads { Spreads (prices_of (F.answers graph.now.tariff.now)) (D.shows graph.now.dual.now) v heights.old waiting.old dart }
+    requires spreads { Spreads (prices_of (F.answers graph.now.tariff.now)) (D.shows graph.now.dual.now) v bound heights.old waiting.old dart }
     requires in_hand { IsReached (D.shows graph.now.dual.now) heights.old dart }
-    ensures spreads { IfOk result (λ _. Spreads (prices_of (F.answers graph.now.tariff.now)) (D.shows graph.now.dual.now) v heights.new waiting.new dart) }
-    ensures crossed { IfOk result (λ _. IsCrossed (prices_of (F.answers graph.now.tariff.now)) (D.shows graph.now.dual.now) heights.new dart) }
+    ensures spreads { IfOk result (λ _. Spreads (prices_of (F.answers graph.now.tariff.now)) (D.shows graph.now.dual.now) v bound heights.new waiting.new dart) }
+    ensures crossed { IfOk result (λ _. IsCrossed (prices_of (F.answers graph.now.tariff.now)) (D.shows graph.now.dual.now) bound heights.new dart) }
     ensures same { IfOk result (λ _. slice_index heights.new dart ≡ slice_index heights.old dart) }
     ensures falls { IfOk result (λ _. effort heights.new waiting.new ≤ effort heights.old waiting.old) }
-    ensures target { IfOk result (λ _. MeetsTarget (D.shows graph.now.dual.now) v heights.old → MeetsTarget (D.shows graph.now.dual.now) v heights.new) }
+    ensures lower { IfOk result (λ _. AreLowered heights.old heights.new) }
 {
     let other = across(graph.dual, dart);
+    let height = heights[dart as usize];
+    let high = heights[other as usize].min(bound);
+    if high.saturating_sub(height) <= 1 {
+        return Ok(());
+    }
     match graph.price(dart) {
         Some(price) => {
             let price = price as u64;
-            let height = heights[dart as usize];
-            if height < heights[other as usize].saturating_sub(price) {
+            if height < high.saturating_sub(price) {
                 heights[other as usize] = height + price;
                 waiting.push(height + price, other)?;
             }
@@ -46,24 +55,28 @@ fn cross_back<D: Dual, F: Asks>(
 }
 
 /// Spreads the height of one dart round its face and over the segments along it, as far as it lowers
-/// what is there.
+/// what is there. Nothing spreads from a dart that is not below the bound.
 fn spread_one<D: Dual, F: Asks>(
     graph: &Graph<D, F>,
     heights: &mut [u64],
     waiting: &mut Waiting,
     v: u32,
+    bound: u64,
     dart: u32,
 ) -> Result<(), AllocError>
     requires right { ArePrices (prices_of (F.answers graph.now.tariff.now)) (D.shows graph.now.dual.now) graph.now.prices.items }
-    requires spreads { Spreads (prices_of (F.answers graph.now.tariff.now)) (D.shows graph.now.dual.now) v heights.old waiting.old dart }
+    requires spreads { Spreads (prices_of (F.answers graph.now.tariff.now)) (D.shows graph.now.dual.now) v bound heights.old waiting.old dart }
     requires in_hand { IsReached (D.shows graph.now.dual.now) heights.old dart }
-    ensures spreads { IfOk result (λ _. Spreads (prices_of (F.answers graph.now.tariff.now)) (D.shows graph.now.dual.now) v heights.new waiting.new (length (darts (D.shows graph.now.dual.now)))) }
+    ensures spreads { IfOk result (λ _. Spreads (prices_of (F.answers graph.now.tariff.now)) (D.shows graph.now.dual.now) v bound heights.new waiting.new (length (darts (D.shows graph.now.dual.now)))) }
     ensures falls { IfOk result (λ _. effort heights.new waiting.new ≤ effort heights.old waiting.old) }
-    ensures target { IfOk result (λ _. MeetsTarget (D.shows graph.now.dual.now) v heights.old → MeetsTarget (D.shows graph.now.dual.now) v heights.new) }
+    ensures lower { IfOk result (λ _. AreLowered heights.old heights.new) }
 {
+    if heights[dart as usize] >= bound {
+        return Ok(());
+    }
     let mut at = dart;
     loop {
-        cross_back(graph, heights, waiting, v, at)?;
+        cross_back(graph, heights, waiting, v, bound, at)?;
         let next = next_along(graph.dual, at);
         let height = heights[at as usize];
         if heights[next as usize] <= height {
@@ -82,13 +95,53 @@ fn spread_all<D: Dual, F: Asks>(
     v: u32,
 ) -> Result<(), AllocError>
     requires right { ArePrices (prices_of (F.answers graph.now.tariff.now)) (D.shows graph.now.dual.now) graph.now.prices.items }
-    requires spreads { Spreads (prices_of (F.answers graph.now.tariff.now)) (D.shows graph.now.dual.now) v heights.old waiting.old (length (darts (D.shows graph.now.dual.now))) }
+    requires spreads { Spreads (prices_of (F.answers graph.now.tariff.now)) (D.shows graph.now.dual.now) v unreached heights.old waiting.old (length (darts (D.shows graph.now.dual.now))) }
     requires target { MeetsTarget (D.shows graph.now.dual.now) v heights.old }
     requires some { 0 < length (darts (D.shows graph.now.dual.now)) }
-    ensures { IfOk result (λ _. AreHeights (prices_of (F.answers graph.now.tariff.now)) (D.shows graph.now.dual.now) v heights.new) }
+    ensures are_heights { IfOk result (λ _. AreHeights (prices_of (F.answers graph.now.tariff.now)) (D.shows graph.now.dual.now) v heights.new) }
+    ensures in_range { IfOk result (λ _. (k : ℕ) → slice_index heights.new k ≤ unreached) }
 {
     while let Some(dart) = waiting.pop() {
-        spread_one(graph, heights, waiting, v, dart)?;
+        spread_one(graph, heights, waiting, v, u64::MAX, dart)?;
+    }
+    let _darts = graph.dual.len();
+    Ok(())
+}
+
+/// A bound above the heights that routes from `u` come through: one more than the least of a corner.
+fn bound_at<D: Dual>(dual: &D, u: u32, heights: &[u64]) -> u64
+    requires { HasOneEach (D.shows dual.now) heights.now }
+    ensures { result ≢ unreached → HasCornerBelow (D.shows dual.now) u heights.now result }
+{
+    least_corner(dual, u, heights).saturating_add(1)
+}
+
+/// Spreads the heights of those that wait, as far up as routes from `u` come. Once a corner of `u` is
+/// reached, nothing spreads any more from darts that are higher than it. Its corners are looked at
+/// once in as many steps as it has corners, so looking costs no more than the steps do.
+fn spread_up_to<D: Dual, F: Asks>(
+    graph: &Graph<D, F>,
+    heights: &mut [u64],
+    waiting: &mut Waiting,
+    u: u32,
+    v: u32,
+) -> Result<(), AllocError>
+    requires right { ArePrices (prices_of (F.answers graph.now.tariff.now)) (D.shows graph.now.dual.now) graph.now.prices.items }
+    requires spreads { Spreads (prices_of (F.answers graph.now.tariff.now)) (D.shows graph.now.dual.now) v unreached heights.old waiting.old (length (darts (D.shows graph.now.dual.now))) }
+    requires target { MeetsTarget (D.shows graph.now.dual.now) v heights.old }
+    requires some { 0 < length (darts (D.shows graph.now.dual.now)) }
+    ensures { IfOk result (λ _. AreHeightsFor (prices_of (F.answers graph.now.tariff.now)) (D.shows graph.now.dual.now) u v heights.new) }
+{
+    let mut bound = u64::MAX;
+    let mut steps = 0;
+    while let Some(dart) = waiting.pop() {
+        spread_one(graph, heights, waiting, v, bound, dart)?;
+        if steps == 0 {
+            bound = bound.min(bound_at(graph.dual, u, heights));
+            steps = graph.dual.degree(u);
+        } else {
+            steps -= 1;
+        }
     }
     let _darts = graph.dual.len();
     Ok(())
@@ -101,8 +154,8 @@ fn start_at<D: Dual, F: Asks>(
     waiting: &mut Waiting,
     v: u32,
 ) -> Result<(), AllocError>
-    requires spreads { Spreads (prices_of (F.answers graph.now.tariff.now)) (D.shows graph.now.dual.now) v heights.old waiting.old (length (darts (D.shows graph.now.dual.now))) }
-    ensures spreads { IfOk result (λ _. Spreads (prices_of (F.answers graph.now.tariff.now)) (D.shows graph.now.dual.now) v heights.new waiting.new (length (darts (D.shows graph.now.dual.now)))) }
+    requires spreads { Spreads (prices_of (F.answers graph.now.tariff.now)) (D.shows graph.now.dual.now) v unreached heights.old waiting.old (length (darts (D.shows graph.now.dual.now))) }
+    ensures spreads { IfOk result (λ _. Spreads (prices_of (F.answers graph.now.tariff.now)) (D.shows graph.now.dual.now) v unreached heights.new waiting.new (length (darts (D.shows graph.now.dual.now)))) }
     ensures target { IfOk result (λ _. MeetsTarget (D.shows graph.now.dual.now) v heights.new) }
 {
     for position in 0..graph.dual.degree(v) {
@@ -124,11 +177,33 @@ pub(crate) fn least_heights<D: Dual, F: Asks>(
 ) -> Result<Vec<u64>, AllocError>
     requires right { ArePrices (prices_of (F.answers graph.now.tariff.now)) (D.shows graph.now.dual.now) graph.now.prices.items }
     requires some { 0 < length (darts (D.shows graph.now.dual.now)) }
-    ensures { IfOk result (λ heights. AreHeights (prices_of (F.answers graph.now.tariff.now)) (D.shows graph.now.dual.now) v heights.items) }
+    ensures are_heights { IfOk result (λ heights. AreHeights (prices_of (F.answers graph.now.tariff.now)) (D.shows graph.now.dual.now) v heights.items) }
+    ensures in_range { IfOk result (λ heights. (k : ℕ) → slice_index heights.items k ≤ unreached) }
 {
     let mut heights = vec![in alloc; u64::MAX; graph.dual.len() as usize]?;
     let mut waiting = Waiting::new(alloc, graph.dual.len() as usize)?;
     start_at(graph, heights.as_mut_slice(), &mut waiting, v)?;
     spread_all(graph, heights.as_mut_slice(), &mut waiting, v)?;
+    Ok(heights)
+}
+
+/// How many darts there is room for before more is asked for: a route to a near end needs few.
+const FEW: usize = 64;
+
+/// The least prices of the darts' faces to a face at the target, as far up as routes from `u` come.
+pub(crate) fn heights_for<D: Dual, F: Asks>(
+    alloc: Global,
+    graph: &Graph<D, F>,
+    u: u32,
+    v: u32,
+) -> Result<Vec<u64>, AllocError>
+    requires right { ArePrices (prices_of (F.answers graph.now.tariff.now)) (D.shows graph.now.dual.now) graph.now.prices.items }
+    requires some { 0 < length (darts (D.shows graph.now.dual.now)) }
+    ensures { IfOk result (λ heights. AreHeightsFor (prices_of (F.answers graph.now.tariff.now)) (D.shows graph.now.dual.now) u v heights.items) }
+{
+    let mut heights = vec![in alloc; u64::MAX; graph.dual.len() as usize]?;
+    let mut waiting = Waiting::new(alloc, FEW)?;
+    start_at(graph, heights.as_mut_slice(), &mut waiting, v)?;
+    spread_up_to(graph, heights.as_mut_slice(), &mut waiting, u, v)?;
     Ok(heights)
 }

@@ -40,7 +40,7 @@ impl Model for Waiting {
 }
 
 impl Waiting {
-    /// With room for as many darts as come to wait if each does so once.
+    /// With room for so many pushes before it asks for more.
     pub(crate) fn new(alloc: Global, room: usize) -> Result<Self, AllocError>
         ensures { IfOk result (λ w. w ≡ []) }
     {

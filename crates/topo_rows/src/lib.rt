@@ -6,11 +6,17 @@ mod changes;
 #[cfg(test)]
 mod checks;
 #[cfg(test)]
+mod cuts;
+#[cfg(test)]
 mod first_path;
+#[cfg(test)]
+mod first_routes;
 #[cfg(test)]
 mod loading;
 #[cfg(test)]
 mod pictures;
+#[cfg(test)]
+mod replays;
 #[cfg(test)]
 mod reports;
 #[cfg(test)]

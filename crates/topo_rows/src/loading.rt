@@ -6,7 +6,8 @@ use topo_core::darts::Sign;
 use topo_core::limits::Limits;
 use topo_core::listed::Listed;
 use topo_core::rows::{CrossRow, EdgeRow, Rows};
-use topo_picture::{LoadFault, Picture};
+use topo_frozen::LoadFault;
+use topo_picture::Picture;
 
 /// A picture as a table: rotations; edges as (id, a, b, kind, path); crossings as (id, crossed,
 /// newcomer, left to right); the next ids.

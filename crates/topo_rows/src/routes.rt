@@ -13,7 +13,8 @@ use topo_core::ids::{CrossId, EdgeId, VertexId};
 use topo_core::listed::Listed;
 use topo_core::routes::Route;
 use topo_core::rows::Facts;
-use topo_picture::{Frozen, Picture};
+use topo_frozen::Frozen;
+use topo_picture::Picture;
 use topo_price::asked::Asked;
 use topo_price::table::PriceTable;
 use topo_price::tariff::{Asks, Tariff};
@@ -113,20 +114,20 @@ pub(crate) fn dart(edge: u32, seg: u32, way: Way) -> Dart {
 
 /// A picture with prices of kinds, and from where to where.
 #[derive(Drop)]
-struct Question {
-    table: Table,
-    rest: Option<u32>,
-    entries: &'static [(usize, Option<u32>)],
-    ends: (u32, u32),
+pub(crate) struct Question {
+    pub table: Table,
+    pub rest: Option<u32>,
+    pub entries: &'static [(usize, Option<u32>)],
+    pub ends: (u32, u32),
 }
 
 /// A route with its price: a start, the crossed darts, an end.
 #[derive(Drop)]
-struct Answer {
-    start: u32,
-    crossed: &'static [(u32, u32, Way)],
-    end: u32,
-    price: u64,
+pub(crate) struct Answer {
+    pub start: u32,
+    pub crossed: &'static [(u32, u32, Way)],
+    pub end: u32,
+    pub price: u64,
 }
 
 /// Prices 5, 2 and 9 for the edges of the triangle.
@@ -141,9 +142,9 @@ const SECOND_DEAR: &[(usize, Option<u32>)] = &[(1, Some(5)), (2, Some(1000)), (3
 
 pub(crate) const SECOND_CLOSED: &[(usize, Option<u32>)] = &[(1, Some(5)), (2, None), (3, Some(9))];
 
-const APEXES: (u32, u32) = (3, 4);
+pub(crate) const APEXES: (u32, u32) = (3, 4);
 
-const ROUTES: &[(Question, Answer)] = &[
+pub(crate) const ROUTES: &[(Question, Answer)] = &[
     // the cheapest edge of the triangle, from the corner before edge 5
     (
         Question {
@@ -317,7 +318,7 @@ fn no_route_where_the_triangle_is_closed(rt: HostRuntime) -> Result<(), Fail> {
 }
 
 /// Four edges side by side.
-const PARALLEL: Table = Table {
+pub(crate) const PARALLEL: Table = Table {
     rotations: &[&[0, 1, 2, 3], &[0, 3, 2, 1]],
     edges: &[
         (0, 0, 1, 0, &[]),

@@ -3,16 +3,23 @@
 ghost use Rattle.topo_price.specs.Prices.{IsPromise};
 
 use crate::changes::{book_of, is_loaded_again, made, same_rows};
+use crate::cuts::falls_apart;
 use crate::loading::SEED;
+use crate::replays::printed;
 use crate::routes::table_of;
 use std::alloc::Global;
 use std::process::Abort;
 use std::test::Fail;
 use topo_book::{Book, replay};
 use topo_core::calls::{Call, Entry, Refusal, Reply};
+use topo_core::listed::Listed;
 use topo_core::rows::{Facts, Rows};
 use topo_picture::Picture;
 use topo_price::tariff::Asks;
+use topo_script::{LimitRows, Report, report};
+
+/// The prices of kinds 0 to 3, which are those that the calls have.
+const PRICES: [Option<u32>; 4] = [Some(1), Some(5), Some(2), None];
 
 /// The numbers of a linear congruence modulo 2^32.
 #[derive(Drop)]
@@ -70,8 +77,20 @@ fn is_taken_back(alloc: Global, picture: &Picture, edge: u32, before: Rows) -> R
     Ok(deleted && same_rows(&left, &wanted))
 }
 
-/// Whether the picture is what the reply says, where that is seen without knowing the routes.
-fn is_meant(alloc: Global, picture: &Picture, reply: &Reply, before: Rows) -> Result<bool, Fail> {
+/// Whether the picture is what the reply says, where that is seen without knowing the routes. A cut is
+/// an edge without which the rows are not connected.
+fn is_meant(
+    alloc: Global,
+    picture: &Picture,
+    call: Call,
+    reply: &Reply,
+    before: Rows,
+) -> Result<bool, Fail> {
+    if let (Call::Delete { edge }, Reply::Refused(Refusal::Cut(_))) = (call, reply) {
+        if !falls_apart(alloc, &before, edge)? {
+            return Ok(false);
+        }
+    }
     match reply {
         Reply::Inserted(made) => is_taken_back(alloc, picture, made.id.number(), before),
         Reply::Refused(_) => {
@@ -97,7 +116,7 @@ fn go_on<F: Asks>(
         is_loaded_again(alloc, book.picture())?,
         "{call:?}: {reply:?}"
     );
-    let meant = is_meant(alloc, book.picture(), &reply, before)?;
+    let meant = is_meant(alloc, book.picture(), call, &reply, before)?;
     assert!(rt; meant, "{call:?}: {reply:?}");
     Ok(())
 }
@@ -126,7 +145,26 @@ fn count_of(history: &[Entry], sort: u32) -> usize {
         .count()
 }
 
-/// A run of calls on the seed, and its replay.
+/// The text of the report that a book is.
+fn text_of<F: Asks + Drop>(alloc: Global, book: Book<F>) -> Result<String, Fail> {
+    let limits = book.start().limits();
+    let start = book.start().rows(alloc)?;
+    let picture = book.picture().rows(alloc)?;
+    let made = Report {
+        limits: LimitRows {
+            vertices: limits.vertices,
+            edges: limits.edges,
+            crossings: limits.crossings,
+        },
+        prices: Listed::from_vec(Vec::from_slice(alloc, &PRICES)?),
+        start,
+        history: Listed::from_vec(book.into_history()),
+        picture,
+    };
+    Ok(report(alloc, &made)?)
+}
+
+/// A run of calls on the seed, its replay, and the replay of its report.
 fn run<F: Asks + Drop>(
     rt: &impl Abort,
     alloc: Global,
@@ -151,12 +189,17 @@ fn run<F: Asks + Drop>(
         let had = count_of(book.history(), sort);
         assert!(rt; had >= 3, "sort {sort}: {had}");
     }
+    let text = text_of(alloc, book)?;
+    let line = printed(alloc, text.as_bytes())?;
+    let wanted = format!(in alloc; "replayed {calls} calls\n")?;
+    assert!(rt; line.as_str() == wanted.as_str(), "{line}");
     Ok(())
 }
 
 #[test]
 fn a_run_of_generated_calls(rt: HostRuntime) -> Result<(), Fail> {
-    let table = table_of(&rt, Some(1), &[(1, Some(5)), (2, Some(2)), (3, None)]);
+    let entries = [(1, PRICES[1]), (2, PRICES[2]), (3, PRICES[3])];
+    let table = table_of(&rt, PRICES[0], &entries);
     run(
         &rt,
         rt.alloc(),

@@ -4,7 +4,7 @@ use Rattle.topo_core.specs.declared.rows.Rows.{Rows}
 use Rattle.topo_core.specs.declared.calls.Command.{Command}
 use Rattle.topo_core.specs.declared.calls.Entry.{Entry}
 use Rattle.topo_core.specs.History.{IsRun, Replays}
-use Rattle.topo_picture.specs.Shown.{Shown}
+use Rattle.topo_frozen.specs.Shown.{Shown}
 use Rattle.topo_price.specs.Prices.{prices_of}
 use Rattle.topo_cli.proofs.Leading.{run_of_list}
 use Rattle.topo_cli.proofs.scripts.run_script.Goals as goal

@@ -1,24 +1,67 @@
-use Rattle.std.proofs.Common.{◌≡◌, ap, arith, below_more, length, sym, ◌∙◌}
+use Rattle.std.proofs.Common.{◌≡◌, ◌≢◌, ◌≤◌, ◌<◌, ◌+◌, ◌∙◌, arith, false, length, refl, subst, true, ℕ}
 use Rattle.std.proofs.lemmas.Bool.{false≢true}
-use Rattle.topo_core.specs.Cycles.{after, map_of}
-use Rattle.topo_core.specs.Rotations.{face_next, twin}
-use Rattle.topo_perm.proofs.Walks.{face_next-permutation}
-use Rattle.topo_route.proofs.Rounds.{unmet_all, unmet_home}
+use Rattle.topo_core.specs.declared.rows.EdgeRow.{EdgeRow}
+use Rattle.topo_core.specs.Picture.{index_of, segment_count}
+use Rattle.topo_core.specs.Pictures.{forward}
+use Rattle.topo_core.specs.Rotations.{twin}
+use Rattle.topo_core.proofs.SystemDarts.{edge_at_row}
+use Rattle.topo_frozen.specs.Placed.{placed_dart}
+use Rattle.topo_picture.proofs.Cutting.{apart, first_placed, home, met, never, Walks, walks_more, walks_none}
 use Rattle.topo_picture.proofs.cuts.has_one_face.Goals as goal
 
--- back at the dart, and the other one was not on the way
-pub returns-then-at-dart : goal.returns-then-at-dart
-returns-then-at-dart c =
-    let f = face_next (map_of c.args.images.now) in
-    let i = c.loop-steps._steps in
-    let place = c.loop-steps.invariant.place in
-    let home : f (after f i c.args.dart) ≡ c.args.dart = ap f (sym place) ∙ sym c.next_along-at.ensures ∙ c.if-at-dart.true in
-    (λ w. absurd (false≢true w), λ s. absurd (unmet_home f c.args.dart (twin c.args.dart) i home (below_more _ _ c.loop-steps.invariant.unmet (λ e. c.if-at-other.false (place ∙ e ∙ sym c.twin_of-other.ensures))) s))
+pub loop-steps-init : goal.loop-steps-init
+loop-steps-init c = λ good row there at_place less. walks_none c.args.rows.now good c.args.e row there c.args.place at_place c.args.segment less
 
--- as many steps as there are darts, and not the other one
+pub returns-then-are_same : goal.returns-then-are_same
+returns-then-are_same c =
+    let edge = c.requires.edge in
+    let good = c.requires.well_formed in
+    let less : c.args.segment < segment_count edge.row = (let path = subst (λ (r : EdgeRow). c.args.segment ≤ length r.crossings) (edge_at_row c.args.rows.now c.args.e edge.row edge.known) c.requires.path in omega arith) in (
+      λ yes. met c.args.rows.now good c.args.e edge.row edge.known c.args.place edge.there c.args.segment less c.loop-steps.at c.opposite-other.result c.loop-steps._steps (c.loop-steps.invariant good edge.row edge.known edge.there less)
+          (c.opposite-other.ensures.twin c.args.rows.now) (c.are_same.ensures.same c.if-are_same.true),
+      λ one. refl,
+    )
+
+pub next_left-at-requires-clause-placed : goal.next_left-at-requires-clause-placed
+next_left-at-requires-clause-placed c =
+    let edge = c.requires.edge in
+    let good = c.requires.well_formed in
+    let less : c.args.segment < segment_count edge.row = (let path = subst (λ (r : EdgeRow). c.args.segment ≤ length r.crossings) (edge_at_row c.args.rows.now c.args.e edge.row edge.known) c.requires.path in omega arith) in
+    (c.loop-steps.invariant good edge.row edge.known edge.there less).placed
+
+pub next_left-at-requires-clause-left : goal.next_left-at-requires-clause-left
+next_left-at-requires-clause-left c =
+    let edge = c.requires.edge in
+    let good = c.requires.well_formed in
+    let less : c.args.segment < segment_count edge.row = (let path = subst (λ (r : EdgeRow). c.args.segment ≤ length r.crossings) (edge_at_row c.args.rows.now c.args.e edge.row edge.known) c.requires.path in omega arith) in
+    (c.loop-steps.invariant good edge.row edge.known edge.there less).left
+
+pub returns-then-are_same-2 : goal.returns-then-are_same-2
+returns-then-are_same-2 c =
+    let edge = c.requires.edge in
+    let good = c.requires.well_formed in
+    let less : c.args.segment < segment_count edge.row = (let path = subst (λ (r : EdgeRow). c.args.segment ≤ length r.crossings) (edge_at_row c.args.rows.now c.args.e edge.row edge.known) c.requires.path in omega arith) in
+    let walks = c.loop-steps.invariant good edge.row edge.known edge.there less in
+    let unlike = apart c.args.rows.now good c.args.e edge.row edge.known c.args.place edge.there c.args.segment less c.loop-steps.at c.opposite-other.result walks.placed (c.opposite-other.ensures.placed c.args.rows.now (first_placed c.args.rows.now good c.args.e edge.row edge.known c.args.place edge.there c.args.segment less)) (c.opposite-other.ensures.twin c.args.rows.now) (c.are_same.ensures.apart c.if-are_same.false) in (
+      λ yes. absurd (false≢true yes),
+      λ one. absurd (home c.args.rows.now good c.args.e edge.row edge.known c.args.place edge.there c.args.segment less c.next_left-at.result c.loop-steps._steps
+          (walks_more c.args.rows.now good c.args.e edge.row edge.known c.args.place edge.there c.args.segment less c.loop-steps.at c.next_left-at.result c.loop-steps._steps walks unlike c.next_left-at.ensures.placed c.next_left-at.ensures.left c.next_left-at.ensures.next)
+          (c.are_same-in-loop-steps.ensures.same c.if-are_same-2.true) one),
+    )
+
+pub loop-steps-preserved : goal.loop-steps-preserved
+loop-steps-preserved c = λ good row there at_place less.
+    let walks = c.loop-steps.invariant good row there at_place less in
+    let unlike = apart c.args.rows.now good c.args.e row there c.args.place at_place c.args.segment less c.loop-steps.at c.opposite-other.result walks.placed (c.opposite-other.ensures.placed c.args.rows.now (first_placed c.args.rows.now good c.args.e row there c.args.place at_place c.args.segment less)) (c.opposite-other.ensures.twin c.args.rows.now) (c.are_same.ensures.apart c.if-are_same.false) in
+    subst (λ (n : ℕ). Walks c.args.rows.now good c.args.e row there c.args.place at_place c.args.segment less c.next_left-at.result n) (omega arith)
+    (walks_more c.args.rows.now good c.args.e row there c.args.place at_place c.args.segment less c.loop-steps.at c.next_left-at.result c.loop-steps._steps walks unlike c.next_left-at.ensures.placed c.next_left-at.ensures.left c.next_left-at.ensures.next)
+
 pub returns : goal.returns
-returns c = (
-  λ w. absurd (false≢true w),
-  λ s. absurd (unmet_all (face_next (map_of c.args.images.now)) c.args.dart (twin c.args.dart) (length c.args.images.now) (face_next-permutation (map_of c.args.images.now) (length c.args.images.now) c.requires.permutation c.requires.even) c.requires.within
-      (λ j l. c.loop-steps.invariant.unmet j (omega arith)) s),
-)
+returns c =
+    let edge = c.requires.edge in
+    let good = c.requires.well_formed in
+    let less : c.args.segment < segment_count edge.row = (let path = subst (λ (r : EdgeRow). c.args.segment ≤ length r.crossings) (edge_at_row c.args.rows.now c.args.e edge.row edge.known) c.requires.path in omega arith) in (
+      λ yes. absurd (false≢true yes),
+      λ one. absurd (never c.args.rows.now good c.args.e edge.row edge.known c.args.place edge.there c.args.segment less c.loop-steps.at c.loop-steps._steps (c.loop-steps.invariant good edge.row edge.known edge.there less)
+          (let few = c.requires.few in let end = c.loop-steps-test.false in omega arith) one),
+    )

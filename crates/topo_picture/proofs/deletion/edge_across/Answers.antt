@@ -15,8 +15,8 @@ differ m n h = grind (arith, nat_tests)
 
 pub returns-then-row-e : goal.returns-then-row-e
 returns-then-row-e c =
-    sym (across_read c.args.crossings.now c.args.e c.args.x c.place_of_crossing.result no_row true c.requires.rise c.place_of_crossing.ensures.within c.place_of_crossing.ensures.place (eq-eqb _ c.args.e c.if-row-e.true))
+    sym (across_read c.args.crossings.now c.args.e c.args.x c.place_of_crossing.result no_row true c.place_of_crossing.ensures (eq-eqb _ c.args.e c.if-row-e.true))
 
 pub returns-else-row-e : goal.returns-else-row-e
 returns-else-row-e c =
-    sym (across_read c.args.crossings.now c.args.e c.args.x c.place_of_crossing.result no_row false c.requires.rise c.place_of_crossing.ensures.within c.place_of_crossing.ensures.place (differ _ c.args.e c.if-row-e.false))
+    sym (across_read c.args.crossings.now c.args.e c.args.x c.place_of_crossing.result no_row false c.place_of_crossing.ensures (differ _ c.args.e c.if-row-e.false))

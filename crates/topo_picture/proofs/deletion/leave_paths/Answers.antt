@@ -1,7 +1,7 @@
 use Rattle.std.proofs.Common.{ap, refl, sym, subst, ◌∙◌, take, get_or}
 use Rattle.std.specs.Prelude.{map}
-use Rattle.std.specs.List.Sorted.{IsStrictlyIncreasing}
 use Rattle.topo_core.specs.declared.rows.EdgeRow.{EdgeRow}
+use Rattle.topo_frozen.specs.Ids.{IdsRise}
 use Rattle.topo_picture.proofs.Leaving.{crossed_still, got_in, ids_stay, more_out, none_out}
 use Rattle.topo_picture.proofs.deletion.leave_paths.Goals as goal
 
@@ -10,7 +10,7 @@ loop-x-init c = sym (none_out c.args.edges.now.items)
 
 pub leave_path-requires-clause-edges_rise : goal.leave_path-requires-clause-edges_rise
 leave_path-requires-clause-edges_rise c =
-    subst IsStrictlyIncreasing (sym (ap (map (λ (row : EdgeRow). row.id)) c.loop-x.invariant ∙ ids_stay (take c.loop-x.x-index c.args.path.now) c.args.edges.now.items)) c.requires.edges_rise
+    subst IdsRise (sym (ap (map (λ (row : EdgeRow). row.id)) c.loop-x.invariant ∙ ids_stay (take c.loop-x.x-index c.args.path.now) c.args.edges.now.items)) c.requires.edges_rise
 
 pub leave_path-requires-clause-crossed : goal.leave_path-requires-clause-crossed
 leave_path-requires-clause-crossed c =

@@ -4,6 +4,7 @@ use Rattle.topo_price.specs.Prices.{prices_of}
 use Rattle.topo_route.specs.Numbers.{next_of}
 use Rattle.topo_route.proofs.Descending.{FirstSoFar, first_all, first_home, first_step, has_tight, none_so_far}
 use Rattle.topo_route.proofs.Rounds.{after-one}
+use Rattle.topo_route.proofs.Tests.{height_at}
 use Rattle.topo_route.proofs.descent.first_tight.Goals as goal
 
 pub loop-steps-init : goal.loop-steps-init
@@ -26,7 +27,7 @@ returns-then-dart-at g c =
     let home : next_of rows (after (next_of rows) i c.args.at) ≡ c.args.at = ap (next_of rows) (sym place) ∙ sym c.next_along-dart.ensures.next ∙ c.if-dart-at.true in
     first_home price rows lawful c.args.heights.now c.args.at i c.first_of-first.result
     (first_step price rows lawful c.args.heights.now c.args.at i c.loop-steps.first c.loop-steps.dart c.first_of-first.result place c.loop-steps.invariant.within c.loop-steps.invariant.so_far c.first_of-first.ensures)
-    home (has_tight price rows lawful c.args.v c.args.heights.now c.requires.are_heights c.args.at c.requires.within c.requires.reached c.requires.above)
+    home (has_tight price rows lawful c.args.v c.requires.known.bound c.args.heights.now c.requires.known.known c.args.at c.requires.within (omega (arith, height_at rows lawful c.args.heights.now c.args.at c.requires.within, c.requires.known.below)) c.requires.above)
 
 pub loop-steps-preserved : goal.loop-steps-preserved
 loop-steps-preserved g c =
@@ -47,4 +48,4 @@ returns g c =
     let lawful = g.met.D.Dual.lawful c.args.graph.now.dual.now in
     let price = prices_of (g.F.Asks.answers c.args.graph.now.tariff.now) in
     first_all price rows lawful c.args.heights.now c.args.at c.loop-steps._steps c.loop-steps.first (omega arith) c.loop-steps.invariant.so_far c.requires.within
-    (has_tight price rows lawful c.args.v c.args.heights.now c.requires.are_heights c.args.at c.requires.within c.requires.reached c.requires.above)
+    (has_tight price rows lawful c.args.v c.requires.known.bound c.args.heights.now c.requires.known.known c.args.at c.requires.within (omega (arith, height_at rows lawful c.args.heights.now c.args.at c.requires.within, c.requires.known.below)) c.requires.above)

@@ -1,8 +1,31 @@
-use Rattle.topo_route.proofs.Descending.{has_darts}
+use Rattle.std.proofs.Common.{◌∙◌, refl, subst, sym}
+use Rattle.topo_core.specs.Routes.{HasNoRoute}
+use Rattle.std.specs.Prelude.{MatchOption}
+use Rattle.topo_route.specs.Descents.{AreHeightsFor, IsFirstRoute}
+use Rattle.topo_route.specs.Plans.{AreHeights}
+use Rattle.topo_price.specs.Prices.{prices_of}
+use Rattle.topo_route.proofs.Descending.{has_darts, is_plan}
+use Rattle.topo_route.proofs.Known.{for_all}
 use Rattle.topo_route.proofs.search.search.Goals as goal
 
 pub least_heights-requires-clause-some : goal.least_heights-requires-clause-some
 least_heights-requires-clause-some g c = has_darts (g.D.Dual.shows c.args.dual.now) (g.met.D.Dual.lawful c.args.dual.now) c.args.u c.requires.u_there
 
-pub plan_by_heights-requires-clause-some : goal.plan_by_heights-requires-clause-some
-plan_by_heights-requires-clause-some g c = has_darts (g.D.Dual.shows c.args.dual.now) (g.met.D.Dual.lawful c.args.dual.now) c.args.u c.requires.u_there
+pub route_by_heights-requires-clause-some : goal.route_by_heights-requires-clause-some
+route_by_heights-requires-clause-some g c = has_darts (g.D.Dual.shows c.args.dual.now) (g.met.D.Dual.lawful c.args.dual.now) c.args.u c.requires.u_there
+
+pub route_by_heights-requires-clause-known : goal.route_by_heights-requires-clause-known
+route_by_heights-requires-clause-known g c =
+    let rows = g.D.Dual.shows c.args.dual.now in
+    let price = prices_of (g.F.Asks.answers c.args.tariff.now) in
+    subst (AreHeightsFor price rows c.args.u c.args.v) (sym c.as_slice.ensures.value)
+    (for_all price rows (g.met.D.Dual.lawful c.args.dual.now) c.args.u c.args.v c.in_ok-heights.heights.items c.in_ok-heights.ensures.in_range c.in_ok-heights.ensures.are_heights)
+
+pub returns-in-Some : goal.returns-in-Some
+returns-in-Some g c =
+    let rows = g.D.Dual.shows c.args.dual.now in
+    let price = prices_of (g.F.Asks.answers c.args.tariff.now) in
+    let heights = c.as_slice.result.now in
+    let found = subst (λ o. MatchOption o (HasNoRoute price rows c.args.u c.args.v) (IsFirstRoute price rows c.args.u c.args.v heights)) c.in-Some.is c.in_ok-found.ensures in
+    is_plan price rows c.args.u c.args.v heights c.in-Some.field-0 _ (subst (AreHeights price rows c.args.v) (sym c.as_slice.ensures.value) c.in_ok-heights.ensures.are_heights)
+    found refl refl (c.from_vec.ensures ∙ sym c.as_slice.ensures.value)

@@ -1,14 +1,15 @@
 use Rattle.std.proofs.Common.{◌<◌, ◌^◌, ◌∙◌, ◌||◌, Bool, arith, ap, length, eq-eqb, refl}
 use Rattle.topo_core.specs.Picture.{darts}
+use Rattle.topo_core.specs.Routes.{unreached}
 use Rattle.topo_price.specs.Prices.{prices_of}
 use Rattle.topo_route.specs.Settling.{is_waiting}
 use Rattle.topo_route.proofs.Reaching.{are_heights}
-use Rattle.topo_route.proofs.Settled.{all_settled, taken_up}
+use Rattle.topo_route.proofs.Settled.{all_settled, every_settled, taken_up}
 use Rattle.topo_route.proofs.spread.spread_all.Goals as goal
 
 pub spread_one-requires-clause-spreads : goal.spread_one-requires-clause-spreads
 spread_one-requires-clause-spreads g c =
-    taken_up (prices_of (g.F.Asks.answers c.args.graph.now.tariff.now)) (g.D.Dual.shows c.args.graph.now.dual.now) c.args.v c.loop-dart.heights c.loop-dart.waiting c.pop.new.self c.in-Some.dart
+    taken_up (prices_of (g.F.Asks.answers c.args.graph.now.tariff.now)) (g.D.Dual.shows c.args.graph.now.dual.now) c.args.v unreached c.loop-dart.heights c.loop-dart.waiting c.pop.new.self c.in-Some.dart
     c.loop-dart.invariant.spreads c.in-Some.ensures.waits
 
 pub spread_one-requires-clause-in_hand : goal.spread_one-requires-clause-in_hand
@@ -16,10 +17,15 @@ spread_one-requires-clause-in_hand g c =
     let d = c.in-Some.dart in
     c.loop-dart.invariant.spreads.reached_waits d (c.in-Some.ensures.waits d ∙ ap (λ (b : Bool). b || is_waiting c.pop.new.self d) (eq-eqb d d refl))
 
-pub returns : goal.returns
-returns g c =
+pub returns-clause-are_heights : goal.returns-clause-are_heights
+returns-clause-are_heights g c =
     let rows = g.D.Dual.shows c.args.graph.now.dual.now in
     let price = prices_of (g.F.Asks.answers c.args.graph.now.tariff.now) in
     let small : length (darts rows) < 2 ^ 32 = omega (arith, c.len-darts.ensures, c.len-darts.type_inv) in
-    are_heights price rows (g.met.D.Dual.lawful c.args.graph.now.dual.now) c.args.v c.loop-dart.heights (c.requires.right.promise c.requires.some) c.loop-dart.invariant.spreads.costs small
-    c.loop-dart.invariant.target (all_settled price rows c.args.v c.loop-dart.heights c.loop-dart.waiting c.loop-dart.invariant.spreads c.in_default.ensures.waits)
+    let costs = c.loop-dart.invariant.spreads.costs in
+    are_heights price rows (g.met.D.Dual.lawful c.args.graph.now.dual.now) c.args.v unreached c.loop-dart.heights costs.capped c.loop-dart.invariant.target
+    (every_settled price rows c.args.v c.loop-dart.heights costs (all_settled price rows c.args.v unreached c.loop-dart.heights c.loop-dart.waiting c.loop-dart.invariant.spreads c.in_default.ensures.waits))
+    (c.requires.right.promise c.requires.some) costs small
+
+pub returns-clause-in_range : goal.returns-clause-in_range
+returns-clause-in_range g c = c.loop-dart.invariant.spreads.costs.capped

@@ -1,11 +1,10 @@
 use Rattle.std.proofs.Common.{◌≡◌, ◌≢◌, ◌<◌, ◌∙◌, arith, ap, sym, subst, length, get_or}
 use Rattle.std.specs.Prelude.{slice_index}
-use Rattle.topo_core.specs.Picture.{index_of}
 use Rattle.topo_core.specs.Routes.{Reaches, unreached}
 use Rattle.topo_price.specs.Prices.{prices_of}
 use Rattle.topo_route.specs.Numbers.{dart_of, next_of}
 use Rattle.topo_route.proofs.Reaching.{reaches_next}
-use Rattle.topo_route.proofs.Settled.{lowered_there, lowered_less, passed_effort, passed_on, put_down}
+use Rattle.topo_route.proofs.Settled.{lowered_there, lowered_less, passed_effort, passed_on, put_aside, put_down}
 use Rattle.topo_route.proofs.spread.spread_one.Goals as goal
 
 pub returns-then-heights-next-clause-spreads : goal.returns-then-heights-next-clause-spreads
@@ -13,11 +12,16 @@ returns-then-heights-next-clause-spreads g c =
     let rows = g.D.Dual.shows c.args.graph.now.dual.now in
     let hs = c.cross_back.new.heights in
     let step : get_or hs c.next_along-next.result 0 ≡ get_or hs (next_of rows c.loop-next.at) 0 = ap (λ k. get_or hs k 0) c.next_along-next.ensures.next in
-    put_down (prices_of (g.F.Asks.answers c.args.graph.now.tariff.now)) rows c.args.v hs c.cross_back.new.waiting c.loop-next.at c.in_ok-cross_back.ensures.spreads
+    put_down (prices_of (g.F.Asks.answers c.args.graph.now.tariff.now)) rows c.args.v c.args.bound hs c.cross_back.new.waiting c.loop-next.at c.in_ok-cross_back.ensures.spreads
     (omega arith, c.in_ok-cross_back.ensures.crossed)
 
-pub returns-then-heights-next-clause-target : goal.returns-then-heights-next-clause-target
-returns-then-heights-next-clause-target g c meets = c.in_ok-cross_back.ensures.target (c.loop-next.invariant.target meets)
+pub returns-then-heights-next-clause-lower : goal.returns-then-heights-next-clause-lower
+returns-then-heights-next-clause-lower g c k = omega (arith, c.in_ok-cross_back.ensures.lower k, c.loop-next.invariant.lower k)
+
+pub returns-then-heights-dart-clause-spreads : goal.returns-then-heights-dart-clause-spreads
+returns-then-heights-dart-clause-spreads g c =
+    put_aside (prices_of (g.F.Asks.answers c.args.graph.now.tariff.now)) (g.D.Dual.shows c.args.graph.now.dual.now) c.args.v c.args.bound c.args.heights.now c.args.waiting.now c.args.dart c.requires.spreads
+    c.if-heights-dart.true
 
 pub loop-next-preserved : goal.loop-next-preserved
 loop-next-preserved g c =
@@ -36,10 +40,11 @@ loop-next-preserved g c =
     (reaches_next price rows lawful c.args.v d (slice_index hs d) here (spreads.costs.costs d here some)) in
     let less = passed_effort hs c.cross_back.new.waiting t (slice_index hs d) within c.if-heights-next.false in
     record {
-      spreads = passed_on price rows c.args.v hs c.cross_back.new.waiting d t spreads c.next_along-next.ensures.next there c.if-heights-next.false c.in_ok-cross_back.ensures.crossed walk (spreads.costs.bounded d here some);
+      spreads = passed_on price rows c.args.v c.args.bound hs c.cross_back.new.waiting d t spreads c.next_along-next.ensures.next there c.if-heights-next.false c.in_ok-cross_back.ensures.crossed walk (spreads.costs.bounded d here some);
       in_hand = (there, λ e. some (sym (lowered_there hs t (slice_index hs d) within) ∙ e));
       falls = omega (arith, c.in_ok-cross_back.ensures.falls, c.loop-next.invariant.falls);
-      target = λ meets p k at.
-          let was = c.in_ok-cross_back.ensures.target (c.loop-next.invariant.target meets) p k at in
-          let low = lowered_less hs t (slice_index hs d) within (index_of rows k) (omega arith) in omega arith;
+      lower = λ k.
+          let was = c.in_ok-cross_back.ensures.lower k in
+          let low = lowered_less hs t (slice_index hs d) within k (omega arith) in
+          omega (arith, c.loop-next.invariant.lower k);
     }

@@ -1,17 +1,16 @@
 use Rattle.std.proofs.Common.{◌≤◌}
 use Rattle.topo_price.specs.Prices.{prices_of}
-use Rattle.topo_route.specs.Plans.{MeetsTarget}
-use Rattle.topo_route.specs.Settling.{IsReached, Spreads, effort}
+use Rattle.topo_route.specs.Settling.{AreLowered, IsReached, Spreads, effort}
 use Rattle.topo_route.proofs.spread.spread_one.Given as goal
 
 abbrev pub invariant-loop-next : goal.invariant-loop-next
 invariant-loop-next g l =
     let rows = g.D.Dual.shows l.graph.dual.now in
     record {
-      spreads : Spreads (prices_of (g.F.Asks.answers l.graph.tariff.now)) rows l.v l.heights l.waiting l.at;
+      spreads : Spreads (prices_of (g.F.Asks.answers l.graph.tariff.now)) rows l.v l.bound l.heights l.waiting l.at;
       in_hand : IsReached rows l.heights l.at;
       falls : effort l.heights l.waiting ≤ effort l.initial.heights l.initial.waiting;
-      target : MeetsTarget rows l.v l.initial.heights → MeetsTarget rows l.v l.heights;
+      lower : AreLowered l.initial.heights l.heights;
     }
 
 abbrev pub decreases-loop-next : goal.decreases-loop-next

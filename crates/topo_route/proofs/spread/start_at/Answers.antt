@@ -2,6 +2,7 @@ use Rattle.std.proofs.Common.{◌≡◌, ◌<◌, ◌+◌, ◌∙◌, ℕ, List,
 use Rattle.std.proofs.Math.ListN.{set}
 use Rattle.topo_core.specs.declared.darts.Dart.{Dart}
 use Rattle.topo_core.specs.Picture.{corner, darts}
+use Rattle.topo_core.specs.Routes.{unreached}
 use Rattle.topo_price.specs.Prices.{prices_of}
 use Rattle.topo_route.specs.Numbers.{dart_of}
 use Rattle.topo_route.specs.Plans.{height_in}
@@ -19,13 +20,13 @@ loop-position-preserved g c =
     let v = c.args.v in
     let i = c.loop-position.position in
     let Zero = λ (hs : List ℕ). (p : ℕ) (d : Dart) → p < i + 1 → corner rows v p ≡ Some d → height_in rows hs d ≡ 0 in
-    let With = λ (hs : List ℕ) (ws : List ℕ). Spreads price rows v hs ws (length (darts rows)) in
+    let With = λ (hs : List ℕ) (ws : List ℕ). Spreads price rows v unreached hs ws (length (darts rows)) in
     elim c.match-corner_at.branch [
       | in-Some+then-heights-corner-gt0+in_ok-push w ↦
           let k = w.in-Some.corner in
-          let spreads = started price rows lawful v c.loop-position.heights c.loop-position.waiting w.push.new.self (length (darts rows)) i k c.loop-position.invariant.spreads w.in-Some.ensures.0 w.in-Some.ensures.1
+          let spreads = started price rows lawful v unreached c.loop-position.heights c.loop-position.waiting w.push.new.self (length (darts rows)) i k c.loop-position.invariant.spreads w.in-Some.ensures.0 w.in-Some.ensures.1
           w.if-heights-corner-gt0.true w.in_ok-push.ensures.waits in
-          let zero = started_zero price rows lawful v c.loop-position.heights c.loop-position.waiting w.push.new.self (length (darts rows)) i k c.loop-position.invariant.spreads w.in-Some.ensures.0 w.in-Some.ensures.1
+          let zero = started_zero price rows lawful v unreached c.loop-position.heights c.loop-position.waiting w.push.new.self (length (darts rows)) i k c.loop-position.invariant.spreads w.in-Some.ensures.0 w.in-Some.ensures.1
           w.if-heights-corner-gt0.true w.in_ok-push.ensures.waits c.loop-position.invariant.target in
           record {
             spreads = subst (λ hs. With hs c.match-corner_at.waiting) (sym w.heights-is) (subst (With (set c.loop-position.heights k 0)) (sym w.waiting-is) spreads);

@@ -1,6 +1,6 @@
 use Rattle.std.proofs.Common.{ap, sym, subst, ◌∙◌, ◌∷◌, ◌++◌, [], Option}
 use Rattle.std.specs.Arc.{arc_value}
-use Rattle.topo_picture.specs.Shown.{Shown}
+use Rattle.topo_frozen.specs.Shown.{Shown}
 use Rattle.topo_price.specs.Prices.{prices_of}
 use Rattle.topo_book.specs.Books.{BookState, CanFollow, IsBook, picture_after}
 use Rattle.topo_book.proofs.Histories.{book_follows}

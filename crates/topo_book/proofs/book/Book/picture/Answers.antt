@@ -1,6 +1,6 @@
 use Rattle.std.proofs.Common.{subst}
 use Rattle.topo_core.specs.History.{Replays}
-use Rattle.topo_picture.specs.Shown.{IsPicture}
+use Rattle.topo_frozen.specs.Shown.{IsPicture}
 use Rattle.topo_price.specs.Prices.{prices_of}
 use Rattle.topo_book.specs.Books.{BookState}
 use Rattle.topo_book.proofs.Histories.{book_lawful, book_replays}

@@ -1,0 +1,140 @@
+-- Rows found by their ids, where these rise.
+use Rattle.std.proofs.Common.{Err, Ok, Result, take, true, ◌≡◌, ◌<◌, ◌≤◌, ap, arith, get_or, inl, inr, length, List, None, refl, Some, subst, suc, sym, zero, ℕ, ◌∙◌, ◌+◌}
+use Rattle.std.specs.Prelude.{find, map, MatchOption, min, Option, slice_get, slice_index, ◌==◌}
+use Rattle.std.specs.List.{list_all, position_or_len}
+use Rattle.std.specs.List.Sorted.{IsBinarySearchResult, IsNonDecreasingBy, IsSearchInRange, IsStrictlyIncreasing}
+use Rattle.std.specs.Ordering.{nat_cmp, ordering_index}
+use Rattle.std.specs.Result.{result_ok}
+use Rattle.std.proofs.lemmas.Bool.{cases_lt, eqb-true}
+use Rattle.std.proofs.lemmas.Bool.Decides.{nat_tests}
+use Rattle.std.proofs.lemmas.Cmp.{ranked}
+use Rattle.std.proofs.lemmas.List.{get_or-map, get_or-take, length-map, length-take-le}
+use Rattle.std.proofs.lemmas.List.Folds.{find_at}
+use Rattle.std.proofs.lemmas.Option.{get_or_from_slice_get, slice_get-get_or}
+use Rattle.topo_core.specs.declared.rows.CrossRow.{CrossRow}
+use Rattle.topo_core.specs.declared.rows.EdgeRow.{EdgeRow}
+use Rattle.topo_core.specs.declared.rows.Rows.{Rows}
+use Rattle.topo_core.specs.Lawful.{has_good_crossings, has_good_path, has_good_paths, is_good_crossing}
+use Rattle.topo_core.specs.Picture.{edge_row}
+use Rattle.topo_core.proofs.Members.{found, left_true}
+use Rattle.topo_core.proofs.SystemDarts.{get_there}
+use Rattle.topo_frozen.specs.Ids.{IdsRise, IsPlaceOf}
+use Rattle.topo_frozen.proofs.Begins.{AtPlace}
+use Rattle.topo_frozen.proofs.Noting.{place_among}
+use Rattle.topo_frozen.proofs.Rounds.{got_within}
+use Rattle.topo_frozen.proofs.Sorting.{place_is, rises_strictly, rising}
+
+-- numbers that rise count upwards at least
+counts_up : (ids : List ℕ) → IsStrictlyIncreasing ids → (i : ℕ) → i < length ids → i ≤ slice_index ids i
+counts_up ids up zero h = omega arith
+counts_up ids up (suc i) h =
+    let before = counts_up ids up i (omega arith) in
+    let step = up i (omega arith) in
+    let next : i + 1 ≡ suc i = omega arith in
+    let same = ap (slice_index ids) next in omega arith
+
+module _ {X : Type 0} (key : X → ℕ) (xs : List X) (id : ℕ) (rise : IdsRise (map key xs)) where
+  up : IsStrictlyIncreasing (map key xs)
+  up = rises_strictly rise.0 (map key xs) rise.1
+
+  many : length (map key xs) ≡ length xs
+  many = length-map xs key
+
+  key_read : (i : ℕ) (d : X) → i < length xs → slice_index (map key xs) i ≡ key (get_or xs i d)
+  key_read i d h = get_or-map key xs i d 0 h
+
+  -- what has the id stands at its place
+  pub placed_here : (place : ℕ) (x : X) → slice_get xs place ≡ Some x → key x ≡ id → IsPlaceOf xs key id place
+  placed_here place x at named =
+      let inside = got_within xs place x at in
+      let is : slice_index (map key xs) place ≡ id = key_read place x inside ∙ ap key (get_or_from_slice_get xs place x x at) ∙ named in
+      let there : position_or_len (λ row. key row == id) xs ≡ place = sym (place_among key id xs) ∙ place_is (map key xs) place id up (omega (arith, many)) is in
+      record { row = x; within = inside; at = at; named = named; found = find_at (λ row. key row == id) xs ∙ ap (slice_get xs) there ∙ at; first = sym there }
+
+  pub placed_read : (place : ℕ) (d : X) → place < length xs → key (get_or xs place d) ≡ id → IsPlaceOf xs key id place
+  placed_read place d inside named = placed_here place (get_or xs place d) (slice_get-get_or xs place d inside) named
+
+  pub named_read : (place : ℕ) (x d : X) → slice_get xs place ≡ Some x → key x ≡ id → key (get_or xs place d) ≡ id
+  named_read place x d at named = ap key (get_or_from_slice_get xs place x d at) ∙ named
+
+  -- where nothing has the id, it finds nothing
+  pub finds_none : ((i : ℕ) (x : X) → slice_get xs i ≡ Some x → key x ≡ id → ⊥) → find (λ row. key row == id) xs ≡ None
+  finds_none none = by_answer (find (λ row. key row == id) xs) refl where
+    by_answer : (o : Option X) → find (λ row. key row == id) xs ≡ o → find (λ row. key row == id) xs ≡ None
+    by_answer None e = e
+    by_answer (Some x) e = absurd (none (position_or_len (λ row. key row == id) xs) x (sym (find_at (λ row. key row == id) xs) ∙ e) (eqb-true (key x) id (found (λ row. key row == id) x xs e).1))
+
+  -- no row stands above its id
+  place_low : (i : ℕ) (x : X) → slice_get xs i ≡ Some x → key x ≡ id → i ≤ id
+  place_low i x at named =
+      let inside = got_within xs i x at in
+      let count = counts_up (map key xs) up i (omega (arith, many)) in
+      let is : slice_index (map key xs) i ≡ id = key_read i x inside ∙ ap key (get_or_from_slice_get xs i x x at) ∙ named in omega arith
+
+  keys_rise : (i j : ℕ) (d : X) → i ≤ j → j < length xs → key (get_or xs i d) ≤ key (get_or xs j d)
+  keys_rise i j d below inside =
+      let climb = rising (map key xs) up i j 0 below (omega (arith, many)) in
+      let a = key_read i d (omega arith) in
+      let b = key_read j d inside in omega arith
+
+  -- what a search of the first rows answers is the answer, where the row behind them has not the id
+  module _ (most : ℕ) (least : most ≡ min (length xs) id) where
+    pub prefix_length : length (take most xs) ≡ most
+    prefix_length = length-take-le most xs (omega arith)
+
+    read : (i : ℕ) (x : X) → slice_get xs i ≡ Some x → i < most → get_or (take most xs) i x ≡ x
+    read i x at h = get_or-take most xs i x h ∙ get_or_from_slice_get xs i x x at
+
+    index_rises : (a b : ℕ) → a ≤ b → ordering_index (nat_cmp a id) ≤ ordering_index (nat_cmp b id)
+    index_rises a b h = grind (arith, nat_tests)
+
+    compared : IsNonDecreasingBy (λ y. ordering_index (nat_cmp (key y) id)) (take most xs)
+    compared i j d below inside =
+        let few = prefix_length in
+        let first = get_or-take most xs i d (omega arith) in
+        let second = get_or-take most xs j d (omega arith) in
+        let climb = keys_rise i j d below (omega arith) in
+        let a = ap key first in
+        let b = ap key second in
+        index_rises (key (get_or (take most xs) i d)) (key (get_or (take most xs) j d)) (omega arith)
+
+    pub searched_rows : ((x : X) → slice_get xs most ≡ Some x → key x ≡ id → ⊥) → (r : Result ℕ ℕ) → IsSearchInRange r (length (take most xs)) → IsBinarySearchResult (λ y. nat_cmp (key y) id) (take most xs) r
+        → MatchOption (result_ok r) (find (λ row. key row == id) xs ≡ None) (IsPlaceOf xs key id)
+    searched_rows missed (Ok place) bound equal =
+        let few = prefix_length in
+        let x = get_there xs place (omega arith) in
+        placed_here place x.0 x.1 (sym (ap key (read place x.0 x.1 (omega arith))) ∙ ranked _ id _ (sym (equal x.0)))
+    searched_rows missed (Err place) bound parted = finds_none (λ i x at named.
+        let few = prefix_length in
+        let low = place_low i x at named in
+        let inside = got_within xs i x at in
+        elim (cases_lt i most) [
+          | inl below ↦
+              let is : key (get_or (take most xs) i x) ≡ id = ap key (read i x at below) ∙ named in
+              elim (cases_lt i place) [
+                | inl before ↦ (let less : key (get_or (take most xs) i x) < id = ranked _ id _ (sym ((parted compared).0 i x (omega arith) before)) in omega arith)
+                | inr behind ↦ (let more : id < key (get_or (take most xs) i x) = ranked _ id _ (sym ((parted compared).1 i x behind (omega arith))) in omega arith)
+              ]
+          | inr past ↦
+              let same : i ≡ most = omega arith in missed x (sym (ap (slice_get xs) same) ∙ at) named
+        ])
+
+-- ---- Edges and crossings of rows
+
+-- the ids of good paths and of good crossings rise
+pub edges_rise : (rows : Rows) (edges : List EdgeRow) → has_good_paths rows ≡ true → edges ≡ rows.edges → IdsRise (map (λ row. row.id) edges)
+edges_rise rows edges paths same = subst (λ (es : List EdgeRow). IdsRise (map (λ row. row.id) es)) (sym same) (rows.next_edge, left_true _ (list_all (has_good_path rows) rows.edges) paths)
+
+pub crossings_rise : (rows : Rows) (crossings : List CrossRow) → has_good_crossings rows ≡ true → crossings ≡ rows.crossings → IdsRise (map (λ row. row.id) crossings)
+crossings_rise rows crossings good same = subst (λ (cs : List CrossRow). IdsRise (map (λ row. row.id) cs)) (sym same) (rows.next_crossing, left_true _ (list_all (is_good_crossing rows) rows.crossings) good)
+
+-- what is read at the place of an edge
+pub at_edge_place : (rows : Rows) (e place : ℕ) (row : EdgeRow) (edges : List EdgeRow) → edges ≡ rows.edges → IsPlaceOf edges (λ row. row.id) e place → row ≡ get_or edges place row → AtPlace rows e place row
+at_edge_place rows e place row edges same p read =
+    let is : row ≡ p.row = read ∙ get_or_from_slice_get edges place p.row row p.at in record {
+      is_row = ap (λ (es : List EdgeRow). find (λ row. row.id == e) es) (sym same) ∙ p.found ∙ ap Some (sym is);
+      at = ap (λ (es : List EdgeRow). slice_get es place) (sym same) ∙ p.at ∙ ap Some (sym is);
+    }
+
+pub finds_no_edge : (rows : Rows) (e id : ℕ) (edges : List EdgeRow) → id ≡ e → edges ≡ rows.edges → find (λ row. row.id == id) edges ≡ None → edge_row rows e ≡ None
+finds_no_edge rows e id edges is same none = ap (edge_row rows) (sym is) ∙ ap (λ (es : List EdgeRow). find (λ row. row.id == id) es) (sym same) ∙ none

@@ -1,0 +1,15 @@
+pub mod AroundPoints
+pub mod Begins
+pub mod Finding
+pub mod Linking
+pub mod Lookups
+pub mod Noting
+pub mod PairCounts
+pub mod PairTests
+pub mod PlacedNumbers
+pub mod Places
+pub mod Rounds
+pub mod RowCounts
+pub mod Sorting
+pub mod Verdicts
+pub mod Written

@@ -1,0 +1,12 @@
+use Rattle.std.proofs.Common.{arith}
+use Rattle.topo_frozen.specs.Recovering.{well_formed_again}
+use Rattle.topo_frozen.proofs.RowCounts.{degree_most}
+use Rattle.topo_frozen.proofs.Verdicts.{darts_total}
+use Rattle.topo_frozen.proofs.row_dual.RowDualDual.degree.Goals as goal
+
+pub overflow_cast-result : goal.overflow_cast-result
+overflow_cast-result c =
+    let most = degree_most c.self.inside.rows.now (well_formed_again c.self.inside.rows.now c.self.inside.lawful) c.self.invariant.few_vertices c.args.v in
+    let total = darts_total c.self.inside.rows.now.edges in
+    let few = c.self.invariant.few_darts in
+    let is = c.degree.ensures in omega arith

@@ -1,0 +1,7 @@
+pub mod Flats
+pub mod Ids
+pub mod Loading
+pub mod Pairs
+pub mod Placed
+pub mod Recovering
+pub mod Shown

@@ -1,0 +1,271 @@
+//! The flat lists of a well-formed picture: its darts as numbers in canonical order.
+
+ghost use Rattle.std.specs.Prelude.{◌≡◌, ◌+◌, ◌*◌, ◌<◌, ◌≤◌, ◌^◌, ◌++◌, ◌==◌, ℕ, true, IfOk, OnOk, IsTrue, ◌↔◌, find, length, map, flat_map, replicate, sum_by, is_some, slice_index};
+ghost use Rattle.std.specs.List.{list_all};
+ghost use Rattle.topo_core.specs.Lawful.{IsWellFormed, has_good_paths};
+ghost use Rattle.topo_core.specs.Picture.{segment_count, index_of, end_dart, edge_row, darts, rotation, vertices, turn_images};
+ghost use Rattle.topo_frozen.specs.Ids.{IdsRise};
+ghost use Rattle.topo_frozen.specs.Flats.{begins_from, places_from, written, links, note_place, path_notes, notes_from, vertex_round, crossing_round, round_ahead, AreAhead};
+
+use crate::by_id::{place_of_crossing, place_of_edge};
+use std::alloc::{AllocError, Global};
+use topo_core::darts::Sign;
+use topo_core::rows::{CrossRow, EdgeRow, Rows};
+
+/// For each edge the number of its first dart, and last the number of all darts.
+pub fn begins_of(alloc: Global, edges: &[EdgeRow]) -> Result<Vec<u32>, AllocError>
+    requires { 2 * sum_by segment_count edges.now < 2 ^ 32 }
+    ensures { IfOk result (λ begins. begins.items ≡ begins_from 0 edges.now) }
+{
+    let mut begins = Vec::with_capacity(alloc, edges.len())?;
+    let mut next = 0;
+    for row in edges {
+        begins.push(next)?;
+        next += 2 * (row.crossings.as_slice().len() as u32 + 1);
+    }
+    begins.push(next)?;
+    Ok(begins)
+}
+
+/// Puts a number so many times at the end.
+fn push_times(list: &mut Vec<u32>, number: u32, times: usize) -> Result<(), AllocError>
+    ensures { OnOk result (list.new.items ≡ list.old.items ++ replicate times number) }
+{
+    for _ in 0..times {
+        list.push(number)?;
+    }
+    Ok(())
+}
+
+/// For each segment the place of its edge among the edges, from where the darts of each edge begin.
+pub(crate) fn places_of(
+    alloc: Global,
+    edges: &[EdgeRow],
+    begins: &[u32],
+) -> Result<Vec<u32>, AllocError>
+    requires begins { begins.now ≡ begins_from 0 edges.now }
+    requires few { length edges.now < 2 ^ 32 }
+    ensures { IfOk result (λ places. places.items ≡ places_from 0 edges.now) }
+{
+    let mut places = Vec::with_capacity(alloc, (begins[edges.len()] / 2) as usize)?;
+    for place in 0..edges.len() {
+        let segments = (begins[place + 1] - begins[place]) / 2;
+        push_times(&mut places, place as u32, segments as usize)?;
+    }
+    Ok(places)
+}
+
+/// Writes for each entry of a round what follows it.
+fn link_round(images: &mut [u32], round: &[u32])
+    requires { (k : ℕ) → k < length round.now → slice_index round.now k < length images.old }
+    ensures { images.new ≡ written images.old (links round.now) }
+{
+    for i in 0..round.len() {
+        let next = if i + 1 < round.len() {
+            round[i + 1]
+        } else {
+            round[0]
+        };
+        images[round[i] as usize] = next;
+    }
+}
+
+/// Where the dart ahead of crossing `x` on edge `e` is noted.
+fn note_place(crossings: &[CrossRow], e: u32, x: u32) -> usize
+    requires rise { IdsRise (map (λ c. c.id) crossings.now) }
+    requires there { is_some (find (λ c. c.id == x) crossings.now) ≡ true }
+    requires few { length crossings.now < 2 ^ 32 }
+    ensures place { result ≡ note_place crossings.now e x }
+    ensures within { result < 2 * length crossings.now }
+{
+    let place = place_of_crossing(crossings, x);
+    if e == crossings[place].crossed {
+        2 * place
+    } else {
+        2 * place + 1
+    }
+}
+
+/// Notes for each crossing of a path the number of the dart ahead, where the path's first dart has
+/// the number `begin`.
+fn note_path(ahead: &mut [u32], crossings: &[CrossRow], e: u32, begin: u32, path: &[u32])
+    requires rise { IdsRise (map (λ c. c.id) crossings.now) }
+    requires known { list_all (λ x. is_some (find (λ c. c.id == x) crossings.now)) path.now ≡ true }
+    requires few { length crossings.now < 2 ^ 32 }
+    requires fits { begin + 2 * (length path.now + 1) < 2 ^ 32 }
+    requires room { length ahead.old ≡ 2 * length crossings.now }
+    ensures { ahead.new ≡ written ahead.old (path_notes crossings.now e begin path.now) }
+{
+    for s in 0..path.len() {
+        ahead[note_place(crossings, e, path[s])] = begin + 2 * s as u32 + 2;
+    }
+}
+
+/// Notes that for each path.
+fn note_paths(ahead: &mut [u32], crossings: &[CrossRow], edges: &[EdgeRow])
+    requires rise { IdsRise (map (λ c. c.id) crossings.now) }
+    requires known { list_all (λ row. list_all (λ x. is_some (find (λ c. c.id == x) crossings.now)) row.crossings) edges.now ≡ true }
+    requires few { length crossings.now < 2 ^ 32 }
+    requires fits { 2 * sum_by segment_count edges.now < 2 ^ 32 }
+    requires room { length ahead.old ≡ 2 * length crossings.now }
+    ensures { ahead.new ≡ written ahead.old (notes_from crossings.now 0 edges.now) }
+{
+    let mut begin = 0;
+    for row in edges {
+        let path = row.crossings.as_slice();
+        let next = begin + 2 * (path.len() as u32 + 1);
+        note_path(ahead, crossings, row.id, begin, path);
+        begin = next;
+    }
+}
+
+/// For each crossing the numbers of the darts ahead of it, on the crossed edge and on the newcomer.
+fn ahead_of(alloc: Global, rows: &Rows) -> Result<Vec<u32>, AllocError>
+    requires well_formed { IsWellFormed rows.now }
+    requires few { 2 * sum_by segment_count rows.now.edges < 2 ^ 32 }
+    requires crossings { length rows.now.crossings < 2 ^ 32 }
+    ensures { IfOk result (λ ahead. AreAhead rows.now ahead.items) }
+{
+    let crossings = rows.crossings.as_slice();
+    let mut ahead = vec![in alloc; 0; 2 * crossings.len()]?;
+    note_paths(&mut ahead, crossings, rows.edges.as_slice());
+    Ok(ahead)
+}
+
+/// The number of the dart of edge `e` that starts at its end `v`.
+pub(crate) fn end_number(rows: &Rows, begins: &[u32], v: u32, e: u32) -> u32
+    requires paths { has_good_paths rows.now ≡ true }
+    requires begins { begins.now ≡ begins_from 0 rows.now.edges }
+    requires there { is_some (edge_row rows.now e) ≡ true }
+    ensures { result ≡ index_of rows.now (end_dart rows.now v e) }
+{
+    let edges = rows.edges.as_slice();
+    let place = place_of_edge(edges, e);
+    let row = &edges[place];
+    if row.a == v {
+        begins[place]
+    } else {
+        begins[place + 1] - 1
+    }
+}
+
+/// Writes the turns round a vertex.
+fn link_vertex(images: &mut [u32], rows: &Rows, begins: &[u32], v: u32)
+    requires well_formed { IsWellFormed rows.now }
+    requires begins { begins.now ≡ begins_from 0 rows.now.edges }
+    requires vertex { v < length rows.now.rotations }
+    requires room { length images.old ≡ length (darts rows.now) }
+    ensures { images.new ≡ written images.old (links (vertex_round rows.now v)) }
+{
+    let around = rows.rotations.as_slice()[v as usize].as_slice();
+    if around.is_empty() {
+        return;
+    }
+    let first = end_number(rows, begins, v, around[0]);
+    let mut here = first;
+    for i in 1..around.len() {
+        let next = end_number(rows, begins, v, around[i]);
+        images[here as usize] = next;
+        here = next;
+    }
+    images[here as usize] = first;
+}
+
+/// Writes the turns round the vertices.
+fn link_vertices(images: &mut [u32], rows: &Rows, begins: &[u32])
+    requires well_formed { IsWellFormed rows.now }
+    requires begins { begins.now ≡ begins_from 0 rows.now.edges }
+    requires vertices { length rows.now.rotations < 2 ^ 32 }
+    requires room { length images.old ≡ length (darts rows.now) }
+    ensures { images.new ≡ written images.old (flat_map (λ v. links (vertex_round rows.now v)) (vertices rows.now)) }
+{
+    for v in 0..rows.rotations.as_slice().len() {
+        link_vertex(images, rows, begins, v as u32);
+    }
+}
+
+/// Writes the turns round a crossing, from the numbers of the darts ahead of it.
+fn link_crossing(images: &mut [u32], sign: Sign, crossed: u32, newcomer: u32)
+    requires crossed { 0 < crossed }
+    requires newcomer { 0 < newcomer }
+    requires crossed_within { crossed < length images.old }
+    requires newcomer_within { newcomer < length images.old }
+    ensures { images.new ≡ written images.old (links (round_ahead sign crossed newcomer)) }
+{
+    let round = match sign {
+        Sign::LeftToRight => [crossed, newcomer, crossed - 1, newcomer - 1],
+        Sign::RightToLeft => [crossed, newcomer - 1, crossed - 1, newcomer],
+    };
+    link_round(images, &round);
+}
+
+/// Writes the turns round the crossings.
+fn link_crossings(images: &mut [u32], rows: &Rows, ahead: &[u32])
+    requires well_formed { IsWellFormed rows.now }
+    requires crossings { length rows.now.crossings < 2 ^ 32 }
+    requires ahead { AreAhead rows.now ahead.now }
+    requires room { length images.old ≡ length (darts rows.now) }
+    ensures { images.new ≡ written images.old (flat_map (λ x. links (crossing_round rows.now x)) rows.now.crossings) }
+{
+    let crossings = rows.crossings.as_slice();
+    for i in 0..crossings.len() {
+        link_crossing(images, crossings[i].sign, ahead[2 * i], ahead[2 * i + 1]);
+    }
+}
+
+/// Writes the images of the turn.
+fn write_turns(
+    alloc: Global,
+    images: &mut [u32],
+    rows: &Rows,
+    begins: &[u32],
+) -> Result<(), AllocError>
+    requires well_formed { IsWellFormed rows.now }
+    requires begins { begins.now ≡ begins_from 0 rows.now.edges }
+    requires few { 2 * sum_by segment_count rows.now.edges < 2 ^ 32 }
+    requires vertices { length rows.now.rotations < 2 ^ 32 }
+    requires crossings { length rows.now.crossings < 2 ^ 32 }
+    requires room { length images.old ≡ length (darts rows.now) }
+    ensures { OnOk result (images.new ≡ turn_images rows.now) }
+{
+    let ahead = ahead_of(alloc, rows)?;
+    link_vertices(images, rows, begins);
+    link_crossings(images, rows, ahead.as_slice());
+    Ok(())
+}
+
+/// How many darts there are.
+pub(crate) fn dart_count(rows: &Rows, begins: &[u32]) -> usize
+    requires { begins.now ≡ begins_from 0 rows.now.edges }
+    ensures { result ≡ length (darts rows.now) }
+{
+    let last = rows.edges.as_slice().len();
+    begins[last] as usize
+}
+
+/// The images of the turn in canonical numbers, where the darts of the edges begin as said.
+pub fn turns_from(alloc: Global, rows: &Rows, begins: &[u32]) -> Result<Vec<u32>, AllocError>
+    requires well_formed { IsWellFormed rows.now }
+    requires begins { begins.now ≡ begins_from 0 rows.now.edges }
+    requires few { 2 * sum_by segment_count rows.now.edges < 2 ^ 32 }
+    requires vertices { length rows.now.rotations < 2 ^ 32 }
+    requires crossings { length rows.now.crossings < 2 ^ 32 }
+    ensures { IfOk result (λ images. images.items ≡ turn_images rows.now) }
+{
+    let count = dart_count(rows, begins);
+    let mut images = vec![in alloc; 0; count]?;
+    write_turns(alloc, &mut images, rows, begins)?;
+    Ok(images)
+}
+
+/// The images of the turn in canonical numbers.
+pub(crate) fn turns_of(alloc: Global, rows: &Rows) -> Result<Vec<u32>, AllocError>
+    requires well_formed { IsWellFormed rows.now }
+    requires few { 2 * sum_by segment_count rows.now.edges < 2 ^ 32 }
+    requires vertices { length rows.now.rotations < 2 ^ 32 }
+    requires crossings { length rows.now.crossings < 2 ^ 32 }
+    ensures { IfOk result (λ images. images.items ≡ turn_images rows.now) }
+{
+    let begins = begins_of(alloc, rows.edges.as_slice())?;
+    turns_from(alloc, rows, begins.as_slice())
+}

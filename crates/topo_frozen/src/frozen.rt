@@ -1,0 +1,114 @@
+//! Frozen pictures: what a search asks of one.
+
+ghost use Rattle.topo_core.specs.Lawful.{Lawful};
+
+use crate::flat::{begins_of, places_of, turns_from};
+use crate::numbers::{
+    corner_number, dart_numbered, facts_numbered, next_along, number_of, tail_numbered, twin_of,
+};
+use std::alloc::{AllocError, Global};
+use std::marker::Model;
+use topo_core::darts::{Dart, Point};
+use topo_core::rows::{Facts, Rows};
+use topo_route::dual::Dual;
+
+/// A frozen picture: lawful rows with their darts as numbers in flat lists. Contracts see the rows.
+/// The darts are numbered in canonical order: 2i and 2i + 1 are the two of one segment. No question
+/// takes memory; those that look an edge up by its id take at most a binary search, the others none.
+#[derive(Drop)]
+pub struct Frozen {
+    rows: Rows,
+    begins: Vec<u32>,
+    places: Vec<u32>,
+    turns: Vec<u32>,
+    ghost lawful: { ∥ Lawful rows ∥₁ },
+}
+
+impl Model for Frozen {
+    ghost use Rattle.topo_frozen.specs.Flats.{AreListsOf, LawfulRows};
+
+    ghost Value = { LawfulRows };
+
+    ghost view = { λ f. record { rows = f.rows; lawful = f.lawful } };
+
+    ghost invariant = { λ f. AreListsOf f.rows f.begins.items f.places.items f.turns.items };
+}
+
+impl Frozen {
+    ghost use Rattle.std.specs.Prelude.{◌≡◌, ◌*◌, ◌<◌, ◌^◌, IfOk, length, sum_by};
+    ghost use Rattle.topo_core.specs.Lawful.{Lawful};
+    ghost use Rattle.topo_core.specs.Picture.{segment_count};
+
+    /// The frozen picture with these rows, few enough for numbers of 32 bits.
+    pub fn new(alloc: Global, rows: Rows) -> Result<Self, AllocError>
+        requires lawful { Lawful rows }
+        requires few { 2 * sum_by segment_count rows.edges < 2 ^ 32 }
+        requires vertices { length rows.rotations < 2 ^ 32 }
+        requires crossings { length rows.crossings < 2 ^ 32 }
+        ensures { IfOk result (λ f. f.rows ≡ rows) }
+    {
+        let begins = begins_of(alloc, rows.edges.as_slice())?;
+        let places = places_of(alloc, rows.edges.as_slice(), begins.as_slice())?;
+        let turns = turns_from(alloc, &rows, begins.as_slice())?;
+        Ok(Frozen {
+            rows,
+            begins,
+            places,
+            turns,
+        })
+    }
+
+    /// The rows.
+    pub fn rows(&self) -> &Rows
+        ensures rows { result.now ≡ self.now.rows }
+        ensures lawful { Lawful result.now }
+    {
+        &self.rows
+    }
+}
+
+impl Dual for Frozen {
+    ghost use Rattle.topo_frozen.specs.Recovering.{lawful_again};
+
+    ghost shows = { λ f. f.rows };
+
+    fn len(&self) -> u32 {
+        self.turns.as_slice().len() as u32
+    }
+
+    fn next(&self, dart: u32) -> u32 {
+        next_along(self.turns.as_slice(), dart)
+    }
+
+    fn twin(&self, dart: u32) -> u32 {
+        twin_of(dart)
+    }
+
+    fn facts(&self, dart: u32) -> Facts {
+        facts_numbered(&self.rows, self.places.as_slice(), dart)
+    }
+
+    fn tail(&self, dart: u32) -> Point {
+        let begins = self.begins.as_slice();
+        tail_numbered(&self.rows, begins, self.places.as_slice(), dart)
+    }
+
+    fn corner(&self, v: u32, position: u32) -> Option<u32> {
+        corner_number(&self.rows, self.begins.as_slice(), v, position)
+    }
+
+    fn degree(&self, v: u32) -> u32 {
+        self.rows.degree(v) as u32
+    }
+
+    fn dart(&self, index: u32) -> Dart {
+        let begins = self.begins.as_slice();
+        dart_numbered(&self.rows, begins, self.places.as_slice(), index)
+    }
+
+    fn index(&self, dart: Dart) -> Option<u32> {
+        number_of(&self.rows, self.begins.as_slice(), dart)
+    }
+
+    ghost lawful = { λ f. lawful_again f.rows f.lawful };
+}

@@ -1,0 +1,128 @@
+//! Rows that are handed in: the first test that they fail.
+
+use crate::faults::{are_crossings_good, are_paths_good, are_rotations_good, within_limits};
+use crate::flat::turns_of;
+use std::alloc::{AllocError, Global};
+use thiserror::Error;
+use topo_core::limits::Limits;
+use topo_core::listed::Listed;
+use topo_core::rows::Rows;
+use topo_perm::{cycles, is_connected};
+
+/// Why rows are not loaded.
+#[derive(Clone, Copy, Debug, Drop, PartialEq, Eq, Error)]
+pub enum LoadFault {
+    /// There are more vertices than the limit, or a counter is above its limit.
+    #[error("20 TooMany")]
+    TooMany,
+    /// Edge ids do not rise or are not below the next, an end is no vertex, the ends are equal, a
+    /// kind is above 63, or a path names a crossing that is not there.
+    #[error("21 BadPath")]
+    BadPath,
+    /// Crossing ids do not rise or are not below the next, the two edges are equal or not there, or a
+    /// crossing does not stand once in each of their paths and in no other.
+    #[error("22 BadCrossing")]
+    BadCrossing,
+    /// An end does not stand once in its vertex's list, something else stands there, or the list does
+    /// not begin with its least id.
+    #[error("23 BadRotation")]
+    BadRotation,
+    /// A point has no dart, or two darts are not joined.
+    #[error("24 NotConnected")]
+    NotConnected,
+    /// Euler's formula does not give 2.
+    #[error("25 NotPlanar")]
+    NotPlanar,
+    /// A growth of memory was refused.
+    #[error("8 Memory")]
+    Memory,
+}
+
+ghost use Rattle.std.specs.Prelude.{◌≡◌, ◌==◌, ◌+◌, ◌%◌, ◌<◌, ◌≤◌, ◌*◌, ◌^◌, ◌↔◌, IfOk, IsTrue, MatchOption, length, sum_by};
+ghost use Rattle.std.specs.List.{list_any};
+ghost use Rattle.topo_core.specs.Cycles.{IsPermutationList};
+ghost use Rattle.topo_core.specs.Lawful.{HasGenusZero, IsWellFormed};
+ghost use Rattle.topo_core.specs.Picture.{segment_count, system, turn_images};
+ghost use Rattle.topo_core.specs.Rotations.{faces_of};
+ghost use Rattle.topo_core.specs.Systems.{Connected};
+ghost use Rattle.topo_frozen.specs.Loading.{FailsFirst};
+ghost use Rattle.topo_frozen.specs.Shown.{IsPicture};
+
+/// The number of faces of a rotation system: the cycles of the turn after the twin.
+fn faces(alloc: Global, images: &[u32]) -> Result<u64, AllocError>
+    requires permutation { IsPermutationList images.now }
+    requires even { length images.now % 2 ≡ 0 }
+    ensures { IfOk result (λ count. count ≡ faces_of images.now) }
+{
+    let mut nexts = Vec::with_capacity(alloc, images.len())?;
+    for dart in 0..images.len() {
+        let twin = if dart % 2 == 0 { dart + 1 } else { dart - 1 };
+        nexts.push(images[twin])?;
+    }
+    let count = cycles(alloc, &nexts)?;
+    Ok(count)
+}
+
+/// Whether a vertex has no edge.
+fn has_bare_vertex(rotations: &[Listed<u32>]) -> bool
+    ensures { result ≡ list_any (λ around. length around == 0) rotations.now }
+{
+    rotations.iter().any(|around| around.as_slice().is_empty())
+}
+
+/// Whether the rotation system of rows is connected, from the images of its turn.
+fn is_whole(alloc: Global, rows: &Rows, images: &[u32]) -> Result<bool, AllocError>
+    requires well_formed { IsWellFormed rows.now }
+    requires images { images.now ≡ turn_images rows.now }
+    ensures { IfOk result (λ yes. IsTrue yes ↔ Connected (system rows.now)) }
+{
+    if has_bare_vertex(rows.rotations.as_slice()) {
+        return Ok(false);
+    }
+    let joined = is_connected(alloc, images)?;
+    Ok(joined)
+}
+
+/// Whether Euler's formula gives 2.
+fn has_genus_zero(alloc: Global, rows: &Rows, images: &[u32]) -> Result<bool, AllocError>
+    requires well_formed { IsWellFormed rows.now }
+    requires images { images.now ≡ turn_images rows.now }
+    requires few { 2 * sum_by segment_count rows.now.edges < 2 ^ 32 }
+    requires vertices { length rows.now.rotations < 2 ^ 32 }
+    requires crossings { length rows.now.crossings < 2 ^ 32 }
+    ensures { IfOk result (λ yes. IsTrue yes ↔ HasGenusZero rows.now) }
+{
+    let points = rows.rotations.as_slice().len() + rows.crossings.as_slice().len();
+    let segments = images.len() / 2;
+    Ok(faces(alloc, images)? + points as u64 == segments as u64 + 2)
+}
+
+/// The first test that rows fail, if they fail one.
+pub fn first_fault(
+    alloc: Global,
+    limits: &Limits,
+    rows: &Rows,
+) -> Result<Option<LoadFault>, AllocError>
+    ensures { IfOk result (λ found. MatchOption found (IsPicture limits.now rows.now) (FailsFirst limits.now rows.now)) }
+{
+    if !within_limits(limits, rows) {
+        return Ok(Some(LoadFault::TooMany));
+    }
+    if !are_paths_good(alloc, rows)? {
+        return Ok(Some(LoadFault::BadPath));
+    }
+    if !are_crossings_good(alloc, rows)? {
+        return Ok(Some(LoadFault::BadCrossing));
+    }
+    if !are_rotations_good(alloc, rows)? {
+        return Ok(Some(LoadFault::BadRotation));
+    }
+    let images = turns_of(alloc, rows)?;
+    if !is_whole(alloc, rows, &images)? {
+        return Ok(Some(LoadFault::NotConnected));
+    }
+    if !has_genus_zero(alloc, rows, &images)? {
+        return Ok(Some(LoadFault::NotPlanar));
+    }
+    Ok(None)
+}

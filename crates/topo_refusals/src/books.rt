@@ -1,0 +1,174 @@
+//! Calls of a book: each is made once more where it wants memory, and the book is printed.
+
+ghost use Rattle.topo_price.specs.Prices.{IsPromise};
+
+use crate::ready::enter_ready;
+use crate::retry::{again, tell};
+use crate::states::{book_state, compare, picture_state};
+use anyhow::Result;
+use std::alloc::{AllocError, Global};
+use std::sync::Arc;
+use topo_book::Book;
+use topo_core::calls::{Call, Reply};
+use topo_picture::Picture;
+use topo_price::tariff::{Asks, Tariff};
+use topo_route::plan::Plan;
+
+/// Who makes the calls.
+pub(crate) const CALLER: u32 = 3;
+
+/// How a call is made of a book.
+#[derive(Clone, Copy, Debug)]
+pub(crate) enum Step {
+    /// Carried out and entered at once.
+    Made(Call),
+    /// An insertion for which there is a plan.
+    Planned { u: u32, v: u32, kind: u32 },
+    /// Made ready first, and then entered.
+    Ready(Call),
+    /// The same of an insertion for which there is a plan.
+    ReadyPlanned { u: u32, v: u32, kind: u32 },
+}
+
+/// The prices of a closure, to be shared.
+fn shared<R: Eprint + AllocGlobal, F: Asks + Drop>(rt: &R, ask: F) -> Result<Arc<Tariff<F>>>
+    requires callable { F.can_ask ask }
+    requires promise { IsPromise (F.answers ask) }
+{
+    match Arc::new(rt.alloc(), Tariff::new(ask)) {
+        Ok(tariff) => Ok(tariff),
+        Err(failed) => {
+            tell(rt, "bookkeeping");
+            Ok(Arc::new(rt.alloc(), failed.value).map_err(AllocError::from)?)
+        }
+    }
+}
+
+/// The book that begins with a picture.
+pub(crate) fn book_of<R: Print + Eprint + AllocGlobal, F: Asks + Drop>(
+    rt: &R,
+    start: &Picture,
+    ask: F,
+) -> Result<Book<F>>
+    requires callable { F.can_ask ask }
+    requires promise { IsPromise (F.answers ask) }
+{
+    let alloc = rt.alloc();
+    let tariff = shared(rt, ask)?;
+    let before = picture_state(rt, start)?;
+    let copy = again(rt, || start.copy(alloc))?;
+    let book = match Book::new(alloc, copy, Arc::try_clone(&tariff)?) {
+        Ok(book) => book,
+        Err(_) => {
+            tell(rt, "Book::new");
+            let after = picture_state(rt, start)?;
+            compare(rt, "Book::new", before.as_str(), after.as_str())?;
+            Book::new(alloc, start.copy(alloc)?, tariff)?
+        }
+    };
+    let state = book_state(rt, &book)?;
+    println!(rt; "new book:{state}")?;
+    Ok(book)
+}
+
+/// Compares a book with its state before a call that wants memory.
+pub(crate) fn compare_book<R: Print + Eprint + AllocGlobal, F: Asks>(
+    rt: &R,
+    call: &str,
+    before: &str,
+    book: &Book<F>,
+) -> Result<()> {
+    tell(rt, call);
+    let after = book_state(rt, book)?;
+    compare(rt, call, before, after.as_str())?;
+    Ok(())
+}
+
+/// Makes a call.
+fn made<F: Asks>(alloc: Global, book: &mut Book<F>, call: Call) -> Result<Reply, AllocError> {
+    match call {
+        Call::Grow { u, position, kind } => book.grow(alloc, CALLER, u, position, kind),
+        Call::Insert { u, v, kind } => book.insert(alloc, CALLER, u, v, kind),
+        Call::Delete { edge } => book.delete(alloc, CALLER, edge),
+    }
+}
+
+/// What the call of a book is named.
+fn name_of(call: Call) -> &'static str {
+    match call {
+        Call::Grow { .. } => "Book::grow",
+        Call::Insert { .. } => "Book::insert",
+        Call::Delete { .. } => "Book::delete",
+    }
+}
+
+/// A call that is carried out and entered at once.
+fn make<R: Print + Eprint + AllocGlobal, F: Asks>(
+    rt: &R,
+    book: &mut Book<F>,
+    call: Call,
+    before: &str,
+) -> Result<()> {
+    let reply = match made(rt.alloc(), book, call) {
+        Ok(reply) => reply,
+        Err(_) => {
+            compare_book(rt, name_of(call), before, book)?;
+            made(rt.alloc(), book, call)?
+        }
+    };
+    println!(rt; "{call:?}: {reply:?}")?;
+    Ok(())
+}
+
+/// An insertion for which there is a plan.
+fn make_planned<R: Print + Eprint + AllocGlobal, F: Asks>(
+    rt: &R,
+    book: &mut Book<F>,
+    (u, v, kind): (u32, u32, u32),
+    plan: &Plan,
+    before: &str,
+) -> Result<()> {
+    let reply = match book.insert_planned(rt.alloc(), CALLER, u, v, kind, plan) {
+        Ok(reply) => reply,
+        Err(_) => {
+            compare_book(rt, "Book::insert_planned", before, book)?;
+            book.insert_planned(rt.alloc(), CALLER, u, v, kind, plan)?
+        }
+    };
+    println!(rt; "planned insertion {u} {v} {kind}: {reply:?}")?;
+    Ok(())
+}
+
+/// Takes one step of a book in this state.
+fn take_step<R: Print + Eprint + AllocGlobal, F: Asks>(
+    rt: &R,
+    book: &mut Book<F>,
+    plan: &Plan,
+    step: Step,
+    before: &str,
+) -> Result<()> {
+    match step {
+        Step::Made(call) => make(rt, book, call, before),
+        Step::Planned { u, v, kind } => make_planned(rt, book, (u, v, kind), plan, before),
+        Step::Ready(call) => enter_ready(rt, book, call, None, before),
+        Step::ReadyPlanned { u, v, kind } => {
+            enter_ready(rt, book, Call::Insert { u, v, kind }, Some(plan), before)
+        }
+    }
+}
+
+/// Takes one step after the other, and prints the book after each.
+pub(crate) fn take<R: Print + Eprint + AllocGlobal, F: Asks>(
+    rt: &R,
+    book: &mut Book<F>,
+    plan: &Plan,
+    steps: &[Step],
+) -> Result<()> {
+    let mut state = book_state(rt, book)?;
+    for step in steps {
+        take_step(rt, book, plan, *step, state.as_str())?;
+        state = book_state(rt, book)?;
+        println!(rt; "the book:{state}")?;
+    }
+    Ok(())
+}

@@ -1,0 +1,199 @@
+//! Changes of a picture: each is made once more where it wants memory, and the picture is printed.
+
+ghost use Rattle.std.specs.Prelude.{◌≡◌, IfOk, None, OnOk};
+ghost use Rattle.topo_core.specs.Routes.{IsSimpleRoute};
+ghost use Rattle.topo_core.specs.Steps.{insert_refusal};
+ghost use Rattle.topo_price.specs.Prices.{IsPromise};
+
+use crate::prices::table_of;
+use crate::retry::{again, tell};
+use crate::seen::{are_ends, planned};
+use crate::states::{compare, picture_state};
+use anyhow::{Result, bail};
+use std::alloc::{AllocError, Global};
+use topo_core::calls::Refusal;
+use topo_core::rows::Facts;
+use topo_frozen::Frozen;
+use topo_picture::Picture;
+use topo_price::tariff::{Asks, Tariff};
+use topo_route::check::check;
+use topo_route::plan::Plan;
+
+/// Compares a picture with its state before a call that wants memory.
+fn compare_picture<R: Print + Eprint + AllocGlobal>(
+    rt: &R,
+    call: &str,
+    before: &str,
+    picture: &Picture,
+) -> Result<()> {
+    tell(rt, call);
+    let after = picture_state(rt, picture)?;
+    compare(rt, call, before, after.as_str())?;
+    Ok(())
+}
+
+/// A growth.
+fn grow<R: Print + Eprint + AllocGlobal>(
+    rt: &R,
+    picture: &mut Picture,
+    u: u32,
+    position: u32,
+    kind: u32,
+) -> Result<()> {
+    let before = picture_state(rt, picture)?;
+    let mut answer = picture.grow(rt.alloc(), u, position, kind);
+    if matches!(answer, Err(Refusal::Memory)) {
+        compare_picture(rt, "Picture::grow", before.as_str(), picture)?;
+        answer = picture.grow(rt.alloc(), u, position, kind);
+    }
+    let state = picture_state(rt, picture)?;
+    println!(rt; "grow {u} {position} {kind}: {answer:?}{state}")?;
+    Ok(())
+}
+
+/// A deletion.
+fn delete<R: Print + Eprint + AllocGlobal>(rt: &R, picture: &mut Picture, edge: u32) -> Result<()> {
+    let before = picture_state(rt, picture)?;
+    let mut answer = picture.delete(rt.alloc(), edge);
+    if matches!(answer, Err(Refusal::Memory)) {
+        compare_picture(rt, "Picture::delete", before.as_str(), picture)?;
+        answer = picture.delete(rt.alloc(), edge);
+    }
+    let state = picture_state(rt, picture)?;
+    println!(rt; "delete {edge}: {answer:?}{state}")?;
+    Ok(())
+}
+
+/// An insertion along the route of a plan.
+fn apply<R: Print + Eprint + AllocGlobal>(
+    rt: &R,
+    picture: &mut Picture,
+    u: u32,
+    v: u32,
+    plan: &Plan,
+) -> Result<()>
+    requires admitted { insert_refusal picture.old.limits picture.old.rows u v 0 ≡ None }
+    requires simple { IsSimpleRoute picture.old.rows u v plan.now.route }
+{
+    let before = picture_state(rt, picture)?;
+    let answer = match picture.apply(rt.alloc(), u, v, 0, plan) {
+        Err(Refusal::Memory) => {
+            compare_picture(rt, "Picture::apply", before.as_str(), picture)?;
+            picture.apply(rt.alloc(), u, v, 0, plan)
+        }
+        answer => answer,
+    };
+    let state = picture_state(rt, picture)?;
+    println!(rt; "apply {u} {v} 0: {answer:?}{state}")?;
+    Ok(())
+}
+
+/// The frozen picture.
+fn frozen_of<R: Eprint + AllocGlobal>(rt: &R, picture: &Picture) -> Result<Frozen, AllocError>
+    ensures { IfOk result (λ f. f.rows ≡ picture.now.rows) }
+{
+    match picture.freeze(rt.alloc()) {
+        Ok(frozen) => Ok(frozen),
+        Err(_) => {
+            tell(rt, "bookkeeping");
+            picture.freeze(rt.alloc())
+        }
+    }
+}
+
+/// Lets a plan pass whose route is the first.
+fn pass<F: Asks>(frozen: &Frozen, tariff: &Tariff<F>, u: u32, v: u32, plan: &Plan) -> Result<()>
+    ensures { OnOk result (IsSimpleRoute frozen.now.rows u v plan.now.route) }
+{
+    let rows = frozen.rows();
+    if !are_ends(rows, u, v) {
+        bail!("no two vertices");
+    }
+    tariff.keeps_promise();
+    match check(frozen, tariff, u, v, plan) {
+        Ok(()) => Ok(()),
+        Err(fault) => bail!("{fault}"),
+    }
+}
+
+/// An insertion along the first route, which is searched for and checked.
+fn join<R: Print + Eprint + AllocGlobal, F: Asks>(
+    rt: &R,
+    picture: &mut Picture,
+    tariff: &Tariff<F>,
+    u: u32,
+    v: u32,
+) -> Result<()> {
+    let plan = planned(rt, picture, tariff, u, v)?;
+    let frozen = frozen_of(rt, picture)?;
+    pass(&frozen, tariff, u, v, &plan)?;
+    match picture.admit(u, v, 0) {
+        Ok(()) => apply(rt, picture, u, v, &plan),
+        Err(why) => bail!("not admitted: {why:?}"),
+    }
+}
+
+/// An edge from apex to apex is put in and taken out, and a vertex grown.
+fn change_bipyramid<R: Print + Eprint + AllocGlobal, F: Asks>(
+    rt: &R,
+    picture: &mut Picture,
+    tariff: &Tariff<F>,
+) -> Result<()> {
+    join(rt, picture, tariff, 3, 4)?;
+    delete(rt, picture, 9)?;
+    delete(rt, picture, 9)?;
+    grow(rt, picture, 3, 1, 7)?;
+    grow(rt, picture, 3, 9, 7)
+}
+
+/// An edge leaves the triangle across its base and comes back, and is taken out, which the edge across
+/// the base is not.
+fn change_barrier<R: Print + Eprint + AllocGlobal, F: Asks>(
+    rt: &R,
+    picture: &mut Picture,
+    tariff: &Tariff<F>,
+) -> Result<()> {
+    join(rt, picture, tariff, 4, 5)?;
+    delete(rt, picture, 6)?;
+    delete(rt, picture, 3)?;
+    grow(rt, picture, 4, 0, 0)
+}
+
+/// Which changes are made.
+#[derive(Clone, Copy)]
+pub(crate) enum Changes {
+    OfBipyramid,
+    OfBarrier,
+}
+
+/// Changes of a copy with the prices of a closure.
+fn change_with<R: Print + Eprint + AllocGlobal, F: Asks + Drop>(
+    rt: &R,
+    changes: Changes,
+    start: &Picture,
+    ask: F,
+) -> Result<()>
+    requires callable { F.can_ask ask }
+    requires promise { IsPromise (F.answers ask) }
+{
+    let alloc = rt.alloc();
+    let tariff = Tariff::new(ask);
+    let mut picture = again(rt, || start.copy(alloc))?;
+    match changes {
+        Changes::OfBipyramid => change_bipyramid(rt, &mut picture, &tariff),
+        Changes::OfBarrier => change_barrier(rt, &mut picture, &tariff),
+    }
+}
+
+/// Changes of a copy of a picture.
+pub(crate) fn change<R: Print + Eprint + AllocGlobal>(
+    rt: &R,
+    changes: Changes,
+    start: &Picture,
+) -> Result<()> {
+    let table = match changes {
+        Changes::OfBipyramid => table_of([1, 5, 2, 9])?,
+        Changes::OfBarrier => table_of([1, 9, 1, 1])?,
+    };
+    change_with(rt, changes, start, |facts: &Facts| table.price(facts.kind))
+}

@@ -1,0 +1,134 @@
+//! Stories of books on the named pictures.
+
+ghost use Rattle.topo_price.specs.Prices.{IsPromise};
+
+use crate::books::{Step, book_of, take};
+use crate::prices::table_of;
+use crate::replays::replay_from;
+use crate::seen::planned;
+use anyhow::Result;
+use topo_core::calls::Call;
+use topo_core::rows::Facts;
+use topo_picture::Picture;
+use topo_price::tariff::Asks;
+
+/// Prices of the kinds 0 to 3, the ends of a planned edge, and the calls.
+pub(crate) struct Story {
+    prices: [u32; 4],
+    ends: (u32, u32),
+    steps: &'static [Step],
+}
+
+/// From apex to apex: each way to insert, with a plan that passes the check and one that does not.
+pub(crate) const APEXES: Story = Story {
+    prices: [1, 5, 2, 9],
+    ends: (3, 4),
+    steps: &[
+        Step::Made(Call::Insert {
+            u: 3,
+            v: 4,
+            kind: 0,
+        }),
+        Step::Made(Call::Delete { edge: 9 }),
+        Step::Planned {
+            u: 3,
+            v: 4,
+            kind: 0,
+        },
+        Step::Planned {
+            u: 3,
+            v: 4,
+            kind: 0,
+        },
+        Step::Made(Call::Delete { edge: 10 }),
+        Step::Ready(Call::Delete { edge: 11 }),
+        Step::ReadyPlanned {
+            u: 3,
+            v: 4,
+            kind: 0,
+        },
+        Step::Ready(Call::Insert {
+            u: 3,
+            v: 3,
+            kind: 0,
+        }),
+    ],
+};
+
+/// Out across the base of the triangle and back in; the edge across the base is a cut.
+pub(crate) const BASE: Story = Story {
+    prices: [1, 9, 1, 1],
+    ends: (4, 5),
+    steps: &[
+        Step::Ready(Call::Insert {
+            u: 4,
+            v: 5,
+            kind: 0,
+        }),
+        Step::Made(Call::Delete { edge: 6 }),
+        Step::Made(Call::Delete { edge: 3 }),
+        Step::ReadyPlanned {
+            u: 4,
+            v: 5,
+            kind: 0,
+        },
+        Step::Ready(Call::Grow {
+            u: 4,
+            position: 1,
+            kind: 7,
+        }),
+    ],
+};
+
+/// The third chord crosses an edge of the ring. The plan is refused once a vertex has grown.
+pub(crate) const CHORDS: Story = Story {
+    prices: [1; 4],
+    ends: (2, 5),
+    steps: &[
+        Step::Made(Call::Insert {
+            u: 2,
+            v: 5,
+            kind: 0,
+        }),
+        Step::Made(Call::Delete { edge: 8 }),
+        Step::Made(Call::Grow {
+            u: 2,
+            position: 0,
+            kind: 0,
+        }),
+        Step::Made(Call::Delete { edge: 9 }),
+        Step::Planned {
+            u: 2,
+            v: 5,
+            kind: 0,
+        },
+    ],
+};
+
+/// A story with the prices of a closure.
+fn tell_with<R: Print + Eprint + AllocGlobal, F: Asks + Drop>(
+    rt: &R,
+    story: &Story,
+    start: &Picture,
+    ask: F,
+) -> Result<()>
+    requires callable { F.can_ask ask }
+    requires promise { IsPromise (F.answers ask) }
+{
+    let (u, v) = story.ends;
+    let mut book = book_of(rt, start, ask)?;
+    let plan = planned(rt, start, book.tariff(), u, v)?;
+    take(rt, &mut book, &plan, story.steps)?;
+    replay_from(rt, &book, start)?;
+    replay_from(rt, &book, book.picture())
+}
+
+/// A story on a picture.
+pub(crate) fn tell_story<R: Print + Eprint + AllocGlobal>(
+    rt: &R,
+    story: &Story,
+    start: &Picture,
+) -> Result<()> {
+    let table = table_of(story.prices)?;
+    tell_with(rt, story, start, |facts: &Facts| table.price(facts.kind))
+}

@@ -1,0 +1,50 @@
+use Rattle.std.proofs.Common.{subst, ◌<◌, ◌^◌, ◌∙◌, ◌||◌, Bool, arith, ap, length, eq-eqb, inl, inr, refl}
+use Rattle.std.proofs.lemmas.Bool.{cases_eq}
+use Rattle.topo_core.specs.Picture.{darts}
+use Rattle.topo_core.specs.Routes.{unreached}
+use Rattle.topo_price.specs.Prices.{prices_of}
+use Rattle.topo_route.specs.Settling.{IsSettled, is_waiting}
+use Rattle.topo_route.proofs.Known.{corner_least, corner_lower, for_all, for_some, known_below}
+use Rattle.topo_route.proofs.Reaching.{are_heights}
+use Rattle.topo_route.proofs.Settled.{all_settled, every_settled, meets_lower, narrowed, taken_up}
+use Rattle.topo_route.proofs.spread.spread_up_to.Goals as goal
+
+pub spread_one-requires-clause-spreads : goal.spread_one-requires-clause-spreads
+spread_one-requires-clause-spreads g c =
+    taken_up (prices_of (g.F.Asks.answers c.args.graph.now.tariff.now)) (g.D.Dual.shows c.args.graph.now.dual.now) c.args.v c.loop-dart.bound c.loop-dart.heights c.loop-dart.waiting c.pop.new.self c.in-Some.dart
+    c.loop-dart.invariant.spreads c.in-Some.ensures.waits
+
+pub spread_one-requires-clause-in_hand : goal.spread_one-requires-clause-in_hand
+spread_one-requires-clause-in_hand g c =
+    let d = c.in-Some.dart in
+    c.loop-dart.invariant.spreads.reached_waits d (c.in-Some.ensures.waits d ∙ ap (λ (b : Bool). b || is_waiting c.pop.new.self d) (eq-eqb d d refl))
+
+pub loop-dart-preserved-then-steps-eq0 : goal.loop-dart-preserved-then-steps-eq0
+loop-dart-preserved-then-steps-eq0 g c =
+    let rows = g.D.Dual.shows c.args.graph.now.dual.now in
+    let price = prices_of (g.F.Asks.answers c.args.graph.now.tariff.now) in
+    let heights = c.spread_one.new.heights in
+    let lower = c.in_ok-spread_one.ensures.lower in
+    record {
+      spreads = narrowed price rows c.args.v c.loop-dart.bound c.min-bound.result heights c.spread_one.new.waiting (length (darts rows)) c.in_ok-spread_one.ensures.spreads (omega arith);
+      target = meets_lower rows c.args.v c.loop-dart.heights heights lower c.loop-dart.invariant.target;
+      in_range = omega (arith, c.loop-dart.invariant.in_range);
+      corner = corner_least rows c.args.u heights c.loop-dart.bound c.bound_at.result c.min-bound.result (omega arith) (λ some. corner_lower rows c.args.u c.loop-dart.heights heights c.loop-dart.bound lower (c.loop-dart.invariant.corner some)) c.bound_at.ensures;
+    }
+
+pub returns : goal.returns
+returns g c =
+    let rows = g.D.Dual.shows c.args.graph.now.dual.now in
+    let lawful = g.met.D.Dual.lawful c.args.graph.now.dual.now in
+    let price = prices_of (g.F.Asks.answers c.args.graph.now.tariff.now) in
+    let heights = c.loop-dart.heights in
+    let bound = c.loop-dart.bound in
+    let invariant = c.loop-dart.invariant in
+    let costs = invariant.spreads.costs in
+    let settled = all_settled price rows c.args.v bound heights c.loop-dart.waiting invariant.spreads c.in_default.ensures.waits in
+    let small : length (darts rows) < 2 ^ 32 = omega (arith, c.len-darts.ensures, c.len-darts.type_inv) in
+    elim (cases_eq bound unreached) [
+      | inl e ↦ for_all price rows lawful c.args.u c.args.v heights costs.capped (are_heights price rows lawful c.args.v unreached heights costs.capped invariant.target
+          (every_settled price rows c.args.v heights costs (λ k l less. subst (λ b. IsSettled price rows b heights k) e (settled k l (omega arith)))) (c.requires.right.promise c.requires.some) costs small)
+      | inr ne ↦ for_some price rows lawful c.args.u c.args.v heights bound invariant.in_range (known_below price rows lawful c.args.v bound heights invariant.in_range costs invariant.target settled) (invariant.corner ne)
+    ]
