@@ -1,3 +1,4 @@
+pub mod Blank
 pub mod Numbers
 pub mod Rounds
 pub mod Order

@@ -1,5 +1,5 @@
 -- The parts of a search's route.
-use Rattle.std.specs.Prelude.{◌≡◌, ◌≢◌, ℕ, ◌<◌, ◌≤◌, Bool, true, false, List, length, Some, ◌++◌, ◌⊎◌, slice_index, slice_index_or}
+use Rattle.std.specs.Prelude.{◌≡◌, ◌≢◌, ℕ, ◌<◌, ◌≤◌, List, length, Some, ◌++◌, ◌⊎◌, slice_index, slice_index_or}
 use Rattle.topo_core.specs.declared.darts.Dart.{Dart}
 use Rattle.topo_core.specs.declared.rows.Rows.{Rows}
 use Rattle.topo_core.specs.Cycles.{SameCycle}
@@ -86,9 +86,9 @@ IsFirstOf price rows heights first dart result =
     ((result ≡ dart) × (dart < first) × IsTight price rows (height_in rows heights) (dart_of rows dart))
     ⊎ ((result ≡ first) × (dart < first → IsTight price rows (height_in rows heights) (dart_of rows dart) → ⊥))
 
--- the first corner of v whose dart has a mark
-pub record IsMarked (rows : Rows) (v : ℕ) (marks : List Bool) (position : ℕ) : Type 0 where
+-- the first corner of v whose dart is marked by 0
+pub record IsMarked (rows : Rows) (v : ℕ) (marks : List ℕ) (position : ℕ) : Type 0 where
   pub to : Dart
   pub there : corner rows v position ≡ Some to
-  pub marked : slice_index_or marks (index_of rows to) false ≡ true
-  pub first : (p : ℕ) (c : Dart) → p < position → corner rows v p ≡ Some c → slice_index_or marks (index_of rows c) false ≡ false
+  pub marked : slice_index_or marks (index_of rows to) unreached ≡ 0
+  pub first : (p : ℕ) (c : Dart) → p < position → corner rows v p ≡ Some c → slice_index_or marks (index_of rows c) unreached ≢ 0

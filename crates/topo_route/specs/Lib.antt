@@ -3,3 +3,4 @@ pub mod Descents
 pub mod Numbers
 pub mod Plans
 pub mod Settling
+pub mod Sheets

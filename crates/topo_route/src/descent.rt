@@ -16,12 +16,13 @@ ghost use Rattle.topo_route.specs.Settling.{ArePrices};
 use crate::dual::Dual;
 use crate::faces::{across, corner_at, next_along};
 use crate::graph::Graph;
+use crate::sheet::Sheet;
 use std::alloc::{AllocError, Global};
 use topo_core::darts::Dart;
 use topo_price::tariff::Asks;
 
 /// The least height of a corner, and the greatest number where there is none.
-pub(crate) fn least_corner<D: Dual>(dual: &D, u: u32, heights: &[u64]) -> u64
+pub(crate) fn least_corner<D: Dual>(dual: &D, u: u32, heights: &Sheet) -> u64
     requires { HasOneEach (D.shows dual.now) heights.now }
     ensures low { (p : ℕ) → (c : Dart) → corner (D.shows dual.now) u p ≡ Some c → result ≤ height_in (D.shows dual.now) heights.now c }
     ensures attained { result ≢ unreached → IsLeastHeight (D.shows dual.now) u heights.now result }
@@ -29,8 +30,9 @@ pub(crate) fn least_corner<D: Dual>(dual: &D, u: u32, heights: &[u64]) -> u64
     let mut least = u64::MAX;
     for position in 0..dual.degree(u) {
         if let Some(corner) = corner_at(dual, u, position) {
-            if heights[corner as usize] < least {
-                least = heights[corner as usize];
+            let height = heights.get(corner);
+            if height < least {
+                least = height;
             }
         }
     }
@@ -38,7 +40,7 @@ pub(crate) fn least_corner<D: Dual>(dual: &D, u: u32, heights: &[u64]) -> u64
 }
 
 /// The first corner of this height: its position and its dart.
-fn corner_of_height<D: Dual>(dual: &D, u: u32, heights: &[u64], height: u64) -> Option<(u32, u32)>
+fn corner_of_height<D: Dual>(dual: &D, u: u32, heights: &Sheet, height: u64) -> Option<(u32, u32)>
     requires { HasOneEach (D.shows dual.now) heights.now }
     ensures { MatchOption result ((p : ℕ) → (c : Dart) → corner (D.shows dual.now) u p ≡ Some c → height_in (D.shows dual.now) heights.now c ≢ height)
         (λ r. (r.1 < length (darts (D.shows dual.now))) × (corner (D.shows dual.now) u r.0 ≡ Some (dart_of (D.shows dual.now) r.1))
@@ -46,7 +48,7 @@ fn corner_of_height<D: Dual>(dual: &D, u: u32, heights: &[u64], height: u64) -> 
 {
     for position in 0..dual.degree(u) {
         if let Some(corner) = corner_at(dual, u, position) {
-            if heights[corner as usize] == height {
+            if heights.get(corner) == height {
                 return Some((position, corner));
             }
         }
@@ -55,28 +57,30 @@ fn corner_of_height<D: Dual>(dual: &D, u: u32, heights: &[u64], height: u64) -> 
 }
 
 /// The first corner with the least height of all, if one is reached: its position and its dart.
-pub(crate) fn start_corner<D: Dual>(dual: &D, u: u32, heights: &[u64]) -> Option<(u32, u32)>
+pub(crate) fn start_corner<D: Dual>(dual: &D, u: u32, heights: &Sheet) -> Option<(u32, u32)>
     requires { HasOneEach (D.shows dual.now) heights.now }
     ensures { MatchOption result (HasNoStart (D.shows dual.now) u heights.now) (λ r. IsStart (D.shows dual.now) u heights.now r.0 r.1) }
 {
     let least = least_corner(dual, u, heights);
     if least == u64::MAX {
+        heights.in_range();
         return None;
     }
     corner_of_height(dual, u, heights, least)
 }
 
-/// Marks the darts of the face of `last`.
-fn mark_face<D: Dual>(dual: &D, last: u32, marks: &mut [bool])
+/// Marks the darts of the face of `last` by 0.
+fn mark_face<D: Dual>(dual: &D, last: u32, marks: &mut Sheet)
     requires within { last < length (darts (D.shows dual.now)) }
     requires as_many { length marks.old ≡ length (darts (D.shows dual.now)) }
-    requires none { (k : ℕ) → slice_index_or marks.old k false ≡ false }
-    ensures sound { (k : ℕ) → slice_index_or marks.new k false ≡ true → SameCycle (next_of (D.shows dual.now)) last k }
-    ensures complete { (k : ℕ) → SameCycle (next_of (D.shows dual.now)) last k → slice_index_or marks.new k false ≡ true }
+    requires none { (k : ℕ) → slice_index_or marks.old k unreached ≢ 0 }
+    ensures as_many { length marks.new ≡ length (darts (D.shows dual.now)) }
+    ensures sound { (k : ℕ) → slice_index_or marks.new k unreached ≡ 0 → SameCycle (next_of (D.shows dual.now)) last k }
+    ensures complete { (k : ℕ) → SameCycle (next_of (D.shows dual.now)) last k → slice_index_or marks.new k unreached ≡ 0 }
 {
     let mut at = last;
     for _steps in 0..dual.len() {
-        marks[at as usize] = true;
+        marks.set(at, 0);
         at = next_along(dual, at);
         if at == last {
             return;
@@ -85,14 +89,14 @@ fn mark_face<D: Dual>(dual: &D, last: u32, marks: &mut [bool])
 }
 
 /// The first corner with a mark.
-fn marked_corner<D: Dual>(dual: &D, v: u32, marks: &[bool]) -> Option<u32>
+fn marked_corner<D: Dual>(dual: &D, v: u32, marks: &Sheet) -> Option<u32>
     requires { length marks.now ≡ length (darts (D.shows dual.now)) }
-    ensures { MatchOption result ((p : ℕ) → (c : Dart) → corner (D.shows dual.now) v p ≡ Some c → slice_index_or marks.now (index_of (D.shows dual.now) c) false ≡ false)
+    ensures { MatchOption result ((p : ℕ) → (c : Dart) → corner (D.shows dual.now) v p ≡ Some c → slice_index_or marks.now (index_of (D.shows dual.now) c) unreached ≢ 0)
         (IsMarked (D.shows dual.now) v marks.now) }
 {
     for position in 0..dual.degree(v) {
         if let Some(corner) = corner_at(dual, v, position) {
-            if marks[corner as usize] {
+            if marks.get(corner) == 0 {
                 return Some(position);
             }
         }
@@ -100,11 +104,11 @@ fn marked_corner<D: Dual>(dual: &D, v: u32, marks: &[bool]) -> Option<u32>
     None
 }
 
-/// The first corner in the face of `last`, by marks that are all unset.
-fn corner_by_marks<D: Dual>(dual: &D, v: u32, last: u32, marks: &mut [bool]) -> Option<u32>
+/// The first corner in the face of `last`, by marks of which none is set.
+fn corner_by_marks<D: Dual>(dual: &D, v: u32, last: u32, marks: &mut Sheet) -> Option<u32>
     requires within { last < length (darts (D.shows dual.now)) }
     requires as_many { length marks.old ≡ length (darts (D.shows dual.now)) }
-    requires none { (k : ℕ) → slice_index_or marks.old k false ≡ false }
+    requires none { (k : ℕ) → slice_index_or marks.old k unreached ≢ 0 }
     ensures { MatchOption result ((p : ℕ) → (c : Dart) → corner (D.shows dual.now) v p ≡ Some c → SameFace (system (D.shows dual.now)) (dart_of (D.shows dual.now) last) c → ⊥)
         (IsEnd (D.shows dual.now) v last) }
 {
@@ -114,29 +118,29 @@ fn corner_by_marks<D: Dual>(dual: &D, v: u32, last: u32, marks: &mut [bool]) -> 
 
 /// The first corner in the face of `last`.
 pub(crate) fn end_corner<D: Dual>(
-    alloc: Global,
     dual: &D,
     v: u32,
     last: u32,
+    marks: &mut Sheet,
 ) -> Result<Option<u32>, AllocError>
     requires { last < length (darts (D.shows dual.now)) }
     ensures { IfOk result (λ found.
         MatchOption found ((p : ℕ) → (c : Dart) → corner (D.shows dual.now) v p ≡ Some c → SameFace (system (D.shows dual.now)) (dart_of (D.shows dual.now) last) c → ⊥)
         (IsEnd (D.shows dual.now) v last)) }
 {
-    let mut marks = vec![in alloc; false; dual.len() as usize]?;
-    Ok(corner_by_marks(dual, v, last, marks.as_mut_slice()))
+    marks.clear(dual.len() as usize)?;
+    Ok(corner_by_marks(dual, v, last, marks))
 }
 
 /// Whether crossing the dart costs just what its height is above that of its twin.
-fn is_tight<D: Dual, F: Asks>(graph: &Graph<D, F>, heights: &[u64], dart: u32) -> bool
+fn is_tight<D: Dual, F: Asks>(graph: &Graph<D, F>, heights: &Sheet, dart: u32) -> bool
     requires right { ArePrices (prices_of (F.answers graph.now.tariff.now)) (D.shows graph.now.dual.now) graph.now.prices.items }
     requires one_each { HasOneEach (D.shows graph.now.dual.now) heights.now }
     requires within { dart < length (darts (D.shows graph.now.dual.now)) }
     ensures { IsTrue result ↔ IsTight (prices_of (F.answers graph.now.tariff.now)) (D.shows graph.now.dual.now) (height_in (D.shows graph.now.dual.now) heights.now) (dart_of (D.shows graph.now.dual.now) dart) }
 {
-    let other = heights[across(graph.dual, dart) as usize];
-    let height = heights[dart as usize];
+    let other = heights.get(across(graph.dual, dart));
+    let height = heights.get(dart);
     if height <= other {
         return false;
     }
@@ -147,7 +151,7 @@ fn is_tight<D: Dual, F: Asks>(graph: &Graph<D, F>, heights: &[u64], dart: u32) -
 }
 
 /// The smaller of two numbers, if it is that of a tight dart.
-fn first_of<D: Dual, F: Asks>(graph: &Graph<D, F>, heights: &[u64], first: u32, dart: u32) -> u32
+fn first_of<D: Dual, F: Asks>(graph: &Graph<D, F>, heights: &Sheet, first: u32, dart: u32) -> u32
     requires right { ArePrices (prices_of (F.answers graph.now.tariff.now)) (D.shows graph.now.dual.now) graph.now.prices.items }
     requires one_each { HasOneEach (D.shows graph.now.dual.now) heights.now }
     requires within { dart < length (darts (D.shows graph.now.dual.now)) }
@@ -162,7 +166,7 @@ fn first_of<D: Dual, F: Asks>(graph: &Graph<D, F>, heights: &[u64], first: u32, 
 }
 
 /// The first tight dart of the face of `at`, whose height is known and above 0.
-fn first_tight<D: Dual, F: Asks>(graph: &Graph<D, F>, heights: &[u64], v: u32, at: u32) -> u32
+fn first_tight<D: Dual, F: Asks>(graph: &Graph<D, F>, heights: &Sheet, v: u32, at: u32) -> u32
     requires right { ArePrices (prices_of (F.answers graph.now.tariff.now)) (D.shows graph.now.dual.now) graph.now.prices.items }
     requires known { AreHeightsUpTo (prices_of (F.answers graph.now.tariff.now)) (D.shows graph.now.dual.now) v heights.now at }
     requires within { at < length (darts (D.shows graph.now.dual.now)) }
@@ -186,7 +190,7 @@ fn first_tight<D: Dual, F: Asks>(graph: &Graph<D, F>, heights: &[u64], v: u32, a
 pub(crate) fn descend<D: Dual, F: Asks>(
     alloc: Global,
     graph: &Graph<D, F>,
-    heights: &[u64],
+    heights: &Sheet,
     v: u32,
     from: u32,
 ) -> Result<(Vec<Dart>, u32), AllocError>
@@ -197,7 +201,7 @@ pub(crate) fn descend<D: Dual, F: Asks>(
 {
     let mut crossed = Vec::new(alloc);
     let mut at = from;
-    while heights[at as usize] > 0 {
+    while heights.get(at) > 0 {
         let dart = first_tight(graph, heights, v, at);
         crossed.push(graph.dual.dart(dart))?;
         at = across(graph.dual, dart);

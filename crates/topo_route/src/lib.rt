@@ -16,6 +16,8 @@ mod graph;
 mod heights;
 pub mod plan;
 pub mod search;
+mod sheet;
 mod spread;
 mod waiting;
 mod walks;
+pub mod workspace;

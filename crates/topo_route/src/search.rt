@@ -12,7 +12,10 @@ use crate::descent::{descend, end_corner, start_corner};
 use crate::dual::Dual;
 use crate::graph::{Graph, segment_prices};
 use crate::plan::{Plan, PricedRoute};
+use crate::sheet::Sheet;
 use crate::spread::{heights_for, least_heights};
+use crate::waiting::Waiting;
+use crate::workspace::Workspace;
 use std::alloc::{AllocError, Global};
 use topo_core::listed::Listed;
 use topo_core::routes::Route;
@@ -24,7 +27,8 @@ fn route_by_heights<D: Dual, F: Asks>(
     graph: &Graph<D, F>,
     u: u32,
     v: u32,
-    heights: &[u64],
+    heights: &Sheet,
+    marks: &mut Sheet,
 ) -> Result<Option<PricedRoute>, AllocError>
     requires right { ArePrices (prices_of (F.answers graph.now.tariff.now)) (D.shows graph.now.dual.now) graph.now.prices.items }
     requires known { AreHeightsFor (prices_of (F.answers graph.now.tariff.now)) (D.shows graph.now.dual.now) u v heights.now }
@@ -35,9 +39,9 @@ fn route_by_heights<D: Dual, F: Asks>(
 {
     match start_corner(graph.dual, u, heights) {
         Some((start, from)) => {
-            let price = heights[from as usize];
+            let price = heights.get(from);
             let (crossed, last) = descend(alloc, graph, heights, v, from)?;
-            let corner = end_corner(alloc, graph.dual, v, last)?;
+            let corner = end_corner(graph.dual, v, last, marks)?;
             match corner {
                 Some(end) => {
                     let route = Route {
@@ -77,13 +81,16 @@ pub fn search<D: Dual, F: Asks>(
         tariff,
         prices,
     };
-    let heights = least_heights(alloc, &graph, v)?;
-    let found = route_by_heights(alloc, &graph, u, v, heights.as_slice())?;
+    let mut heights = Sheet::new(alloc);
+    let mut marks = Sheet::new(alloc);
+    let mut waiting = Waiting::new(alloc)?;
+    least_heights(&graph, v, &mut heights, &mut waiting)?;
+    let found = route_by_heights(alloc, &graph, u, v, &heights, &mut marks)?;
     match found {
         Some(PricedRoute { route, price }) => Ok(Some(Plan {
             route,
             price,
-            heights: Listed::from_vec(heights),
+            heights: Listed::from_vec(heights.numbers(alloc)?),
         })),
         None => Ok(None),
     }
@@ -93,9 +100,9 @@ pub fn search<D: Dual, F: Asks>(
 /// no route crosses only edges that have a price.
 ///
 /// As `search`, for a call that hands out no heights: it spreads them only as far up as to `u`, so
-/// its time follows the darts that are nearer to `v` than `u` is, and the degrees of both. For the
-/// whole picture it only makes two lists, of a number and of a mark for each dart. An edge is asked
-/// for its price each time that it is needed.
+/// its time follows the darts that are nearer to `v` than `u` is, and the degrees of both. What it
+/// writes on is handed in, and costs nothing for the rest of the picture. An edge is asked for its
+/// price each time that it is needed.
 ///
 /// Shortest paths in the dual graph (Dijkstra 1959) from `v`, by buckets of equal height (Dial 1969),
 /// stopped at `u`. Heights that are cut off at any bound are still a certificate, since a minimum
@@ -107,6 +114,7 @@ pub fn first_route<D: Dual, F: Asks>(
     tariff: &Tariff<F>,
     u: u32,
     v: u32,
+    work: &mut Workspace,
 ) -> Result<Option<PricedRoute>, AllocError>
     requires u_there { u < length (D.shows dual.now).rotations }
     requires v_there { v < length (D.shows dual.now).rotations }
@@ -121,7 +129,7 @@ pub fn first_route<D: Dual, F: Asks>(
         tariff,
         prices: Vec::new(alloc),
     };
-    let heights = heights_for(alloc, &graph, u, v)?;
-    let found = route_by_heights(alloc, &graph, u, v, heights.as_slice())?;
+    heights_for(&graph, u, v, &mut work.heights, &mut work.waiting)?;
+    let found = route_by_heights(alloc, &graph, u, v, &work.heights, &mut work.marks)?;
     Ok(found)
 }

@@ -1,6 +1,6 @@
 //! Heights spread from the target over the picture.
 
-ghost use Rattle.std.specs.Prelude.{◌≡◌, ◌≢◌, ◌<◌, ◌≤◌, ℕ, IfOk, length, slice_index};
+ghost use Rattle.std.specs.Prelude.{◌≡◌, ◌≢◌, ◌<◌, ◌≤◌, ℕ, IfOk, OnOk, length, slice_index};
 ghost use Rattle.topo_core.specs.Picture.{darts};
 ghost use Rattle.topo_price.specs.Prices.{prices_of};
 ghost use Rattle.topo_core.specs.Routes.{unreached};
@@ -12,15 +12,16 @@ use crate::descent::least_corner;
 use crate::dual::Dual;
 use crate::faces::{across, corner_at, next_along};
 use crate::graph::Graph;
+use crate::sheet::Sheet;
 use crate::waiting::Waiting;
-use std::alloc::{AllocError, Global};
+use std::alloc::AllocError;
 use topo_price::tariff::Asks;
 
 /// Crosses a dart backwards: its twin reaches the target over it. A height that this lowers, and
 /// brings below the bound, waits. The price is not asked where not even 1 would do so.
 fn cross_back<D: Dual, F: Asks>(
     graph: &Graph<D, F>,
-    heights: &mut [u64],
+    heights: &mut Sheet,
     waiting: &mut Waiting,
     v: u32,
     bound: u64,
@@ -36,8 +37,9 @@ fn cross_back<D: Dual, F: Asks>(
     ensures lower { IfOk result (λ _. AreLowered heights.old heights.new) }
 {
     let other = across(graph.dual, dart);
-    let height = heights[dart as usize];
-    let high = heights[other as usize].min(bound);
+    let height = heights.get(dart);
+    let there = heights.get(other);
+    let high = there.min(bound);
     if high.saturating_sub(height) <= 1 {
         return Ok(());
     }
@@ -45,7 +47,7 @@ fn cross_back<D: Dual, F: Asks>(
         Some(price) => {
             let price = price as u64;
             if height < high.saturating_sub(price) {
-                heights[other as usize] = height + price;
+                heights.set(other, height + price);
                 waiting.push(height + price, other)?;
             }
             Ok(())
@@ -58,7 +60,7 @@ fn cross_back<D: Dual, F: Asks>(
 /// what is there. Nothing spreads from a dart that is not below the bound.
 fn spread_one<D: Dual, F: Asks>(
     graph: &Graph<D, F>,
-    heights: &mut [u64],
+    heights: &mut Sheet,
     waiting: &mut Waiting,
     v: u32,
     bound: u64,
@@ -71,18 +73,19 @@ fn spread_one<D: Dual, F: Asks>(
     ensures falls { IfOk result (λ _. effort heights.new waiting.new ≤ effort heights.old waiting.old) }
     ensures lower { IfOk result (λ _. AreLowered heights.old heights.new) }
 {
-    if heights[dart as usize] >= bound {
+    if heights.get(dart) >= bound {
         return Ok(());
     }
     let mut at = dart;
     loop {
         cross_back(graph, heights, waiting, v, bound, at)?;
         let next = next_along(graph.dual, at);
-        let height = heights[at as usize];
-        if heights[next as usize] <= height {
+        let height = heights.get(at);
+        let there = heights.get(next);
+        if there <= height {
             return Ok(());
         }
-        heights[next as usize] = height;
+        heights.set(next, height);
         at = next;
     }
 }
@@ -90,7 +93,7 @@ fn spread_one<D: Dual, F: Asks>(
 /// Spreads the heights of all that wait.
 fn spread_all<D: Dual, F: Asks>(
     graph: &Graph<D, F>,
-    heights: &mut [u64],
+    heights: &mut Sheet,
     waiting: &mut Waiting,
     v: u32,
 ) -> Result<(), AllocError>
@@ -109,7 +112,7 @@ fn spread_all<D: Dual, F: Asks>(
 }
 
 /// A bound above the heights that routes from `u` come through: one more than the least of a corner.
-fn bound_at<D: Dual>(dual: &D, u: u32, heights: &[u64]) -> u64
+fn bound_at<D: Dual>(dual: &D, u: u32, heights: &Sheet) -> u64
     requires { HasOneEach (D.shows dual.now) heights.now }
     ensures { result ≢ unreached → HasCornerBelow (D.shows dual.now) u heights.now result }
 {
@@ -121,7 +124,7 @@ fn bound_at<D: Dual>(dual: &D, u: u32, heights: &[u64]) -> u64
 /// once in as many steps as it has corners, so looking costs no more than the steps do.
 fn spread_up_to<D: Dual, F: Asks>(
     graph: &Graph<D, F>,
-    heights: &mut [u64],
+    heights: &mut Sheet,
     waiting: &mut Waiting,
     u: u32,
     v: u32,
@@ -150,7 +153,7 @@ fn spread_up_to<D: Dual, F: Asks>(
 /// Gives the corners of the target height 0, and lets them wait.
 fn start_at<D: Dual, F: Asks>(
     graph: &Graph<D, F>,
-    heights: &mut [u64],
+    heights: &mut Sheet,
     waiting: &mut Waiting,
     v: u32,
 ) -> Result<(), AllocError>
@@ -160,8 +163,8 @@ fn start_at<D: Dual, F: Asks>(
 {
     for position in 0..graph.dual.degree(v) {
         if let Some(corner) = corner_at(graph.dual, v, position) {
-            if heights[corner as usize] > 0 {
-                heights[corner as usize] = 0;
+            if heights.get(corner) > 0 {
+                heights.set(corner, 0);
                 waiting.push(0, corner)?;
             }
         }
@@ -171,39 +174,36 @@ fn start_at<D: Dual, F: Asks>(
 
 /// For each dart the least price from its face to a face at the target.
 pub(crate) fn least_heights<D: Dual, F: Asks>(
-    alloc: Global,
     graph: &Graph<D, F>,
     v: u32,
-) -> Result<Vec<u64>, AllocError>
+    heights: &mut Sheet,
+    waiting: &mut Waiting,
+) -> Result<(), AllocError>
     requires right { ArePrices (prices_of (F.answers graph.now.tariff.now)) (D.shows graph.now.dual.now) graph.now.prices.items }
     requires some { 0 < length (darts (D.shows graph.now.dual.now)) }
-    ensures are_heights { IfOk result (λ heights. AreHeights (prices_of (F.answers graph.now.tariff.now)) (D.shows graph.now.dual.now) v heights.items) }
-    ensures in_range { IfOk result (λ heights. (k : ℕ) → slice_index heights.items k ≤ unreached) }
+    ensures are_heights { OnOk result (AreHeights (prices_of (F.answers graph.now.tariff.now)) (D.shows graph.now.dual.now) v heights.new) }
+    ensures in_range { OnOk result ((k : ℕ) → slice_index heights.new k ≤ unreached) }
 {
-    let mut heights = vec![in alloc; u64::MAX; graph.dual.len() as usize]?;
-    let mut waiting = Waiting::new(alloc, graph.dual.len() as usize)?;
-    start_at(graph, heights.as_mut_slice(), &mut waiting, v)?;
-    spread_all(graph, heights.as_mut_slice(), &mut waiting, v)?;
-    Ok(heights)
+    heights.clear(graph.dual.len() as usize)?;
+    waiting.clear();
+    start_at(graph, heights, waiting, v)?;
+    spread_all(graph, heights, waiting, v)
 }
-
-/// How many darts there is room for before more is asked for: a route to a near end needs few.
-const FEW: usize = 64;
 
 /// The least prices of the darts' faces to a face at the target, as far up as routes from `u` come.
 pub(crate) fn heights_for<D: Dual, F: Asks>(
-    alloc: Global,
     graph: &Graph<D, F>,
     u: u32,
     v: u32,
-) -> Result<Vec<u64>, AllocError>
+    heights: &mut Sheet,
+    waiting: &mut Waiting,
+) -> Result<(), AllocError>
     requires right { ArePrices (prices_of (F.answers graph.now.tariff.now)) (D.shows graph.now.dual.now) graph.now.prices.items }
     requires some { 0 < length (darts (D.shows graph.now.dual.now)) }
-    ensures { IfOk result (λ heights. AreHeightsFor (prices_of (F.answers graph.now.tariff.now)) (D.shows graph.now.dual.now) u v heights.items) }
+    ensures { OnOk result (AreHeightsFor (prices_of (F.answers graph.now.tariff.now)) (D.shows graph.now.dual.now) u v heights.new) }
 {
-    let mut heights = vec![in alloc; u64::MAX; graph.dual.len() as usize]?;
-    let mut waiting = Waiting::new(alloc, FEW)?;
-    start_at(graph, heights.as_mut_slice(), &mut waiting, v)?;
-    spread_up_to(graph, heights.as_mut_slice(), &mut waiting, u, v)?;
-    Ok(heights)
+    heights.clear(graph.dual.len() as usize)?;
+    waiting.clear();
+    start_at(graph, heights, waiting, v)?;
+    spread_up_to(graph, heights, waiting, u, v)
 }

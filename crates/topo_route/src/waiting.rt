@@ -40,17 +40,26 @@ impl Model for Waiting {
 }
 
 impl Waiting {
-    /// With room for so many pushes before it asks for more.
-    pub(crate) fn new(alloc: Global, room: usize) -> Result<Self, AllocError>
+    /// One in which none waits.
+    pub(crate) fn new(alloc: Global) -> Result<Self, AllocError>
         ensures { IfOk result (λ w. w ≡ []) }
     {
-        let entries = Vec::with_capacity(alloc, room)?;
+        let entries = Vec::new(alloc);
         let heads = vec![in alloc; 0; BUCKETS]?;
         Ok(Waiting {
             entries,
             heads,
             first: 0,
         })
+    }
+
+    /// Lets none wait any more.
+    pub(crate) fn clear(&mut self)
+        ensures { self.new ≡ [] }
+    {
+        self.entries.clear();
+        self.heads.fill(0);
+        self.first = 0;
     }
 
     /// Lets a dart of this height wait.

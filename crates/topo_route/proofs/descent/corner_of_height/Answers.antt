@@ -3,22 +3,22 @@ use Rattle.topo_route.specs.Numbers.{dart_of}
 use Rattle.topo_route.specs.Plans.{height_in}
 use Rattle.topo_route.proofs.Tests.{before_all, before_some, before_past, height_at}
 use Rattle.topo_route.proofs.descent.corner_of_height.Goals as goal
-use Rattle.topo_route.proofs.descent.corner_of_height.Goals.{in-Some+else-heights-corner, in_default}
+use Rattle.topo_route.proofs.descent.corner_of_height.Goals.{in-Some+else-get-height, in_default}
 
-pub returns-then-heights-corner : goal.returns-then-heights-corner
-returns-then-heights-corner g c =
+pub returns-then-get-height : goal.returns-then-get-height
+returns-then-get-height g c =
     let rows = g.D.Dual.shows c.args.dual.now in
     let height = height_at rows (g.met.D.Dual.lawful c.args.dual.now) c.args.heights.now c.in-Some.corner c.in-Some.ensures.0 in
-    (c.in-Some.ensures.0, c.in-Some.ensures.1, height ∙ c.if-heights-corner.true, c.loop-position.invariant)
+    (c.in-Some.ensures.0, c.in-Some.ensures.1, height ∙ sym c.get.ensures ∙ c.if-get-height.true, c.loop-position.invariant)
 
 pub loop-position-preserved : goal.loop-position-preserved
 loop-position-preserved g c =
     let rows = g.D.Dual.shows c.args.dual.now in
     elim c.match-corner_at.branch [
-      | in-Some+else-heights-corner w ↦
+      | in-Some+else-get-height w ↦
           let height = height_at rows (g.met.D.Dual.lawful c.args.dual.now) c.args.heights.now w.in-Some.corner w.in-Some.ensures.0 in
           before_some rows c.args.u (λ p d. height_in rows c.args.heights.now d ≢ c.args.height) c.loop-position.position (dart_of rows w.in-Some.corner) w.in-Some.ensures.1
-          (λ e. w.if-heights-corner.false (sym height ∙ e)) c.loop-position.invariant
+          (λ e. w.if-get-height.false (w.get.ensures ∙ sym height ∙ e)) c.loop-position.invariant
       | in_default w ↦ before_past rows c.args.u (λ p d. height_in rows c.args.heights.now d ≢ c.args.height) c.loop-position.position w.in_default.ensures c.loop-position.invariant
     ]
 

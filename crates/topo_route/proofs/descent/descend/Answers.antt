@@ -9,8 +9,8 @@ use Rattle.topo_route.proofs.Numbers.{in_list}
 use Rattle.topo_route.proofs.Tests.{height_at}
 use Rattle.topo_route.proofs.descent.descend.Goals as goal
 
-pub loop-at-init : goal.loop-at-init
-loop-at-init g c =
+pub loop-dart-init : goal.loop-dart-init
+loop-dart-init g c =
     let rows = g.D.Dual.shows c.args.graph.now.dual.now in
     let price = prices_of (g.F.Asks.answers c.args.graph.now.tariff.now) in
     subst (λ xs. Descends price rows c.args.heights.now c.args.from xs c.args.from) (sym c.new-crossed.ensures.items)
@@ -20,18 +20,18 @@ pub first_tight-dart-requires-clause-known : goal.first_tight-dart-requires-clau
 first_tight-dart-requires-clause-known g c =
     let rows = g.D.Dual.shows c.args.graph.now.dual.now in
     let lawful = g.met.D.Dual.lawful c.args.graph.now.dual.now in
-    let here = height_at rows lawful c.args.heights.now c.loop-at.at c.loop-at.invariant.within in
+    let here = height_at rows lawful c.args.heights.now c.loop-dart.at c.loop-dart.invariant.within in
     let start = height_at rows lawful c.args.heights.now c.args.from c.requires.within in
-    record { bound = c.requires.known.bound; known = c.requires.known.known; below = omega (arith, c.loop-at.invariant.low, c.requires.known.below) }
+    record { bound = c.requires.known.bound; known = c.requires.known.known; below = omega (arith, c.loop-dart.invariant.low, c.requires.known.below) }
 
 pub first_tight-dart-requires-clause-above : goal.first_tight-dart-requires-clause-above
 first_tight-dart-requires-clause-above g c =
     let rows = g.D.Dual.shows c.args.graph.now.dual.now in
-    let height = height_at rows (g.met.D.Dual.lawful c.args.graph.now.dual.now) c.args.heights.now c.loop-at.at c.loop-at.invariant.within in
+    let height = height_at rows (g.met.D.Dual.lawful c.args.graph.now.dual.now) c.args.heights.now c.loop-dart.at c.loop-dart.invariant.within in
     omega arith
 
-pub loop-at-smaller : goal.loop-at-smaller
-loop-at-smaller g c =
+pub loop-dart-smaller : goal.loop-dart-smaller
+loop-dart-smaller g c =
     let rows = g.D.Dual.shows c.args.graph.now.dual.now in
     let lawful = g.met.D.Dual.lawful c.args.graph.now.dual.now in
     let price = prices_of (g.F.Asks.answers c.args.graph.now.tariff.now) in
@@ -39,14 +39,14 @@ loop-at-smaller g c =
     let promise = c.requires.right.promise (omega (arith, c.requires.within)) in
     let is = in_list (darts rows) c.first_tight-dart.result c.dart.result no_dart c.dart.ensures in
     let below : height_in rows heights (dart_of rows c.args.from) < c.requires.known.bound = omega (arith, height_at rows lawful heights c.args.from c.requires.within, c.requires.known.below) in
-    let less = lower price rows lawful c.args.v c.requires.known.bound heights c.requires.known.known promise c.args.from c.loop-at.at c.first_tight-dart.result c.across-at.result c.loop-at.crossed.items c.dart.result
-    c.loop-at.invariant c.first_tight-dart.ensures is c.across-at.ensures.twin below in
-    let here = height_at rows lawful heights c.loop-at.at c.loop-at.invariant.within in
+    let less = lower price rows lawful c.args.v c.requires.known.bound heights c.requires.known.known promise c.args.from c.loop-dart.at c.first_tight-dart.result c.across-at.result c.loop-dart.crossed.items c.dart.result
+    c.loop-dart.invariant c.first_tight-dart.ensures is c.across-at.ensures.twin below in
+    let here = height_at rows lawful heights c.loop-dart.at c.loop-dart.invariant.within in
     let there = height_at rows lawful heights c.across-at.result c.across-at.ensures.within in
     omega arith
 
-pub loop-at-preserved : goal.loop-at-preserved
-loop-at-preserved g c =
+pub loop-dart-preserved : goal.loop-dart-preserved
+loop-dart-preserved g c =
     let rows = g.D.Dual.shows c.args.graph.now.dual.now in
     let lawful = g.met.D.Dual.lawful c.args.graph.now.dual.now in
     let price = prices_of (g.F.Asks.answers c.args.graph.now.tariff.now) in
@@ -55,12 +55,12 @@ loop-at-preserved g c =
     let is = in_list (darts rows) c.first_tight-dart.result c.dart.result no_dart c.dart.ensures in
     let below : height_in rows heights (dart_of rows c.args.from) < c.requires.known.bound = omega (arith, height_at rows lawful heights c.args.from c.requires.within, c.requires.known.below) in
     subst (λ xs. Descends price rows heights c.args.from xs c.across-at.result) (sym c.in_ok-push.ensures.items)
-    (descends_on price rows lawful c.args.v c.requires.known.bound heights c.requires.known.known promise c.args.from c.loop-at.at c.first_tight-dart.result c.across-at.result c.loop-at.crossed.items c.dart.result
-    c.loop-at.invariant c.first_tight-dart.ensures is c.across-at.ensures.twin below)
+    (descends_on price rows lawful c.args.v c.requires.known.bound heights c.requires.known.known promise c.args.from c.loop-dart.at c.first_tight-dart.result c.across-at.result c.loop-dart.crossed.items c.dart.result
+    c.loop-dart.invariant c.first_tight-dart.ensures is c.across-at.ensures.twin below)
 
 pub returns : goal.returns
 returns g c =
     let rows = g.D.Dual.shows c.args.graph.now.dual.now in
     let lawful = g.met.D.Dual.lawful c.args.graph.now.dual.now in
-    let height = height_at rows lawful c.args.heights.now c.loop-at.at c.loop-at.invariant.within in
-    at_target (prices_of (g.F.Asks.answers c.args.graph.now.tariff.now)) rows lawful c.args.v c.requires.known.bound c.args.heights.now c.requires.known.known c.args.from c.loop-at.at c.loop-at.crossed.items c.loop-at.invariant (omega arith)
+    let height = height_at rows lawful c.args.heights.now c.loop-dart.at c.loop-dart.invariant.within in
+    at_target (prices_of (g.F.Asks.answers c.args.graph.now.tariff.now)) rows lawful c.args.v c.requires.known.bound c.args.heights.now c.requires.known.known c.args.from c.loop-dart.at c.loop-dart.crossed.items c.loop-dart.invariant (omega arith)

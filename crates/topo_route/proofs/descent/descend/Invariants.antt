@@ -3,8 +3,8 @@ use Rattle.std.specs.Prelude.{slice_index}
 use Rattle.topo_route.specs.Descents.{Descends}
 use Rattle.topo_route.proofs.descent.descend.Given as goal
 
-abbrev pub invariant-loop-at : goal.invariant-loop-at
-invariant-loop-at g l = Descends (prices_of (g.F.Asks.answers l.graph.tariff.now)) (g.D.Dual.shows l.graph.dual.now) l.heights l.from l.crossed.items l.at
+abbrev pub invariant-loop-dart : goal.invariant-loop-dart
+invariant-loop-dart g l = Descends (prices_of (g.F.Asks.answers l.graph.tariff.now)) (g.D.Dual.shows l.graph.dual.now) l.heights l.from l.crossed.items l.at
 
-abbrev pub decreases-loop-at : goal.decreases-loop-at
-decreases-loop-at g l = slice_index l.heights l.at
+abbrev pub decreases-loop-dart : goal.decreases-loop-dart
+decreases-loop-dart g l = slice_index l.heights l.at

@@ -1,8 +1,8 @@
-use Rattle.std.proofs.Common.{◌≡◌, ◌+◌, ◌∙◌, ℕ, arith, get_or, subst, sym}
+use Rattle.std.proofs.Common.{◌≡◌, ◌+◌, ◌∙◌, ℕ, arith, subst, sym}
 use Rattle.topo_route.specs.Numbers.{dart_of}
 use Rattle.topo_route.proofs.Tests.{LowestBefore, height_at, lowest_all, lowest_found, lowest_kept, lowest_lower, lowest_none, lowest_past}
 use Rattle.topo_route.proofs.descent.least_corner.Goals as goal
-use Rattle.topo_route.proofs.descent.least_corner.Goals.{in-Some+then-heights-corner, in-Some+else-heights-corner, in_default}
+use Rattle.topo_route.proofs.descent.least_corner.Goals.{in-Some+then-height-least, in-Some+else-height-least, in_default}
 
 pub loop-position-init : goal.loop-position-init
 loop-position-init g c = lowest_none (g.D.Dual.shows c.args.dual.now) c.args.u c.args.heights.now
@@ -15,10 +15,10 @@ loop-position-preserved g c =
     let i = c.loop-position.position in
     let Is = λ (least : ℕ). LowestBefore rows c.args.u heights least (i + 1) in
     elim c.match-corner_at.branch [
-      | in-Some+then-heights-corner w ↦
-          subst Is (sym w.least-is) (lowest_lower rows c.args.u heights c.loop-position.least i (get_or heights w.in-Some.corner 0) (dart_of rows w.in-Some.corner) w.in-Some.ensures.1
-          (height_at rows lawful heights w.in-Some.corner w.in-Some.ensures.0) w.if-heights-corner.true c.loop-position.invariant)
-      | in-Some+else-heights-corner w ↦
+      | in-Some+then-height-least w ↦
+          subst Is (sym w.least-is) (lowest_lower rows c.args.u heights c.loop-position.least i w.get-height.result (dart_of rows w.in-Some.corner) w.in-Some.ensures.1
+          (height_at rows lawful heights w.in-Some.corner w.in-Some.ensures.0 ∙ sym w.get-height.ensures) w.if-height-least.true c.loop-position.invariant)
+      | in-Some+else-height-least w ↦
           let height = height_at rows lawful heights w.in-Some.corner w.in-Some.ensures.0 in
           subst Is (sym w.least-is) (lowest_kept rows c.args.u heights c.loop-position.least i (dart_of rows w.in-Some.corner) w.in-Some.ensures.1 (omega arith) c.loop-position.invariant)
       | in_default w ↦ subst Is (sym w.least-is) (lowest_past rows c.args.u heights c.loop-position.least i w.in_default.ensures c.loop-position.invariant)

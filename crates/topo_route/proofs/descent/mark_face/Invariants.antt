@@ -12,5 +12,6 @@ invariant-loop-steps g l =
     record {
       place : l.at ≡ after (next_of rows) l._steps l.last;
       within : l.at < length (darts rows);
+      as_many : length l.marks ≡ length (darts rows);
       so_far : MarksSoFar (next_of rows) l.last l._steps l.marks;
     }

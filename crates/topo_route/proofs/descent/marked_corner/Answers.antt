@@ -1,19 +1,21 @@
-use Rattle.std.proofs.Common.{◌≡◌, ◌∙◌, ap, arith, false}
+use Rattle.std.proofs.Common.{◌≡◌, ◌≢◌, ◌∙◌, ap, arith, sym}
 use Rattle.std.specs.Prelude.{slice_index_or}
 use Rattle.topo_core.specs.Picture.{index_of}
+use Rattle.topo_core.specs.Routes.{unreached}
 use Rattle.topo_route.specs.Numbers.{dart_of}
+use Rattle.topo_route.proofs.Marking.{same_mark}
 use Rattle.topo_route.proofs.Numbers.{number_of}
 use Rattle.topo_route.proofs.Tests.{before_all, before_some, before_past}
 use Rattle.topo_route.proofs.descent.marked_corner.Goals as goal
-use Rattle.topo_route.proofs.descent.marked_corner.Goals.{in-Some+else-marks-corner, in_default}
+use Rattle.topo_route.proofs.descent.marked_corner.Goals.{in-Some+else-get-eq0, in_default}
 
-pub returns-then-marks-corner : goal.returns-then-marks-corner
-returns-then-marks-corner g c =
+pub returns-then-get-eq0 : goal.returns-then-get-eq0
+returns-then-get-eq0 g c =
     let rows = g.D.Dual.shows c.args.dual.now in
     record {
       to = dart_of rows c.in-Some.corner;
       there = c.in-Some.ensures.1;
-      marked = ap (λ k. slice_index_or c.args.marks.now k false) (number_of rows (g.met.D.Dual.lawful c.args.dual.now) c.in-Some.corner c.in-Some.ensures.0) ∙ c.if-marks-corner.true;
+      marked = ap (λ k. slice_index_or c.args.marks.now k unreached) (number_of rows (g.met.D.Dual.lawful c.args.dual.now) c.in-Some.corner c.in-Some.ensures.0) ∙ same_mark c.args.marks.now c.in-Some.corner (omega (arith, c.requires, c.in-Some.ensures.0)) ∙ sym c.get.ensures ∙ c.if-get-eq0.true;
       first = c.loop-position.invariant;
     }
 
@@ -21,14 +23,14 @@ pub loop-position-preserved : goal.loop-position-preserved
 loop-position-preserved g c =
     let rows = g.D.Dual.shows c.args.dual.now in
     elim c.match-corner_at.branch [
-      | in-Some+else-marks-corner w ↦
-          before_some rows c.args.v (λ p d. slice_index_or c.args.marks.now (index_of rows d) false ≡ false) c.loop-position.position (dart_of rows w.in-Some.corner) w.in-Some.ensures.1
-          (ap (λ k. slice_index_or c.args.marks.now k false) (number_of rows (g.met.D.Dual.lawful c.args.dual.now) w.in-Some.corner w.in-Some.ensures.0) ∙ w.if-marks-corner.false) c.loop-position.invariant
-      | in_default w ↦ before_past rows c.args.v (λ p d. slice_index_or c.args.marks.now (index_of rows d) false ≡ false) c.loop-position.position w.in_default.ensures c.loop-position.invariant
+      | in-Some+else-get-eq0 w ↦
+          before_some rows c.args.v (λ p d. slice_index_or c.args.marks.now (index_of rows d) unreached ≢ 0) c.loop-position.position (dart_of rows w.in-Some.corner) w.in-Some.ensures.1
+          (λ e. w.if-get-eq0.false (w.get.ensures ∙ sym (same_mark c.args.marks.now w.in-Some.corner (omega (arith, c.requires, w.in-Some.ensures.0))) ∙ sym (ap (λ k. slice_index_or c.args.marks.now k unreached) (number_of rows (g.met.D.Dual.lawful c.args.dual.now) w.in-Some.corner w.in-Some.ensures.0)) ∙ e)) c.loop-position.invariant
+      | in_default w ↦ before_past rows c.args.v (λ p d. slice_index_or c.args.marks.now (index_of rows d) unreached ≢ 0) c.loop-position.position w.in_default.ensures c.loop-position.invariant
     ]
 
 pub returns : goal.returns
 returns g c =
     let rows = g.D.Dual.shows c.args.dual.now in
     let whole : c.loop-position.position ≡ c.degree-position-end.result = omega arith in
-    before_all rows c.args.v (λ p d. slice_index_or c.args.marks.now (index_of rows d) false ≡ false) c.loop-position.position (whole ∙ c.degree-position-end.ensures) c.loop-position.invariant
+    before_all rows c.args.v (λ p d. slice_index_or c.args.marks.now (index_of rows d) unreached ≢ 0) c.loop-position.position (whole ∙ c.degree-position-end.ensures) c.loop-position.invariant

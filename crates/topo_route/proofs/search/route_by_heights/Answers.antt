@@ -1,4 +1,4 @@
-use Rattle.std.proofs.Common.{◌<◌, arith, subst, sym}
+use Rattle.std.proofs.Common.{◌<◌, ◌∙◌, arith, subst, sym}
 use Rattle.topo_price.specs.Prices.{prices_of}
 use Rattle.topo_route.specs.Descents.{IsDescent}
 use Rattle.topo_route.specs.Numbers.{dart_of}
@@ -33,7 +33,7 @@ returns-in-Some-corner g c =
     let here = height_at rows lawful heights c.in-Some.from start.within in
     let below : height_in rows heights (dart_of rows c.in-Some.from) < known.bound = omega (arith, known.start c.in-Some.start c.in-Some.from start) in
     is_first price rows lawful c.args.v known.bound heights known.known (c.requires.right.promise c.requires.some) c.args.u _ c.in-Some.from c.in_ok-crossed-in-Some.last
-    start (sym here) below (subst (λ xs. IsDescent price rows heights c.in-Some.from xs c.in_ok-crossed-in-Some.last) (sym c.from_vec.ensures) descent)
+    start (c.get-price.ensures ∙ sym here) below (subst (λ xs. IsDescent price rows heights c.in-Some.from xs c.in_ok-crossed-in-Some.last) (sym c.from_vec.ensures) descent)
     (end_some rows c.args.v c.in_ok-crossed-in-Some.last c.in_ok-corner-in-Some.corner c.in-Some-corner.end c.in-Some-corner.is c.in_ok-corner-in-Some.ensures)
 
 pub returns-in-None : goal.returns-in-None

@@ -16,16 +16,13 @@ route_by_heights-requires-clause-some g c = has_darts (g.D.Dual.shows c.args.dua
 
 pub route_by_heights-requires-clause-known : goal.route_by_heights-requires-clause-known
 route_by_heights-requires-clause-known g c =
-    let rows = g.D.Dual.shows c.args.dual.now in
-    let price = prices_of (g.F.Asks.answers c.args.tariff.now) in
-    subst (AreHeightsFor price rows c.args.u c.args.v) (sym c.as_slice.ensures.value)
-    (for_all price rows (g.met.D.Dual.lawful c.args.dual.now) c.args.u c.args.v c.in_ok-heights.heights.items c.in_ok-heights.ensures.in_range c.in_ok-heights.ensures.are_heights)
+    let done = c.in_ok-least_heights.ensures in
+    for_all (prices_of (g.F.Asks.answers c.args.tariff.now)) (g.D.Dual.shows c.args.dual.now) (g.met.D.Dual.lawful c.args.dual.now) c.args.u c.args.v c.least_heights.new.heights done.in_range done.are_heights
 
 pub returns-in-Some : goal.returns-in-Some
 returns-in-Some g c =
     let rows = g.D.Dual.shows c.args.dual.now in
     let price = prices_of (g.F.Asks.answers c.args.tariff.now) in
-    let heights = c.as_slice.result.now in
+    let heights = c.least_heights.new.heights in
     let found = subst (λ o. MatchOption o (HasNoRoute price rows c.args.u c.args.v) (IsFirstRoute price rows c.args.u c.args.v heights)) c.in-Some.is c.in_ok-found.ensures in
-    is_plan price rows c.args.u c.args.v heights c.in-Some.field-0 _ (subst (AreHeights price rows c.args.v) (sym c.as_slice.ensures.value) c.in_ok-heights.ensures.are_heights)
-    found refl refl (c.from_vec.ensures ∙ sym c.as_slice.ensures.value)
+    is_plan price rows c.args.u c.args.v heights c.in-Some.field-0 _ c.in_ok-least_heights.ensures.are_heights found refl refl (c.from_vec.ensures ∙ c.in_ok-numbers-in-Some.ensures)

@@ -1,18 +1,27 @@
-use Rattle.std.proofs.Common.{arith}
+use Rattle.std.proofs.Common.{◌≡◌, ◌+◌, ◌∙◌, List, ℕ, ap, arith, subst, sym}
+use Rattle.std.proofs.Math.ListN.{set}
+use Rattle.std.specs.Prelude.{slice_index}
 use Rattle.topo_price.specs.Prices.{prices_of}
+use Rattle.topo_route.specs.Settling.{IsCrossed, Spreads}
 use Rattle.topo_route.proofs.Crossings.{crossed_already, crossed_low, is_crossed, twin_waits}
 use Rattle.topo_route.proofs.spread.cross_back.Goals as goal
 
 pub returns-in_ok-push-in-Some-clause-spreads : goal.returns-in_ok-push-in-Some-clause-spreads
 returns-in_ok-push-in-Some-clause-spreads g c =
-    twin_waits (prices_of (g.F.Asks.answers c.args.graph.now.tariff.now)) (g.D.Dual.shows c.args.graph.now.dual.now) (g.met.D.Dual.lawful c.args.graph.now.dual.now) c.args.v c.args.bound c.args.heights.now c.args.waiting.now
+    let heights = c.args.heights.now in
+    let is : c.set.new.self ≡ set heights c.across-other.result (slice_index heights c.args.dart + c.in-Some.price) = c.set.ensures ∙ ap (λ (h : ℕ). set heights c.across-other.result (h + c.in-Some.price)) c.get-height.ensures in
+    subst (λ (hs : List ℕ). Spreads (prices_of (g.F.Asks.answers c.args.graph.now.tariff.now)) (g.D.Dual.shows c.args.graph.now.dual.now) c.args.v c.args.bound hs c.push.new.self c.args.dart) (sym is)
+    (twin_waits (prices_of (g.F.Asks.answers c.args.graph.now.tariff.now)) (g.D.Dual.shows c.args.graph.now.dual.now) (g.met.D.Dual.lawful c.args.graph.now.dual.now) c.args.v c.args.bound c.args.heights.now c.args.waiting.now
     c.args.dart c.across-other.result c.in-Some.price c.requires.spreads c.requires.in_hand c.in-Some.ensures.promise c.in-Some.ensures.price c.across-other.ensures.twin c.across-other.ensures.within (omega arith)
-    c.push.new.self c.in_ok-push-in-Some.ensures.waits
+    c.push.new.self c.in_ok-push-in-Some.ensures.waits)
 
 pub returns-in_ok-push-in-Some-clause-crossed : goal.returns-in_ok-push-in-Some-clause-crossed
 returns-in_ok-push-in-Some-clause-crossed g c =
-    is_crossed (prices_of (g.F.Asks.answers c.args.graph.now.tariff.now)) (g.D.Dual.shows c.args.graph.now.dual.now) (g.met.D.Dual.lawful c.args.graph.now.dual.now) c.args.v c.args.bound c.args.heights.now c.args.waiting.now
-    c.args.dart c.across-other.result c.in-Some.price c.requires.spreads c.requires.in_hand c.in-Some.ensures.promise c.in-Some.ensures.price c.across-other.ensures.twin c.across-other.ensures.within (omega arith)
+    let heights = c.args.heights.now in
+    let is : c.set.new.self ≡ set heights c.across-other.result (slice_index heights c.args.dart + c.in-Some.price) = c.set.ensures ∙ ap (λ (h : ℕ). set heights c.across-other.result (h + c.in-Some.price)) c.get-height.ensures in
+    subst (λ (hs : List ℕ). IsCrossed (prices_of (g.F.Asks.answers c.args.graph.now.tariff.now)) (g.D.Dual.shows c.args.graph.now.dual.now) c.args.bound hs c.args.dart) (sym is)
+    (is_crossed (prices_of (g.F.Asks.answers c.args.graph.now.tariff.now)) (g.D.Dual.shows c.args.graph.now.dual.now) (g.met.D.Dual.lawful c.args.graph.now.dual.now) c.args.v c.args.bound c.args.heights.now c.args.waiting.now
+    c.args.dart c.across-other.result c.in-Some.price c.requires.spreads c.requires.in_hand c.in-Some.ensures.promise c.in-Some.ensures.price c.across-other.ensures.twin c.across-other.ensures.within (omega arith))
 
 pub returns-else-height-saturating_sub-clause-crossed : goal.returns-else-height-saturating_sub-clause-crossed
 returns-else-height-saturating_sub-clause-crossed g c =

@@ -1,27 +1,29 @@
-use Rattle.std.proofs.Common.{◌≡◌, ◌≢◌, ◌<◌, ◌∙◌, arith, ap, sym, subst, length, get_or}
+use Rattle.std.proofs.Common.{◌≡◌, ◌≢◌, ◌<◌, ◌∙◌, ℕ, List, arith, ap, sym, subst, length, get_or}
+use Rattle.std.proofs.Math.ListN.{set}
 use Rattle.std.specs.Prelude.{slice_index}
 use Rattle.topo_core.specs.Routes.{Reaches, unreached}
 use Rattle.topo_price.specs.Prices.{prices_of}
 use Rattle.topo_route.specs.Numbers.{dart_of, next_of}
+use Rattle.topo_route.specs.Settling.{Spreads, effort}
 use Rattle.topo_route.proofs.Reaching.{reaches_next}
 use Rattle.topo_route.proofs.Settled.{lowered_there, lowered_less, passed_effort, passed_on, put_aside, put_down}
 use Rattle.topo_route.proofs.spread.spread_one.Goals as goal
 
-pub returns-then-heights-next-clause-spreads : goal.returns-then-heights-next-clause-spreads
-returns-then-heights-next-clause-spreads g c =
+pub returns-then-there-height-clause-spreads : goal.returns-then-there-height-clause-spreads
+returns-then-there-height-clause-spreads g c =
     let rows = g.D.Dual.shows c.args.graph.now.dual.now in
     let hs = c.cross_back.new.heights in
     let step : get_or hs c.next_along-next.result 0 ≡ get_or hs (next_of rows c.loop-next.at) 0 = ap (λ k. get_or hs k 0) c.next_along-next.ensures.next in
     put_down (prices_of (g.F.Asks.answers c.args.graph.now.tariff.now)) rows c.args.v c.args.bound hs c.cross_back.new.waiting c.loop-next.at c.in_ok-cross_back.ensures.spreads
     (omega arith, c.in_ok-cross_back.ensures.crossed)
 
-pub returns-then-heights-next-clause-lower : goal.returns-then-heights-next-clause-lower
-returns-then-heights-next-clause-lower g c k = omega (arith, c.in_ok-cross_back.ensures.lower k, c.loop-next.invariant.lower k)
+pub returns-then-there-height-clause-lower : goal.returns-then-there-height-clause-lower
+returns-then-there-height-clause-lower g c k = omega (arith, c.in_ok-cross_back.ensures.lower k, c.loop-next.invariant.lower k)
 
-pub returns-then-heights-dart-clause-spreads : goal.returns-then-heights-dart-clause-spreads
-returns-then-heights-dart-clause-spreads g c =
+pub returns-then-get-bound-clause-spreads : goal.returns-then-get-bound-clause-spreads
+returns-then-get-bound-clause-spreads g c =
     put_aside (prices_of (g.F.Asks.answers c.args.graph.now.tariff.now)) (g.D.Dual.shows c.args.graph.now.dual.now) c.args.v c.args.bound c.args.heights.now c.args.waiting.now c.args.dart c.requires.spreads
-    c.if-heights-dart.true
+    (omega (arith, c.if-get-bound.true, c.get.ensures))
 
 pub loop-next-preserved : goal.loop-next-preserved
 loop-next-preserved g c =
@@ -38,13 +40,17 @@ loop-next-preserved g c =
     let within : t < length hs = omega (arith, spreads.costs.one_each) in
     let walk = subst (λ k. Reaches price rows c.args.v (dart_of rows k) (slice_index hs d)) (sym c.next_along-next.ensures.next)
     (reaches_next price rows lawful c.args.v d (slice_index hs d) here (spreads.costs.costs d here some)) in
-    let less = passed_effort hs c.cross_back.new.waiting t (slice_index hs d) within c.if-heights-next.false in
+    let lower_there : slice_index hs d < slice_index hs t = omega (arith, c.if-there-height.false, c.get-height.ensures, c.get-there.ensures) in
+    let less = passed_effort hs c.cross_back.new.waiting t (slice_index hs d) within lower_there in
+    let is : c.set.new.self ≡ set hs t (slice_index hs d) = c.set.ensures ∙ ap (λ (h : ℕ). set hs t h) c.get-height.ensures in
+    let same_effort : effort c.set.new.self c.cross_back.new.waiting ≡ effort (set hs t (slice_index hs d)) c.cross_back.new.waiting = ap (λ (xs : List ℕ). effort xs c.cross_back.new.waiting) is in
     record {
-      spreads = passed_on price rows c.args.v c.args.bound hs c.cross_back.new.waiting d t spreads c.next_along-next.ensures.next there c.if-heights-next.false c.in_ok-cross_back.ensures.crossed walk (spreads.costs.bounded d here some);
-      in_hand = (there, λ e. some (sym (lowered_there hs t (slice_index hs d) within) ∙ e));
+      spreads = subst (λ (xs : List ℕ). Spreads price rows c.args.v c.args.bound xs c.cross_back.new.waiting t) (sym is) (passed_on price rows c.args.v c.args.bound hs c.cross_back.new.waiting d t spreads c.next_along-next.ensures.next there lower_there c.in_ok-cross_back.ensures.crossed walk (spreads.costs.bounded d here some));
+      in_hand = (there, λ e. some (sym (lowered_there hs t (slice_index hs d) within) ∙ sym (ap (λ (xs : List ℕ). slice_index xs t) is) ∙ e));
       falls = omega (arith, c.in_ok-cross_back.ensures.falls, c.loop-next.invariant.falls);
       lower = λ k.
           let was = c.in_ok-cross_back.ensures.lower k in
           let low = lowered_less hs t (slice_index hs d) within k (omega arith) in
+          let same = ap (λ (xs : List ℕ). slice_index xs k) is in
           omega (arith, c.loop-next.invariant.lower k);
     }

@@ -10,7 +10,7 @@ use Rattle.topo_route.specs.Settling.{Spreads}
 use Rattle.topo_route.proofs.Settled.{started, started_zero}
 use Rattle.topo_route.proofs.Tests.{before_all, before_past, before_some, height_at}
 use Rattle.topo_route.proofs.spread.start_at.Goals as goal
-use Rattle.topo_route.proofs.spread.start_at.Goals.{in-Some+then-heights-corner-gt0+in_ok-push, in-Some+else-heights-corner-gt0, in_default}
+use Rattle.topo_route.proofs.spread.start_at.Goals.{in-Some+then-get-gt0+in_ok-push, in-Some+else-get-gt0, in_default}
 
 pub loop-position-preserved : goal.loop-position-preserved
 loop-position-preserved g c =
@@ -22,17 +22,17 @@ loop-position-preserved g c =
     let Zero = λ (hs : List ℕ). (p : ℕ) (d : Dart) → p < i + 1 → corner rows v p ≡ Some d → height_in rows hs d ≡ 0 in
     let With = λ (hs : List ℕ) (ws : List ℕ). Spreads price rows v unreached hs ws (length (darts rows)) in
     elim c.match-corner_at.branch [
-      | in-Some+then-heights-corner-gt0+in_ok-push w ↦
+      | in-Some+then-get-gt0+in_ok-push w ↦
           let k = w.in-Some.corner in
           let spreads = started price rows lawful v unreached c.loop-position.heights c.loop-position.waiting w.push.new.self (length (darts rows)) i k c.loop-position.invariant.spreads w.in-Some.ensures.0 w.in-Some.ensures.1
-          w.if-heights-corner-gt0.true w.in_ok-push.ensures.waits in
+          (omega (arith, w.if-get-gt0.true, w.get.ensures)) w.in_ok-push.ensures.waits in
           let zero = started_zero price rows lawful v unreached c.loop-position.heights c.loop-position.waiting w.push.new.self (length (darts rows)) i k c.loop-position.invariant.spreads w.in-Some.ensures.0 w.in-Some.ensures.1
-          w.if-heights-corner-gt0.true w.in_ok-push.ensures.waits c.loop-position.invariant.target in
+          (omega (arith, w.if-get-gt0.true, w.get.ensures)) w.in_ok-push.ensures.waits c.loop-position.invariant.target in
           record {
-            spreads = subst (λ hs. With hs c.match-corner_at.waiting) (sym w.heights-is) (subst (With (set c.loop-position.heights k 0)) (sym w.waiting-is) spreads);
-            target = subst Zero (sym w.heights-is) zero;
+            spreads = subst (λ hs. With hs c.match-corner_at.waiting) (sym (w.heights-is ∙ w.set.ensures)) (subst (With (set c.loop-position.heights k 0)) (sym w.waiting-is) spreads);
+            target = subst Zero (sym (w.heights-is ∙ w.set.ensures)) zero;
           }
-      | in-Some+else-heights-corner-gt0 w ↦
+      | in-Some+else-get-gt0 w ↦
           let k = w.in-Some.corner in
           let height = height_at rows lawful c.loop-position.heights k w.in-Some.ensures.0 in
           record {

@@ -1,0 +1,8 @@
+use Rattle.std.proofs.Common.{◌≤◌, List, ℕ, subst}
+use Rattle.std.specs.Prelude.{slice_index}
+use Rattle.topo_core.specs.Routes.{unreached}
+use Rattle.topo_route.proofs.Blank.{all_within}
+use Rattle.topo_route.proofs.sheet.Sheet.in_range.Goals as goal
+
+pub returns : goal.returns
+returns c k = subst (λ (xs : List ℕ). slice_index xs k ≤ unreached) c.self.view_is (all_within c.self.inside.round c.self.inside.notes.items c.self.invariant k)
