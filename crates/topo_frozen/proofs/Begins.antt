@@ -56,7 +56,7 @@ back_get e a (suc n) (suc s) h =
 
 -- ---- Where the darts of an edge begin
 
-begins_head : (n : ℕ) (edges : List EdgeRow) → slice_index (begins_from n edges) 0 ≡ n
+pub begins_head : (n : ℕ) (edges : List EdgeRow) → slice_index (begins_from n edges) 0 ≡ n
 begins_head n [] = refl
 begins_head n (row ∷ rest) = refl
 

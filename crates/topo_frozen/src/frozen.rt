@@ -35,9 +35,10 @@ impl Model for Frozen {
 }
 
 impl Frozen {
-    ghost use Rattle.std.specs.Prelude.{◌≡◌, ◌*◌, ◌<◌, ◌^◌, IfOk, length, sum_by};
+    ghost use Rattle.std.specs.Prelude.{◌≡◌, ◌*◌, ◌/◌, ◌<◌, ◌^◌, IfOk, length, slice_index, sum_by};
     ghost use Rattle.topo_core.specs.Lawful.{Lawful};
-    ghost use Rattle.topo_core.specs.Picture.{segment_count};
+    ghost use Rattle.topo_core.specs.Picture.{darts, segment_count};
+    ghost use Rattle.topo_frozen.specs.Flats.{places_from};
 
     /// The frozen picture with these rows, few enough for numbers of 32 bits.
     pub fn new(alloc: Global, rows: Rows) -> Result<Self, AllocError>
@@ -65,6 +66,14 @@ impl Frozen {
     {
         &self.rows
     }
+
+    /// The place of the edge of a dart.
+    fn place(&self, dart: u32) -> usize
+        requires { dart < length (darts self.now.rows) }
+        ensures { result ≡ slice_index (places_from 0 self.now.rows.edges) (dart / 2) }
+    {
+        self.places.as_slice()[(dart / 2) as usize] as usize
+    }
 }
 
 impl Dual for Frozen {
@@ -85,12 +94,12 @@ impl Dual for Frozen {
     }
 
     fn facts(&self, dart: u32) -> Facts {
-        facts_numbered(&self.rows, self.places.as_slice(), dart)
+        facts_numbered(&self.rows, self.place(dart), dart)
     }
 
     fn tail(&self, dart: u32) -> Point {
         let begins = self.begins.as_slice();
-        tail_numbered(&self.rows, begins, self.places.as_slice(), dart)
+        tail_numbered(&self.rows, begins, self.place(dart), dart)
     }
 
     fn corner(&self, v: u32, position: u32) -> Option<u32> {
@@ -103,7 +112,7 @@ impl Dual for Frozen {
 
     fn dart(&self, index: u32) -> Dart {
         let begins = self.begins.as_slice();
-        dart_numbered(&self.rows, begins, self.places.as_slice(), index)
+        dart_numbered(&self.rows, begins, self.place(index), index)
     }
 
     fn index(&self, dart: Dart) -> Option<u32> {

@@ -1,6 +1,6 @@
 //! Darts and their numbers, from the flat lists of rows.
 
-ghost use Rattle.std.specs.Prelude.{◌≡◌, ◌%◌, ◌+◌, ◌<◌, ◌≤◌, ◌^◌, IsSomeAnd, Some, None, if◌then◌else◌, length, option_map, slice_get, slice_index_or, true};
+ghost use Rattle.std.specs.Prelude.{◌≡◌, ◌%◌, ◌/◌, ◌+◌, ◌<◌, ◌≤◌, ◌^◌, IsSomeAnd, Some, None, if◌then◌else◌, length, option_map, slice_get, slice_index, slice_index_or, true};
 ghost use Rattle.topo_core.specs.Cycles.{map_of};
 ghost use Rattle.topo_core.specs.Lawful.{has_good_paths, IsWellFormed};
 ghost use Rattle.topo_core.specs.Picture.{corner, darts, edge_at, edge_row, index_of, points_of, rotation, start, turn_images};
@@ -35,25 +35,42 @@ pub fn next_along(turns: &[u32], dart: u32) -> u32
     turns[other]
 }
 
+/// The place of the edge of a dart among the edges, by a binary search of where their darts begin.
+pub(crate) fn searched_place(rows: &Rows, begins: &[u32], number: u32) -> usize
+    requires begins { begins.now ≡ begins_from 0 rows.now.edges }
+    requires within { number < length (darts rows.now) }
+    ensures { result ≡ slice_index (places_from 0 rows.now.edges) (number / 2) }
+{
+    let mut low = 0;
+    let mut high = rows.edges.as_slice().len();
+    while high - low > 1 {
+        let middle = low + (high - low) / 2;
+        if begins[middle] <= number {
+            low = middle;
+        } else {
+            high = middle;
+        }
+    }
+    low
+}
+
 /// The edge on which a dart lies.
-pub(crate) fn edge_under<'a>(rows: &'a Rows, places: &[u32], number: u32) -> &'a EdgeRow
+pub(crate) fn edge_under<'a>(rows: &'a Rows, place: usize, number: u32) -> &'a EdgeRow
     requires paths { has_good_paths rows.now ≡ true }
-    requires places { places.now ≡ places_from 0 rows.now.edges }
+    requires under { place ≡ slice_index (places_from 0 rows.now.edges) (number / 2) }
     requires within { number < length (darts rows.now) }
     ensures { IsSomeAnd (slice_get (darts rows.now) number) (λ d. edge_row rows.now d.edge ≡ Some result.now) }
 {
-    let place = places[(number / 2) as usize];
-    &rows.edges.as_slice()[place as usize]
+    &rows.edges.as_slice()[place]
 }
 
 /// The dart of a number.
-pub(crate) fn dart_numbered(rows: &Rows, begins: &[u32], places: &[u32], number: u32) -> Dart
+pub(crate) fn dart_numbered(rows: &Rows, begins: &[u32], place: usize, number: u32) -> Dart
     requires begins { begins.now ≡ begins_from 0 rows.now.edges }
-    requires places { places.now ≡ places_from 0 rows.now.edges }
+    requires under { place ≡ slice_index (places_from 0 rows.now.edges) (number / 2) }
     requires within { number < length (darts rows.now) }
     ensures { slice_get (darts rows.now) number ≡ Some result }
 {
-    let place = places[(number / 2) as usize] as usize;
     let row = &rows.edges.as_slice()[place];
     let edge = EdgeId::new(row.id);
     let seg = (number - begins[place]) / 2;
@@ -73,32 +90,32 @@ pub(crate) fn dart_numbered(rows: &Rows, begins: &[u32], places: &[u32], number:
 }
 
 /// The dart of a number, by the place of its edge.
-fn placed_numbered(rows: &Rows, begins: &[u32], places: &[u32], number: u32) -> PlacedDart
+fn placed_numbered(rows: &Rows, begins: &[u32], place: usize, number: u32) -> PlacedDart
     requires paths { has_good_paths rows.now ≡ true }
     requires begins { begins.now ≡ begins_from 0 rows.now.edges }
-    requires places { places.now ≡ places_from 0 rows.now.edges }
+    requires under { place ≡ slice_index (places_from 0 rows.now.edges) (number / 2) }
     requires within { number < length (darts rows.now) }
     ensures placed { IsPlaced rows.now result }
     ensures dart { slice_get (darts rows.now) number ≡ Some (placed_dart rows.now result) }
 {
-    let dart = dart_numbered(rows, begins, places, number);
+    let dart = dart_numbered(rows, begins, place, number);
     PlacedDart {
-        place: places[(number / 2) as usize] as usize,
+        place,
         segment: dart.seg as usize,
         way: dart.way,
     }
 }
 
 /// The number of the next dart along the face on the left, turned on the rows themselves.
-pub(crate) fn next_numbered(rows: &Rows, begins: &[u32], places: &[u32], number: u32) -> u32
+pub(crate) fn next_numbered(rows: &Rows, begins: &[u32], place: usize, number: u32) -> u32
     requires well_formed { IsWellFormed rows.now }
     requires begins { begins.now ≡ begins_from 0 rows.now.edges }
-    requires places { places.now ≡ places_from 0 rows.now.edges }
+    requires under { place ≡ slice_index (places_from 0 rows.now.edges) (number / 2) }
     requires within { number < length (darts rows.now) }
     requires few { length (darts rows.now) < 2 ^ 32 }
     ensures { result ≡ face_next (map_of (turn_images rows.now)) number }
 {
-    let here = placed_numbered(rows, begins, places, number);
+    let here = placed_numbered(rows, begins, place, number);
     let next = turned(rows, opposite(here));
     let first = begins[next.place] + 2 * next.segment as u32;
     match next.way {
@@ -123,30 +140,30 @@ fn point_on(row: &EdgeRow, place: usize) -> Point
 }
 
 /// Where the dart of a number starts.
-pub(crate) fn tail_numbered(rows: &Rows, begins: &[u32], places: &[u32], number: u32) -> Point
+pub(crate) fn tail_numbered(rows: &Rows, begins: &[u32], place: usize, number: u32) -> Point
     requires paths { has_good_paths rows.now ≡ true }
     requires begins { begins.now ≡ begins_from 0 rows.now.edges }
-    requires places { places.now ≡ places_from 0 rows.now.edges }
+    requires under { place ≡ slice_index (places_from 0 rows.now.edges) (number / 2) }
     requires within { number < length (darts rows.now) }
     ensures { IsSomeAnd (slice_get (darts rows.now) number) (λ d. result ≡ start rows.now d) }
 {
-    let dart = dart_numbered(rows, begins, places, number);
-    let row = edge_under(rows, places, number);
-    let place = match dart.way {
+    let dart = dart_numbered(rows, begins, place, number);
+    let row = edge_under(rows, place, number);
+    let along = match dart.way {
         Way::Forward => dart.seg as usize,
         Way::Back => dart.seg as usize + 1,
     };
-    point_on(row, place)
+    point_on(row, along)
 }
 
 /// The facts of the edge on which a dart lies.
-pub(crate) fn facts_numbered(rows: &Rows, places: &[u32], number: u32) -> Facts
+pub(crate) fn facts_numbered(rows: &Rows, place: usize, number: u32) -> Facts
     requires paths { has_good_paths rows.now ≡ true }
-    requires places { places.now ≡ places_from 0 rows.now.edges }
+    requires under { place ≡ slice_index (places_from 0 rows.now.edges) (number / 2) }
     requires within { number < length (darts rows.now) }
     ensures { IsSomeAnd (slice_get (darts rows.now) number) (λ d. AreFactsOf (edge_at rows.now d.edge) result) }
 {
-    match Facts::from_row(edge_under(rows, places, number)) {
+    match Facts::from_row(edge_under(rows, place, number)) {
         Some(facts) => facts,
         None => unreachable!(),
     }

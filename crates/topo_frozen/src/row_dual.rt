@@ -2,26 +2,25 @@
 
 ghost use Rattle.topo_core.specs.Lawful.{Lawful};
 
-use crate::flat::{begins_of, dart_count, places_of};
+use crate::flat::dart_count;
 use crate::numbers::{
-    corner_number, dart_numbered, facts_numbered, next_numbered, number_of, tail_numbered, twin_of,
+    corner_number, dart_numbered, facts_numbered, next_numbered, number_of, searched_place,
+    tail_numbered, twin_of,
 };
-use std::alloc::{AllocError, Global};
 use std::marker::Model;
 use topo_core::darts::{Dart, Point};
 use topo_core::rows::{Facts, Rows};
 use topo_route::dual::Dual;
 
-/// Lawful rows with their darts as numbers, of which no more is kept than where the darts of each edge
-/// begin and on which edge each segment lies. Contracts see the rows. The darts are numbered as those
-/// of `Frozen`, and no question takes memory; but the next dart is looked for on the rows, in the list
-/// of the vertex where it starts or on the path of the edge that crosses there. So it is soon made, for
-/// a search that asks of few darts.
+/// Lawful rows with their darts as numbers, and no more beside them than where the darts of each edge
+/// begin. Contracts see the rows. The darts are numbered as those of `Frozen`, and no question takes
+/// memory; but the edge of a dart is found by a binary search, and the next dart on the rows, in the
+/// list of the vertex where it starts or on the path of the edge that crosses there. So it takes no
+/// time to make where the one list is kept, for a search that asks of few darts.
 #[derive(Drop)]
 pub struct RowDual<'a> {
     rows: &'a Rows,
-    begins: Vec<u32>,
-    places: Vec<u32>,
+    begins: &'a [u32],
     ghost lawful: { ∥ Lawful rows.now ∥₁ },
 }
 
@@ -32,30 +31,34 @@ impl<'a> Model for RowDual<'a> {
 
     ghost view = { λ d. record { rows = d.rows.now; lawful = d.lawful } };
 
-    ghost invariant = { λ d. AreBeginsOf d.rows.now d.begins.items d.places.items };
+    ghost invariant = { λ d. AreBeginsOf d.rows.now d.begins.now };
 }
 
 impl<'a> RowDual<'a> {
-    ghost use Rattle.std.specs.Prelude.{◌≡◌, ◌*◌, ◌<◌, ◌^◌, IfOk, length, sum_by};
+    ghost use Rattle.std.specs.Prelude.{◌≡◌, ◌*◌, ◌/◌, ◌<◌, ◌^◌, length, slice_index, sum_by};
     ghost use Rattle.topo_core.specs.Lawful.{Lawful};
-    ghost use Rattle.topo_core.specs.Picture.{segment_count};
+    ghost use Rattle.topo_core.specs.Picture.{darts, segment_count};
+    ghost use Rattle.topo_frozen.specs.Flats.{begins_from, places_from};
 
-    /// These rows, few enough for numbers of 32 bits.
-    pub fn new(alloc: Global, rows: &'a Rows) -> Result<Self, AllocError>
+    /// These rows, few enough for numbers of 32 bits, with the number of the first dart of each edge and
+    /// last the number of all darts.
+    pub fn new(rows: &'a Rows, begins: &'a [u32]) -> Self
         requires lawful { Lawful rows.now }
+        requires begins { begins.now ≡ begins_from 0 rows.now.edges }
         requires few { 2 * sum_by segment_count rows.now.edges < 2 ^ 32 }
         requires vertices { length rows.now.rotations < 2 ^ 32 }
         requires crossings { length rows.now.crossings < 2 ^ 32 }
-        ensures { IfOk result (λ d. d.rows ≡ rows.now) }
+        ensures { result.rows ≡ rows.now }
     {
-        let edges = rows.edges.as_slice();
-        let begins = begins_of(alloc, edges)?;
-        let places = places_of(alloc, edges, begins.as_slice())?;
-        Ok(RowDual {
-            rows,
-            begins,
-            places,
-        })
+        RowDual { rows, begins }
+    }
+
+    /// The place of the edge of a dart.
+    fn place(&self, dart: u32) -> usize
+        requires { dart < length (darts self.now.rows) }
+        ensures { result ≡ slice_index (places_from 0 self.now.rows.edges) (dart / 2) }
+    {
+        searched_place(self.rows, self.begins, dart)
     }
 }
 
@@ -65,12 +68,11 @@ impl Dual for RowDual<'_> {
     ghost shows = { λ d. d.rows };
 
     fn len(&self) -> u32 {
-        dart_count(self.rows, self.begins.as_slice()) as u32
+        dart_count(self.rows, self.begins) as u32
     }
 
     fn next(&self, dart: u32) -> u32 {
-        let begins = self.begins.as_slice();
-        next_numbered(self.rows, begins, self.places.as_slice(), dart)
+        next_numbered(self.rows, self.begins, self.place(dart), dart)
     }
 
     fn twin(&self, dart: u32) -> u32 {
@@ -78,16 +80,15 @@ impl Dual for RowDual<'_> {
     }
 
     fn facts(&self, dart: u32) -> Facts {
-        facts_numbered(self.rows, self.places.as_slice(), dart)
+        facts_numbered(self.rows, self.place(dart), dart)
     }
 
     fn tail(&self, dart: u32) -> Point {
-        let begins = self.begins.as_slice();
-        tail_numbered(self.rows, begins, self.places.as_slice(), dart)
+        tail_numbered(self.rows, self.begins, self.place(dart), dart)
     }
 
     fn corner(&self, v: u32, position: u32) -> Option<u32> {
-        corner_number(self.rows, self.begins.as_slice(), v, position)
+        corner_number(self.rows, self.begins, v, position)
     }
 
     fn degree(&self, v: u32) -> u32 {
@@ -95,12 +96,11 @@ impl Dual for RowDual<'_> {
     }
 
     fn dart(&self, index: u32) -> Dart {
-        let begins = self.begins.as_slice();
-        dart_numbered(self.rows, begins, self.places.as_slice(), index)
+        dart_numbered(self.rows, self.begins, self.place(index), index)
     }
 
     fn index(&self, dart: Dart) -> Option<u32> {
-        number_of(self.rows, self.begins.as_slice(), dart)
+        number_of(self.rows, self.begins, dart)
     }
 
     ghost lawful = { λ d. lawful_again d.rows d.lawful };

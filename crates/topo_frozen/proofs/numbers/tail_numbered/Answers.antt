@@ -15,9 +15,9 @@ point_on-requires c =
 pub returns : goal.returns
 returns c =
     let d = c.dart_numbered-dart.result in
-    tail_told c.args.rows.now c.requires.paths c.args.number d c.edge_under-row.result.now c.match-dart.place c.point_on.result c.dart_numbered-dart.ensures
+    tail_told c.args.rows.now c.requires.paths c.args.number d c.edge_under-row.result.now c.match-dart.along c.point_on.result c.dart_numbered-dart.ensures
     (some_and (λ (d : Dart). edge_row c.args.rows.now d.edge ≡ Some c.edge_under-row.result.now) _ d c.dart_numbered-dart.ensures c.edge_under-row.ensures)
     (elim c.match-dart.branch [
-      | in-Forward w ↦ w.place-is ∙ sym (ap (start_place d.seg) w.in-Forward.is)
-      | in-Back w ↦ w.place-is ∙ sym (ap (start_place d.seg) w.in-Back.is)
+      | in-Forward w ↦ w.along-is ∙ sym (ap (start_place d.seg) w.in-Forward.is)
+      | in-Back w ↦ w.along-is ∙ sym (ap (start_place d.seg) w.in-Back.is)
     ]) c.point_on.ensures
