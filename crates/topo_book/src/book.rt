@@ -11,14 +11,17 @@ use topo_core::calls::{Call, Entry, Reply};
 use topo_picture::Picture;
 use topo_price::tariff::{Asks, Tariff};
 use topo_route::plan::Plan;
+use topo_route::workspace::Workspace;
 
-/// A picture that calls change, with the picture that it began with and every answer since.
+/// A picture that calls change, with the picture that it began with and every answer since. What its
+/// searches write on is kept from one call to the next, so that a search writes only what it reaches.
 #[derive(Drop)]
 pub struct Book<F: Asks> {
     tariff: Arc<Tariff<F>>,
     start: Picture,
     history: Vec<Entry>,
     picture: Picture,
+    work: Workspace,
 }
 
 impl<F: Asks> Model for Book<F> {
@@ -61,11 +64,13 @@ impl<F: Asks> Book<F> {
         ensures picture { IfOk result (λ b. b.picture ≡ start) }
     {
         let picture = start.copy(alloc)?;
+        let work = Workspace::new(alloc)?;
         Ok(Book {
             tariff,
             start,
             history: Vec::new(alloc),
             picture,
+            work,
         })
     }
 
@@ -246,7 +251,15 @@ impl<F: Asks> Book<F> {
         ensures same_book { IsSameBook self.old self.new }
     {
         self.history.reserve(1)?;
-        make_next(alloc, &self.picture, &self.tariff, caller, call, plan)
+        make_next(
+            alloc,
+            &self.picture,
+            &self.tariff,
+            caller,
+            call,
+            plan,
+            &mut self.work,
+        )
     }
 
     /// Carries the call out and enters it. Whatever fails, fails before anything changes.
@@ -264,7 +277,14 @@ impl<F: Asks> Book<F> {
         ensures same_book { IsSameBook self.old self.new }
     {
         self.history.reserve(1)?;
-        let answer = take_step(alloc, &mut self.picture, &self.tariff, call, plan)?;
+        let answer = take_step(
+            alloc,
+            &mut self.picture,
+            &self.tariff,
+            call,
+            plan,
+            &mut self.work,
+        )?;
         self.history.push_reserved(Entry {
             caller,
             call,

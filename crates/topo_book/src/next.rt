@@ -16,6 +16,7 @@ use topo_core::calls::{Call, Entry, Reply};
 use topo_picture::Picture;
 use topo_price::tariff::{Asks, Tariff};
 use topo_route::plan::Plan;
+use topo_route::workspace::Workspace;
 
 /// The entry of a call, and the picture after it where the call is accepted.
 #[derive(Drop)]
@@ -81,6 +82,7 @@ pub(crate) fn make_next<F: Asks>(
     caller: u32,
     call: Call,
     plan: Option<&Plan>,
+    work: &mut Workspace,
 ) -> Result<Next, AllocError>
     ensures caller { IfOk result (λ n. n.entry.caller ≡ caller) }
     ensures call { IfOk result (λ n. n.entry.call ≡ call) }
@@ -88,7 +90,7 @@ pub(crate) fn make_next<F: Asks>(
     ensures same_limits { IfOk result (λ n. (picture_after n.picture picture.now).limits ≡ picture.now.limits) }
 {
     let mut after = picture.copy(alloc)?;
-    let answer = take_step(alloc, &mut after, tariff, call, plan)?;
+    let answer = take_step(alloc, &mut after, tariff, call, plan, work)?;
     let entry = Entry {
         caller,
         call,

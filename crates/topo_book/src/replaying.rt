@@ -13,6 +13,7 @@ use thiserror::Error;
 use topo_core::calls::Entry;
 use topo_picture::Picture;
 use topo_price::tariff::{Asks, Tariff};
+use topo_route::workspace::Workspace;
 
 /// Why a list of entries has no replay.
 #[derive(Clone, Copy, Debug, Drop, PartialEq, Eq, Error)]
@@ -43,8 +44,12 @@ pub fn replay<F: Asks>(
         Ok(picture) => picture,
         Err(_) => return Err(ReplayFault::Memory),
     };
+    let mut work = match Workspace::new(alloc) {
+        Ok(work) => work,
+        Err(_) => return Err(ReplayFault::Memory),
+    };
     for (index, entry) in entries.iter().enumerate() {
-        match take_step(alloc, &mut picture, tariff, entry.call, None) {
+        match take_step(alloc, &mut picture, tariff, entry.call, None, &mut work) {
             Ok(answer) => {
                 if !same_reply(&answer.entered, &entry.reply) {
                     return Err(ReplayFault::WrongReply(index));

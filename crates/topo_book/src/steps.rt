@@ -16,6 +16,7 @@ use topo_price::tariff::{Asks, Tariff};
 use topo_route::check::check;
 use topo_route::plan::{Plan, PricedRoute};
 use topo_route::search::first_route;
+use topo_route::workspace::Workspace;
 
 /// Puts an edge in along the first route.
 fn apply_first<F: Asks>(
@@ -64,6 +65,7 @@ fn find_first<F: Asks>(
     u: u32,
     v: u32,
     plan: Option<&Plan>,
+    work: &mut Workspace,
 ) -> Result<Option<PricedRoute>, AllocError>
     requires u_there { u < length picture.now.rows.rotations }
     requires v_there { v < length picture.now.rows.rotations }
@@ -80,29 +82,31 @@ fn find_first<F: Asks>(
             return Ok(Some(PricedRoute { route, price }));
         }
     }
-    first_route(alloc, &dual, tariff, u, v)
+    first_route(alloc, &dual, tariff, u, v, work)
 }
 
-/// Inserts an edge along the first route, for which a plan may spare the search.
+/// Inserts an edge from the first of the ends to the second along the first route, for which a plan may
+/// spare the search.
 fn insert_first<F: Asks>(
     alloc: Global,
     picture: &mut Picture,
     tariff: &Tariff<F>,
-    u: u32,
-    v: u32,
+    ends: (u32, u32),
     kind: u32,
     plan: Option<&Plan>,
+    work: &mut Workspace,
 ) -> Result<Answer, AllocError>
     requires lawful { IsPicture picture.old.limits picture.old.rows }
-    ensures step { IfOk result (λ answer. Step (prices_of (F.answers tariff.now)) picture.old.limits picture.old.rows (Insert u v kind) answer.entered picture.new.rows) }
+    ensures step { IfOk result (λ answer. Step (prices_of (F.answers tariff.now)) picture.old.limits picture.old.rows (Insert ends.0 ends.1 kind) answer.entered picture.new.rows) }
     ensures same_limits { picture.new.limits ≡ picture.old.limits }
     ensures lawful { IsPicture picture.new.limits picture.new.rows }
     ensures unchanged { OnErr result (picture.new ≡ picture.old) }
 {
+    let (u, v) = ends;
     if let Err(why) = picture.admit(u, v, kind) {
         return Ok(refused(why));
     }
-    match find_first(alloc, picture, tariff, u, v, plan)? {
+    match find_first(alloc, picture, tariff, u, v, plan, work)? {
         Some(first) => apply_first(alloc, picture, tariff, u, v, kind, first),
         None => Ok(refused(Refusal::NoRoute)),
     }
@@ -116,6 +120,7 @@ pub(crate) fn take_step<F: Asks>(
     tariff: &Tariff<F>,
     call: Call,
     plan: Option<&Plan>,
+    work: &mut Workspace,
 ) -> Result<Answer, AllocError>
     requires lawful { IsPicture picture.old.limits picture.old.rows }
     ensures step { IfOk result (λ answer. Step (prices_of (F.answers tariff.now)) picture.old.limits picture.old.rows call answer.entered picture.new.rows) }
@@ -125,7 +130,15 @@ pub(crate) fn take_step<F: Asks>(
 {
     match call {
         Call::Grow { u, position, kind } => growth_answer(picture.grow(alloc, u, position, kind)),
-        Call::Insert { u, v, kind } => insert_first(alloc, picture, tariff, u, v, kind, plan),
+        Call::Insert { u, v, kind } => insert_first(
+            alloc,
+            picture,
+            tariff,
+            (u, v),
+            kind,
+            plan,
+            work,
+        ),
         Call::Delete { edge } => Ok(deletion_answer(edge, picture.delete(alloc, edge))),
     }
 }

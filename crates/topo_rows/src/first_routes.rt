@@ -3,8 +3,8 @@
 ghost use Rattle.std.specs.Prelude.{◌≢◌, ◌<◌, IsTrue, length};
 ghost use Rattle.topo_price.specs.Prices.{IsPromise};
 
-use crate::loading::{BIPYRAMID, Edit, Table, loaded, rows_of};
-use crate::routes::{APEXES, Answer, PARALLEL, ROUTES, dart, table_of};
+use crate::loading::{BARRIER, BIPYRAMID, Edit, JOINED, SEED, Table, loaded, rows_of};
+use crate::routes::{APEXES, Answer, FIVE_TWO_NINE, PARALLEL, Question, ROUTES, dart, table_of};
 use std::alloc::{AllocError, Global};
 use std::cell::Cell;
 use std::process::Abort;
@@ -12,8 +12,9 @@ use std::test::Fail;
 use topo_core::rows::Facts;
 use topo_picture::Picture;
 use topo_price::tariff::{Asks, Tariff};
-use topo_route::plan::PricedRoute;
-use topo_route::search::first_route;
+use topo_route::plan::{Plan, PricedRoute};
+use topo_route::search::{first_route, search};
+use topo_route::workspace::Workspace;
 
 /// Whether both are vertices, and different ones.
 fn are_ends(picture: &Picture, u: u32, v: u32) -> bool
@@ -32,6 +33,7 @@ fn routed<F: Asks + Drop>(
     picture: &Picture,
     ask: F,
     ends: (u32, u32),
+    work: &mut Workspace,
 ) -> Result<Option<PricedRoute>, AllocError>
     requires callable { F.can_ask ask }
     requires promise { IsPromise (F.answers ask) }
@@ -39,7 +41,7 @@ fn routed<F: Asks + Drop>(
     let (u, v) = ends;
     assert!(rt; are_ends(picture, u, v));
     let dual = picture.dual(alloc)?;
-    first_route(alloc, &dual, &Tariff::new(ask), u, v)
+    first_route(alloc, &dual, &Tariff::new(ask), u, v, work)
 }
 
 /// The picture of a table.
@@ -63,6 +65,7 @@ fn is_route(found: &PricedRoute, answer: &Answer) -> bool {
 
 #[test]
 fn first_routes_are_those_of_searches(rt: HostRuntime) -> Result<(), Fail> {
+    let mut work = Workspace::new(rt.alloc())?;
     for (at, (question, answer)) in ROUTES.iter().enumerate() {
         let picture = picture_of(&rt, rt.alloc(), &question.table)?;
         let table = table_of(&rt, question.rest, question.entries);
@@ -72,6 +75,7 @@ fn first_routes_are_those_of_searches(rt: HostRuntime) -> Result<(), Fail> {
             &picture,
             |facts: &Facts| table.price(facts.kind),
             question.ends,
+            &mut work,
         )?
         .ok_or("a route")?;
         assert!(rt; is_route(&found, answer), "line {at}: {found:?}");
@@ -83,12 +87,14 @@ fn first_routes_are_those_of_searches(rt: HostRuntime) -> Result<(), Fail> {
 fn no_first_route_where_the_triangle_is_closed(rt: HostRuntime) -> Result<(), Fail> {
     let picture = picture_of(&rt, rt.alloc(), &BIPYRAMID)?;
     let table = table_of(&rt, Some(1), &[(1, None), (2, None), (3, None)]);
+    let mut work = Workspace::new(rt.alloc())?;
     let found = routed(
         &rt,
         rt.alloc(),
         &picture,
         |facts: &Facts| table.price(facts.kind),
         APEXES,
+        &mut work,
     )?;
     assert!(rt; found.is_none());
     Ok(())
@@ -100,6 +106,7 @@ fn a_near_end_asks_little(rt: HostRuntime) -> Result<(), Fail> {
     assert!(rt; picture.grow(rt.alloc(), 0, 0, 0).is_ok());
     assert!(rt; picture.grow(rt.alloc(), 0, 0, 0).is_ok());
     let asked = Cell::new(0u32);
+    let mut work = Workspace::new(rt.alloc())?;
     let found = routed(
         &rt,
         rt.alloc(),
@@ -109,10 +116,118 @@ fn a_near_end_asks_little(rt: HostRuntime) -> Result<(), Fail> {
             Some(7)
         },
         (2, 3),
+        &mut work,
     )?
     .ok_or("a route")?;
     assert_eq!(rt; found.price, 0);
     assert!(rt; found.route.crossed.as_slice().is_empty());
     assert!(rt; asked.get() < 7, "{}", asked.get());
+    Ok(())
+}
+
+/// Whether a search on a kept workspace and one from nothing found the same: the same route at the same
+/// price, or none.
+fn is_same(found: &Option<PricedRoute>, plan: &Option<Plan>) -> bool {
+    match (found, plan) {
+        (Some(found), Some(plan)) => {
+            found.price == plan.price
+                && found.route.start == plan.route.start
+                && found.route.end == plan.route.end
+                && found.route.crossed.as_slice() == plan.route.crossed.as_slice()
+        }
+        (None, None) => true,
+        _ => false,
+    }
+}
+
+/// Whether a search on a workspace that is kept finds what a search from nothing finds.
+fn agrees<F: Asks + Drop>(
+    rt: &impl Abort,
+    alloc: Global,
+    picture: &Picture,
+    ask: F,
+    ends: (u32, u32),
+    work: &mut Workspace,
+) -> Result<bool, AllocError>
+    requires callable { F.can_ask ask }
+    requires promise { IsPromise (F.answers ask) }
+{
+    let (u, v) = ends;
+    assert!(rt; are_ends(picture, u, v));
+    let tariff = Tariff::new(ask);
+    let dual = picture.dual(alloc)?;
+    let found = first_route(alloc, &dual, &tariff, u, v, work)?;
+    let plan = search(alloc, &dual, &tariff, u, v)?;
+    Ok(is_same(&found, &plan))
+}
+
+/// Searches in a row: on larger and smaller pictures, with a route and without.
+const IN_A_ROW: &[Question] = &[
+    Question {
+        table: BIPYRAMID,
+        rest: Some(1),
+        entries: FIVE_TWO_NINE,
+        ends: APEXES,
+    },
+    Question {
+        table: SEED,
+        rest: Some(1),
+        entries: &[],
+        ends: (1, 0),
+    },
+    Question {
+        table: JOINED,
+        rest: Some(3),
+        entries: FIVE_TWO_NINE,
+        ends: (4, 3),
+    },
+    Question {
+        table: BIPYRAMID,
+        rest: Some(1),
+        entries: &[(1, None), (2, None), (3, None)],
+        ends: APEXES,
+    },
+    Question {
+        table: BARRIER,
+        rest: Some(9),
+        entries: &[(0, Some(1))],
+        ends: (4, 5),
+    },
+    Question {
+        table: PARALLEL,
+        rest: Some(1000),
+        entries: &[],
+        ends: (0, 1),
+    },
+    Question {
+        table: JOINED,
+        rest: None,
+        entries: &[(0, Some(7))],
+        ends: APEXES,
+    },
+    Question {
+        table: BIPYRAMID,
+        rest: Some(4),
+        entries: &[],
+        ends: (4, 3),
+    },
+];
+
+#[test]
+fn what_an_earlier_search_left_does_not_matter(rt: HostRuntime) -> Result<(), Fail> {
+    let mut work = Workspace::new(rt.alloc())?;
+    for question in IN_A_ROW.iter().chain(IN_A_ROW.iter().rev()) {
+        let picture = picture_of(&rt, rt.alloc(), &question.table)?;
+        let table = table_of(&rt, question.rest, question.entries);
+        let same = agrees(
+            &rt,
+            rt.alloc(),
+            &picture,
+            |facts: &Facts| table.price(facts.kind),
+            question.ends,
+            &mut work,
+        )?;
+        assert!(rt; same, "{:?}", question.ends);
+    }
     Ok(())
 }

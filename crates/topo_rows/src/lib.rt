@@ -16,6 +16,8 @@ mod loading;
 #[cfg(test)]
 mod pictures;
 #[cfg(test)]
+mod plans;
+#[cfg(test)]
 mod replays;
 #[cfg(test)]
 mod reports;

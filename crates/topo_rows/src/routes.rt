@@ -358,7 +358,7 @@ fn a_search_after_growths(rt: HostRuntime) -> Result<(), Fail> {
 }
 
 /// A plan that nobody searched for.
-fn invented(
+pub(crate) fn invented(
     alloc: Global,
     start: u32,
     crossed: Dart,
@@ -380,7 +380,7 @@ fn invented(
 }
 
 /// The heights of the least plan at prices 5, 2 and 9.
-const LEAST: [u64; 18] = [0, 3, 0, 2, 0, 3, 3, 3, 3, 2, 2, 3, 0, 0, 0, 0, 0, 0];
+pub(crate) const LEAST: [u64; 18] = [0, 3, 0, 2, 0, 3, 3, 3, 3, 2, 2, 3, 0, 0, 0, 0, 0, 0];
 
 /// The heights where all edges of the triangle cost 4.
 const EVEN: [u64; 18] = [0, 4, 0, 4, 0, 4, 4, 4, 4, 4, 4, 4, 0, 0, 0, 0, 0, 0];
