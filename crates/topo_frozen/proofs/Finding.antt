@@ -1,14 +1,10 @@
 -- Rows found by their ids, where these rise.
-use Rattle.std.proofs.Common.{Err, Ok, Result, take, true, ◌≡◌, ◌<◌, ◌≤◌, ap, arith, get_or, inl, inr, length, List, None, refl, Some, subst, suc, sym, zero, ℕ, ◌∙◌, ◌+◌}
-use Rattle.std.specs.Prelude.{find, map, MatchOption, min, Option, slice_get, slice_index, ◌==◌}
+use Rattle.std.proofs.Common.{true, ◌≡◌, ◌<◌, ◌≤◌, ap, arith, get_or, inl, inr, length, List, None, refl, Some, subst, suc, sym, zero, ℕ, ◌∙◌, ◌+◌}
+use Rattle.std.specs.Prelude.{find, map, min, Option, slice_get, slice_index, ◌==◌}
 use Rattle.std.specs.List.{list_all, position_or_len}
-use Rattle.std.specs.List.Sorted.{IsBinarySearchResult, IsNonDecreasingBy, IsSearchInRange, IsStrictlyIncreasing}
-use Rattle.std.specs.Ordering.{nat_cmp, ordering_index}
-use Rattle.std.specs.Result.{result_ok}
+use Rattle.std.specs.List.Sorted.{IsStrictlyIncreasing}
 use Rattle.std.proofs.lemmas.Bool.{cases_lt, eqb-true}
-use Rattle.std.proofs.lemmas.Bool.Decides.{nat_tests}
-use Rattle.std.proofs.lemmas.Cmp.{ranked}
-use Rattle.std.proofs.lemmas.List.{get_or-map, get_or-take, length-map, length-take-le}
+use Rattle.std.proofs.lemmas.List.{get_or-map, length-map}
 use Rattle.std.proofs.lemmas.List.Folds.{find_at}
 use Rattle.std.proofs.lemmas.Option.{get_or_from_slice_get, slice_get-get_or}
 use Rattle.topo_core.specs.declared.rows.CrossRow.{CrossRow}
@@ -17,8 +13,7 @@ use Rattle.topo_core.specs.declared.rows.Rows.{Rows}
 use Rattle.topo_core.specs.Lawful.{has_good_crossings, has_good_path, has_good_paths, is_good_crossing}
 use Rattle.topo_core.specs.Picture.{edge_row}
 use Rattle.topo_core.proofs.Members.{found, left_true}
-use Rattle.topo_core.proofs.SystemDarts.{get_there}
-use Rattle.topo_frozen.specs.Ids.{IdsRise, IsPlaceOf}
+use Rattle.topo_frozen.specs.Ids.{IdsRise, IsPlaceOf, NoneBefore, NoneFrom}
 use Rattle.topo_frozen.proofs.Begins.{AtPlace}
 use Rattle.topo_frozen.proofs.Noting.{place_among}
 use Rattle.topo_frozen.proofs.Rounds.{got_within}
@@ -77,47 +72,29 @@ module _ {X : Type 0} (key : X → ℕ) (xs : List X) (id : ℕ) (rise : IdsRise
       let a = key_read i d (omega arith) in
       let b = key_read j d inside in omega arith
 
-  -- what a search of the first rows answers is the answer, where the row behind them has not the id
-  module _ (most : ℕ) (least : most ≡ min (length xs) id) where
-    pub prefix_length : length (take most xs) ≡ most
-    prefix_length = length-take-le most xs (omega arith)
+  -- a row with a smaller id, and those before it, have not the id
+  pub none_before : (near : ℕ) (d : X) → near < length xs → key (get_or xs near d) < id → NoneBefore xs key id (near + 1)
+  none_before near d inside less i x at named = elim (cases_lt near i) [
+    | inl past ↦ omega arith
+    | inr low ↦ (let climb = keys_rise i near d (omega arith) inside in let is = named_read i x d at named in absurd (omega arith))
+  ]
 
-    read : (i : ℕ) (x : X) → slice_get xs i ≡ Some x → i < most → get_or (take most xs) i x ≡ x
-    read i x at h = get_or-take most xs i x h ∙ get_or_from_slice_get xs i x x at
+  -- and so do one with a greater id and those behind it
+  pub none_from : (near : ℕ) (d : X) → near < length xs → id < key (get_or xs near d) → NoneFrom xs key id near
+  none_from near d inside more i x at named = elim (cases_lt i near) [
+    | inl before ↦ before
+    | inr past ↦ (let climb = keys_rise near i d (omega arith) (got_within xs i x at) in let is = named_read i x d at named in absurd (omega arith))
+  ]
 
-    index_rises : (a b : ℕ) → a ≤ b → ordering_index (nat_cmp a id) ≤ ordering_index (nat_cmp b id)
-    index_rises a b h = grind (arith, nat_tests)
-
-    compared : IsNonDecreasingBy (λ y. ordering_index (nat_cmp (key y) id)) (take most xs)
-    compared i j d below inside =
-        let few = prefix_length in
-        let first = get_or-take most xs i d (omega arith) in
-        let second = get_or-take most xs j d (omega arith) in
-        let climb = keys_rise i j d below (omega arith) in
-        let a = ap key first in
-        let b = ap key second in
-        index_rises (key (get_or (take most xs) i d)) (key (get_or (take most xs) j d)) (omega arith)
-
-    pub searched_rows : ((x : X) → slice_get xs most ≡ Some x → key x ≡ id → ⊥) → (r : Result ℕ ℕ) → IsSearchInRange r (length (take most xs)) → IsBinarySearchResult (λ y. nat_cmp (key y) id) (take most xs) r
-        → MatchOption (result_ok r) (find (λ row. key row == id) xs ≡ None) (IsPlaceOf xs key id)
-    searched_rows missed (Ok place) bound equal =
-        let few = prefix_length in
-        let x = get_there xs place (omega arith) in
-        placed_here place x.0 x.1 (sym (ap key (read place x.0 x.1 (omega arith))) ∙ ranked _ id _ (sym (equal x.0)))
-    searched_rows missed (Err place) bound parted = finds_none (λ i x at named.
-        let few = prefix_length in
-        let low = place_low i x at named in
-        let inside = got_within xs i x at in
-        elim (cases_lt i most) [
-          | inl below ↦
-              let is : key (get_or (take most xs) i x) ≡ id = ap key (read i x at below) ∙ named in
-              elim (cases_lt i place) [
-                | inl before ↦ (let less : key (get_or (take most xs) i x) < id = ranked _ id _ (sym ((parted compared).0 i x (omega arith) before)) in omega arith)
-                | inr behind ↦ (let more : id < key (get_or (take most xs) i x) = ranked _ id _ (sym ((parted compared).1 i x behind (omega arith))) in omega arith)
-              ]
-          | inr past ↦
-              let same : i ≡ most = omega arith in missed x (sym (ap (slice_get xs) same) ∙ at) named
-        ])
+  -- no row stands above its id, and so none behind the place that the id names
+  pub none_past : (most : ℕ) → most ≡ min (length xs) id → ((x : X) → slice_get xs most ≡ Some x → key x ≡ id → ⊥) → NoneFrom xs key id most
+  none_past most least missed i x at named =
+      let low = place_low i x at named in
+      let inside = got_within xs i x at in
+      elim (cases_lt i most) [
+        | inl below ↦ below
+        | inr past ↦ (let same : i ≡ most = omega arith in absurd (missed x (sym (ap (slice_get xs) same) ∙ at) named))
+      ]
 
 -- ---- Edges and crossings of rows
 

@@ -1,5 +1,5 @@
 -- Rows by their ids.
-use Rattle.std.specs.Prelude.{◌≡◌, ◌<◌, ℕ, ◌==◌, true, List, find, length, slice_get, Some}
+use Rattle.std.specs.Prelude.{◌≡◌, ◌<◌, ◌≤◌, ℕ, ◌==◌, true, List, find, length, slice_get, Some}
 use Rattle.std.specs.List.{position_or_len}
 use Rattle.topo_core.specs.Items.{rises_below}
 
@@ -15,3 +15,11 @@ pub record IsPlaceOf {X : Type 0} (rows : List X) (id_of : X → ℕ) (id place 
   pub named : id_of row ≡ id
   pub found : find (λ row. id_of row == id) rows ≡ Some row
   pub first : place ≡ position_or_len (λ row. id_of row == id) rows
+
+-- no row before this place has the id
+abbrev pub NoneBefore : {X : Type 0} → List X → (X → ℕ) → ℕ → ℕ → Type 0
+NoneBefore {X} rows id_of id low = (i : ℕ) (x : X) → slice_get rows i ≡ Some x → id_of x ≡ id → low ≤ i
+
+-- no row from this place on has the id
+abbrev pub NoneFrom : {X : Type 0} → List X → (X → ℕ) → ℕ → ℕ → Type 0
+NoneFrom {X} rows id_of id high = (i : ℕ) (x : X) → slice_get rows i ≡ Some x → id_of x ≡ id → i < high

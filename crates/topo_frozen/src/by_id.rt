@@ -1,22 +1,129 @@
 //! Rows by their ids.
 
-ghost use Rattle.std.specs.Prelude.{◌≡◌, ◌==◌, MatchOption, None, find, is_some, map, true};
-ghost use Rattle.topo_frozen.specs.Ids.{IdsRise, IsPlaceOf};
+ghost use Rattle.std.specs.Prelude.{◌≡◌, ◌==◌, ◌≤◌, ℕ, MatchOption, None, find, is_some, length, map, true};
+ghost use Rattle.topo_frozen.specs.Ids.{IdsRise, IsPlaceOf, NoneBefore, NoneFrom};
 
 use topo_core::rows::{CrossRow, EdgeRow};
 
-/// The place of the edge with an id, where ids rise; none where there is no such edge. No row stands
-/// above the place that its id names, and as long as no edge is gone each stands there, so that one
-/// look finds it. Else a binary search does.
+/// A row that has an id.
+trait Identified {
+    /// Its id.
+    ghost id_of: { Self → ℕ };
+
+    /// Its id.
+    fn id(&self) -> u32
+        ensures { result ≡ id_of self.now };
+}
+
+impl Identified for EdgeRow {
+    ghost id_of = { λ row. row.id };
+
+    fn id(&self) -> u32 {
+        self.id
+    }
+}
+
+impl Identified for CrossRow {
+    ghost id_of = { λ row. row.id };
+
+    fn id(&self) -> u32 {
+        self.id
+    }
+}
+
+/// How far on both sides of where it is expected a row is looked for at first.
+const NEAR: usize = 32;
+
+/// Where a row with this id is expected, if the ids that are gone lie evenly among those that were
+/// given. It is speed alone.
+fn guess<T: Identified>(rows: &[T], id: u32) -> usize {
+    match rows.last() {
+        Some(row) => {
+            let given = row.id() as u64 + 1;
+            ((id as u64).wrapping_mul(rows.len() as u64) / given) as usize
+        }
+        None => 0,
+    }
+}
+
+/// A place before which no row has the id: the one after `near`, where that row has a smaller id.
+fn low_near<T: Identified>(rows: &[T], id: u32, near: usize) -> usize
+    requires { IdsRise (map T.id_of rows.now) }
+    ensures { NoneBefore rows.now T.id_of id result }
+{
+    if near < rows.len() && rows[near].id() < id {
+        near + 1
+    } else {
+        0
+    }
+}
+
+/// A place from which on no row has the id: `near`, where that row has a greater id, and else `most`.
+fn high_near<T: Identified>(rows: &[T], id: u32, near: usize, most: usize) -> usize
+    requires rise { IdsRise (map T.id_of rows.now) }
+    requires within { most ≤ length rows.now }
+    requires none { NoneFrom rows.now T.id_of id most }
+    ensures within { result ≤ length rows.now }
+    ensures none { NoneFrom rows.now T.id_of id result }
+{
+    if near < most && rows[near].id() > id {
+        near
+    } else {
+        most
+    }
+}
+
+/// The place of the row with an id between two places, by a binary search.
+fn place_between<T: Identified>(
+    rows: &[T],
+    id: u32,
+    mut low: usize,
+    mut high: usize,
+) -> Option<usize>
+    requires rise { IdsRise (map T.id_of rows.now) }
+    requires within { high ≤ length rows.now }
+    requires before { NoneBefore rows.now T.id_of id low }
+    requires behind { NoneFrom rows.now T.id_of id high }
+    ensures { MatchOption result (find (λ row. T.id_of row == id) rows.now ≡ None) (IsPlaceOf rows.now T.id_of id) }
+{
+    while low < high {
+        let middle = low + (high - low) / 2;
+        let here = rows[middle].id();
+        if here == id {
+            return Some(middle);
+        }
+        if here < id {
+            low = middle + 1;
+        } else {
+            high = middle;
+        }
+    }
+    None
+}
+
+/// The place of the row with an id, where ids rise; none where there is no such row. No row stands
+/// above the place that its id names, and as long as no row is gone each stands there, so that one
+/// look finds it. Else a binary search does, first near the place where the row is expected.
+fn row_place<T: Identified>(rows: &[T], id: u32) -> Option<usize>
+    requires { IdsRise (map T.id_of rows.now) }
+    ensures { MatchOption result (find (λ row. T.id_of row == id) rows.now ≡ None) (IsPlaceOf rows.now T.id_of id) }
+{
+    let most = rows.len().min(id as usize);
+    if most < rows.len() && rows[most].id() == id {
+        return Some(most);
+    }
+    let near = guess(rows, id);
+    let low = low_near(rows, id, near.saturating_sub(NEAR));
+    let high = high_near(rows, id, near.saturating_add(NEAR), most);
+    place_between(rows, id, low, high)
+}
+
+/// The place of the edge with an id, where ids rise; none where there is no such edge.
 pub fn edge_place(edges: &[EdgeRow], id: u32) -> Option<usize>
     requires { IdsRise (map (λ row. row.id) edges.now) }
     ensures { MatchOption result (find (λ row. row.id == id) edges.now ≡ None) (IsPlaceOf edges.now (λ row. row.id) id) }
 {
-    let most = edges.len().min(id as usize);
-    if most < edges.len() && edges[most].id == id {
-        return Some(most);
-    }
-    edges[..most].binary_search_by_key(&id, |row| row.id).ok()
+    row_place(edges, id)
 }
 
 /// The place of the crossing with an id, in the same way.
@@ -24,13 +131,7 @@ pub fn crossing_place(crossings: &[CrossRow], id: u32) -> Option<usize>
     requires { IdsRise (map (λ row. row.id) crossings.now) }
     ensures { MatchOption result (find (λ row. row.id == id) crossings.now ≡ None) (IsPlaceOf crossings.now (λ row. row.id) id) }
 {
-    let most = crossings.len().min(id as usize);
-    if most < crossings.len() && crossings[most].id == id {
-        return Some(most);
-    }
-    crossings[..most]
-        .binary_search_by_key(&id, |row| row.id)
-        .ok()
+    row_place(crossings, id)
 }
 
 /// The place of an edge that is there.
