@@ -1,17 +1,19 @@
 -- Where the darts of edges begin, when an edge is crossed or a new one is last.
-use Rattle.std.proofs.Common.{◌≡◌, ◌≢◌, ℕ, zero, suc, ◌+◌, ◌-◌, ◌*◌, ◌<◌, ◌≤◌, Bool, true, false, cond, not, List, [], ◌∷◌, ◌++◌, length, get_or, take, refl, subst, sym, ap, ◌∙◌, arith, inl, inr}
+use Rattle.std.proofs.Common.{◌≡◌, ℕ, zero, suc, ◌+◌, ◌-◌, ◌*◌, ◌<◌, ◌≤◌, Bool, true, false, cond, not, List, [], ◌∷◌, ◌++◌, length, get_or, take, refl, subst, sym, ap, ◌∙◌, arith, inl, inr}
 use Rattle.std.specs.Prelude.{◌==◌, nat_lt, map, filter, find, is_some, slice_index, sum_by, Some}
 use Rattle.std.specs.List.{position_or_len}
-use Rattle.std.proofs.lemmas.Bool.{cases_Bool, cases_lt, eq-eqb, eqb-true, lt-ltb, le-ltb}
-use Rattle.std.proofs.lemmas.List.{length-map, length-take-le, take_all, take_more}
+use Rattle.std.proofs.lemmas.Bool.{cases_Bool, cases_lt, eqb-true, lt-ltb, le-ltb}
+use Rattle.std.proofs.lemmas.List.{length-map, length-take-le, take_all}
 use Rattle.std.proofs.lemmas.List.Edits.{length-insert}
 use Rattle.std.proofs.lemmas.List.Filters.{length-filter_more}
-use Rattle.std.proofs.lemmas.List.Sums.{length-filter, sum_by-cons}
+use Rattle.std.proofs.lemmas.List.Sums.{count_by-le-length, length-filter, sum_by-cons}
 use Rattle.topo_core.specs.declared.darts.Dart.{Dart}
 use Rattle.topo_core.specs.declared.darts.Way.TheVariants.{Forward}
 use Rattle.topo_core.specs.declared.rows.EdgeRow.{EdgeRow}
-use Rattle.topo_core.specs.Items.{IsIn, rises_below}
-use Rattle.topo_core.specs.Picture.{segment_count}
+use Rattle.topo_core.specs.declared.rows.Rows.{Rows}
+use Rattle.topo_core.specs.Changes.{uncrossed_row, without}
+use Rattle.topo_core.specs.Items.{rises_below}
+use Rattle.topo_core.specs.Picture.{edge_at, segment_count}
 use Rattle.topo_frozen.specs.Ids.{IsPlaceOf}
 use Rattle.topo_frozen.specs.Flats.{begins_from}
 use Rattle.topo_frozen.proofs.Begins.{begins_length}
@@ -99,7 +101,7 @@ module _ (limit e : ℕ) (change : List ℕ → List ℕ) (longer : (path : List
         let place : place_of (row ∷ edges) e ≡ 0 = ap (λ (b : Bool). cond {A = ℕ} (not b) (1 + place_of edges e) 0) same in
         let one : cond {A = ℕ} (nat_lt (place_of (row ∷ edges) e) (suc i)) 2 0 ≡ 2 = ap (λ p. cond {A = ℕ} (nat_lt p (suc i)) 2 0) place ∙ ap (λ (b : Bool). cond {A = ℕ} b 2 0) (lt-ltb 0 (suc i) (omega arith)) in
         let stay : map (repathed e change) edges ≡ edges = map_same (repathed e change) edges (λ other k.
-            repathed_other e change other (λ is. let above = ids_above limit row.id (map (λ row. row.id) edges) rise other.id (in_map (λ row. row.id) other edges k) in let here = eqb-true row.id e same in omega arith)) in
+        repathed_other e change other (λ is. let above = ids_above limit row.id (map (λ row. row.id) edges) rise other.id (in_map (λ row. row.id) other edges k) in let here = eqb-true row.id e same in omega arith)) in
         let path : segment_count (repathed e change row) ≡ segment_count row + 1 = ap (λ (b : Bool). length (cond b (change row.crossings) row.crossings) + 1) same ∙ ap (λ n. n + 1) (longer row.crossings) in
         let next : n + 2 * segment_count (repathed e change row) ≡ n + 2 * segment_count row + 2 = omega (arith, path) in
         ap (λ m. slice_index (begins_from m (map (repathed e change) edges)) i) next
@@ -182,10 +184,10 @@ module _ (first : ℕ) (was : List EdgeRow) (darts : List Dart) (rise : IdsRise 
       let as_many : length now ≡ length was = length-map was (crossed_by first darts) in
       let all : take (length darts) darts ≡ darts = take_all (length darts) darts (omega arith) in
       same_numbers begins' (begins_from 0 now) (omega arith) (λ i h.
-          let here = raised i (omega arith) in
-          let one = subst (λ ds. slice_index (begins_from 0 (map (crossed_by first ds) was)) i ≡ slice_index (begins_from 0 was) i + 2 * darts_before was i ds) all (raised_so_far (length darts) (omega arith) i (omega arith)) in
-          let start = ap (λ xs. slice_index xs i) is in
-          let stay = counts_stay first darts was i darts in omega arith)
+      let here = raised i (omega arith) in
+      let one = subst (λ ds. slice_index (begins_from 0 (map (crossed_by first ds) was)) i ≡ slice_index (begins_from 0 was) i + 2 * darts_before was i ds) all (raised_so_far (length darts) (omega arith) i (omega arith)) in
+      let start = ap (λ xs. slice_index xs i) is in
+      let stay = counts_stay first darts was i darts in omega arith)
 
 -- ---- A new edge behind the last
 
@@ -220,3 +222,15 @@ begins_most edges begins i is h =
     let same = ap length is in
     let here = ap (λ bs. slice_index bs i) is in
     let most = begin_within 0 edges i (omega arith) in omega arith
+
+-- ---- The edges of a picture, and those that a deletion leaves
+
+pub few_in : (rows : Rows) (edges : List EdgeRow) → edges ≡ rows.edges → 2 * sum_by segment_count rows.edges < 4294967296 → 2 * sum_by segment_count edges < 4294967296
+few_in rows edges same few = let total = ap (sum_by segment_count) same in omega arith
+
+pub fewer_edges : (rows rows' : Rows) (e : ℕ) (edges : List EdgeRow) (begins : List ℕ) → rows' ≡ without rows e → edges ≡ rows'.edges → begins ≡ begins_from 0 rows.edges → length edges < length begins
+fewer_edges rows rows' e edges begins is same was =
+    let stay : EdgeRow → Bool = λ row. not (row.id == e) in
+    let as_many = ap length same in
+    let left = ap (λ (rows : Rows). length rows.edges) is in
+    omega (arith, length-map (filter stay rows.edges) (uncrossed_row (edge_at rows e).crossings), length-filter stay rows.edges, count_by-le-length stay rows.edges, ap length was, begins_length 0 rows.edges)

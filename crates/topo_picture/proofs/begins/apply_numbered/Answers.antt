@@ -1,4 +1,4 @@
-use Rattle.std.proofs.Common.{◌≡◌, ◌∙◌, ap, arith, length, sym, ℕ}
+use Rattle.std.proofs.Common.{◌∙◌, ap, arith, length}
 use Rattle.topo_core.specs.declared.rows.Rows.{Rows}
 use Rattle.topo_frozen.specs.Flats.{begins_from}
 use Rattle.topo_picture.proofs.CrossedBegins.{crossed_as_many, crossed_fit, crossed_ids_rise, crossed_there, last_fits, shown_begins, written_back}
@@ -31,8 +31,8 @@ pub begin_after-requires-clause-some : goal.begin_after-requires-clause-some
 begin_after-requires-clause-some c =
     let long = c.raise_across.ensures.as_many ∙ c.deref_mut.ensures.len in
     let many = crossed_as_many c.args.rows.now c.args.u c.args.v c.args.kind c.args.route.now c.requires.formed c.requires.insertable
-        c.as_slice-edges.result.now (c.as_slice-edges.ensures ∙ ap (λ (rows : Rows). rows.edges) c.in_ok-apply_rows.ensures.ok)
-        c.deref_mut.result.now (c.deref_mut.ensures.value ∙ c.reserve.ensures.items ∙ c.requires.begins) in
+    c.as_slice-edges.result.now (c.as_slice-edges.ensures ∙ ap (λ (rows : Rows). rows.edges) c.in_ok-apply_rows.ensures.ok)
+    c.deref_mut.result.now (c.deref_mut.ensures.value ∙ c.reserve.ensures.items ∙ c.requires.begins) in
     let same = ap length (written_back c.reserve.new.self.len c.reserve.new.self.items c.raise_across.new.begins long) in
     let as_many = c.raise_across.ensures.as_many in omega arith
 

@@ -1,4 +1,4 @@
-use Rattle.std.proofs.Common.{◌≡◌, ◌∙◌, ◌-◌, ap, arith, length, refl, sym, []}
+use Rattle.std.proofs.Common.{◌∙◌, ◌-◌, ap, arith, length, refl, sym, []}
 use Rattle.topo_core.specs.declared.rows.Rows.{Rows}
 use Rattle.topo_frozen.specs.Flats.{begins_from}
 use Rattle.topo_picture.proofs.Raised.{begins_more, begins_most, begins_some}
