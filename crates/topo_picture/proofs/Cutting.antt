@@ -17,14 +17,14 @@ use Rattle.topo_core.specs.Edits.{IsUnchord}
 use Rattle.topo_core.specs.Darts.{dart_twin, same_dart, same_way}
 use Rattle.topo_core.specs.Lawful.{IsWellFormed}
 use Rattle.topo_core.specs.Openings.{dart_numbered, is_opened, opened_turn}
-use Rattle.topo_core.specs.Picture.{darts, edge_row, index_of, segment_count, system, turn_images}
+use Rattle.topo_core.specs.Picture.{darts, edge_row, index_of, segment_count, system}
 use Rattle.topo_core.specs.Pictures.{back, forward}
 use Rattle.topo_core.specs.Rotations.{face_next, twin}
 use Rattle.topo_core.specs.Systems.{has_dart, turn}
 use Rattle.topo_core.proofs.DartLaws.{same_dart_self, same_dart_true}
 use Rattle.topo_core.proofs.Numbering.{even_images, image_of, images_length, index_apart, index_twin, place_less, twin_in}
 use Rattle.topo_core.proofs.OpenedDarts.{rest_face_darts, rest_face_numbers}
-use Rattle.topo_core.proofs.Openings.{index_numbered, numbered_here, numbered_index, opens}
+use Rattle.topo_core.proofs.Openings.{index_numbered, numbered_index, opens}
 use Rattle.topo_core.proofs.SystemDarts.{row_id}
 use Rattle.topo_perm.proofs.Walks.{face_next-permutation}
 use Rattle.topo_route.proofs.Rounds.{unmet_all, unmet_home}

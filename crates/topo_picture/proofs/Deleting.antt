@@ -1,7 +1,7 @@
 -- What a deletion takes out of the rows, part by part, is the picture without the edge.
 use Rattle.std.proofs.Common.{◌≡◌, ◌≢◌, ℕ, zero, suc, ◌<◌, ◌≤◌, Bool, true, false, cond, not, ◌||◌, ◌&&◌, List, [], ◌∷◌, ◌++◌, length, get_or, set, refl, sym, ap, subst, ◌∙◌, arith, inl, inr, eqb, Option, Some}
-use Rattle.std.specs.Prelude.{◌⊎◌, ◌==◌, filter, find, is_some, map, nat_le, slice_index, unwrap_or}
-use Rattle.std.specs.List.{list_all, list_any, remove}
+use Rattle.std.specs.Prelude.{◌⊎◌, ◌==◌, filter, find, is_some, map, nat_le, unwrap_or}
+use Rattle.std.specs.List.{list_all, remove}
 use Rattle.std.specs.List.Sorted.{IsStrictlyIncreasing}
 use Rattle.std.proofs.lemmas.Bool.{cases_Bool, eq-eqb, eqb-true, false≢true}
 use Rattle.std.proofs.lemmas.Bool.Decides.{nat_tests}

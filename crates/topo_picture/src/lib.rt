@@ -8,6 +8,7 @@
 //! they fail.
 #![tactic(auto)]
 
+mod begins;
 mod copies;
 pub mod counts;
 mod cuts;

@@ -1,11 +1,10 @@
 //! A picture, with its limits.
 
+use crate::begins::{apply_numbered, begin_again, grow_numbered};
 use crate::copies::copy_rows;
 use crate::counts::Counts;
 use crate::cuts::first_cut;
 use crate::deletion::delete_rows;
-use crate::growth::grow_rows;
-use crate::insertion::apply_rows;
 use std::alloc::{AllocError, Global};
 use std::marker::Model;
 use topo_core::calls::Refusal;
@@ -15,25 +14,30 @@ use topo_core::listed::Listed;
 use topo_core::routes::Route;
 use topo_core::rows::{EdgeRow, Rows};
 use topo_frozen::by_id::edge_place;
+use topo_frozen::flat::begins_of;
 use topo_frozen::load::{LoadFault, first_fault};
 use topo_frozen::{Frozen, RowDual};
 use topo_route::plan::Plan;
 
-/// A connected embedding of a graph of genus zero, within limits.
+/// A connected embedding of a graph of genus zero, within limits. It keeps where the darts of each edge
+/// begin, so that no question has to count them.
 #[derive(Drop)]
 pub struct Picture {
     limits: Limits,
     rows: Rows,
+    begins: Vec<u32>,
 }
 
 impl Model for Picture {
+    ghost use Rattle.std.specs.Prelude.{◌≡◌};
+    ghost use Rattle.topo_frozen.specs.Flats.{begins_from};
     ghost use Rattle.topo_frozen.specs.Shown.{Shown, IsPicture};
 
     ghost Value = { Shown };
 
     ghost view = { λ p. record { limits = p.limits; rows = p.rows } };
 
-    ghost invariant = { λ p. IsPicture p.limits p.rows };
+    ghost invariant = { λ p. IsPicture p.limits p.rows × (p.begins.items ≡ begins_from 0 p.rows.edges) };
 }
 
 impl Picture {
@@ -55,7 +59,12 @@ impl Picture {
         ensures limits { IfOk result (λ p. p.limits ≡ limits) }
     {
         let rows = seed_rows(alloc)?;
-        Ok(Picture { limits, rows })
+        let begins = vec![in alloc; 0, 2]?;
+        Ok(Picture {
+            limits,
+            rows,
+            begins,
+        })
     }
 
     /// The picture with these rows and limits. Rows that are none are refused by the first test that
@@ -72,7 +81,14 @@ impl Picture {
             Err(_) => return Err(LoadFault::Memory),
         }
         match copy_rows(alloc, rows) {
-            Ok(copy) => Ok(Picture { limits, rows: copy }),
+            Ok(copy) => match begins_of(alloc, copy.edges.as_slice()) {
+                Ok(begins) => Ok(Picture {
+                    limits,
+                    rows: copy,
+                    begins,
+                }),
+                Err(_) => Err(LoadFault::Memory),
+            },
             Err(_) => Err(LoadFault::Memory),
         }
     }
@@ -132,9 +148,11 @@ impl Picture {
         ensures lawful { IsPicture self.now.limits self.now.rows }
     {
         let rows = copy_rows(alloc, &self.rows)?;
+        let begins = Vec::from_slice(alloc, self.begins.as_slice())?;
         Ok(Picture {
             limits: self.limits,
             rows,
+            begins,
         })
     }
 
@@ -180,7 +198,7 @@ impl Picture {
             None => {
                 let vertex = VertexId::new(self.rows.rotations.as_slice().len() as u32);
                 let edge = EdgeId::new(self.rows.next_edge);
-                match grow_rows(alloc, &mut self.rows, u, position, kind) {
+                match grow_numbered(alloc, &mut self.rows, &mut self.begins, u, position, kind) {
                     Ok(()) => Ok((vertex, edge)),
                     Err(_) => Err(Refusal::Memory),
                 }
@@ -218,7 +236,7 @@ impl Picture {
             return Err(Refusal::Full);
         }
         let made = EdgeId::new(self.rows.next_edge);
-        match apply_rows(alloc, &mut self.rows, u, v, kind, route) {
+        match apply_numbered(alloc, &mut self.rows, &mut self.begins, u, v, kind, route) {
             Ok(()) => Ok(made),
             Err(_) => Err(Refusal::Memory),
         }
@@ -275,6 +293,7 @@ impl Picture {
             Some(segment) => Err(Refusal::Cut(segment)),
             None => {
                 delete_rows(alloc, &mut self.rows, edge);
+                begin_again(&mut self.begins, self.rows.edges.as_slice());
                 Ok(())
             }
         }

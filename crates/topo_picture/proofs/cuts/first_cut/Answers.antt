@@ -1,19 +1,15 @@
-use Rattle.std.proofs.Common.{◌≡◌, ◌≤◌, ◌<◌, ◌+◌, ◌∙◌, ap, arith, below_more, false, get_or, is_some, length, List, Some, subst, sym, true, ℕ}
-use Rattle.std.specs.Prelude.{find, map, slice_get, ◌==◌}
-use Rattle.std.specs.List.{list_all}
+use Rattle.std.proofs.Common.{◌≡◌, ◌≤◌, ◌<◌, ◌∙◌, ap, arith, below_more, get_or, is_some, length, List, Some, sym, ℕ}
+use Rattle.std.specs.Prelude.{find, slice_get, ◌==◌}
 use Rattle.std.proofs.lemmas.Bool.{false≢true}
-use Rattle.std.proofs.lemmas.Option.{slice_get_within, get_or_from_slice_get}
+use Rattle.std.proofs.lemmas.Option.{get_or_from_slice_get}
 use Rattle.topo_core.specs.declared.rows.EdgeRow.{EdgeRow}
 use Rattle.topo_core.specs.declared.rows.Rows.{Rows}
-use Rattle.topo_core.specs.Items.{rises_below}
-use Rattle.topo_core.specs.Lawful.{has_good_path, IsWellFormed}
-use Rattle.topo_core.specs.Picture.{darts, edge_at, edge_row, segment_count}
-use Rattle.topo_core.proofs.Members.{left_true}
+use Rattle.topo_core.specs.Lawful.{IsWellFormed}
+use Rattle.topo_core.specs.Picture.{darts, edge_at, edge_row}
 use Rattle.topo_core.proofs.SystemDarts.{edge_at_row}
 use Rattle.topo_core.specs.Pictures.{forward}
 use Rattle.topo_frozen.proofs.Finding.{edges_rise}
 use Rattle.topo_frozen.proofs.Lookups.{number_told}
-use Rattle.topo_picture.specs.Cutting.{IsEdgeAt}
 use Rattle.topo_picture.proofs.cuts.first_cut.Goals as goal
 
 pub place_of_edge-place-requires-clause-rise : goal.place_of_edge-place-requires-clause-rise

@@ -1,11 +1,8 @@
-use Rattle.std.proofs.Common.{◌≡◌, ◌≢◌, ◌≤◌, ◌<◌, ◌+◌, ◌∙◌, arith, false, length, refl, subst, true, ℕ}
+use Rattle.std.proofs.Common.{◌≤◌, ◌<◌, arith, length, refl, subst, ℕ}
 use Rattle.std.proofs.lemmas.Bool.{false≢true}
 use Rattle.topo_core.specs.declared.rows.EdgeRow.{EdgeRow}
-use Rattle.topo_core.specs.Picture.{index_of, segment_count}
-use Rattle.topo_core.specs.Pictures.{forward}
-use Rattle.topo_core.specs.Rotations.{twin}
+use Rattle.topo_core.specs.Picture.{segment_count}
 use Rattle.topo_core.proofs.SystemDarts.{edge_at_row}
-use Rattle.topo_frozen.specs.Placed.{placed_dart}
 use Rattle.topo_picture.proofs.Cutting.{apart, first_placed, home, met, never, Walks, walks_more, walks_none}
 use Rattle.topo_picture.proofs.cuts.has_one_face.Goals as goal
 

@@ -1,8 +1,8 @@
-use Rattle.std.proofs.Common.{◌≡◌, ◌≤◌, ◌+◌, ◌∙◌, ap, arith, length, Some, subst, sym, ℕ}
+use Rattle.std.proofs.Common.{◌≡◌, ◌≤◌, ◌+◌, ◌∙◌, ap, arith, length, subst, sym, ℕ}
 use Rattle.topo_core.specs.declared.rows.EdgeRow.{EdgeRow}
 use Rattle.topo_core.specs.Darts.{dart_twin}
-use Rattle.topo_core.specs.Picture.{darts, edge_at, edge_row, index_of, segment_count, system}
-use Rattle.topo_core.specs.Systems.{has_dart, turn}
+use Rattle.topo_core.specs.Picture.{edge_row, index_of, segment_count, system}
+use Rattle.topo_core.specs.Systems.{turn}
 use Rattle.topo_core.proofs.Numbering.{twin_in}
 use Rattle.topo_core.proofs.SystemDarts.{edge_at_row, some_of}
 use Rattle.topo_frozen.specs.Placed.{placed_dart}

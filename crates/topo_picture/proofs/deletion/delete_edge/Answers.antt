@@ -1,6 +1,5 @@
 use Rattle.std.proofs.Common.{ap, List, subst, sym, true, ◌≡◌, ◌∙◌, ℕ}
 use Rattle.std.specs.Prelude.{find, is_some, map, ◌==◌}
-use Rattle.topo_core.specs.declared.rows.CrossRow.{CrossRow}
 use Rattle.topo_core.specs.declared.rows.EdgeRow.{EdgeRow}
 use Rattle.topo_core.specs.Changes.{uncrossed_row}
 use Rattle.topo_frozen.specs.Ids.{IdsRise}

@@ -1,35 +1,47 @@
-use Rattle.std.proofs.Common.{◌≡◌, ℕ, ◌≤◌, arith, true, inl, inr, is_some, length, refl, sym, ◌∙◌}
+use Rattle.std.proofs.Common.{◌≡◌, ap, ℕ, arith, true, inr, is_some, refl, sym, ◌∙◌}
 use Rattle.topo_core.specs.Changes.{IsCut, IsLocalCut}
 use Rattle.topo_core.specs.Picture.{edge_row}
-use Rattle.topo_core.specs.declared.rows.Rows.{Rows}
 use Rattle.topo_picture.proofs.DeletedPicture.{cut_of_picture, deletion_of_picture, in_view, none_of, shown_no_cut, shown_there, undone_rows, whole_of_picture}
 use Rattle.topo_picture.specs.Undoing.{IsShownOn}
+use Rattle.topo_frozen.specs.Flats.{begins_from}
 use Rattle.topo_frozen.proofs.RowCounts.{picture_small}
 use Rattle.topo_frozen.proofs.Verdicts.{darts_total}
+use Rattle.topo_picture.proofs.Raised.{fewer_edges, few_in}
 use Rattle.topo_picture.proofs.picture.Picture.delete.Goals as goal
 
 pub first_cut-requires-clause-few : goal.first_cut-requires-clause-few
 first_cut-requires-clause-few c =
     let total = darts_total c.self.inside.rows.edges in
-    let few = (picture_small c.self.inside.limits c.self.inside.rows c.self.invariant).segments in omega arith
+    let few = (picture_small c.self.inside.limits c.self.inside.rows c.self.invariant.0).segments in omega arith
+
+pub begin_again-requires-clause-few : goal.begin_again-requires-clause-few
+begin_again-requires-clause-few c =
+    let there : is_some (edge_row c.self.inside.rows c.args.edge) ≡ true = sym c.has_edge.ensures ∙ c.if-not-has_edge.false in
+    let picture = deletion_of_picture c.self.inside.limits c.self.inside.rows c.args.edge c.self.invariant.0 there c.delete_rows.new.rows c.delete_rows.ensures c.in-None.ensures in
+    few_in c.delete_rows.new.rows c.as_slice.result.now c.as_slice.ensures (picture_small c.self.inside.limits c.delete_rows.new.rows picture).segments
+
+pub begin_again-requires-clause-room : goal.begin_again-requires-clause-room
+begin_again-requires-clause-room c =
+    fewer_edges c.self.inside.rows c.delete_rows.new.rows c.args.edge c.as_slice.result.now c.self.inside.begins.items c.delete_rows.ensures c.as_slice.ensures c.self.invariant.1
 
 pub invariant_of-self : goal.invariant_of-self
 invariant_of-self c =
-    let there : is_some (edge_row c.self.inside.rows c.args.edge) ≡ true = sym c.has_edge.ensures ∙ c.if-not-has_edge.false in
-    deletion_of_picture c.self.inside.limits c.self.inside.rows c.args.edge c.self.invariant there c.delete_rows.new.rows c.delete_rows.ensures
-    c.in-None.ensures
+    let there : is_some (edge_row c.self.inside.rows c.args.edge) ≡ true = sym c.has_edge.ensures ∙ c.if-not-has_edge.false in (
+      deletion_of_picture c.self.inside.limits c.self.inside.rows c.args.edge c.self.invariant.0 there c.delete_rows.new.rows c.delete_rows.ensures c.in-None.ensures,
+      c.begin_again.ensures ∙ ap (begins_from 0) c.as_slice.ensures,
+    )
 
 pub returns-in-None-clause-lawful : goal.returns-in-None-clause-lawful
 returns-in-None-clause-lawful c =
     let there : is_some (edge_row c.self.inside.rows c.args.edge) ≡ true = sym c.has_edge.ensures ∙ c.if-not-has_edge.false in
-    deletion_of_picture c.self.inside.limits c.self.inside.rows c.args.edge c.self.invariant there c.delete_rows.new.rows c.delete_rows.ensures
+    deletion_of_picture c.self.inside.limits c.self.inside.rows c.args.edge c.self.invariant.0 there c.delete_rows.new.rows c.delete_rows.ensures
     c.in-None.ensures
 
 pub returns-in-None-clause-whole : goal.returns-in-None-clause-whole
 returns-in-None-clause-whole c =
     let there : is_some (edge_row c.self.inside.rows c.args.edge) ≡ true = sym c.has_edge.ensures ∙ c.if-not-has_edge.false in
     in_view c.self.inside.limits c.self.inside.rows c.args.self.now c.self.view_is (λ rows. (i : ℕ) → IsCut rows c.args.edge i → ⊥)
-    (whole_of_picture c.self.inside.limits c.self.inside.rows c.args.edge c.self.invariant there
+    (whole_of_picture c.self.inside.limits c.self.inside.rows c.args.edge c.self.invariant.0 there
     c.in-None.ensures)
 
 pub returns-in-Some-clause-refused : goal.returns-in-Some-clause-refused
@@ -40,7 +52,7 @@ returns-in-Some-clause-refused c =
       c.in-Some.segment,
       refl,
       in_view c.self.inside.limits c.self.inside.rows c.args.self.now c.self.view_is (λ rows. is_some (edge_row rows c.args.edge) ≡ true) there,
-      in_view c.self.inside.limits c.self.inside.rows c.args.self.now c.self.view_is (λ rows. IsCut rows c.args.edge c.in-Some.segment) (cut_of_picture c.self.inside.limits c.self.inside.rows c.args.edge c.self.invariant there c.in-Some.segment cut),
+      in_view c.self.inside.limits c.self.inside.rows c.args.self.now c.self.view_is (λ rows. IsCut rows c.args.edge c.in-Some.segment) (cut_of_picture c.self.inside.limits c.self.inside.rows c.args.edge c.self.invariant.0 there c.in-Some.segment cut),
     )
 
 pub returns-then-not-has_edge-clause-can_undo : goal.returns-then-not-has_edge-clause-can_undo
@@ -52,7 +64,7 @@ returns-in-Some-clause-can_undo c p =
     let there : is_some (edge_row c.self.inside.rows c.args.edge) ≡ true = sym c.has_edge.ensures ∙ c.if-not-has_edge.false in
     let cut : IsLocalCut c.self.inside.rows c.args.edge c.in-Some.segment = c.in-Some.ensures in
     in_view c.self.inside.limits c.self.inside.rows c.args.self.now c.self.view_is (λ rows. IsShownOn p rows c.args.edge → ⊥)
-    (λ s. (shown_no_cut p c.self.inside.rows c.args.edge c.in-Some.segment s (cut_of_picture c.self.inside.limits c.self.inside.rows c.args.edge c.self.invariant there c.in-Some.segment cut)))
+    (λ s. (shown_no_cut p c.self.inside.rows c.args.edge c.in-Some.segment s (cut_of_picture c.self.inside.limits c.self.inside.rows c.args.edge c.self.invariant.0 there c.in-Some.segment cut)))
 
 pub returns-in-None-clause-undoes : goal.returns-in-None-clause-undoes
 returns-in-None-clause-undoes c p = in_view c.self.inside.limits c.self.inside.rows c.args.self.now c.self.view_is

@@ -7,10 +7,10 @@ use Rattle.topo_picture.proofs.picture.Picture.freeze.Goals as goal
 
 pub new-requires-clause-few : goal.new-requires-clause-few
 new-requires-clause-few c =
-    let small = (picture_small c.self.inside.limits c.self.inside.rows c.self.invariant).segments in
+    let small = (picture_small c.self.inside.limits c.self.inside.rows c.self.invariant.0).segments in
     let same = ap (λ (rows : Rows). sum_by segment_count rows.edges) c.in_ok-rows.ensures in omega arith
 
 pub new-requires-clause-crossings : goal.new-requires-clause-crossings
 new-requires-clause-crossings c =
-    let small = (picture_small c.self.inside.limits c.self.inside.rows c.self.invariant).crossings in
+    let small = (picture_small c.self.inside.limits c.self.inside.rows c.self.invariant.0).crossings in
     let same = ap (λ (rows : Rows). length rows.crossings) c.in_ok-rows.ensures in omega arith

@@ -1,0 +1,14 @@
+use Rattle.std.proofs.Common.{◌≡◌, ◌*◌, ◌++◌, ◌<◌, drop, length, take, sum_by}
+use Rattle.std.specs.Prelude.{vec_capacity, vec_len}
+use Rattle.topo_core.specs.Picture.{segment_count}
+use Rattle.topo_frozen.specs.Flats.{begins_from}
+use Rattle.topo_picture.proofs.begins.begin_again.Given as goal
+
+-- what is still to come goes behind what is there
+abbrev pub invariant-loop-row : goal.invariant-loop-row
+invariant-loop-row l = record {
+  counted : l.next ≡ 2 * sum_by segment_count (take l.row-index l.edges);
+  listed : l.begins.items ++ begins_from l.next (drop l.row-index l.edges) ≡ begins_from 0 l.edges;
+  as_many : vec_len l.begins ≡ l.row-index;
+  room : length l.edges < vec_capacity l.begins;
+}

@@ -1,0 +1,129 @@
+//! Where the darts of each edge begin, kept in step with the rows: each edge's list has two darts for
+//! each of its segments.
+
+ghost use Rattle.std.specs.Prelude.{◌≡◌, ◌+◌, ◌-◌, ◌*◌, ◌<◌, ◌≤◌, ◌^◌, ◌==◌, ℕ, true, OnOk, OnErr, find, is_some, length, map, sum_by, slice_index, vec_len, vec_capacity, [], ◌∷◌, ◌++◌};
+ghost use Rattle.topo_core.specs.Changes.{grown, shown};
+ghost use Rattle.topo_core.specs.Insertions.{IsInsertable};
+ghost use Rattle.topo_core.specs.Items.{IsIn};
+ghost use Rattle.topo_core.specs.Lawful.{IsWellFormed};
+ghost use Rattle.topo_core.specs.Picture.{rotation, segment_count};
+ghost use Rattle.topo_core.specs.declared.darts.Dart.{Dart};
+ghost use Rattle.topo_frozen.specs.Flats.{begins_from};
+ghost use Rattle.topo_frozen.specs.Ids.{IdsRise};
+ghost use Rattle.topo_picture.specs.Raising.{darts_before};
+
+use crate::growth::grow_rows;
+use crate::insertion::apply_rows;
+use std::alloc::{AllocError, Global};
+use topo_core::darts::Dart;
+use topo_core::routes::Route;
+use topo_core::rows::{EdgeRow, Rows};
+use topo_frozen::by_id::place_of_edge;
+
+/// Raises the numbers behind a place by 2: one segment more on the edge at that place.
+fn raise_after(begins: &mut [u32], place: usize)
+    requires inside { place < length begins.old }
+    requires fits { (i : ℕ) → i < length begins.old → slice_index begins.old i + 2 < 2 ^ 32 }
+    ensures as_many { length begins.new ≡ length begins.old }
+    ensures before { (i : ℕ) → i ≤ place → slice_index begins.new i ≡ slice_index begins.old i }
+    ensures behind { (i : ℕ) → place < i → i < length begins.old → slice_index begins.new i ≡ slice_index begins.old i + 2 }
+{
+    for i in place + 1..begins.len() {
+        begins[i] += 2;
+    }
+}
+
+/// Raises each number by 2 for every dart that lies on an edge before it: a crossing on each of the
+/// darts.
+fn raise_across(begins: &mut [u32], edges: &[EdgeRow], darts: &[Dart])
+    requires rise { IdsRise (map (λ row. row.id) edges.now) }
+    requires there { (d : Dart) → IsIn d darts.now → is_some (find (λ row. row.id == d.edge) edges.now) ≡ true }
+    requires as_many { length begins.old ≡ length edges.now + 1 }
+    requires fits { (i : ℕ) → i < length begins.old → slice_index begins.old i + 2 * length darts.now < 2 ^ 32 }
+    ensures as_many { length begins.new ≡ length begins.old }
+    ensures raised { (i : ℕ) → i < length begins.old → slice_index begins.new i ≡ slice_index begins.old i + 2 * darts_before edges.now i darts.now }
+{
+    for dart in darts {
+        raise_after(begins, place_of_edge(edges, dart.edge.number()));
+    }
+}
+
+/// Puts the number behind a new last edge of so many segments.
+fn begin_after(begins: &mut Vec<u32>, segments: u32)
+    requires some { 0 < length begins.old.items }
+    requires room { vec_len begins.old < vec_capacity begins.old }
+    requires fits { slice_index begins.old.items (length begins.old.items - 1) + 2 * segments < 2 ^ 32 }
+    ensures { begins.new.items ≡ begins.old.items ++ (slice_index begins.old.items (length begins.old.items - 1) + 2 * segments) ∷ [] }
+{
+    let last = begins[begins.len() - 1];
+    begins.push_reserved(last + 2 * segments);
+}
+
+/// Lists where the darts of the edges begin, in the memory of a list that is longer than they are many.
+pub(crate) fn begin_again(begins: &mut Vec<u32>, edges: &[EdgeRow])
+    requires few { 2 * sum_by segment_count edges.now < 2 ^ 32 }
+    requires room { length edges.now < length begins.old.items }
+    ensures { begins.new.items ≡ begins_from 0 edges.now }
+{
+    begins.clear();
+    let mut next = 0;
+    for row in edges {
+        begins.push_reserved(next);
+        next += 2 * (row.crossings.as_slice().len() as u32 + 1);
+    }
+    begins.push_reserved(next);
+}
+
+/// As `grow_rows`, with the list of where the darts of the edges begin.
+pub(crate) fn grow_numbered(
+    alloc: Global,
+    rows: &mut Rows,
+    begins: &mut Vec<u32>,
+    u: u32,
+    position: u32,
+    kind: u32,
+) -> Result<(), AllocError>
+    requires vertex { u < length rows.old.rotations }
+    requires position { position < length (rotation rows.old u) }
+    requires vertices { length rows.old.rotations < 2 ^ 32 }
+    requires edges { rows.old.next_edge + 1 < 2 ^ 32 }
+    requires begins { begins.old.items ≡ begins_from 0 rows.old.edges }
+    requires few { 2 * (sum_by segment_count rows.old.edges + 1) < 2 ^ 32 }
+    ensures ok { OnOk result (rows.new ≡ grown rows.old u position kind) }
+    ensures err { OnErr result (rows.new ≡ rows.old) }
+    ensures begins { begins.new.items ≡ begins_from 0 rows.new.edges }
+{
+    begins.reserve(1)?;
+    grow_rows(alloc, rows, u, position, kind)?;
+    begin_after(begins, 1);
+    Ok(())
+}
+
+/// As `apply_rows`, with the list of where the darts of the edges begin.
+pub(crate) fn apply_numbered(
+    alloc: Global,
+    rows: &mut Rows,
+    begins: &mut Vec<u32>,
+    u: u32,
+    v: u32,
+    kind: u32,
+    route: &Route,
+) -> Result<(), AllocError>
+    requires formed { IsWellFormed rows.old }
+    requires insertable { IsInsertable rows.old u v kind route.now }
+    requires edges { rows.old.next_edge + 1 < 2 ^ 32 }
+    requires crossings { rows.old.next_crossing + length route.now.crossed < 2 ^ 32 }
+    requires begins { begins.old.items ≡ begins_from 0 rows.old.edges }
+    requires few { 2 * (sum_by segment_count rows.old.edges + 2 * length route.now.crossed + 1) < 2 ^ 32 }
+    ensures ok { OnOk result (rows.new ≡ shown rows.old u v kind route.now) }
+    ensures err { OnErr result (rows.new ≡ rows.old) }
+    ensures begins { begins.new.items ≡ begins_from 0 rows.new.edges }
+{
+    begins.reserve(1)?;
+    apply_rows(alloc, rows, u, v, kind, route)?;
+    let darts = route.crossed.as_slice();
+    let edges = rows.edges.as_slice();
+    raise_across(begins, &edges[..edges.len() - 1], darts);
+    begin_after(begins, darts.len() as u32 + 1);
+    Ok(())
+}
