@@ -1,5 +1,6 @@
-//! Where the darts of each edge begin, kept in step with the rows: each edge's list has two darts for
-//! each of its segments.
+//! For each edge the number of its first dart, and last the number of all darts, kept in step with the
+//! rows. An edge has two darts for each of its segments, so one segment more moves the edges behind it
+//! by two.
 
 ghost use Rattle.std.specs.Prelude.{◌≡◌, ◌+◌, ◌-◌, ◌*◌, ◌<◌, ◌≤◌, ◌^◌, ◌==◌, ℕ, true, OnOk, OnErr, find, is_some, length, map, sum_by, slice_index, vec_len, vec_capacity, [], ◌∷◌, ◌++◌};
 ghost use Rattle.topo_core.specs.Changes.{grown, shown};
@@ -20,7 +21,7 @@ use topo_core::routes::Route;
 use topo_core::rows::{EdgeRow, Rows};
 use topo_frozen::by_id::place_of_edge;
 
-/// Raises the numbers behind a place by 2: one segment more on the edge at that place.
+/// Raises the numbers behind a place by 2, as one segment more on the edge at that place does.
 fn raise_after(begins: &mut [u32], place: usize)
     requires inside { place < length begins.old }
     requires fits { (i : ℕ) → i < length begins.old → slice_index begins.old i + 2 < 2 ^ 32 }
@@ -33,8 +34,8 @@ fn raise_after(begins: &mut [u32], place: usize)
     }
 }
 
-/// Raises each number by 2 for every dart that lies on an edge before it: a crossing on each of the
-/// darts.
+/// Raises each number by 2 for every dart that lies on an edge before it, as a crossing on each of the
+/// darts does.
 fn raise_across(begins: &mut [u32], edges: &[EdgeRow], darts: &[Dart])
     requires rise { IdsRise (map (λ row. row.id) edges.now) }
     requires there { (d : Dart) → IsIn d darts.now → is_some (find (λ row. row.id == d.edge) edges.now) ≡ true }
@@ -48,7 +49,7 @@ fn raise_across(begins: &mut [u32], edges: &[EdgeRow], darts: &[Dart])
     }
 }
 
-/// Puts the number behind a new last edge of so many segments.
+/// Puts the number of all darts at the end, when a new edge of so many segments is last.
 fn begin_after(begins: &mut Vec<u32>, segments: u32)
     requires some { 0 < length begins.old.items }
     requires room { vec_len begins.old < vec_capacity begins.old }
@@ -59,7 +60,8 @@ fn begin_after(begins: &mut Vec<u32>, segments: u32)
     begins.push_reserved(last + 2 * segments);
 }
 
-/// Lists where the darts of the edges begin, in the memory of a list that is longer than they are many.
+/// Lists anew where the darts of the edges begin. It takes no memory, since the list was longer than the
+/// edges are many.
 pub(crate) fn begin_again(begins: &mut Vec<u32>, edges: &[EdgeRow])
     requires few { 2 * sum_by segment_count edges.now < 2 ^ 32 }
     requires room { length edges.now < length begins.old.items }
@@ -74,7 +76,7 @@ pub(crate) fn begin_again(begins: &mut Vec<u32>, edges: &[EdgeRow])
     begins.push_reserved(next);
 }
 
-/// As `grow_rows`, with the list of where the darts of the edges begin.
+/// As `grow_rows`, and keeps the list of where the darts begin in step with the rows.
 pub(crate) fn grow_numbered(
     alloc: Global,
     rows: &mut Rows,
@@ -99,7 +101,7 @@ pub(crate) fn grow_numbered(
     Ok(())
 }
 
-/// As `apply_rows`, with the list of where the darts of the edges begin.
+/// As `apply_rows`, and keeps the list of where the darts begin in step with the rows.
 pub(crate) fn apply_numbered(
     alloc: Global,
     rows: &mut Rows,

@@ -19,8 +19,8 @@ use topo_frozen::load::{LoadFault, first_fault};
 use topo_frozen::{Frozen, RowDual};
 use topo_route::plan::Plan;
 
-/// A connected embedding of a graph of genus zero, within limits. It keeps where the darts of each edge
-/// begin, so that no question has to count them.
+/// A connected embedding of a graph of genus zero, within limits. Beside its rows it keeps where the
+/// darts of each edge begin.
 #[derive(Drop)]
 pub struct Picture {
     limits: Limits,
