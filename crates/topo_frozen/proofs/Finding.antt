@@ -72,6 +72,18 @@ module _ {X : Type 0} (key : X → ℕ) (xs : List X) (id : ℕ) (rise : IdsRise
       let a = key_read i d (omega arith) in
       let b = key_read j d inside in omega arith
 
+  -- those before a row with an id as small have not the id
+  pub none_below : (near : ℕ) (d : X) → near < length xs → key (get_or xs near d) ≤ id → NoneBefore xs key id near
+  none_below near d inside less i x at named = elim (cases_lt i near) [
+    | inl low ↦ (
+        let step = up i (omega (arith, many)) in
+        let climb = rising (map key xs) up (i + 1) near 0 (omega arith) (omega (arith, many)) in
+        let a = key_read i d (omega arith) in
+        let b = key_read near d inside in
+        let is = named_read i x d at named in absurd (omega arith))
+    | inr past ↦ omega arith
+  ]
+
   -- a row with a smaller id, and those before it, have not the id
   pub none_before : (near : ℕ) (d : X) → near < length xs → key (get_or xs near d) < id → NoneBefore xs key id (near + 1)
   none_before near d inside less i x at named = elim (cases_lt near i) [

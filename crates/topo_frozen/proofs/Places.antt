@@ -1,5 +1,5 @@
 -- Darts by their numbers: the edge, the segment and the direction.
-use Rattle.std.proofs.Common.{drop, get_or, ◌≡◌, ◌≢◌, ◌+◌, ◌-◌, ◌*◌, ◌/◌, ◌%◌, ◌<◌, ◌≤◌, ap, arith, inl, inr, length, List, refl, Some, suc, sym, zero, ℕ, [], ◌++◌, ◌∙◌, ◌∷◌}
+use Rattle.std.proofs.Common.{drop, get_or, ◌≡◌, ◌≢◌, ◌+◌, ◌-◌, ◌*◌, ◌/◌, ◌%◌, ◌<◌, ◌≤◌, ap, arith, inl, inr, length, List, refl, Some, suc, sym, ℕ, [], ◌++◌, ◌∙◌, ◌∷◌}
 use Rattle.std.specs.Prelude.{replicate, slice_get, slice_index, sum_by}
 use Rattle.std.proofs.lemmas.Bool.{cases_lt}
 use Rattle.std.proofs.lemmas.List.{get_or-append-add, get_or_append_left, get_or-replicate, length-append, length-replicate}
@@ -12,7 +12,7 @@ use Rattle.topo_core.specs.declared.rows.Rows.{Rows}
 use Rattle.topo_core.specs.Picture.{darts, darts_of, segment_count}
 use Rattle.topo_core.proofs.SystemDarts.{get_there}
 use Rattle.topo_frozen.specs.Flats.{begins_from, places_from}
-use Rattle.topo_frozen.proofs.Begins.{back_get, begins_at, begins_head, forward_get}
+use Rattle.topo_frozen.proofs.Begins.{back_get, begins_at, forward_get}
 use Rattle.topo_frozen.proofs.Rounds.{got_within}
 use Rattle.topo_frozen.proofs.Verdicts.{darts_total}
 
@@ -64,29 +64,6 @@ on_edge k n (row ∷ rest) i h = elim (cases_lt i (2 * segment_count row)) [
         begin = later.begin ∙ omega arith;
       }
 ]
-
--- the numbers from which edges begin are no smaller than that of the first
-pub begins_low : (n : ℕ) (edges : List EdgeRow) (p : ℕ) → p ≤ length edges → n ≤ slice_index (begins_from n edges) p
-begins_low n [] zero h = omega arith
-begins_low n [] (suc p) h = absurd (omega arith)
-begins_low n (row ∷ rest) zero h = omega arith
-begins_low n (row ∷ rest) (suc p) h = let more = begins_low (n + 2 * segment_count row) rest p (omega arith) in omega arith
-
--- a dart that begins neither before an edge nor after it lies on it
-pub place_between : (k n : ℕ) (edges : List EdgeRow) (p i : ℕ) → p < length edges → slice_index (begins_from n edges) p ≤ n + i → n + i < slice_index (begins_from n edges) (suc p)
-    → slice_index (places_from k edges) (i / 2) ≡ k + p
-place_between k n [] p i inside from before = absurd (omega arith)
-place_between k n (row ∷ rest) zero i inside from before =
-    let next = begins_head (n + 2 * segment_count row) rest in
-    get_or_append_left (replicate (segment_count row) k) (places_from (k + 1) rest) 0 (i / 2) (omega (arith, length-replicate (segment_count row) k))
-    ∙ get_or-replicate (segment_count row) (i / 2) k 0 (omega arith) ∙ omega arith
-place_between k n (row ∷ rest) (suc p) i inside from before =
-    let low = begins_low (n + 2 * segment_count row) rest p (omega arith) in
-    let j = i - 2 * segment_count row in
-    let same : n + 2 * segment_count row + j ≡ n + i = omega arith in
-    let later = place_between (k + 1) (n + 2 * segment_count row) rest p j (omega arith) (omega arith) (omega arith) in
-    let half : i / 2 ≡ length (replicate (segment_count row) k) + j / 2 = omega (arith, length-replicate (segment_count row) k) in
-    ap (slice_index (places_from k (row ∷ rest))) half ∙ get_or-append-add (replicate (segment_count row) k) (places_from (k + 1) rest) (j / 2) 0 ∙ later ∙ omega arith
 
 -- the places of the segments of one edge, as many as lie between its first dart and that of the next edge
 pub places_step : (edges : List EdgeRow) (begins : List ℕ) (place : ℕ) → begins ≡ begins_from 0 edges → place < length edges

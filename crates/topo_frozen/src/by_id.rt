@@ -73,32 +73,33 @@ fn high_near<T: Identified>(rows: &[T], id: u32, near: usize, most: usize) -> us
     }
 }
 
-/// The place of the row with an id between two places, by a binary search.
-fn place_between<T: Identified>(
-    rows: &[T],
-    id: u32,
-    mut low: usize,
-    mut high: usize,
-) -> Option<usize>
+/// The place of the row with an id between two places, by a binary search. It halves what is left
+/// whatever it reads, so that a processor need not guess.
+fn place_between<T: Identified>(rows: &[T], id: u32, low: usize, high: usize) -> Option<usize>
     requires rise { IdsRise (map T.id_of rows.now) }
     requires within { high ≤ length rows.now }
     requires before { NoneBefore rows.now T.id_of id low }
     requires behind { NoneFrom rows.now T.id_of id high }
     ensures { MatchOption result (find (λ row. T.id_of row == id) rows.now ≡ None) (IsPlaceOf rows.now T.id_of id) }
 {
-    while low < high {
-        let middle = low + (high - low) / 2;
-        let here = rows[middle].id();
-        if here == id {
-            return Some(middle);
-        }
-        if here < id {
-            low = middle + 1;
-        } else {
-            high = middle;
-        }
+    if low >= high {
+        return None;
     }
-    None
+    let mut base = low;
+    let mut left = high - low;
+    while left > 1 {
+        let half = left / 2;
+        let middle = base + half;
+        if rows[middle].id() <= id {
+            base = middle;
+        }
+        left -= half;
+    }
+    if rows[base].id() == id {
+        Some(base)
+    } else {
+        None
+    }
 }
 
 /// The place of the row with an id, where ids rise; none where there is no such row. No row stands

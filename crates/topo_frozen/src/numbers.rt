@@ -35,25 +35,6 @@ pub fn next_along(turns: &[u32], dart: u32) -> u32
     turns[other]
 }
 
-/// The place of the edge of a dart among the edges, by a binary search of where their darts begin.
-pub(crate) fn searched_place(rows: &Rows, begins: &[u32], number: u32) -> usize
-    requires begins { begins.now ≡ begins_from 0 rows.now.edges }
-    requires within { number < length (darts rows.now) }
-    ensures { result ≡ slice_index (places_from 0 rows.now.edges) (number / 2) }
-{
-    let mut low = 0;
-    let mut high = rows.edges.as_slice().len();
-    while high - low > 1 {
-        let middle = low + (high - low) / 2;
-        if begins[middle] <= number {
-            low = middle;
-        } else {
-            high = middle;
-        }
-    }
-    low
-}
-
 /// The edge on which a dart lies.
 pub(crate) fn edge_under<'a>(rows: &'a Rows, place: usize, number: u32) -> &'a EdgeRow
     requires paths { has_good_paths rows.now ≡ true }

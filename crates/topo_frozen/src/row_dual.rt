@@ -2,25 +2,26 @@
 
 ghost use Rattle.topo_core.specs.Lawful.{Lawful};
 
-use crate::flat::dart_count;
+use crate::flat::{dart_count, places_of};
 use crate::numbers::{
-    corner_number, dart_numbered, facts_numbered, next_numbered, number_of, searched_place,
-    tail_numbered, twin_of,
+    corner_number, dart_numbered, facts_numbered, next_numbered, number_of, tail_numbered, twin_of,
 };
+use std::alloc::{AllocError, Global};
 use std::marker::Model;
 use topo_core::darts::{Dart, Point};
 use topo_core::rows::{Facts, Rows};
 use topo_route::dual::Dual;
 
-/// Lawful rows with their darts as numbers, and no more beside them than where the darts of each edge
-/// begin. Contracts see the rows. The darts are numbered as those of `Frozen`, and no question takes
-/// memory; but the edge of a dart is found by a binary search, and the next dart on the rows, in the
-/// list of the vertex where it starts or on the path of the edge that crosses there. So it takes no
-/// time to make where the one list is kept, for a search that asks of few darts.
+/// Lawful rows with their darts as numbers, of which no more is kept than where the darts of each edge
+/// begin and on which edge each segment lies. Contracts see the rows. The darts are numbered as those
+/// of `Frozen`, and no question takes memory; but the next dart is looked for on the rows, in the list
+/// of the vertex where it starts or on the path of the edge that crosses there. So it is soon made, for
+/// a search that asks of few darts.
 #[derive(Drop)]
 pub struct RowDual<'a> {
     rows: &'a Rows,
     begins: &'a [u32],
+    places: Vec<u32>,
     ghost lawful: { ∥ Lawful rows.now ∥₁ },
 }
 
@@ -31,26 +32,31 @@ impl<'a> Model for RowDual<'a> {
 
     ghost view = { λ d. record { rows = d.rows.now; lawful = d.lawful } };
 
-    ghost invariant = { λ d. AreBeginsOf d.rows.now d.begins.now };
+    ghost invariant = { λ d. AreBeginsOf d.rows.now d.begins.now d.places.items };
 }
 
 impl<'a> RowDual<'a> {
-    ghost use Rattle.std.specs.Prelude.{◌≡◌, ◌*◌, ◌/◌, ◌<◌, ◌^◌, length, slice_index, sum_by};
+    ghost use Rattle.std.specs.Prelude.{◌≡◌, ◌*◌, ◌/◌, ◌<◌, ◌^◌, IfOk, length, slice_index, sum_by};
     ghost use Rattle.topo_core.specs.Lawful.{Lawful};
     ghost use Rattle.topo_core.specs.Picture.{darts, segment_count};
     ghost use Rattle.topo_frozen.specs.Flats.{begins_from, places_from};
 
     /// These rows, few enough for numbers of 32 bits, with the number of the first dart of each edge and
     /// last the number of all darts.
-    pub fn new(rows: &'a Rows, begins: &'a [u32]) -> Self
+    pub fn new(alloc: Global, rows: &'a Rows, begins: &'a [u32]) -> Result<Self, AllocError>
         requires lawful { Lawful rows.now }
         requires begins { begins.now ≡ begins_from 0 rows.now.edges }
         requires few { 2 * sum_by segment_count rows.now.edges < 2 ^ 32 }
         requires vertices { length rows.now.rotations < 2 ^ 32 }
         requires crossings { length rows.now.crossings < 2 ^ 32 }
-        ensures { result.rows ≡ rows.now }
+        ensures { IfOk result (λ d. d.rows ≡ rows.now) }
     {
-        RowDual { rows, begins }
+        let places = places_of(alloc, rows.edges.as_slice(), begins)?;
+        Ok(RowDual {
+            rows,
+            begins,
+            places,
+        })
     }
 
     /// The place of the edge of a dart.
@@ -58,7 +64,7 @@ impl<'a> RowDual<'a> {
         requires { dart < length (darts self.now.rows) }
         ensures { result ≡ slice_index (places_from 0 self.now.rows.edges) (dart / 2) }
     {
-        searched_place(self.rows, self.begins, dart)
+        self.places.as_slice()[(dart / 2) as usize] as usize
     }
 }
 

@@ -134,12 +134,12 @@ impl Picture {
         Frozen::new(alloc, rows)
     }
 
-    /// The dual graph of its rows, read off them as it is asked, for a search that asks of few darts. It
-    /// takes no time to make.
-    pub fn dual(&self) -> RowDual<'_>
-        ensures { result.rows ≡ self.now.rows }
+    /// The dual graph of its rows, read off them as it is asked: soon made, for a search that asks of few
+    /// darts.
+    pub fn dual(&self, alloc: Global) -> Result<RowDual<'_>, AllocError>
+        ensures { IfOk result (λ d. d.rows ≡ self.now.rows) }
     {
-        RowDual::new(&self.rows, self.begins.as_slice())
+        RowDual::new(alloc, &self.rows, self.begins.as_slice())
     }
 
     /// An equal picture: the same rows and limits.

@@ -1,32 +1,45 @@
-use Rattle.std.proofs.Common.{ap, arith, sym, ◌∙◌, ◌+◌, ◌-◌, ◌/◌}
-use Rattle.topo_frozen.proofs.Finding.{finds_none, none_before, none_from, placed_read}
+use Rattle.std.proofs.Common.{◌≡◌, ◌+◌, ◌/◌, ◌∙◌, ap, arith, get_or, sym}
+use Rattle.topo_frozen.specs.Ids.{NoneBefore, NoneFrom}
+use Rattle.topo_frozen.proofs.Finding.{finds_none, named_read, none_below, none_from, placed_read}
 use Rattle.topo_frozen.proofs.by_id.place_between.Goals as goal
+use Rattle.topo_frozen.proofs.by_id.place_between.Goals.{then-id, else-id}
 
-pub returns-then-here-id : goal.returns-then-here-id
-returns-then-here-id g c =
-    let inside = c.loop-low.invariant.within in
-    placed_read g.T.Identified.id_of c.args.rows.now c.args.id c.requires.rise (c.loop-low.low + (c.loop-low.high - c.loop-low.low) / 2) c.index-rows-middle.result (omega arith)
-    (ap g.T.Identified.id_of (sym c.index-rows-middle.is) ∙ sym c.id-here.ensures ∙ c.if-here-id.true)
+pub returns-then-low-high : goal.returns-then-low-high
+returns-then-low-high g c =
+    finds_none g.T.Identified.id_of c.args.rows.now c.args.id c.requires.rise (λ i x at named. omega (arith, c.if-low-high.true, c.requires.before i x at named, c.requires.behind i x at named))
 
-pub loop-low-preserved-then-here-id-2 : goal.loop-low-preserved-then-here-id-2
-loop-low-preserved-then-here-id-2 g c =
-    let inside = c.loop-low.invariant.within in
+pub loop-left-preserved : goal.loop-left-preserved
+loop-left-preserved g c =
+    let base = c.loop-left.base in
+    let left = c.loop-left.left in
+    let middle = base + left / 2 in
+    let inside = c.loop-left.invariant.within in
     let read = ap g.T.Identified.id_of c.index-rows-middle.is in
-    record {
-      within = inside;
-      before = none_before g.T.Identified.id_of c.args.rows.now c.args.id c.requires.rise (c.loop-low.low + (c.loop-low.high - c.loop-low.low) / 2) c.index-rows-middle.result (omega arith) (omega (arith, c.id-here.ensures, c.if-here-id-2.true));
-      behind = c.loop-low.invariant.behind;
-    }
+    elim c.if-id.branch [
+      | then-id w ↦ (let is = w.base-is in record {
+        some = omega arith;
+        within = omega arith;
+        before = λ i x at named. omega (arith, none_below g.T.Identified.id_of c.args.rows.now c.args.id c.requires.rise middle c.index-rows-middle.result (omega arith) (omega (arith, c.id.ensures, w.if-id.true)) i x at named);
+        behind = λ i x at named. omega (arith, c.loop-left.invariant.behind i x at named);
+      })
+      | else-id w ↦ (let is = w.base-is in record {
+        some = omega arith;
+        within = omega arith;
+        before = λ i x at named. omega (arith, c.loop-left.invariant.before i x at named);
+        behind = λ i x at named. omega (arith, none_from g.T.Identified.id_of c.args.rows.now c.args.id c.requires.rise middle c.index-rows-middle.result (omega arith) (omega (arith, c.id.ensures, w.if-id.false)) i x at named);
+      })
+    ]
 
-pub loop-low-preserved : goal.loop-low-preserved
-loop-low-preserved g c =
-    let inside = c.loop-low.invariant.within in
-    let read = ap g.T.Identified.id_of c.index-rows-middle.is in
-    record {
-      within = omega arith;
-      before = c.loop-low.invariant.before;
-      behind = none_from g.T.Identified.id_of c.args.rows.now c.args.id c.requires.rise (c.loop-low.low + (c.loop-low.high - c.loop-low.low) / 2) c.index-rows-middle.result (omega arith) (omega (arith, c.id-here.ensures, c.if-here-id.false, c.if-here-id-2.false));
-    }
+pub returns-then-id-2 : goal.returns-then-id-2
+returns-then-id-2 g c =
+    let inside = c.loop-left.invariant.within in
+    let some = c.loop-left.invariant.some in
+    placed_read g.T.Identified.id_of c.args.rows.now c.args.id c.requires.rise c.loop-left.base c.index-rows-base.result (omega arith)
+    (ap g.T.Identified.id_of (sym c.index-rows-base.is) ∙ sym c.id-2.ensures ∙ c.if-id-2.true)
 
-pub returns : goal.returns
-returns g c = finds_none g.T.Identified.id_of c.args.rows.now c.args.id c.requires.rise (λ i x at named. omega (arith, c.loop-low-test.false, c.loop-low.invariant.before i x at named, c.loop-low.invariant.behind i x at named))
+pub returns-else-id-2 : goal.returns-else-id-2
+returns-else-id-2 g c =
+    finds_none g.T.Identified.id_of c.args.rows.now c.args.id c.requires.rise (λ i x at named.
+        let same : i ≡ c.loop-left.base = omega (arith, c.loop-left-test.false, c.loop-left.invariant.some, c.loop-left.invariant.before i x at named, c.loop-left.invariant.behind i x at named) in
+        c.if-id-2.false (c.id-2.ensures ∙ ap g.T.Identified.id_of c.index-rows-base.is ∙ ap (λ k. g.T.Identified.id_of (get_or c.args.rows.now k c.index-rows-base.result)) (sym same)
+        ∙ named_read g.T.Identified.id_of c.args.rows.now c.args.id c.requires.rise i x c.index-rows-base.result at named))

@@ -1,14 +1,15 @@
-use Rattle.std.proofs.Common.{◌≤◌, ◌-◌, length}
+use Rattle.std.proofs.Common.{◌<◌, ◌≤◌, ◌+◌, length}
 use Rattle.topo_frozen.specs.Ids.{NoneBefore, NoneFrom}
 use Rattle.topo_frozen.proofs.by_id.place_between.Given as goal
 
--- the row, if there is one, stands from low on, and before high
-abbrev pub invariant-loop-low : goal.invariant-loop-low
-invariant-loop-low g l = record {
-  within : l.high ≤ length l.rows;
-  before : NoneBefore l.rows g.T.Identified.id_of l.id l.low;
-  behind : NoneFrom l.rows g.T.Identified.id_of l.id l.high;
+-- the row, if there is one, is among those that are left
+abbrev pub invariant-loop-left : goal.invariant-loop-left
+invariant-loop-left g l = record {
+  some : 0 < l.left;
+  within : l.base + l.left ≤ length l.rows;
+  before : NoneBefore l.rows g.T.Identified.id_of l.id l.base;
+  behind : NoneFrom l.rows g.T.Identified.id_of l.id (l.base + l.left);
 }
 
-abbrev pub decreases-loop-low : goal.decreases-loop-low
-decreases-loop-low g l = l.high - l.low
+abbrev pub decreases-loop-left : goal.decreases-loop-left
+decreases-loop-left g l = l.left
