@@ -21,27 +21,27 @@ use topo_core::listed::Listed;
 use topo_core::routes::Route;
 use topo_price::tariff::{Asks, Tariff};
 
-/// Down the heights from `u` to `v`; none where no corner of `u` is reached.
+/// Down the heights from `u` to `v`; none where no corner of `u` is reached. The sheet of the heights
+/// then serves for marks.
 fn route_by_heights<D: Dual, F: Asks>(
     alloc: Global,
     graph: &Graph<D, F>,
     u: u32,
     v: u32,
-    heights: &Sheet,
-    marks: &mut Sheet,
+    heights: &mut Sheet,
 ) -> Result<Option<PricedRoute>, AllocError>
     requires right { ArePrices (prices_of (F.answers graph.now.tariff.now)) (D.shows graph.now.dual.now) graph.now.prices.items }
-    requires known { AreHeightsFor (prices_of (F.answers graph.now.tariff.now)) (D.shows graph.now.dual.now) u v heights.now }
+    requires known { AreHeightsFor (prices_of (F.answers graph.now.tariff.now)) (D.shows graph.now.dual.now) u v heights.old }
     requires some { 0 < length (darts (D.shows graph.now.dual.now)) }
     ensures { IfOk result (λ found. MatchOption found
         (HasNoRoute (prices_of (F.answers graph.now.tariff.now)) (D.shows graph.now.dual.now) u v)
-        (IsFirstRoute (prices_of (F.answers graph.now.tariff.now)) (D.shows graph.now.dual.now) u v heights.now)) }
+        (IsFirstRoute (prices_of (F.answers graph.now.tariff.now)) (D.shows graph.now.dual.now) u v heights.old)) }
 {
     match start_corner(graph.dual, u, heights) {
         Some((start, from)) => {
             let price = heights.get(from);
             let (crossed, last) = descend(alloc, graph, heights, v, from)?;
-            let corner = end_corner(graph.dual, v, last, marks)?;
+            let corner = end_corner(graph.dual, v, last, heights)?;
             match corner {
                 Some(end) => {
                     let route = Route {
@@ -82,15 +82,15 @@ pub fn search<D: Dual, F: Asks>(
         prices,
     };
     let mut heights = Sheet::new(alloc);
-    let mut marks = Sheet::new(alloc);
-    let mut waiting = Waiting::new(alloc)?;
+    let mut waiting = Waiting::new(alloc, dual.len() as usize)?;
     least_heights(&graph, v, &mut heights, &mut waiting)?;
-    let found = route_by_heights(alloc, &graph, u, v, &heights, &mut marks)?;
+    let numbers = heights.numbers(alloc)?;
+    let found = route_by_heights(alloc, &graph, u, v, &mut heights)?;
     match found {
         Some(PricedRoute { route, price }) => Ok(Some(Plan {
             route,
             price,
-            heights: Listed::from_vec(heights.numbers(alloc)?),
+            heights: Listed::from_vec(numbers),
         })),
         None => Ok(None),
     }
@@ -130,6 +130,6 @@ pub fn first_route<D: Dual, F: Asks>(
         prices: Vec::new(alloc),
     };
     heights_for(&graph, u, v, &mut work.heights, &mut work.waiting)?;
-    let found = route_by_heights(alloc, &graph, u, v, &work.heights, &mut work.marks)?;
+    let found = route_by_heights(alloc, &graph, u, v, &mut work.heights)?;
     Ok(found)
 }

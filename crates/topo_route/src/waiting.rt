@@ -40,11 +40,11 @@ impl Model for Waiting {
 }
 
 impl Waiting {
-    /// One in which none waits.
-    pub(crate) fn new(alloc: Global) -> Result<Self, AllocError>
+    /// One in which none waits, with room for so many pushes before it asks for more.
+    pub(crate) fn new(alloc: Global, room: usize) -> Result<Self, AllocError>
         ensures { IfOk result (λ w. w ≡ []) }
     {
-        let entries = Vec::new(alloc);
+        let entries = Vec::with_capacity(alloc, room)?;
         let heads = vec![in alloc; 0; BUCKETS]?;
         Ok(Waiting {
             entries,

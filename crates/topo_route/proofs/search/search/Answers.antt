@@ -25,4 +25,4 @@ returns-in-Some g c =
     let price = prices_of (g.F.Asks.answers c.args.tariff.now) in
     let heights = c.least_heights.new.heights in
     let found = subst (λ o. MatchOption o (HasNoRoute price rows c.args.u c.args.v) (IsFirstRoute price rows c.args.u c.args.v heights)) c.in-Some.is c.in_ok-found.ensures in
-    is_plan price rows c.args.u c.args.v heights c.in-Some.field-0 _ c.in_ok-least_heights.ensures.are_heights found refl refl (c.from_vec.ensures ∙ c.in_ok-numbers-in-Some.ensures)
+    is_plan price rows c.args.u c.args.v heights c.in-Some.field-0 _ c.in_ok-least_heights.ensures.are_heights found refl refl (c.from_vec.ensures ∙ c.in_ok-numbers.ensures)
