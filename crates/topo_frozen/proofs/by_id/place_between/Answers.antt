@@ -40,6 +40,6 @@ returns-then-id-2 g c =
 pub returns-else-id-2 : goal.returns-else-id-2
 returns-else-id-2 g c =
     finds_none g.T.Identified.id_of c.args.rows.now c.args.id c.requires.rise (λ i x at named.
-        let same : i ≡ c.loop-left.base = omega (arith, c.loop-left-test.false, c.loop-left.invariant.some, c.loop-left.invariant.before i x at named, c.loop-left.invariant.behind i x at named) in
-        c.if-id-2.false (c.id-2.ensures ∙ ap g.T.Identified.id_of c.index-rows-base.is ∙ ap (λ k. g.T.Identified.id_of (get_or c.args.rows.now k c.index-rows-base.result)) (sym same)
-        ∙ named_read g.T.Identified.id_of c.args.rows.now c.args.id c.requires.rise i x c.index-rows-base.result at named))
+    let same : i ≡ c.loop-left.base = omega (arith, c.loop-left-test.false, c.loop-left.invariant.some, c.loop-left.invariant.before i x at named, c.loop-left.invariant.behind i x at named) in
+    c.if-id-2.false (c.id-2.ensures ∙ ap g.T.Identified.id_of c.index-rows-base.is ∙ ap (λ k. g.T.Identified.id_of (get_or c.args.rows.now k c.index-rows-base.result)) (sym same)
+    ∙ named_read g.T.Identified.id_of c.args.rows.now c.args.id c.requires.rise i x c.index-rows-base.result at named))
