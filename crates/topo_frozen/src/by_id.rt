@@ -74,7 +74,7 @@ fn high_near<T: Identified>(rows: &[T], id: u32, near: usize, most: usize) -> us
 }
 
 /// The place of the row with an id between two places, by a binary search. It halves what is left
-/// whatever it reads, so that a processor need not guess.
+/// whatever it reads.
 fn place_between<T: Identified>(rows: &[T], id: u32, low: usize, high: usize) -> Option<usize>
     requires rise { IdsRise (map T.id_of rows.now) }
     requires within { high ≤ length rows.now }
