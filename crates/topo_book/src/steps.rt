@@ -74,7 +74,7 @@ fn find_first<F: Asks>(
         (HasNoRoute (prices_of (F.answers tariff.now)) picture.now.rows u v)
         (λ r. IsFirst (prices_of (F.answers tariff.now)) picture.now.rows u v r.route r.price)) }
 {
-    let dual = picture.dual(alloc)?;
+    let dual = picture.dual();
     if let Some(plan) = plan {
         if let Ok(()) = check(&dual, tariff, u, v, plan) {
             let route = copy_route(alloc, &plan.route)?;

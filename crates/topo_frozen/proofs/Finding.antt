@@ -1,6 +1,6 @@
 -- Rows found by their ids, where these rise.
-use Rattle.std.proofs.Common.{true, ◌≡◌, ◌<◌, ◌≤◌, ap, arith, get_or, inl, inr, length, List, None, refl, Some, subst, suc, sym, zero, ℕ, ◌∙◌, ◌+◌}
-use Rattle.std.specs.Prelude.{find, map, min, Option, slice_get, slice_index, ◌==◌}
+use Rattle.std.proofs.Common.{true, ◌≡◌, ◌<◌, ◌≤◌, ap, arith, get_or, inl, inr, length, List, None, refl, Some, subst, sym, ℕ, ◌∙◌, ◌+◌}
+use Rattle.std.specs.Prelude.{find, map, Option, slice_get, slice_index, ◌==◌}
 use Rattle.std.specs.List.{list_all, position_or_len}
 use Rattle.std.specs.List.Sorted.{IsStrictlyIncreasing}
 use Rattle.std.proofs.lemmas.Bool.{cases_lt, eqb-true}
@@ -18,15 +18,6 @@ use Rattle.topo_frozen.proofs.Begins.{AtPlace}
 use Rattle.topo_frozen.proofs.Noting.{place_among}
 use Rattle.topo_frozen.proofs.Rounds.{got_within}
 use Rattle.topo_frozen.proofs.Sorting.{place_is, rises_strictly, rising}
-
--- numbers that rise count upwards at least
-counts_up : (ids : List ℕ) → IsStrictlyIncreasing ids → (i : ℕ) → i < length ids → i ≤ slice_index ids i
-counts_up ids up zero h = omega arith
-counts_up ids up (suc i) h =
-    let before = counts_up ids up i (omega arith) in
-    let step = up i (omega arith) in
-    let next : i + 1 ≡ suc i = omega arith in
-    let same = ap (slice_index ids) next in omega arith
 
 module _ {X : Type 0} (key : X → ℕ) (xs : List X) (id : ℕ) (rise : IdsRise (map key xs)) where
   up : IsStrictlyIncreasing (map key xs)
@@ -59,13 +50,6 @@ module _ {X : Type 0} (key : X → ℕ) (xs : List X) (id : ℕ) (rise : IdsRise
     by_answer None e = e
     by_answer (Some x) e = absurd (none (position_or_len (λ row. key row == id) xs) x (sym (find_at (λ row. key row == id) xs) ∙ e) (eqb-true (key x) id (found (λ row. key row == id) x xs e).1))
 
-  -- no row stands above its id
-  place_low : (i : ℕ) (x : X) → slice_get xs i ≡ Some x → key x ≡ id → i ≤ id
-  place_low i x at named =
-      let inside = got_within xs i x at in
-      let count = counts_up (map key xs) up i (omega (arith, many)) in
-      let is : slice_index (map key xs) i ≡ id = key_read i x inside ∙ ap key (get_or_from_slice_get xs i x x at) ∙ named in omega arith
-
   keys_rise : (i j : ℕ) (d : X) → i ≤ j → j < length xs → key (get_or xs i d) ≤ key (get_or xs j d)
   keys_rise i j d below inside =
       let climb = rising (map key xs) up i j 0 below (omega (arith, many)) in
@@ -84,29 +68,12 @@ module _ {X : Type 0} (key : X → ℕ) (xs : List X) (id : ℕ) (rise : IdsRise
     | inr past ↦ omega arith
   ]
 
-  -- a row with a smaller id, and those before it, have not the id
-  pub none_before : (near : ℕ) (d : X) → near < length xs → key (get_or xs near d) < id → NoneBefore xs key id (near + 1)
-  none_before near d inside less i x at named = elim (cases_lt near i) [
-    | inl past ↦ omega arith
-    | inr low ↦ (let climb = keys_rise i near d (omega arith) inside in let is = named_read i x d at named in absurd (omega arith))
-  ]
-
-  -- and so do one with a greater id and those behind it
+  -- one with a greater id, and those behind it, have not the id
   pub none_from : (near : ℕ) (d : X) → near < length xs → id < key (get_or xs near d) → NoneFrom xs key id near
   none_from near d inside more i x at named = elim (cases_lt i near) [
     | inl before ↦ before
     | inr past ↦ (let climb = keys_rise near i d (omega arith) (got_within xs i x at) in let is = named_read i x d at named in absurd (omega arith))
   ]
-
-  -- no row stands above its id, and so none behind the place that the id names
-  pub none_past : (most : ℕ) → most ≡ min (length xs) id → ((x : X) → slice_get xs most ≡ Some x → key x ≡ id → ⊥) → NoneFrom xs key id most
-  none_past most least missed i x at named =
-      let low = place_low i x at named in
-      let inside = got_within xs i x at in
-      elim (cases_lt i most) [
-        | inl below ↦ below
-        | inr past ↦ (let same : i ≡ most = omega arith in absurd (missed x (sym (ap (slice_get xs) same) ∙ at) named))
-      ]
 
 -- ---- Edges and crossings of rows
 

@@ -1,18 +1,16 @@
 -- Darts by their numbers: the edge, the segment and the direction.
-use Rattle.std.proofs.Common.{drop, get_or, ◌≡◌, ◌≢◌, ◌+◌, ◌-◌, ◌*◌, ◌/◌, ◌%◌, ◌<◌, ◌≤◌, ap, arith, inl, inr, length, List, refl, Some, suc, sym, ℕ, [], ◌++◌, ◌∙◌, ◌∷◌}
+use Rattle.std.proofs.Common.{get_or, ◌≡◌, ◌≢◌, ◌+◌, ◌-◌, ◌*◌, ◌/◌, ◌%◌, ◌<◌, ◌≤◌, ap, arith, inl, inr, length, List, refl, Some, suc, sym, zero, ℕ, [], ◌∙◌, ◌∷◌}
 use Rattle.std.specs.Prelude.{replicate, slice_get, slice_index, sum_by}
 use Rattle.std.proofs.lemmas.Bool.{cases_lt}
 use Rattle.std.proofs.lemmas.List.{get_or-append-add, get_or_append_left, get_or-replicate, length-append, length-replicate}
 use Rattle.std.proofs.lemmas.List.Sums.{sum_by-cons}
-use Rattle.std.proofs.lemmas.Option.{get_or_from_slice_get, slice_get-get_or}
-use Rattle.std.proofs.Math.Seq.{drop-cons}
+use Rattle.std.proofs.lemmas.Option.{slice_get-get_or}
 use Rattle.topo_core.specs.declared.darts.Way.TheVariants.{Forward, Back}
 use Rattle.topo_core.specs.declared.rows.EdgeRow.{EdgeRow}
 use Rattle.topo_core.specs.declared.rows.Rows.{Rows}
 use Rattle.topo_core.specs.Picture.{darts, darts_of, segment_count}
-use Rattle.topo_core.proofs.SystemDarts.{get_there}
 use Rattle.topo_frozen.specs.Flats.{begins_from, places_from}
-use Rattle.topo_frozen.proofs.Begins.{back_get, begins_at, forward_get}
+use Rattle.topo_frozen.proofs.Begins.{back_get, begins_at, begins_head, forward_get}
 use Rattle.topo_frozen.proofs.Rounds.{got_within}
 use Rattle.topo_frozen.proofs.Verdicts.{darts_total}
 
@@ -65,22 +63,28 @@ on_edge k n (row ∷ rest) i h = elim (cases_lt i (2 * segment_count row)) [
       }
 ]
 
--- the places of the segments of one edge, as many as lie between its first dart and that of the next edge
-pub places_step : (edges : List EdgeRow) (begins : List ℕ) (place : ℕ) → begins ≡ begins_from 0 edges → place < length edges
-    → (slice_index begins place ≤ slice_index begins (place + 1)) × (replicate ((slice_index begins (place + 1) - slice_index begins place) / 2) place ++ places_from (place + 1) (drop (place + 1) edges) ≡ places_from place (drop place edges))
-places_step edges begins place are inside =
-    let row = get_there edges place inside in
-    let b = begins_at 0 edges place row.0 row.1 in
-    let next : suc place ≡ place + 1 = omega arith in
-    let here : slice_index begins place ≡ 0 + b.before = ap (λ xs. slice_index xs place) are ∙ b.here in
-    let there : slice_index begins (place + 1) ≡ 0 + b.before + 2 * segment_count row.0 = ap (λ xs. slice_index xs (place + 1)) are ∙ ap (slice_index (begins_from 0 edges)) (sym next) ∙ b.next in
-    let many : (slice_index begins (place + 1) - slice_index begins place) / 2 ≡ segment_count row.0 = omega arith in
-    let split : drop place edges ≡ row.0 ∷ drop (suc place) edges = drop-cons edges place row.0 inside ∙ ap (λ r. r ∷ drop (suc place) edges) (get_or_from_slice_get edges place row.0 row.0 row.1) in (
-      omega arith,
-      ap (λ n. replicate n place ++ places_from (place + 1) (drop (place + 1) edges)) many
-          ∙ ap (λ k. replicate (segment_count row.0) place ++ places_from (place + 1) (drop k edges)) (sym next)
-          ∙ sym (ap (places_from place) split),
-    )
+-- the numbers from which edges begin are no smaller than that of the first
+pub begins_low : (n : ℕ) (edges : List EdgeRow) (p : ℕ) → p ≤ length edges → n ≤ slice_index (begins_from n edges) p
+begins_low n [] zero h = omega arith
+begins_low n [] (suc p) h = absurd (omega arith)
+begins_low n (row ∷ rest) zero h = omega arith
+begins_low n (row ∷ rest) (suc p) h = let more = begins_low (n + 2 * segment_count row) rest p (omega arith) in omega arith
+
+-- a dart that begins neither before an edge nor after it lies on it
+pub place_between : (k n : ℕ) (edges : List EdgeRow) (p i : ℕ) → p < length edges → slice_index (begins_from n edges) p ≤ n + i → n + i < slice_index (begins_from n edges) (suc p)
+    → slice_index (places_from k edges) (i / 2) ≡ k + p
+place_between k n [] p i inside from before = absurd (omega arith)
+place_between k n (row ∷ rest) zero i inside from before =
+    let next = begins_head (n + 2 * segment_count row) rest in
+    get_or_append_left (replicate (segment_count row) k) (places_from (k + 1) rest) 0 (i / 2) (omega (arith, length-replicate (segment_count row) k))
+    ∙ get_or-replicate (segment_count row) (i / 2) k 0 (omega arith) ∙ omega arith
+place_between k n (row ∷ rest) (suc p) i inside from before =
+    let low = begins_low (n + 2 * segment_count row) rest p (omega arith) in
+    let j = i - 2 * segment_count row in
+    let same : n + 2 * segment_count row + j ≡ n + i = omega arith in
+    let later = place_between (k + 1) (n + 2 * segment_count row) rest p j (omega arith) (omega arith) (omega arith) in
+    let half : i / 2 ≡ length (replicate (segment_count row) k) + j / 2 = omega (arith, length-replicate (segment_count row) k) in
+    ap (slice_index (places_from k (row ∷ rest))) half ∙ get_or-append-add (replicate (segment_count row) k) (places_from (k + 1) rest) (j / 2) 0 ∙ later ∙ omega arith
 
 -- ---- The dart of a number
 
@@ -100,9 +104,6 @@ back_step row step inside odd =
 module _ (rows : Rows) (i : ℕ) (inside : i < length (darts rows)) where
   pub edge_of_dart : OnEdge 0 0 rows.edges i
   edge_of_dart = on_edge 0 0 rows.edges i (omega (arith, darts_total rows.edges))
-
-  pub place_listed : i / 2 < length (places_from 0 rows.edges)
-  place_listed = omega (arith, places_length 0 rows.edges, darts_total rows.edges)
 
   pub place_within : slice_index (places_from 0 rows.edges) (i / 2) < length rows.edges
   place_within = let p = edge_of_dart in let stands = p.stands in let less = got_within rows.edges p.place p.row p.at in omega arith

@@ -76,16 +76,14 @@ pub record LawfulRows : Type 0 where
 
 -- the lists hold what they should of the rows: where the darts of each edge begin, for each segment the place of its edge, and
 -- the images of the turn
-pub record AreListsOf (rows : Rows) (begins places turns : List ℕ) : Type 0 where
+pub record AreListsOf (rows : Rows) (begins turns : List ℕ) : Type 0 where
   pub edge_begins : begins ≡ begins_from 0 rows.edges
-  pub edge_places : places ≡ places_from 0 rows.edges
   pub images : turns ≡ turn_images rows
   pub few_darts : length turns < 4294967296
   pub few_vertices : length rows.rotations < 4294967296
 
 -- the same of rows whose turn is read off the rows themselves
-pub record AreBeginsOf (rows : Rows) (begins places : List ℕ) : Type 0 where
+pub record AreBeginsOf (rows : Rows) (begins : List ℕ) : Type 0 where
   pub edge_begins : begins ≡ begins_from 0 rows.edges
-  pub edge_places : places ≡ places_from 0 rows.edges
   pub few_darts : length (darts rows) < 4294967296
   pub few_vertices : length rows.rotations < 4294967296

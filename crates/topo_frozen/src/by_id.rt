@@ -1,12 +1,13 @@
 //! Rows by their ids.
 
-ghost use Rattle.std.specs.Prelude.{◌≡◌, ◌==◌, ◌≤◌, ℕ, MatchOption, None, find, is_some, length, map, true};
-ghost use Rattle.topo_frozen.specs.Ids.{IdsRise, IsPlaceOf, NoneBefore, NoneFrom};
+ghost use Rattle.std.specs.Prelude.{◌≡◌, ◌==◌, ℕ, MatchOption, None, find, is_some, map, true};
+ghost use Rattle.topo_frozen.specs.Ids.{IdsRise, IsPlaceOf};
 
+use crate::hints::Hints;
 use topo_core::rows::{CrossRow, EdgeRow};
 
 /// A row that has an id.
-trait Identified {
+pub(crate) trait Identified {
     /// Its id.
     ghost id_of: { Self → ℕ };
 
@@ -31,62 +32,16 @@ impl Identified for CrossRow {
     }
 }
 
-/// How far on both sides of where it is expected a row is looked for at first.
-const NEAR: usize = 32;
-
-/// Where a row with this id is expected, if the ids that are gone lie evenly among those that were
-/// given. It is speed alone.
-fn guess<T: Identified>(rows: &[T], id: u32) -> usize {
-    match rows.last() {
-        Some(row) => {
-            let given = row.id() as u64 + 1;
-            ((id as u64).wrapping_mul(rows.len() as u64) / given) as usize
-        }
-        None => 0,
-    }
-}
-
-/// A place before which no row has the id: the one after `near`, where that row has a smaller id.
-fn low_near<T: Identified>(rows: &[T], id: u32, near: usize) -> usize
+/// The place of the row with an id, by a binary search. It halves what is left whatever it reads.
+fn searched_place<T: Identified>(rows: &[T], id: u32) -> Option<usize>
     requires { IdsRise (map T.id_of rows.now) }
-    ensures { NoneBefore rows.now T.id_of id result }
-{
-    if near < rows.len() && rows[near].id() < id {
-        near + 1
-    } else {
-        0
-    }
-}
-
-/// A place from which on no row has the id: `near`, where that row has a greater id, and else `most`.
-fn high_near<T: Identified>(rows: &[T], id: u32, near: usize, most: usize) -> usize
-    requires rise { IdsRise (map T.id_of rows.now) }
-    requires within { most ≤ length rows.now }
-    requires none { NoneFrom rows.now T.id_of id most }
-    ensures within { result ≤ length rows.now }
-    ensures none { NoneFrom rows.now T.id_of id result }
-{
-    if near < most && rows[near].id() > id {
-        near
-    } else {
-        most
-    }
-}
-
-/// The place of the row with an id between two places, by a binary search. It halves what is left
-/// whatever it reads.
-fn place_between<T: Identified>(rows: &[T], id: u32, low: usize, high: usize) -> Option<usize>
-    requires rise { IdsRise (map T.id_of rows.now) }
-    requires within { high ≤ length rows.now }
-    requires before { NoneBefore rows.now T.id_of id low }
-    requires behind { NoneFrom rows.now T.id_of id high }
     ensures { MatchOption result (find (λ row. T.id_of row == id) rows.now ≡ None) (IsPlaceOf rows.now T.id_of id) }
 {
-    if low >= high {
+    if rows.is_empty() {
         return None;
     }
-    let mut base = low;
-    let mut left = high - low;
+    let mut base = 0;
+    let mut left = rows.len();
     while left > 1 {
         let half = left / 2;
         let middle = base + half;
@@ -102,58 +57,53 @@ fn place_between<T: Identified>(rows: &[T], id: u32, low: usize, high: usize) ->
     }
 }
 
-/// The place of the row with an id, where ids rise; none where there is no such row. No row stands
-/// above the place that its id names, and as long as no row is gone each stands there, so that one
-/// look finds it. Else a binary search does, first near the place where the row is expected.
-fn row_place<T: Identified>(rows: &[T], id: u32) -> Option<usize>
+/// The place of the row with an id, where ids rise; none where there is no such row. One look finds it
+/// where it is expected; else a binary search does.
+fn row_place<T: Identified>(rows: &[T], expected: usize, id: u32) -> Option<usize>
     requires { IdsRise (map T.id_of rows.now) }
     ensures { MatchOption result (find (λ row. T.id_of row == id) rows.now ≡ None) (IsPlaceOf rows.now T.id_of id) }
 {
-    let most = rows.len().min(id as usize);
-    if most < rows.len() && rows[most].id() == id {
-        return Some(most);
+    if expected < rows.len() && rows[expected].id() == id {
+        return Some(expected);
     }
-    let near = guess(rows, id);
-    let low = low_near(rows, id, near.saturating_sub(NEAR));
-    let high = high_near(rows, id, near.saturating_add(NEAR), most);
-    place_between(rows, id, low, high)
+    searched_place(rows, id)
 }
 
 /// The place of the edge with an id, where ids rise; none where there is no such edge.
-pub fn edge_place(edges: &[EdgeRow], id: u32) -> Option<usize>
+pub fn edge_place(edges: &[EdgeRow], hints: &Hints, id: u32) -> Option<usize>
     requires { IdsRise (map (λ row. row.id) edges.now) }
     ensures { MatchOption result (find (λ row. row.id == id) edges.now ≡ None) (IsPlaceOf edges.now (λ row. row.id) id) }
 {
-    row_place(edges, id)
+    row_place(edges, hints.edge(id), id)
 }
 
 /// The place of the crossing with an id, in the same way.
-pub fn crossing_place(crossings: &[CrossRow], id: u32) -> Option<usize>
+pub fn crossing_place(crossings: &[CrossRow], hints: &Hints, id: u32) -> Option<usize>
     requires { IdsRise (map (λ row. row.id) crossings.now) }
     ensures { MatchOption result (find (λ row. row.id == id) crossings.now ≡ None) (IsPlaceOf crossings.now (λ row. row.id) id) }
 {
-    row_place(crossings, id)
+    row_place(crossings, hints.crossing(id), id)
 }
 
 /// The place of an edge that is there.
-pub fn place_of_edge(edges: &[EdgeRow], id: u32) -> usize
+pub fn place_of_edge(edges: &[EdgeRow], hints: &Hints, id: u32) -> usize
     requires rise { IdsRise (map (λ row. row.id) edges.now) }
     requires there { is_some (find (λ row. row.id == id) edges.now) ≡ true }
     ensures { IsPlaceOf edges.now (λ row. row.id) id result }
 {
-    match edge_place(edges, id) {
+    match edge_place(edges, hints, id) {
         Some(place) => place,
         None => unreachable!(),
     }
 }
 
 /// The place of a crossing that is there.
-pub fn place_of_crossing(crossings: &[CrossRow], id: u32) -> usize
+pub fn place_of_crossing(crossings: &[CrossRow], hints: &Hints, id: u32) -> usize
     requires rise { IdsRise (map (λ row. row.id) crossings.now) }
     requires there { is_some (find (λ row. row.id == id) crossings.now) ≡ true }
     ensures { IsPlaceOf crossings.now (λ row. row.id) id result }
 {
-    match crossing_place(crossings, id) {
+    match crossing_place(crossings, hints, id) {
         Some(place) => place,
         None => unreachable!(),
     }

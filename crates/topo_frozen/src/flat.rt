@@ -8,6 +8,7 @@ ghost use Rattle.topo_frozen.specs.Ids.{IdsRise};
 ghost use Rattle.topo_frozen.specs.Flats.{begins_from, places_from, written, links, note_place, path_notes, notes_from, vertex_round, crossing_round, round_ahead, AreAhead};
 
 use crate::by_id::{place_of_crossing, place_of_edge};
+use crate::hints::Hints;
 use std::alloc::{AllocError, Global};
 use topo_core::darts::Sign;
 use topo_core::rows::{CrossRow, EdgeRow, Rows};
@@ -27,34 +28,6 @@ pub fn begins_of(alloc: Global, edges: &[EdgeRow]) -> Result<Vec<u32>, AllocErro
     Ok(begins)
 }
 
-/// Puts a number so many times at the end.
-fn push_times(list: &mut Vec<u32>, number: u32, times: usize) -> Result<(), AllocError>
-    ensures { OnOk result (list.new.items ≡ list.old.items ++ replicate times number) }
-{
-    for _ in 0..times {
-        list.push(number)?;
-    }
-    Ok(())
-}
-
-/// For each segment the place of its edge among the edges, from where the darts of each edge begin.
-pub(crate) fn places_of(
-    alloc: Global,
-    edges: &[EdgeRow],
-    begins: &[u32],
-) -> Result<Vec<u32>, AllocError>
-    requires begins { begins.now ≡ begins_from 0 edges.now }
-    requires few { length edges.now < 2 ^ 32 }
-    ensures { IfOk result (λ places. places.items ≡ places_from 0 edges.now) }
-{
-    let mut places = Vec::with_capacity(alloc, (begins[edges.len()] / 2) as usize)?;
-    for place in 0..edges.len() {
-        let segments = (begins[place + 1] - begins[place]) / 2;
-        push_times(&mut places, place as u32, segments as usize)?;
-    }
-    Ok(places)
-}
-
 /// Writes for each entry of a round what follows it.
 fn link_round(images: &mut [u32], round: &[u32])
     requires { (k : ℕ) → k < length round.now → slice_index round.now k < length images.old }
@@ -71,14 +44,14 @@ fn link_round(images: &mut [u32], round: &[u32])
 }
 
 /// Where the dart ahead of crossing `x` on edge `e` is noted.
-fn note_place(crossings: &[CrossRow], e: u32, x: u32) -> usize
+fn note_place(crossings: &[CrossRow], hints: &Hints, e: u32, x: u32) -> usize
     requires rise { IdsRise (map (λ c. c.id) crossings.now) }
     requires there { is_some (find (λ c. c.id == x) crossings.now) ≡ true }
     requires few { length crossings.now < 2 ^ 32 }
     ensures place { result ≡ note_place crossings.now e x }
     ensures within { result < 2 * length crossings.now }
 {
-    let place = place_of_crossing(crossings, x);
+    let place = place_of_crossing(crossings, hints, x);
     if e == crossings[place].crossed {
         2 * place
     } else {
@@ -88,7 +61,14 @@ fn note_place(crossings: &[CrossRow], e: u32, x: u32) -> usize
 
 /// Notes for each crossing of a path the number of the dart ahead, where the path's first dart has
 /// the number `begin`.
-fn note_path(ahead: &mut [u32], crossings: &[CrossRow], e: u32, begin: u32, path: &[u32])
+fn note_path(
+    ahead: &mut [u32],
+    crossings: &[CrossRow],
+    hints: &Hints,
+    e: u32,
+    begin: u32,
+    path: &[u32],
+)
     requires rise { IdsRise (map (λ c. c.id) crossings.now) }
     requires known { list_all (λ x. is_some (find (λ c. c.id == x) crossings.now)) path.now ≡ true }
     requires few { length crossings.now < 2 ^ 32 }
@@ -97,12 +77,12 @@ fn note_path(ahead: &mut [u32], crossings: &[CrossRow], e: u32, begin: u32, path
     ensures { ahead.new ≡ written ahead.old (path_notes crossings.now e begin path.now) }
 {
     for s in 0..path.len() {
-        ahead[note_place(crossings, e, path[s])] = begin + 2 * s as u32 + 2;
+        ahead[note_place(crossings, hints, e, path[s])] = begin + 2 * s as u32 + 2;
     }
 }
 
 /// Notes that for each path.
-fn note_paths(ahead: &mut [u32], crossings: &[CrossRow], edges: &[EdgeRow])
+fn note_paths(ahead: &mut [u32], crossings: &[CrossRow], hints: &Hints, edges: &[EdgeRow])
     requires rise { IdsRise (map (λ c. c.id) crossings.now) }
     requires known { list_all (λ row. list_all (λ x. is_some (find (λ c. c.id == x) crossings.now)) row.crossings) edges.now ≡ true }
     requires few { length crossings.now < 2 ^ 32 }
@@ -114,13 +94,13 @@ fn note_paths(ahead: &mut [u32], crossings: &[CrossRow], edges: &[EdgeRow])
     for row in edges {
         let path = row.crossings.as_slice();
         let next = begin + 2 * (path.len() as u32 + 1);
-        note_path(ahead, crossings, row.id, begin, path);
+        note_path(ahead, crossings, hints, row.id, begin, path);
         begin = next;
     }
 }
 
 /// For each crossing the numbers of the darts ahead of it, on the crossed edge and on the newcomer.
-fn ahead_of(alloc: Global, rows: &Rows) -> Result<Vec<u32>, AllocError>
+fn ahead_of(alloc: Global, rows: &Rows, hints: &Hints) -> Result<Vec<u32>, AllocError>
     requires well_formed { IsWellFormed rows.now }
     requires few { 2 * sum_by segment_count rows.now.edges < 2 ^ 32 }
     requires crossings { length rows.now.crossings < 2 ^ 32 }
@@ -128,19 +108,19 @@ fn ahead_of(alloc: Global, rows: &Rows) -> Result<Vec<u32>, AllocError>
 {
     let crossings = rows.crossings.as_slice();
     let mut ahead = vec![in alloc; 0; 2 * crossings.len()]?;
-    note_paths(&mut ahead, crossings, rows.edges.as_slice());
+    note_paths(&mut ahead, crossings, hints, rows.edges.as_slice());
     Ok(ahead)
 }
 
 /// The number of the dart of edge `e` that starts at its end `v`.
-pub(crate) fn end_number(rows: &Rows, begins: &[u32], v: u32, e: u32) -> u32
+pub(crate) fn end_number(rows: &Rows, begins: &[u32], hints: &Hints, v: u32, e: u32) -> u32
     requires paths { has_good_paths rows.now ≡ true }
     requires begins { begins.now ≡ begins_from 0 rows.now.edges }
     requires there { is_some (edge_row rows.now e) ≡ true }
     ensures { result ≡ index_of rows.now (end_dart rows.now v e) }
 {
     let edges = rows.edges.as_slice();
-    let place = place_of_edge(edges, e);
+    let place = place_of_edge(edges, hints, e);
     let row = &edges[place];
     if row.a == v {
         begins[place]
@@ -150,7 +130,7 @@ pub(crate) fn end_number(rows: &Rows, begins: &[u32], v: u32, e: u32) -> u32
 }
 
 /// Writes the turns round a vertex.
-fn link_vertex(images: &mut [u32], rows: &Rows, begins: &[u32], v: u32)
+fn link_vertex(images: &mut [u32], rows: &Rows, begins: &[u32], hints: &Hints, v: u32)
     requires well_formed { IsWellFormed rows.now }
     requires begins { begins.now ≡ begins_from 0 rows.now.edges }
     requires vertex { v < length rows.now.rotations }
@@ -161,10 +141,10 @@ fn link_vertex(images: &mut [u32], rows: &Rows, begins: &[u32], v: u32)
     if around.is_empty() {
         return;
     }
-    let first = end_number(rows, begins, v, around[0]);
+    let first = end_number(rows, begins, hints, v, around[0]);
     let mut here = first;
     for i in 1..around.len() {
-        let next = end_number(rows, begins, v, around[i]);
+        let next = end_number(rows, begins, hints, v, around[i]);
         images[here as usize] = next;
         here = next;
     }
@@ -172,7 +152,7 @@ fn link_vertex(images: &mut [u32], rows: &Rows, begins: &[u32], v: u32)
 }
 
 /// Writes the turns round the vertices.
-fn link_vertices(images: &mut [u32], rows: &Rows, begins: &[u32])
+fn link_vertices(images: &mut [u32], rows: &Rows, begins: &[u32], hints: &Hints)
     requires well_formed { IsWellFormed rows.now }
     requires begins { begins.now ≡ begins_from 0 rows.now.edges }
     requires vertices { length rows.now.rotations < 2 ^ 32 }
@@ -180,7 +160,7 @@ fn link_vertices(images: &mut [u32], rows: &Rows, begins: &[u32])
     ensures { images.new ≡ written images.old (flat_map (λ v. links (vertex_round rows.now v)) (vertices rows.now)) }
 {
     for v in 0..rows.rotations.as_slice().len() {
-        link_vertex(images, rows, begins, v as u32);
+        link_vertex(images, rows, begins, hints, v as u32);
     }
 }
 
@@ -219,6 +199,7 @@ fn write_turns(
     images: &mut [u32],
     rows: &Rows,
     begins: &[u32],
+    hints: &Hints,
 ) -> Result<(), AllocError>
     requires well_formed { IsWellFormed rows.now }
     requires begins { begins.now ≡ begins_from 0 rows.now.edges }
@@ -228,8 +209,8 @@ fn write_turns(
     requires room { length images.old ≡ length (darts rows.now) }
     ensures { OnOk result (images.new ≡ turn_images rows.now) }
 {
-    let ahead = ahead_of(alloc, rows)?;
-    link_vertices(images, rows, begins);
+    let ahead = ahead_of(alloc, rows, hints)?;
+    link_vertices(images, rows, begins, hints);
     link_crossings(images, rows, ahead.as_slice());
     Ok(())
 }
@@ -244,7 +225,12 @@ pub(crate) fn dart_count(rows: &Rows, begins: &[u32]) -> usize
 }
 
 /// The images of the turn in canonical numbers, where the darts of the edges begin as said.
-pub fn turns_from(alloc: Global, rows: &Rows, begins: &[u32]) -> Result<Vec<u32>, AllocError>
+pub fn turns_from(
+    alloc: Global,
+    rows: &Rows,
+    begins: &[u32],
+    hints: &Hints,
+) -> Result<Vec<u32>, AllocError>
     requires well_formed { IsWellFormed rows.now }
     requires begins { begins.now ≡ begins_from 0 rows.now.edges }
     requires few { 2 * sum_by segment_count rows.now.edges < 2 ^ 32 }
@@ -254,7 +240,7 @@ pub fn turns_from(alloc: Global, rows: &Rows, begins: &[u32]) -> Result<Vec<u32>
 {
     let count = dart_count(rows, begins);
     let mut images = vec![in alloc; 0; count]?;
-    write_turns(alloc, &mut images, rows, begins)?;
+    write_turns(alloc, &mut images, rows, begins, hints)?;
     Ok(images)
 }
 
@@ -267,5 +253,6 @@ pub(crate) fn turns_of(alloc: Global, rows: &Rows) -> Result<Vec<u32>, AllocErro
     ensures { IfOk result (λ images. images.items ≡ turn_images rows.now) }
 {
     let begins = begins_of(alloc, rows.edges.as_slice())?;
-    turns_from(alloc, rows, begins.as_slice())
+    let hints = Hints::of(alloc, rows, begins.as_slice())?;
+    turns_from(alloc, rows, begins.as_slice(), &hints)
 }

@@ -2,9 +2,11 @@
 
 ghost use Rattle.topo_core.specs.Lawful.{Lawful};
 
-use crate::flat::{begins_of, places_of, turns_from};
+use crate::flat::{begins_of, turns_from};
+use crate::hints::Hints;
 use crate::numbers::{
-    corner_number, dart_numbered, facts_numbered, next_along, number_of, tail_numbered, twin_of,
+    corner_number, dart_numbered, facts_numbered, next_along, number_of, place_under,
+    tail_numbered, twin_of,
 };
 use std::alloc::{AllocError, Global};
 use std::marker::Model;
@@ -19,7 +21,7 @@ use topo_route::dual::Dual;
 pub struct Frozen {
     rows: Rows,
     begins: Vec<u32>,
-    places: Vec<u32>,
+    hints: Hints,
     turns: Vec<u32>,
     ghost lawful: { ∥ Lawful rows ∥₁ },
 }
@@ -31,7 +33,7 @@ impl Model for Frozen {
 
     ghost view = { λ f. record { rows = f.rows; lawful = f.lawful } };
 
-    ghost invariant = { λ f. AreListsOf f.rows f.begins.items f.places.items f.turns.items };
+    ghost invariant = { λ f. AreListsOf f.rows f.begins.items f.turns.items };
 }
 
 impl Frozen {
@@ -49,12 +51,12 @@ impl Frozen {
         ensures { IfOk result (λ f. f.rows ≡ rows) }
     {
         let begins = begins_of(alloc, rows.edges.as_slice())?;
-        let places = places_of(alloc, rows.edges.as_slice(), begins.as_slice())?;
-        let turns = turns_from(alloc, &rows, begins.as_slice())?;
+        let hints = Hints::of(alloc, &rows, begins.as_slice())?;
+        let turns = turns_from(alloc, &rows, begins.as_slice(), &hints)?;
         Ok(Frozen {
             rows,
             begins,
-            places,
+            hints,
             turns,
         })
     }
@@ -72,7 +74,7 @@ impl Frozen {
         requires { dart < length (darts self.now.rows) }
         ensures { result ≡ slice_index (places_from 0 self.now.rows.edges) (dart / 2) }
     {
-        self.places.as_slice()[(dart / 2) as usize] as usize
+        place_under(&self.rows, self.begins.as_slice(), &self.hints, dart)
     }
 }
 
@@ -103,7 +105,7 @@ impl Dual for Frozen {
     }
 
     fn corner(&self, v: u32, position: u32) -> Option<u32> {
-        corner_number(&self.rows, self.begins.as_slice(), v, position)
+        corner_number(&self.rows, self.begins.as_slice(), &self.hints, v, position)
     }
 
     fn degree(&self, v: u32) -> u32 {
@@ -116,7 +118,7 @@ impl Dual for Frozen {
     }
 
     fn index(&self, dart: Dart) -> Option<u32> {
-        number_of(&self.rows, self.begins.as_slice(), dart)
+        number_of(&self.rows, self.begins.as_slice(), &self.hints, dart)
     }
 
     ghost lawful = { λ f. lawful_again f.rows f.lawful };

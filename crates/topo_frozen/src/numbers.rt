@@ -12,6 +12,7 @@ ghost use Rattle.topo_frozen.specs.Placed.{IsPlaced, placed_dart};
 
 use crate::by_id::edge_place;
 use crate::flat::end_number;
+use crate::hints::Hints;
 use crate::placed::{PlacedDart, opposite, turned};
 use topo_core::darts::{Dart, Point, Way};
 use topo_core::ids::{CrossId, EdgeId, VertexId};
@@ -33,6 +34,41 @@ pub fn next_along(turns: &[u32], dart: u32) -> u32
     let at = dart as usize;
     let other = if at % 2 == 0 { at + 1 } else { at - 1 };
     turns[other]
+}
+
+/// The place of the edge of a dart among the edges, by a binary search of where their darts begin.
+fn searched_under(rows: &Rows, begins: &[u32], number: u32) -> usize
+    requires begins { begins.now ≡ begins_from 0 rows.now.edges }
+    requires within { number < length (darts rows.now) }
+    ensures { result ≡ slice_index (places_from 0 rows.now.edges) (number / 2) }
+{
+    let mut low = 0;
+    let mut high = rows.edges.as_slice().len();
+    while high - low > 1 {
+        let middle = low + (high - low) / 2;
+        if begins[middle] <= number {
+            low = middle;
+        } else {
+            high = middle;
+        }
+    }
+    low
+}
+
+/// The place of the edge of a dart among the edges: where it is expected, if the dart lies there.
+pub(crate) fn place_under(rows: &Rows, begins: &[u32], hints: &Hints, number: u32) -> usize
+    requires begins { begins.now ≡ begins_from 0 rows.now.edges }
+    requires within { number < length (darts rows.now) }
+    ensures { result ≡ slice_index (places_from 0 rows.now.edges) (number / 2) }
+{
+    let place = hints.edge_under(number / 2);
+    if place < rows.edges.as_slice().len()
+        && begins[place] <= number
+        && number < begins[place + 1]
+    {
+        return place;
+    }
+    searched_under(rows, begins, number)
 }
 
 /// The edge on which a dart lies.
@@ -88,7 +124,13 @@ fn placed_numbered(rows: &Rows, begins: &[u32], place: usize, number: u32) -> Pl
 }
 
 /// The number of the next dart along the face on the left, turned on the rows themselves.
-pub(crate) fn next_numbered(rows: &Rows, begins: &[u32], place: usize, number: u32) -> u32
+pub(crate) fn next_numbered(
+    rows: &Rows,
+    begins: &[u32],
+    hints: &Hints,
+    place: usize,
+    number: u32,
+) -> u32
     requires well_formed { IsWellFormed rows.now }
     requires begins { begins.now ≡ begins_from 0 rows.now.edges }
     requires under { place ≡ slice_index (places_from 0 rows.now.edges) (number / 2) }
@@ -97,7 +139,7 @@ pub(crate) fn next_numbered(rows: &Rows, begins: &[u32], place: usize, number: u
     ensures { result ≡ face_next (map_of (turn_images rows.now)) number }
 {
     let here = placed_numbered(rows, begins, place, number);
-    let next = turned(rows, opposite(here));
+    let next = turned(rows, hints, opposite(here));
     let first = begins[next.place] + 2 * next.segment as u32;
     match next.way {
         Way::Forward => first,
@@ -151,25 +193,31 @@ pub(crate) fn facts_numbered(rows: &Rows, place: usize, number: u32) -> Facts
 }
 
 /// The number of the dart that names a corner.
-pub(crate) fn corner_number(rows: &Rows, begins: &[u32], v: u32, position: u32) -> Option<u32>
+pub(crate) fn corner_number(
+    rows: &Rows,
+    begins: &[u32],
+    hints: &Hints,
+    v: u32,
+    position: u32,
+) -> Option<u32>
     requires well_formed { IsWellFormed rows.now }
     requires begins { begins.now ≡ begins_from 0 rows.now.edges }
     ensures { result ≡ option_map (index_of rows.now) (corner rows.now v position) }
 {
     let around = rows.rotations.as_slice().get(v as usize)?.as_slice();
     let e = around.get(position as usize)?;
-    Some(end_number(rows, begins, v, *e))
+    Some(end_number(rows, begins, hints, v, *e))
 }
 
 /// The number of a dart; none where it is no dart of the rows.
-pub(crate) fn number_of(rows: &Rows, begins: &[u32], dart: Dart) -> Option<u32>
+pub(crate) fn number_of(rows: &Rows, begins: &[u32], hints: &Hints, dart: Dart) -> Option<u32>
     requires paths { has_good_paths rows.now ≡ true }
     requires begins { begins.now ≡ begins_from 0 rows.now.edges }
     requires few { length (darts rows.now) < 2 ^ 32 }
     ensures { result ≡ (if has_dart (darts rows.now) dart then Some (index_of rows.now dart) else None) }
 {
     let edges = rows.edges.as_slice();
-    let place = edge_place(edges, dart.edge.number())?;
+    let place = edge_place(edges, hints, dart.edge.number())?;
     let row = &edges[place];
     if (dart.seg as usize) < row.crossings.as_slice().len() + 1 {
         let first = begins[place] + 2 * dart.seg;

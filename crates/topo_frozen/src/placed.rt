@@ -1,4 +1,4 @@
-//! Darts by the places of their edges, and how they turn: read off the rows, with no list beside them.
+//! Darts by the places of their edges, and how they turn: read off the rows.
 
 ghost use Rattle.std.specs.Prelude.{◌≡◌, ◌<◌, ◌≤◌, ◌==◌, ℕ, Bool, find, is_some, length, map, true};
 ghost use Rattle.std.specs.List.{position_or_len};
@@ -11,6 +11,7 @@ ghost use Rattle.topo_core.specs.declared.rows.Rows.{Rows};
 ghost use Rattle.topo_frozen.specs.Placed.{CrossesAt, IsPlaced, entry_after, passing, placed_dart, way_after};
 
 use crate::by_id::{place_of_crossing, place_of_edge};
+use crate::hints::Hints;
 use topo_core::darts::{Sign, Way};
 use topo_core::rows::Rows;
 
@@ -71,14 +72,14 @@ fn entry_after(list: &[u32], x: u32) -> u32
 }
 
 /// The dart of edge `e` that starts at its end `v`.
-fn end_placed(rows: &Rows, v: u32, e: u32) -> PlacedDart
+fn end_placed(rows: &Rows, hints: &Hints, v: u32, e: u32) -> PlacedDart
     requires paths { has_good_paths rows.now ≡ true }
     requires there { is_some (edge_row rows.now e) ≡ true }
     ensures placed { IsPlaced rows.now result }
     ensures dart { placed_dart rows.now result ≡ end_dart rows.now v e }
 {
     let edges = rows.edges.as_slice();
-    let place = place_of_edge(edges, e);
+    let place = place_of_edge(edges, hints, e);
     let row = &edges[place];
     if row.a == v {
         PlacedDart {
@@ -96,7 +97,7 @@ fn end_placed(rows: &Rows, v: u32, e: u32) -> PlacedDart
 }
 
 /// The next dart clockwise after that of edge `e`, at its end `v`.
-fn turned_at_vertex(rows: &Rows, v: u32, e: u32) -> PlacedDart
+fn turned_at_vertex(rows: &Rows, hints: &Hints, v: u32, e: u32) -> PlacedDart
     requires well_formed { IsWellFormed rows.now }
     requires vertex { v < length rows.now.rotations }
     requires there { has_id (rotation rows.now v) e ≡ true }
@@ -104,11 +105,11 @@ fn turned_at_vertex(rows: &Rows, v: u32, e: u32) -> PlacedDart
     ensures turn { placed_dart rows.now result ≡ turn (system rows.now) (end_dart rows.now v e) }
 {
     let around = rows.rotations.as_slice()[v as usize].as_slice();
-    end_placed(rows, v, entry_after(around, e))
+    end_placed(rows, hints, v, entry_after(around, e))
 }
 
 /// The dart of edge `e` that starts at its crossing `x`, going that way.
-fn passing(rows: &Rows, e: u32, x: u32, way: Way) -> PlacedDart
+fn passing(rows: &Rows, hints: &Hints, e: u32, x: u32, way: Way) -> PlacedDart
     requires paths { has_good_paths rows.now ≡ true }
     requires there { is_some (edge_row rows.now e) ≡ true }
     requires on { has_id (edge_at rows.now e).crossings x ≡ true }
@@ -116,7 +117,7 @@ fn passing(rows: &Rows, e: u32, x: u32, way: Way) -> PlacedDart
     ensures dart { placed_dart rows.now result ≡ passing rows.now e x way }
 {
     let edges = rows.edges.as_slice();
-    let place = place_of_edge(edges, e);
+    let place = place_of_edge(edges, hints, e);
     let row = &edges[place];
     let before = position_on(row.crossings.as_slice(), x);
     match way {
@@ -144,24 +145,24 @@ fn way_after(sign: Sign, crossed: bool, way: Way) -> Way
 }
 
 /// The next dart clockwise after that of edge `e`, at its crossing `x`.
-fn turned_at_crossing(rows: &Rows, e: u32, x: u32, way: Way) -> PlacedDart
+fn turned_at_crossing(rows: &Rows, hints: &Hints, e: u32, x: u32, way: Way) -> PlacedDart
     requires well_formed { IsWellFormed rows.now }
     requires there { CrossesAt rows.now e x }
     ensures placed { IsPlaced rows.now result }
     ensures turn { placed_dart rows.now result ≡ turn (system rows.now) (passing rows.now e x way) }
 {
     let crossings = rows.crossings.as_slice();
-    let row = crossings[place_of_crossing(crossings, x)];
+    let row = crossings[place_of_crossing(crossings, hints, x)];
     if e == row.crossed {
-        passing(rows, row.newcomer, x, way_after(row.sign, true, way))
+        passing(rows, hints, row.newcomer, x, way_after(row.sign, true, way))
     } else {
-        passing(rows, row.crossed, x, way_after(row.sign, false, way))
+        passing(rows, hints, row.crossed, x, way_after(row.sign, false, way))
     }
 }
 
 /// The next dart clockwise at its point. It looks through the list of the vertex, or through the path
 /// of the edge that crosses there, and takes no memory.
-pub fn turned(rows: &Rows, at: PlacedDart) -> PlacedDart
+pub fn turned(rows: &Rows, hints: &Hints, at: PlacedDart) -> PlacedDart
     requires well_formed { IsWellFormed rows.now }
     requires placed { IsPlaced rows.now at }
     ensures placed { IsPlaced rows.now result }
@@ -172,16 +173,16 @@ pub fn turned(rows: &Rows, at: PlacedDart) -> PlacedDart
     match at.way {
         Way::Forward => {
             if at.segment == 0 {
-                turned_at_vertex(rows, row.a, row.id)
+                turned_at_vertex(rows, hints, row.a, row.id)
             } else {
-                turned_at_crossing(rows, row.id, path[at.segment - 1], Way::Forward)
+                turned_at_crossing(rows, hints, row.id, path[at.segment - 1], Way::Forward)
             }
         }
         Way::Back => {
             if at.segment == path.len() {
-                turned_at_vertex(rows, row.b, row.id)
+                turned_at_vertex(rows, hints, row.b, row.id)
             } else {
-                turned_at_crossing(rows, row.id, path[at.segment], Way::Back)
+                turned_at_crossing(rows, hints, row.id, path[at.segment], Way::Back)
             }
         }
     }

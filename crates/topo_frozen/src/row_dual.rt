@@ -2,26 +2,27 @@
 
 ghost use Rattle.topo_core.specs.Lawful.{Lawful};
 
-use crate::flat::{dart_count, places_of};
+use crate::flat::dart_count;
+use crate::hints::Hints;
 use crate::numbers::{
-    corner_number, dart_numbered, facts_numbered, next_numbered, number_of, tail_numbered, twin_of,
+    corner_number, dart_numbered, facts_numbered, next_numbered, number_of, place_under,
+    tail_numbered, twin_of,
 };
-use std::alloc::{AllocError, Global};
 use std::marker::Model;
 use topo_core::darts::{Dart, Point};
 use topo_core::rows::{Facts, Rows};
 use topo_route::dual::Dual;
 
-/// Lawful rows with their darts as numbers, of which no more is kept than where the darts of each edge
-/// begin and on which edge each segment lies. Contracts see the rows. The darts are numbered as those
-/// of `Frozen`, and no question takes memory; but the next dart is looked for on the rows, in the list
-/// of the vertex where it starts or on the path of the edge that crosses there. So it is soon made, for
-/// a search that asks of few darts.
+/// Lawful rows with their darts as numbers, and no more beside them than where the darts of each edge
+/// begin, and hints. Contracts see the rows. The darts are numbered as those of `Frozen`, and no
+/// question takes memory; but the next dart is looked for on the rows, in the list of the vertex where
+/// it starts or on the path of the edge that crosses there. So it takes no time to make, for a search
+/// that asks of few darts.
 #[derive(Drop)]
 pub struct RowDual<'a> {
     rows: &'a Rows,
     begins: &'a [u32],
-    places: Vec<u32>,
+    hints: &'a Hints,
     ghost lawful: { ∥ Lawful rows.now ∥₁ },
 }
 
@@ -32,31 +33,30 @@ impl<'a> Model for RowDual<'a> {
 
     ghost view = { λ d. record { rows = d.rows.now; lawful = d.lawful } };
 
-    ghost invariant = { λ d. AreBeginsOf d.rows.now d.begins.now d.places.items };
+    ghost invariant = { λ d. AreBeginsOf d.rows.now d.begins.now };
 }
 
 impl<'a> RowDual<'a> {
-    ghost use Rattle.std.specs.Prelude.{◌≡◌, ◌*◌, ◌/◌, ◌<◌, ◌^◌, IfOk, length, slice_index, sum_by};
+    ghost use Rattle.std.specs.Prelude.{◌≡◌, ◌*◌, ◌/◌, ◌<◌, ◌^◌, length, slice_index, sum_by};
     ghost use Rattle.topo_core.specs.Lawful.{Lawful};
     ghost use Rattle.topo_core.specs.Picture.{darts, segment_count};
     ghost use Rattle.topo_frozen.specs.Flats.{begins_from, places_from};
 
     /// These rows, few enough for numbers of 32 bits, with the number of the first dart of each edge and
-    /// last the number of all darts.
-    pub fn new(alloc: Global, rows: &'a Rows, begins: &'a [u32]) -> Result<Self, AllocError>
+    /// last the number of all darts, and with hints.
+    pub fn new(rows: &'a Rows, begins: &'a [u32], hints: &'a Hints) -> Self
         requires lawful { Lawful rows.now }
         requires begins { begins.now ≡ begins_from 0 rows.now.edges }
         requires few { 2 * sum_by segment_count rows.now.edges < 2 ^ 32 }
         requires vertices { length rows.now.rotations < 2 ^ 32 }
         requires crossings { length rows.now.crossings < 2 ^ 32 }
-        ensures { IfOk result (λ d. d.rows ≡ rows.now) }
+        ensures { result.rows ≡ rows.now }
     {
-        let places = places_of(alloc, rows.edges.as_slice(), begins)?;
-        Ok(RowDual {
+        RowDual {
             rows,
             begins,
-            places,
-        })
+            hints,
+        }
     }
 
     /// The place of the edge of a dart.
@@ -64,7 +64,7 @@ impl<'a> RowDual<'a> {
         requires { dart < length (darts self.now.rows) }
         ensures { result ≡ slice_index (places_from 0 self.now.rows.edges) (dart / 2) }
     {
-        self.places.as_slice()[(dart / 2) as usize] as usize
+        place_under(self.rows, self.begins, self.hints, dart)
     }
 }
 
@@ -78,7 +78,7 @@ impl Dual for RowDual<'_> {
     }
 
     fn next(&self, dart: u32) -> u32 {
-        next_numbered(self.rows, self.begins, self.place(dart), dart)
+        next_numbered(self.rows, self.begins, self.hints, self.place(dart), dart)
     }
 
     fn twin(&self, dart: u32) -> u32 {
@@ -94,7 +94,7 @@ impl Dual for RowDual<'_> {
     }
 
     fn corner(&self, v: u32, position: u32) -> Option<u32> {
-        corner_number(self.rows, self.begins, v, position)
+        corner_number(self.rows, self.begins, self.hints, v, position)
     }
 
     fn degree(&self, v: u32) -> u32 {
@@ -106,7 +106,7 @@ impl Dual for RowDual<'_> {
     }
 
     fn index(&self, dart: Dart) -> Option<u32> {
-        number_of(self.rows, self.begins, dart)
+        number_of(self.rows, self.begins, self.hints, dart)
     }
 
     ghost lawful = { λ d. lawful_again d.rows d.lawful };

@@ -19,6 +19,7 @@ use std::alloc::{AllocError, Global};
 use topo_core::darts::Dart;
 use topo_core::routes::Route;
 use topo_core::rows::{EdgeRow, Rows};
+use topo_frozen::Hints;
 use topo_frozen::by_id::place_of_edge;
 
 /// Raises the numbers behind a place by 2, as one segment more on the edge at that place does.
@@ -35,8 +36,8 @@ fn raise_after(begins: &mut [u32], place: usize)
 }
 
 /// Raises each number by 2 for every dart that lies on an edge before it, as a crossing on each of the
-/// darts does.
-fn raise_across(begins: &mut [u32], edges: &[EdgeRow], darts: &[Dart])
+/// darts does, and lets the hints follow.
+fn raise_across(begins: &mut [u32], hints: &mut Hints, edges: &[EdgeRow], darts: &[Dart])
     requires rise { IdsRise (map (λ row. row.id) edges.now) }
     requires there { (d : Dart) → IsIn d darts.now → is_some (find (λ row. row.id == d.edge) edges.now) ≡ true }
     requires as_many { length begins.old ≡ length edges.now + 1 }
@@ -45,7 +46,9 @@ fn raise_across(begins: &mut [u32], edges: &[EdgeRow], darts: &[Dart])
     ensures raised { (i : ℕ) → i < length begins.old → slice_index begins.new i ≡ slice_index begins.old i + 2 * darts_before edges.now i darts.now }
 {
     for dart in darts {
-        raise_after(begins, place_of_edge(edges, dart.edge.number()));
+        let place = place_of_edge(edges, hints, dart.edge.number());
+        hints.cross(place, begins[place] / 2);
+        raise_after(begins, place);
     }
 }
 
@@ -76,11 +79,12 @@ pub(crate) fn begin_again(begins: &mut Vec<u32>, edges: &[EdgeRow])
     begins.push_reserved(next);
 }
 
-/// As `grow_rows`, and keeps the list of where the darts begin in step with the rows.
+/// As `grow_rows`, and keeps the list of where the darts begin in step with the rows, and the hints.
 pub(crate) fn grow_numbered(
     alloc: Global,
     rows: &mut Rows,
     begins: &mut Vec<u32>,
+    hints: &mut Hints,
     u: u32,
     position: u32,
     kind: u32,
@@ -96,36 +100,41 @@ pub(crate) fn grow_numbered(
     ensures begins { begins.new.items ≡ begins_from 0 rows.new.edges }
 {
     begins.reserve(1)?;
+    hints.reserve(0)?;
     grow_rows(alloc, rows, u, position, kind)?;
     begin_after(begins, 1);
+    hints.join(rows, 0);
     Ok(())
 }
 
-/// As `apply_rows`, and keeps the list of where the darts begin in step with the rows.
+/// As `apply_rows`, from the first of the ends to the second, and keeps the list of where the darts begin
+/// in step with the rows, and the hints.
 pub(crate) fn apply_numbered(
     alloc: Global,
     rows: &mut Rows,
     begins: &mut Vec<u32>,
-    u: u32,
-    v: u32,
+    hints: &mut Hints,
+    ends: (u32, u32),
     kind: u32,
     route: &Route,
 ) -> Result<(), AllocError>
     requires formed { IsWellFormed rows.old }
-    requires insertable { IsInsertable rows.old u v kind route.now }
+    requires insertable { IsInsertable rows.old ends.0 ends.1 kind route.now }
     requires edges { rows.old.next_edge + 1 < 2 ^ 32 }
     requires crossings { rows.old.next_crossing + length route.now.crossed < 2 ^ 32 }
     requires begins { begins.old.items ≡ begins_from 0 rows.old.edges }
     requires few { 2 * (sum_by segment_count rows.old.edges + 2 * length route.now.crossed + 1) < 2 ^ 32 }
-    ensures ok { OnOk result (rows.new ≡ shown rows.old u v kind route.now) }
+    ensures ok { OnOk result (rows.new ≡ shown rows.old ends.0 ends.1 kind route.now) }
     ensures err { OnErr result (rows.new ≡ rows.old) }
     ensures begins { begins.new.items ≡ begins_from 0 rows.new.edges }
 {
-    begins.reserve(1)?;
-    apply_rows(alloc, rows, u, v, kind, route)?;
     let darts = route.crossed.as_slice();
+    begins.reserve(1)?;
+    hints.reserve(darts.len())?;
+    apply_rows(alloc, rows, ends.0, ends.1, kind, route)?;
     let edges = rows.edges.as_slice();
-    raise_across(begins, &edges[..edges.len() - 1], darts);
+    raise_across(begins, hints, &edges[..edges.len() - 1], darts);
     begin_after(begins, darts.len() as u32 + 1);
+    hints.join(rows, darts.len());
     Ok(())
 }

@@ -13,6 +13,7 @@ ghost use Rattle.topo_picture.specs.Cutting.{IsEdgeAt, IsFirstCut};
 
 use topo_core::darts::Way;
 use topo_core::rows::Rows;
+use topo_frozen::Hints;
 use topo_frozen::by_id::place_of_edge;
 use topo_frozen::placed::{PlacedDart, opposite, turned};
 
@@ -25,7 +26,7 @@ fn is_out(rows: &Rows, e: u32, out: usize, at: PlacedDart) -> bool
 }
 
 /// The next dart along the face when the first `out` segments of an edge are out.
-fn next_left(rows: &Rows, e: u32, out: usize, at: PlacedDart) -> PlacedDart
+fn next_left(rows: &Rows, hints: &Hints, e: u32, out: usize, at: PlacedDart) -> PlacedDart
     requires well_formed { IsWellFormed rows.now }
     requires edge { is_some (edge_row rows.now e) ≡ true }
     requires path { out ≤ length (edge_at rows.now e).crossings + 1 }
@@ -36,12 +37,12 @@ fn next_left(rows: &Rows, e: u32, out: usize, at: PlacedDart) -> PlacedDart
     ensures left { is_opened e out (placed_dart rows.now result) ≡ false }
     ensures next { index_of rows.now (placed_dart rows.now result) ≡ face_next (opened_turn rows.now e out) (index_of rows.now (placed_dart rows.now at)) }
 {
-    let mut next = turned(rows, opposite(at));
+    let mut next = turned(rows, hints, opposite(at));
     for _passed in 0..u32::MAX {
         if !is_out(rows, e, out, next) {
             return next;
         }
-        next = turned(rows, next);
+        next = turned(rows, hints, next);
     }
     next
 }
@@ -55,7 +56,7 @@ fn are_same(a: PlacedDart, b: PlacedDart) -> bool
 }
 
 /// Whether a segment of the edge at a place has one face on both sides when those before it are out.
-fn has_one_face(rows: &Rows, e: u32, place: usize, segment: usize) -> bool
+fn has_one_face(rows: &Rows, hints: &Hints, e: u32, place: usize, segment: usize) -> bool
     requires well_formed { IsWellFormed rows.now }
     requires edge { IsEdgeAt rows.now place e }
     requires path { segment ≤ length (edge_at rows.now e).crossings }
@@ -73,7 +74,7 @@ fn has_one_face(rows: &Rows, e: u32, place: usize, segment: usize) -> bool
         if are_same(at, other) {
             return true;
         }
-        at = next_left(rows, e, segment, at);
+        at = next_left(rows, hints, e, segment, at);
         if are_same(at, dart) {
             return false;
         }
@@ -82,16 +83,16 @@ fn has_one_face(rows: &Rows, e: u32, place: usize, segment: usize) -> bool
 }
 
 /// The first segment of an edge with one face on both sides when those before it are out.
-pub(crate) fn first_cut(rows: &Rows, e: u32) -> Option<u32>
+pub(crate) fn first_cut(rows: &Rows, hints: &Hints, e: u32) -> Option<u32>
     requires well_formed { IsWellFormed rows.now }
     requires there { is_some (edge_row rows.now e) ≡ true }
     requires few { length (darts rows.now) < 2 ^ 32 }
     ensures { IsFirstCut rows.now e result }
 {
     let edges = rows.edges.as_slice();
-    let place = place_of_edge(edges, e);
+    let place = place_of_edge(edges, hints, e);
     for segment in 0..edges[place].crossings.as_slice().len() + 1 {
-        if has_one_face(rows, e, place, segment) {
+        if has_one_face(rows, hints, e, place, segment) {
             return Some(segment as u32);
         }
     }

@@ -12,6 +12,7 @@ use std::alloc::Global;
 use std::mem;
 use topo_core::listed::Listed;
 use topo_core::rows::{CrossRow, EdgeRow, Rows};
+use topo_frozen::Hints;
 use topo_frozen::by_id::{place_of_crossing, place_of_edge};
 
 /// Takes an id out of a list.
@@ -66,12 +67,12 @@ fn leave_vertex(alloc: Global, rotations: &mut Vec<Listed<u32>>, v: u32, e: u32)
 }
 
 /// The other edge of a crossing of `e`.
-fn edge_across(crossings: &[CrossRow], e: u32, x: u32) -> u32
+fn edge_across(crossings: &[CrossRow], hints: &Hints, e: u32, x: u32) -> u32
     requires rise { IdsRise (map (λ row. row.id) crossings.now) }
     requires there { is_some (find (λ row. row.id == x) crossings.now) ≡ true }
     ensures { result ≡ other_edge crossings.now e x }
 {
-    let row = &crossings[place_of_crossing(crossings, x)];
+    let row = &crossings[place_of_crossing(crossings, hints, x)];
     if row.crossed == e {
         row.newcomer
     } else {
@@ -80,13 +81,20 @@ fn edge_across(crossings: &[CrossRow], e: u32, x: u32) -> u32
 }
 
 /// Takes a crossing of `e` out of the path of the other edge.
-fn leave_path(alloc: Global, edges: &mut Vec<EdgeRow>, crossings: &[CrossRow], e: u32, x: u32)
+fn leave_path(
+    alloc: Global,
+    edges: &mut Vec<EdgeRow>,
+    crossings: &[CrossRow],
+    hints: &Hints,
+    e: u32,
+    x: u32,
+)
     requires crossings_rise { IdsRise (map (λ row. row.id) crossings.now) }
     requires edges_rise { IdsRise (map (λ row. row.id) edges.old.items) }
     requires crossed { IsCrossed crossings.now e edges.old.items x }
     ensures { edges.new.items ≡ map (uncrossed_row (x ∷ [])) edges.old.items }
 {
-    let place = place_of_edge(edges.as_slice(), edge_across(crossings, e, x));
+    let place = place_of_edge(edges.as_slice(), hints, edge_across(crossings, hints, e, x));
     take_id(alloc, &mut edges[place].crossings, x);
 }
 
@@ -95,6 +103,7 @@ fn leave_paths(
     alloc: Global,
     edges: &mut Vec<EdgeRow>,
     crossings: &[CrossRow],
+    hints: &Hints,
     e: u32,
     path: &[u32],
 )
@@ -104,24 +113,26 @@ fn leave_paths(
     ensures { edges.new.items ≡ map (uncrossed_row path.now) edges.old.items }
 {
     for x in path {
-        leave_path(alloc, edges, crossings, e, *x);
+        leave_path(alloc, edges, crossings, hints, e, *x);
     }
 }
 
 /// Takes out the row of an edge, and its crossings out of the paths of the others.
-fn delete_edge(alloc: Global, rows: &mut Rows, e: u32) -> EdgeRow
+fn delete_edge(alloc: Global, rows: &mut Rows, hints: &mut Hints, e: u32) -> EdgeRow
     requires well_formed { IsWellFormed rows.old }
     requires there { is_some (edge_row rows.old e) ≡ true }
     ensures row { edge_row rows.old e ≡ Some result }
     ensures rows { rows.new ≡ record rows.old { edges = map (uncrossed_row result.crossings) (filter (λ row. not (row.id == e)) rows.old.edges) } }
 {
     let mut edges = mem::replace(&mut rows.edges, Listed::new(alloc)).into_vec();
-    let place = place_of_edge(edges.as_slice(), e);
+    let place = place_of_edge(edges.as_slice(), hints, e);
     let row = edges.remove(place);
+    hints.leave(e);
     leave_paths(
         alloc,
         &mut edges,
         rows.crossings.as_slice(),
+        hints,
         e,
         row.crossings.as_slice(),
     );
@@ -151,12 +162,13 @@ fn delete_crossings(alloc: Global, rows: &mut Rows, e: u32)
 }
 
 /// Takes out an edge and its crossings. The counters stay.
-pub(crate) fn delete_rows(alloc: Global, rows: &mut Rows, e: u32)
+pub(crate) fn delete_rows(alloc: Global, rows: &mut Rows, hints: &mut Hints, e: u32)
     requires well_formed { IsWellFormed rows.old }
     requires there { is_some (edge_row rows.old e) ≡ true }
     ensures { rows.new ≡ without rows.old e }
 {
-    let row = delete_edge(alloc, rows, e);
+    let row = delete_edge(alloc, rows, hints, e);
     leave_ends(alloc, rows, &row);
     delete_crossings(alloc, rows, e);
+    hints.leave_crossings(row.crossings.as_slice());
 }

@@ -16,16 +16,17 @@ use topo_core::rows::{EdgeRow, Rows};
 use topo_frozen::by_id::edge_place;
 use topo_frozen::flat::begins_of;
 use topo_frozen::load::{LoadFault, first_fault};
-use topo_frozen::{Frozen, RowDual};
+use topo_frozen::{Frozen, Hints, RowDual};
 use topo_route::plan::Plan;
 
 /// A connected embedding of a graph of genus zero, within limits. Beside its rows it keeps where the
-/// darts of each edge begin.
+/// darts of each edge begin, and hints where to look first.
 #[derive(Drop)]
 pub struct Picture {
     limits: Limits,
     rows: Rows,
     begins: Vec<u32>,
+    hints: Hints,
 }
 
 impl Model for Picture {
@@ -60,10 +61,12 @@ impl Picture {
     {
         let rows = seed_rows(alloc)?;
         let begins = vec![in alloc; 0, 2]?;
+        let hints = Hints::of(alloc, &rows, begins.as_slice())?;
         Ok(Picture {
             limits,
             rows,
             begins,
+            hints,
         })
     }
 
@@ -80,15 +83,8 @@ impl Picture {
             Ok(Some(fault)) => return Err(fault),
             Err(_) => return Err(LoadFault::Memory),
         }
-        match copy_rows(alloc, rows) {
-            Ok(copy) => match begins_of(alloc, copy.edges.as_slice()) {
-                Ok(begins) => Ok(Picture {
-                    limits,
-                    rows: copy,
-                    begins,
-                }),
-                Err(_) => Err(LoadFault::Memory),
-            },
+        match new_picture(alloc, limits, rows) {
+            Ok(picture) => Ok(picture),
             Err(_) => Err(LoadFault::Memory),
         }
     }
@@ -136,10 +132,10 @@ impl Picture {
 
     /// The dual graph of its rows, read off them as it is asked: soon made, for a search that asks of few
     /// darts.
-    pub fn dual(&self, alloc: Global) -> Result<RowDual<'_>, AllocError>
-        ensures { IfOk result (λ d. d.rows ≡ self.now.rows) }
+    pub fn dual(&self) -> RowDual<'_>
+        ensures { result.rows ≡ self.now.rows }
     {
-        RowDual::new(alloc, &self.rows, self.begins.as_slice())
+        RowDual::new(&self.rows, self.begins.as_slice(), &self.hints)
     }
 
     /// An equal picture: the same rows and limits.
@@ -149,10 +145,12 @@ impl Picture {
     {
         let rows = copy_rows(alloc, &self.rows)?;
         let begins = Vec::from_slice(alloc, self.begins.as_slice())?;
+        let hints = self.hints.copy(alloc)?;
         Ok(Picture {
             limits: self.limits,
             rows,
             begins,
+            hints,
         })
     }
 
@@ -198,7 +196,15 @@ impl Picture {
             None => {
                 let vertex = VertexId::new(self.rows.rotations.as_slice().len() as u32);
                 let edge = EdgeId::new(self.rows.next_edge);
-                match grow_numbered(alloc, &mut self.rows, &mut self.begins, u, position, kind) {
+                match grow_numbered(
+                    alloc,
+                    &mut self.rows,
+                    &mut self.begins,
+                    &mut self.hints,
+                    u,
+                    position,
+                    kind,
+                ) {
                     Ok(()) => Ok((vertex, edge)),
                     Err(_) => Err(Refusal::Memory),
                 }
@@ -236,7 +242,15 @@ impl Picture {
             return Err(Refusal::Full);
         }
         let made = EdgeId::new(self.rows.next_edge);
-        match apply_numbered(alloc, &mut self.rows, &mut self.begins, u, v, kind, route) {
+        match apply_numbered(
+            alloc,
+            &mut self.rows,
+            &mut self.begins,
+            &mut self.hints,
+            (u, v),
+            kind,
+            route,
+        ) {
             Ok(()) => Ok(made),
             Err(_) => Err(Refusal::Memory),
         }
@@ -286,14 +300,15 @@ impl Picture {
         ensures same_limits { self.new.limits ≡ self.old.limits }
         ensures lawful { IsPicture self.new.limits self.new.rows }
     {
-        if !has_edge(&self.rows, edge) {
+        if !has_edge(&self.rows, &self.hints, edge) {
             return Err(Refusal::NoEdge);
         }
-        match first_cut(&self.rows, edge) {
+        match first_cut(&self.rows, &self.hints, edge) {
             Some(segment) => Err(Refusal::Cut(segment)),
             None => {
-                delete_rows(alloc, &mut self.rows, edge);
+                delete_rows(alloc, &mut self.rows, &mut self.hints, edge);
                 begin_again(&mut self.begins, self.rows.edges.as_slice());
+                self.hints.settle(&self.rows, self.begins.as_slice());
                 Ok(())
             }
         }
@@ -305,6 +320,24 @@ ghost use Rattle.topo_core.specs.Lawful.{has_good_paths};
 ghost use Rattle.topo_core.specs.Picture.{edge_row};
 ghost use Rattle.topo_core.specs.Pictures.{seed};
 ghost use Rattle.topo_core.specs.Steps.{grow_refusal, insert_refusal};
+ghost use Rattle.topo_frozen.specs.Shown.{IsPicture};
+
+/// The picture with a copy of these rows, which are lawful.
+fn new_picture(alloc: Global, limits: Limits, rows: &Rows) -> Result<Picture, AllocError>
+    requires { IsPicture limits rows.now }
+    ensures rows { IfOk result (λ p. p.rows ≡ rows.now) }
+    ensures limits { IfOk result (λ p. p.limits ≡ limits) }
+{
+    let copy = copy_rows(alloc, rows)?;
+    let begins = begins_of(alloc, copy.edges.as_slice())?;
+    let hints = Hints::of(alloc, &copy, begins.as_slice())?;
+    Ok(Picture {
+        limits,
+        rows: copy,
+        begins,
+        hints,
+    })
+}
 
 /// The rows of two vertices and the edge between them.
 fn seed_rows(alloc: Global) -> Result<Rows, AllocError>
@@ -340,11 +373,11 @@ pub(crate) fn one_listed(alloc: Global, x: u32) -> Result<Listed<u32>, AllocErro
 }
 
 /// Whether there is an edge with this id.
-fn has_edge(rows: &Rows, e: u32) -> bool
+fn has_edge(rows: &Rows, hints: &Hints, e: u32) -> bool
     requires { has_good_paths rows.now ≡ true }
     ensures { result ≡ is_some (edge_row rows.now e) }
 {
-    edge_place(rows.edges.as_slice(), e).is_some()
+    edge_place(rows.edges.as_slice(), hints, e).is_some()
 }
 
 /// The first reason to refuse a growth.

@@ -40,7 +40,7 @@ fn routed<F: Asks + Drop>(
 {
     let (u, v) = ends;
     assert!(rt; are_ends(picture, u, v));
-    let dual = picture.dual(alloc)?;
+    let dual = picture.dual();
     first_route(alloc, &dual, &Tariff::new(ask), u, v, work)
 }
 
@@ -155,7 +155,7 @@ fn agrees<F: Asks + Drop>(
     let (u, v) = ends;
     assert!(rt; are_ends(picture, u, v));
     let tariff = Tariff::new(ask);
-    let dual = picture.dual(alloc)?;
+    let dual = picture.dual();
     let found = first_route(alloc, &dual, &tariff, u, v, work)?;
     let plan = search(alloc, &dual, &tariff, u, v)?;
     Ok(is_same(&found, &plan))

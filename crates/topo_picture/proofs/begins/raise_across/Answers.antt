@@ -7,8 +7,8 @@ use Rattle.topo_picture.proofs.CrossedRows.{in_at}
 use Rattle.topo_picture.proofs.Raised.{before_most, place_as, raised_more, short_take}
 use Rattle.topo_picture.proofs.begins.raise_across.Goals as goal
 
-pub place_of_edge-requires-clause-there : goal.place_of_edge-requires-clause-there
-place_of_edge-requires-clause-there c =
+pub place_of_edge-place-requires-clause-there : goal.place_of_edge-place-requires-clause-there
+place_of_edge-place-requires-clause-there c =
     let d = c.dart-item.result in
     subst (λ (e : ℕ). is_some (find (λ (row : EdgeRow). row.id == e) c.args.edges.now) ≡ true) (sym c.number.ensures)
     (c.requires.there d (subst (λ (x : Dart). IsIn x c.args.darts.now) (sym c.dart-item.is) (in_at c.args.darts.now c.loop-dart.dart-index d c.loop-dart-test.true)))
@@ -26,7 +26,7 @@ loop-dart-preserved c =
     let d = c.dart-item.result in
     record {
       as_many = c.raise_after.ensures.as_many ∙ c.loop-dart.invariant.as_many;
-      raised = raised_more c.args.edges.now c.args.darts.now d c.loop-dart.dart-index c.place_of_edge.result c.loop-dart-test.true
-          (place_as c.args.edges.now c.number.result c.place_of_edge.result d _ c.place_of_edge.ensures c.number.ensures c.dart-item.is)
+      raised = raised_more c.args.edges.now c.args.darts.now d c.loop-dart.dart-index c.place_of_edge-place.result c.loop-dart-test.true
+          (place_as c.args.edges.now c.number.result c.place_of_edge-place.result d _ c.place_of_edge-place.ensures c.number.ensures c.dart-item.is)
           c.args.begins.now c.loop-dart.begins c.raise_after.new.begins c.loop-dart.invariant.as_many c.loop-dart.invariant.raised c.raise_after.ensures.before c.raise_after.ensures.behind;
     }

@@ -1,6 +1,6 @@
 use Rattle.std.proofs.Common.{◌<◌, ◌≤◌, ◌+◌, length}
 use Rattle.topo_frozen.specs.Ids.{NoneBefore, NoneFrom}
-use Rattle.topo_frozen.proofs.by_id.place_between.Given as goal
+use Rattle.topo_frozen.proofs.by_id.searched_place.Given as goal
 
 -- the row, if there is one, is among those that are left
 abbrev pub invariant-loop-left : goal.invariant-loop-left

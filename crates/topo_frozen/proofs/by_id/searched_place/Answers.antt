@@ -1,12 +1,7 @@
 use Rattle.std.proofs.Common.{◌≡◌, ◌+◌, ◌/◌, ◌∙◌, ap, arith, get_or, sym}
-use Rattle.topo_frozen.specs.Ids.{NoneBefore, NoneFrom}
 use Rattle.topo_frozen.proofs.Finding.{finds_none, named_read, none_below, none_from, placed_read}
-use Rattle.topo_frozen.proofs.by_id.place_between.Goals as goal
-use Rattle.topo_frozen.proofs.by_id.place_between.Goals.{then-id, else-id}
-
-pub returns-then-low-high : goal.returns-then-low-high
-returns-then-low-high g c =
-    finds_none g.T.Identified.id_of c.args.rows.now c.args.id c.requires.rise (λ i x at named. omega (arith, c.if-low-high.true, c.requires.before i x at named, c.requires.behind i x at named))
+use Rattle.topo_frozen.proofs.by_id.searched_place.Goals as goal
+use Rattle.topo_frozen.proofs.by_id.searched_place.Goals.{then-id, else-id}
 
 pub loop-left-preserved : goal.loop-left-preserved
 loop-left-preserved g c =
@@ -19,14 +14,14 @@ loop-left-preserved g c =
       | then-id w ↦ (let is = w.base-is in record {
         some = omega arith;
         within = omega arith;
-        before = λ i x at named. omega (arith, none_below g.T.Identified.id_of c.args.rows.now c.args.id c.requires.rise middle c.index-rows-middle.result (omega arith) (omega (arith, c.id.ensures, w.if-id.true)) i x at named);
+        before = λ i x at named. omega (arith, none_below g.T.Identified.id_of c.args.rows.now c.args.id c.requires middle c.index-rows-middle.result (omega arith) (omega (arith, c.id.ensures, w.if-id.true)) i x at named);
         behind = λ i x at named. omega (arith, c.loop-left.invariant.behind i x at named);
       })
       | else-id w ↦ (let is = w.base-is in record {
         some = omega arith;
         within = omega arith;
         before = λ i x at named. omega (arith, c.loop-left.invariant.before i x at named);
-        behind = λ i x at named. omega (arith, none_from g.T.Identified.id_of c.args.rows.now c.args.id c.requires.rise middle c.index-rows-middle.result (omega arith) (omega (arith, c.id.ensures, w.if-id.false)) i x at named);
+        behind = λ i x at named. omega (arith, none_from g.T.Identified.id_of c.args.rows.now c.args.id c.requires middle c.index-rows-middle.result (omega arith) (omega (arith, c.id.ensures, w.if-id.false)) i x at named);
       })
     ]
 
@@ -34,12 +29,12 @@ pub returns-then-id-2 : goal.returns-then-id-2
 returns-then-id-2 g c =
     let inside = c.loop-left.invariant.within in
     let some = c.loop-left.invariant.some in
-    placed_read g.T.Identified.id_of c.args.rows.now c.args.id c.requires.rise c.loop-left.base c.index-rows-base.result (omega arith)
+    placed_read g.T.Identified.id_of c.args.rows.now c.args.id c.requires c.loop-left.base c.index-rows-base.result (omega arith)
     (ap g.T.Identified.id_of (sym c.index-rows-base.is) ∙ sym c.id-2.ensures ∙ c.if-id-2.true)
 
 pub returns-else-id-2 : goal.returns-else-id-2
 returns-else-id-2 g c =
-    finds_none g.T.Identified.id_of c.args.rows.now c.args.id c.requires.rise (λ i x at named.
+    finds_none g.T.Identified.id_of c.args.rows.now c.args.id c.requires (λ i x at named.
     let same : i ≡ c.loop-left.base = omega (arith, c.loop-left-test.false, c.loop-left.invariant.some, c.loop-left.invariant.before i x at named, c.loop-left.invariant.behind i x at named) in
     c.if-id-2.false (c.id-2.ensures ∙ ap g.T.Identified.id_of c.index-rows-base.is ∙ ap (λ k. g.T.Identified.id_of (get_or c.args.rows.now k c.index-rows-base.result)) (sym same)
-    ∙ named_read g.T.Identified.id_of c.args.rows.now c.args.id c.requires.rise i x c.index-rows-base.result at named))
+    ∙ named_read g.T.Identified.id_of c.args.rows.now c.args.id c.requires i x c.index-rows-base.result at named))

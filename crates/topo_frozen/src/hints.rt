@@ -1,0 +1,205 @@
+//! Where things are looked for first.
+
+use crate::by_id::Identified;
+use std::alloc::{AllocError, Global};
+use topo_core::rows::Rows;
+
+/// No places are noted for ids when more than this many ids were given for each row that is there.
+const SPARSE: usize = 16;
+
+/// Places that are tried before anything is searched for: for the ids of edges and of crossings the
+/// places of their rows, and for segments the places of their edges. They are speed alone. A place is
+/// taken only once what stands there is seen to be what was looked for, so no answer depends on them,
+/// and nothing is claimed of them.
+#[derive(Drop)]
+pub struct Hints {
+    edges: Vec<u32>,
+    crossings: Vec<u32>,
+    segments: Vec<u32>,
+}
+
+impl Hints {
+    /// None, with which everything is searched for.
+    pub fn none(alloc: Global) -> Self {
+        Hints {
+            edges: Vec::new(alloc),
+            crossings: Vec::new(alloc),
+            segments: Vec::new(alloc),
+        }
+    }
+
+    /// The places in these rows, the darts of whose edges begin as said.
+    pub fn of(alloc: Global, rows: &Rows, begins: &[u32]) -> Result<Self, AllocError> {
+        let edges = places_by_id(alloc, rows.edges.as_slice(), rows.next_edge)?;
+        let crossings = places_by_id(alloc, rows.crossings.as_slice(), rows.next_crossing)?;
+        let mut segments = vec![in alloc; 0; (dart_total(begins) / 2) as usize]?;
+        note_segments(&mut segments, begins);
+        Ok(Hints {
+            edges,
+            crossings,
+            segments,
+        })
+    }
+
+    /// The same.
+    pub fn copy(&self, alloc: Global) -> Result<Self, AllocError> {
+        let edges = Vec::from_slice(alloc, self.edges.as_slice())?;
+        let crossings = Vec::from_slice(alloc, self.crossings.as_slice())?;
+        let segments = Vec::from_slice(alloc, self.segments.as_slice())?;
+        Ok(Hints {
+            edges,
+            crossings,
+            segments,
+        })
+    }
+
+    /// Where the edge with an id is expected.
+    pub(crate) fn edge(&self, id: u32) -> usize {
+        expected(self.edges.as_slice(), id)
+    }
+
+    /// Where the crossing with an id is expected.
+    pub(crate) fn crossing(&self, id: u32) -> usize {
+        expected(self.crossings.as_slice(), id)
+    }
+
+    /// Where the edge of a segment is expected.
+    pub(crate) fn edge_under(&self, segment: u32) -> usize {
+        expected(self.segments.as_slice(), segment)
+    }
+
+    /// Room for one edge more that makes so many crossings.
+    pub fn reserve(&mut self, crossings: usize) -> Result<(), AllocError> {
+        self.edges.reserve(1)?;
+        self.crossings.reserve(crossings)?;
+        self.segments
+            .reserve(crossings.saturating_mul(2).saturating_add(1))?;
+        Ok(())
+    }
+
+    /// Follows a crossing put on the edge at a place, whose first segment is this one.
+    pub fn cross(&mut self, place: usize, segment: u32) {
+        let at = segment as usize;
+        if at <= self.segments.len() {
+            let _short = self.segments.insert(at, noted(place)).is_err();
+        }
+    }
+
+    /// Follows an edge put at the end, with so many crossings of its own, which are the last.
+    pub fn join(&mut self, rows: &Rows, crossings: usize) {
+        let edges = rows.edges.as_slice();
+        let place = edges.len().saturating_sub(1);
+        note_last(&mut self.edges, edges, place);
+        let all = rows.crossings.as_slice();
+        for at in all.len().saturating_sub(crossings)..all.len() {
+            note_last(&mut self.crossings, all, at);
+        }
+        for _ in 0..crossings.saturating_add(1) {
+            let _short = self.segments.push(noted(place)).is_err();
+        }
+    }
+
+    /// Follows an edge that goes.
+    pub fn leave(&mut self, edge: u32) {
+        lower_after(&mut self.edges, edge);
+    }
+
+    /// Follows crossings that go.
+    pub fn leave_crossings(&mut self, crossings: &[u32]) {
+        for x in crossings {
+            lower_after(&mut self.crossings, *x);
+        }
+    }
+
+    /// Notes the segments anew, once an edge is gone with its crossings, and forgets ids where few of
+    /// them are left.
+    pub fn settle(&mut self, rows: &Rows, begins: &[u32]) {
+        forget_sparse(&mut self.edges, rows.edges.as_slice().len());
+        forget_sparse(&mut self.crossings, rows.crossings.as_slice().len());
+        self.segments.truncate((dart_total(begins) / 2) as usize);
+        note_segments(&mut self.segments, begins);
+    }
+}
+
+/// Where something with a number is expected: at the place that is noted, and else where nothing
+/// smaller is gone.
+fn expected(places: &[u32], number: u32) -> usize {
+    match places.get(number as usize) {
+        Some(place) => *place as usize,
+        None => number as usize,
+    }
+}
+
+/// A place as it is noted. No rows are so many that one does not fit.
+fn noted(place: usize) -> u32 {
+    if place < u32::MAX as usize {
+        place as u32
+    } else {
+        u32::MAX
+    }
+}
+
+/// The number of all darts.
+fn dart_total(begins: &[u32]) -> u32 {
+    match begins.last() {
+        Some(last) => *last,
+        None => 0,
+    }
+}
+
+/// Notes the place of each row at its id, where so many ids were given.
+fn places_by_id<T: Identified>(
+    alloc: Global,
+    rows: &[T],
+    given: u32,
+) -> Result<Vec<u32>, AllocError> {
+    if given as usize / SPARSE > rows.len() {
+        return Ok(Vec::new(alloc));
+    }
+    let mut places = vec![in alloc; 0; given as usize]?;
+    for place in 0..rows.len() {
+        let id = rows[place].id() as usize;
+        if id < places.len() {
+            places[id] = noted(place);
+        }
+    }
+    Ok(places)
+}
+
+/// Notes the place of a row with the next id.
+fn note_last<T: Identified>(places: &mut Vec<u32>, rows: &[T], place: usize) {
+    if place < rows.len() && rows[place].id() as usize == places.len() {
+        let _short = places.push(noted(place)).is_err();
+    }
+}
+
+/// Moves the rows behind an id one place down.
+fn lower_after(places: &mut [u32], id: u32) {
+    for i in (id as usize).saturating_add(1)..places.len() {
+        places[i] = places[i].wrapping_sub(1);
+    }
+}
+
+/// Lets go of the places of ids where most of the ids are gone.
+fn forget_sparse(places: &mut Vec<u32>, rows: usize) {
+    if places.len() / SPARSE > rows {
+        places.clear();
+    }
+}
+
+/// Notes for each segment the place of its edge: first 1 where an edge begins behind another, and then
+/// how many of these lie so far.
+fn note_segments(segments: &mut [u32], begins: &[u32]) {
+    segments.fill(0);
+    for place in 1..begins.len() {
+        let first = (begins[place] / 2) as usize;
+        if first < segments.len() {
+            segments[first] = 1;
+        }
+    }
+    let mut place: u32 = 0;
+    for segment in 0..segments.len() {
+        place = place.wrapping_add(segments[segment]);
+        segments[segment] = place;
+    }
+}
