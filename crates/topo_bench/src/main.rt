@@ -31,8 +31,9 @@ Or NAME is search; each SIZE is the number of vertices on each side of a square 
 A line for each size: nanoseconds a search between random ends, and a dart.
 Or NAME is read_script, read_report or report; each SIZE is a number of calls in the text.
 A line for each size: megabytes a second.
-Or NAME is run; each SIZE is a number of commands, at most about 40000. Two lines for each size:
-milliseconds to run a script of that many mixed commands, and to replay its report.";
+Or NAME is run or crowd; each SIZE is a number of commands, at most about 40000. Two lines for each
+size: milliseconds to run a script of that many mixed commands, and to replay its report. The ends of
+an edge stand near each other among all vertices so far, and in a crowd among the first 1600 alone.";
 
 /// The size that a word stands for, if it is one.
 fn size_of(word: &str) -> Option<u32>
@@ -71,8 +72,8 @@ fn time_at<R: Clock + Print + AllocGlobal>(rt: &R, name: &str, word: &str) -> io
     if name == "book" {
         return books::time(rt, size);
     }
-    if name == "run" {
-        return runs::time(rt, size);
+    if name == "run" || name == "crowd" {
+        return runs::time(rt, size, name == "crowd");
     }
     if name == "search" {
         return searches::time(rt, size);

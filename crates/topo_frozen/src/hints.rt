@@ -19,15 +19,6 @@ pub struct Hints {
 }
 
 impl Hints {
-    /// None, with which everything is searched for.
-    pub fn none(alloc: Global) -> Self {
-        Hints {
-            edges: Vec::new(alloc),
-            crossings: Vec::new(alloc),
-            segments: Vec::new(alloc),
-        }
-    }
-
     /// The places in these rows, the darts of whose edges begin as said.
     pub fn of(alloc: Global, rows: &Rows, begins: &[u32]) -> Result<Self, AllocError> {
         let edges = places_by_id(alloc, rows.edges.as_slice(), rows.next_edge)?;

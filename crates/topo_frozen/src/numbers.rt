@@ -14,6 +14,7 @@ use crate::by_id::edge_place;
 use crate::flat::end_number;
 use crate::hints::Hints;
 use crate::placed::{PlacedDart, opposite, turned};
+use std::cell::Cell;
 use topo_core::darts::{Dart, Point, Way};
 use topo_core::ids::{CrossId, EdgeId, VertexId};
 use topo_core::rows::{EdgeRow, Facts, Rows};
@@ -55,6 +56,19 @@ fn searched_under(rows: &Rows, begins: &[u32], number: u32) -> usize
     low
 }
 
+/// Whether a dart lies on the edge at a place.
+pub(crate) fn is_under(rows: &Rows, begins: &[u32], place: usize, number: u32) -> bool
+    requires begins { begins.now ≡ begins_from 0 rows.now.edges }
+    requires within { number < length (darts rows.now) }
+    ensures { result ≡ true → place ≡ slice_index (places_from 0 rows.now.edges) (number / 2) }
+{
+    if place < rows.edges.as_slice().len() {
+        begins[place] <= number && number < begins[place + 1]
+    } else {
+        false
+    }
+}
+
 /// The place of the edge of a dart among the edges: where it is expected, if the dart lies there.
 pub(crate) fn place_under(rows: &Rows, begins: &[u32], hints: &Hints, number: u32) -> usize
     requires begins { begins.now ≡ begins_from 0 rows.now.edges }
@@ -62,10 +76,7 @@ pub(crate) fn place_under(rows: &Rows, begins: &[u32], hints: &Hints, number: u3
     ensures { result ≡ slice_index (places_from 0 rows.now.edges) (number / 2) }
 {
     let place = hints.edge_under(number / 2);
-    if place < rows.edges.as_slice().len()
-        && begins[place] <= number
-        && number < begins[place + 1]
-    {
+    if is_under(rows, begins, place, number) {
         return place;
     }
     searched_under(rows, begins, number)
@@ -123,11 +134,13 @@ fn placed_numbered(rows: &Rows, begins: &[u32], place: usize, number: u32) -> Pl
     }
 }
 
-/// The number of the next dart along the face on the left, turned on the rows themselves.
+/// The number of the next dart along the face on the left, turned on the rows themselves. The place of
+/// its edge is noted.
 pub(crate) fn next_numbered(
     rows: &Rows,
     begins: &[u32],
     hints: &Hints,
+    noted: &Cell<usize>,
     place: usize,
     number: u32,
 ) -> u32
@@ -140,6 +153,7 @@ pub(crate) fn next_numbered(
 {
     let here = placed_numbered(rows, begins, place, number);
     let next = turned(rows, hints, opposite(here));
+    noted.set(next.place);
     let first = begins[next.place] + 2 * next.segment as u32;
     match next.way {
         Way::Forward => first,

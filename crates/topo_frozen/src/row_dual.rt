@@ -5,16 +5,18 @@ ghost use Rattle.topo_core.specs.Lawful.{Lawful};
 use crate::flat::dart_count;
 use crate::hints::Hints;
 use crate::numbers::{
-    corner_number, dart_numbered, facts_numbered, next_numbered, number_of, place_under,
+    corner_number, dart_numbered, facts_numbered, is_under, next_numbered, number_of, place_under,
     tail_numbered, twin_of,
 };
+use std::cell::Cell;
 use std::marker::Model;
 use topo_core::darts::{Dart, Point};
 use topo_core::rows::{Facts, Rows};
 use topo_route::dual::Dual;
 
 /// Lawful rows with their darts as numbers, and no more beside them than where the darts of each edge
-/// begin, and hints. Contracts see the rows. The darts are numbered as those of `Frozen`, and no
+/// begin, hints, and the place of the edge that was looked at last, where a walk along a face goes on.
+/// Contracts see the rows. The darts are numbered as those of `Frozen`, and no
 /// question takes memory; but the next dart is looked for on the rows, in the list of the vertex where
 /// it starts or on the path of the edge that crosses there. So it takes no time to make, for a search
 /// that asks of few darts.
@@ -23,6 +25,7 @@ pub struct RowDual<'a> {
     rows: &'a Rows,
     begins: &'a [u32],
     hints: &'a Hints,
+    recent: Cell<usize>,
     ghost lawful: { ∥ Lawful rows.now ∥₁ },
 }
 
@@ -56,6 +59,7 @@ impl<'a> RowDual<'a> {
             rows,
             begins,
             hints,
+            recent: Cell::new(0),
         }
     }
 
@@ -64,7 +68,13 @@ impl<'a> RowDual<'a> {
         requires { dart < length (darts self.now.rows) }
         ensures { result ≡ slice_index (places_from 0 self.now.rows.edges) (dart / 2) }
     {
-        place_under(self.rows, self.begins, self.hints, dart)
+        let recent = self.recent.get();
+        if is_under(self.rows, self.begins, recent, dart) {
+            return recent;
+        }
+        let place = place_under(self.rows, self.begins, self.hints, dart);
+        self.recent.set(place);
+        place
     }
 }
 
@@ -78,7 +88,14 @@ impl Dual for RowDual<'_> {
     }
 
     fn next(&self, dart: u32) -> u32 {
-        next_numbered(self.rows, self.begins, self.hints, self.place(dart), dart)
+        next_numbered(
+            self.rows,
+            self.begins,
+            self.hints,
+            &self.recent,
+            self.place(dart),
+            dart,
+        )
     }
 
     fn twin(&self, dart: u32) -> u32 {

@@ -127,7 +127,9 @@ impl Picture {
         ensures { IfOk result (λ f. f.rows ≡ self.now.rows) }
     {
         let rows = copy_rows(alloc, &self.rows)?;
-        Frozen::new(alloc, rows)
+        let begins = Vec::from_slice(alloc, self.begins.as_slice())?;
+        let hints = self.hints.copy(alloc)?;
+        Frozen::new(alloc, rows, begins, hints)
     }
 
     /// The dual graph of its rows, read off them as it is asked: soon made, for a search that asks of few
