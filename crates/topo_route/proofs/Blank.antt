@@ -1,54 +1,78 @@
 -- Sheets that are blank, and numbers written on them.
-use Rattle.std.proofs.Common.{◌≡◌, ◌∙◌, ◌<◌, ◌≤◌, ◌+◌, ◌-◌, ◌∷◌, ◌++◌, [], ℕ, suc, zero, Bool, List, ap, arith, eq-eqb, ne_eqb, inl, inr, length, refl, replicate, take}
+use Rattle.std.proofs.Common.{◌≡◌, ◌∙◌, ◌<◌, ◌≤◌, ◌+◌, ◌∷◌, ◌++◌, [], ℕ, suc, zero, Bool, List, ap, arith, eq-eqb, ne_eqb, inl, inr, length, refl, replicate, take}
 use Rattle.std.proofs.Math.ListN.{set}
 use Rattle.std.proofs.lemmas.Bool.{cases_eq}
-use Rattle.std.proofs.lemmas.List.{map-set}
-use Rattle.std.specs.Prelude.{cond, map, slice_index, slice_index_or}
+use Rattle.std.specs.Prelude.{cond, slice_index}
 use Rattle.topo_core.specs.Routes.{unreached}
-use Rattle.topo_route.specs.declared.sheet.Note.{Note}
-use Rattle.topo_route.specs.Sheets.{AreWritten, no_note, read_in}
+use Rattle.topo_route.specs.Sheets.{AreAtMost, read_all, read_in}
 
--- a note of the round says its number
-pub reads_itself : (round number : ℕ) → read_in round (record { number = number; round = round }) ≡ number
-reads_itself round number = ap (λ (b : Bool). cond {A = ℕ} b number unreached) (eq-eqb round round refl)
+-- a number of the round says itself
+pub reads_itself : (now round number : ℕ) → round ≡ now → read_in now round number ≡ number
+reads_itself now round number e = ap (λ (b : Bool). cond {A = ℕ} b number unreached) (eq-eqb round now e)
 
--- one of an earlier round says nothing
-pub reads_blank : (round : ℕ) (note : Note) → note.round < round → read_in round note ≡ unreached
-reads_blank round note less = ap (λ (b : Bool). cond {A = ℕ} b note.number unreached) (ne_eqb note.round round (λ e. absurd (omega arith)))
+-- one of another round says nothing
+pub reads_blank : (now round number : ℕ) → (round ≡ now → ⊥) → read_in now round number ≡ unreached
+reads_blank now round number ne = ap (λ (b : Bool). cond {A = ℕ} b number unreached) (ne_eqb round now ne)
 
-pub written_number : (round : ℕ) (notes : List Note) (k number : ℕ) → map (read_in round) (set notes k (record { number = number; round = round })) ≡ set (map (read_in round) notes) k number
-written_number round notes k number = map-set (read_in round) notes k _ ∙ ap (set (map (read_in round) notes) k) (reads_itself round number)
+pub all_long : (now : ℕ) (rounds numbers : List ℕ) → length (read_all now rounds numbers) ≡ length rounds
+all_long now [] numbers = refl
+all_long now (round ∷ rounds) [] = ap suc (all_long now rounds [])
+all_long now (round ∷ rounds) (number ∷ numbers) = ap suc (all_long now rounds numbers)
 
--- notes of earlier rounds are blank
-pub all_blank : (round : ℕ) (notes : List Note) → AreWritten round notes → map (read_in (round + 1)) notes ≡ replicate (length notes) unreached
-all_blank round [] early = refl
-all_blank round (note ∷ notes) early =
-    let first = reads_blank (round + 1) note (omega (arith, (early 0).0)) in
-    ap (λ x. x ∷ map (read_in (round + 1)) notes) first ∙ ap (λ xs. unreached ∷ xs) (all_blank round notes (λ k. early (suc k)))
+pub read_at : (now : ℕ) (rounds numbers : List ℕ) (k : ℕ) → k < length rounds → length rounds ≤ length numbers → slice_index (read_all now rounds numbers) k ≡ read_in now (slice_index rounds k) (slice_index numbers k)
+read_at now [] numbers k h many = absurd (omega arith)
+read_at now (round ∷ rounds) [] k h many = absurd (omega arith)
+read_at now (round ∷ rounds) (number ∷ numbers) zero h many = refl
+read_at now (round ∷ rounds) (number ∷ numbers) (suc k) h many = read_at now rounds numbers k (omega arith) (omega arith)
 
--- a sheet that is cut or filled up has no note of a later round
-pub none_written : (round : ℕ) → AreWritten round []
-none_written round k = (omega arith, omega arith)
+pub written_number : (now : ℕ) (rounds numbers : List ℕ) (k number : ℕ) → length rounds ≤ length numbers → read_all now (set rounds k now) (set numbers k number) ≡ set (read_all now rounds numbers) k number
+written_number now [] [] k number many = refl
+written_number now [] (n ∷ numbers) zero number many = refl
+written_number now [] (n ∷ numbers) (suc k) number many = refl
+written_number now (round ∷ rounds) [] k number many = absurd (omega arith)
+written_number now (round ∷ rounds) (n ∷ numbers) zero number many = ap (λ x. x ∷ read_all now rounds numbers) (reads_itself now now number refl)
+written_number now (round ∷ rounds) (n ∷ numbers) (suc k) number many = ap (λ xs. read_in now round n ∷ xs) (written_number now rounds numbers k number (omega arith))
 
-filled : (round m : ℕ) → AreWritten round (replicate m no_note)
-filled round zero k = (omega arith, omega arith)
-filled round (suc m) zero = (omega arith, omega arith)
-filled round (suc m) (suc k) = filled round m k
+-- numbers of earlier rounds are blank
+pub all_blank : (now : ℕ) (rounds numbers : List ℕ) → AreAtMost now rounds → read_all (now + 1) rounds numbers ≡ replicate (length rounds) unreached
+all_blank now [] numbers early = refl
+all_blank now (round ∷ rounds) [] early = ap (λ xs. unreached ∷ xs) (all_blank now rounds [] (λ k. early (suc k)))
+all_blank now (round ∷ rounds) (number ∷ numbers) early =
+    let first = reads_blank (now + 1) round number (λ e. absurd (omega (arith, early 0))) in
+    ap (λ x. x ∷ read_all (now + 1) rounds numbers) first ∙ ap (λ xs. unreached ∷ xs) (all_blank now rounds numbers (λ k. early (suc k)))
 
-pub resized : (round n m : ℕ) (notes : List Note) → AreWritten round notes → AreWritten round (take n notes ++ replicate m no_note)
-resized round zero m notes early k = filled round m k
-resized round (suc n) m [] early k = filled round m k
-resized round (suc n) m (note ∷ notes) early zero = early 0
-resized round (suc n) m (note ∷ notes) early (suc k) = resized round n m notes (λ j. early (suc j)) k
+-- a list that is cut, filled up with zeros or written on keeps its bound
+pub none_above : (most : ℕ) → AreAtMost most []
+none_above most k = omega arith
+
+filled : (most m : ℕ) → AreAtMost most (replicate m 0)
+filled most zero k = omega arith
+filled most (suc m) zero = omega arith
+filled most (suc m) (suc k) = filled most m k
+
+pub resized : (most n m : ℕ) (xs : List ℕ) → AreAtMost most xs → AreAtMost most (take n xs ++ replicate m 0)
+resized most zero m xs small k = filled most m k
+resized most (suc n) m [] small k = filled most m k
+resized most (suc n) m (x ∷ xs) small zero = small 0
+resized most (suc n) m (x ∷ xs) small (suc k) = resized most n m xs (λ j. small (suc j)) k
+
+pub rewritten : (most : ℕ) (xs : List ℕ) (place x : ℕ) → AreAtMost most xs → x ≤ most → AreAtMost most (set xs place x)
+rewritten most [] place x small less k = none_above most k
+rewritten most (y ∷ xs) zero x small less zero = less
+rewritten most (y ∷ xs) zero x small less (suc k) = small (suc k)
+rewritten most (y ∷ xs) (suc place) x small less zero = small 0
+rewritten most (y ∷ xs) (suc place) x small less (suc k) = rewritten most xs place x (λ j. small (suc j)) less k
 
 -- what is read is no more than the greatest number
-pub reads_within : (round : ℕ) (note : Note) → note.number ≤ unreached → read_in round note ≤ unreached
-reads_within round note small = elim (cases_eq note.round round) [
-  | inl e ↦ let is : read_in round note ≡ note.number = ap (λ (b : Bool). cond {A = ℕ} b note.number unreached) (eq-eqb note.round round e) in omega arith
-  | inr ne ↦ let is : read_in round note ≡ unreached = ap (λ (b : Bool). cond {A = ℕ} b note.number unreached) (ne_eqb note.round round ne) in omega arith
+reads_within : (now round number : ℕ) → number ≤ unreached → read_in now round number ≤ unreached
+reads_within now round number small = elim (cases_eq round now) [
+  | inl e ↦ let is = reads_itself now round number e in omega arith
+  | inr ne ↦ let is = reads_blank now round number ne in omega arith
 ]
 
-pub all_within : (round : ℕ) (notes : List Note) → AreWritten round notes → (k : ℕ) → slice_index (map (read_in round) notes) k ≤ unreached
-all_within round [] early k = omega arith
-all_within round (note ∷ notes) early zero = reads_within round note (early 0).1
-all_within round (note ∷ notes) early (suc k) = all_within round notes (λ j. early (suc j)) k
+pub all_within : (now : ℕ) (rounds numbers : List ℕ) → AreAtMost unreached numbers → AreAtMost unreached (read_all now rounds numbers)
+all_within now [] numbers small k = none_above unreached k
+all_within now (round ∷ rounds) [] small zero = omega arith
+all_within now (round ∷ rounds) [] small (suc k) = all_within now rounds [] small k
+all_within now (round ∷ rounds) (number ∷ numbers) small zero = reads_within now round number (small 0)
+all_within now (round ∷ rounds) (number ∷ numbers) small (suc k) = all_within now rounds numbers (λ j. small (suc j)) k

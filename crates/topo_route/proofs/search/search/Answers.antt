@@ -1,8 +1,7 @@
-use Rattle.std.proofs.Common.{◌∙◌, refl, subst, sym}
+use Rattle.std.proofs.Common.{◌∙◌, refl, subst}
 use Rattle.topo_core.specs.Routes.{HasNoRoute}
 use Rattle.std.specs.Prelude.{MatchOption}
-use Rattle.topo_route.specs.Descents.{AreHeightsFor, IsFirstRoute}
-use Rattle.topo_route.specs.Plans.{AreHeights}
+use Rattle.topo_route.specs.Descents.{IsFirstRoute}
 use Rattle.topo_price.specs.Prices.{prices_of}
 use Rattle.topo_route.proofs.Descending.{has_darts, is_plan}
 use Rattle.topo_route.proofs.Known.{for_all}

@@ -1,6 +1,5 @@
-use Rattle.std.proofs.Common.{◌≡◌, map, take}
-use Rattle.topo_route.specs.Sheets.{read_in}
+use Rattle.std.proofs.Common.{◌≡◌, take}
 use Rattle.topo_route.proofs.sheet.Sheet.numbers.Given as goal
 
-abbrev pub invariant-loop-note : goal.invariant-loop-note
-invariant-loop-note l = l.numbers.items ≡ take l.note-index l.self
+abbrev pub invariant-loop-place : goal.invariant-loop-place
+invariant-loop-place l = l.numbers.items ≡ take l.place l.self
