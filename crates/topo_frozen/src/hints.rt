@@ -7,6 +7,9 @@ use topo_core::rows::Rows;
 /// No places are noted for ids when more than this many ids were given for each row that is there.
 const SPARSE: usize = 16;
 
+/// So many crossings are followed one by one; with more of them a table is written anew.
+const FEW: usize = 16;
+
 /// Places that are tried before anything is searched for: for the ids of edges and of crossings the
 /// places of their rows, and for segments the places of their edges. They are speed alone. A place is
 /// taken only once what stands there is seen to be what was looked for, so no answer depends on them,
@@ -68,16 +71,17 @@ impl Hints {
         Ok(())
     }
 
-    /// Follows a crossing put on the edge at a place, whose first segment is this one.
-    pub fn cross(&mut self, place: usize, segment: u32) {
+    /// Follows one of so many crossings, put on the edge at a place, whose first segment is this one.
+    pub fn cross(&mut self, crossings: usize, place: usize, segment: u32) {
         let at = segment as usize;
-        if at <= self.segments.len() {
+        if crossings <= FEW && at <= self.segments.len() {
             let _short = self.segments.insert(at, noted(place)).is_err();
         }
     }
 
-    /// Follows an edge put at the end, with so many crossings of its own, which are the last.
-    pub fn join(&mut self, rows: &Rows, crossings: usize) {
+    /// Follows an edge put at the end, with so many crossings of its own, which are the last, when each of
+    /// them has been followed.
+    pub fn join(&mut self, rows: &Rows, begins: &[u32], crossings: usize) {
         let edges = rows.edges.as_slice();
         let place = edges.len().saturating_sub(1);
         note_last(&mut self.edges, edges, place);
@@ -85,8 +89,11 @@ impl Hints {
         for at in all.len().saturating_sub(crossings)..all.len() {
             note_last(&mut self.crossings, all, at);
         }
-        for _ in 0..crossings.saturating_add(1) {
-            let _short = self.segments.push(noted(place)).is_err();
+        let last = if crossings <= FEW { place } else { 0 };
+        let segments = (dart_total(begins) / 2) as usize;
+        let _short = self.segments.resize(segments, noted(last)).is_err();
+        if crossings > FEW {
+            note_segments(&mut self.segments, begins);
         }
     }
 
@@ -95,8 +102,12 @@ impl Hints {
         lower_after(&mut self.edges, edge);
     }
 
-    /// Follows crossings that go.
-    pub fn leave_crossings(&mut self, crossings: &[u32]) {
+    /// Follows crossings that are gone.
+    pub fn leave_crossings(&mut self, rows: &Rows, crossings: &[u32]) {
+        if crossings.len() > FEW {
+            note_places(&mut self.crossings, rows.crossings.as_slice());
+            return;
+        }
         for x in crossings {
             lower_after(&mut self.crossings, *x);
         }
@@ -138,7 +149,7 @@ fn dart_total(begins: &[u32]) -> u32 {
     }
 }
 
-/// Notes the place of each row at its id, where so many ids were given.
+/// The places of rows by their ids, of which so many were given.
 fn places_by_id<T: Identified>(
     alloc: Global,
     rows: &[T],
@@ -148,13 +159,18 @@ fn places_by_id<T: Identified>(
         return Ok(Vec::new(alloc));
     }
     let mut places = vec![in alloc; 0; given as usize]?;
+    note_places(&mut places, rows);
+    Ok(places)
+}
+
+/// Notes the place of each row at its id, as far as there is room.
+fn note_places<T: Identified>(places: &mut [u32], rows: &[T]) {
     for place in 0..rows.len() {
         let id = rows[place].id() as usize;
         if id < places.len() {
             places[id] = noted(place);
         }
     }
-    Ok(places)
 }
 
 /// Notes the place of a row with the next id.

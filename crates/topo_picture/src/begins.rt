@@ -47,7 +47,7 @@ fn raise_across(begins: &mut [u32], hints: &mut Hints, edges: &[EdgeRow], darts:
 {
     for dart in darts {
         let place = place_of_edge(edges, hints, dart.edge.number());
-        hints.cross(place, begins[place] / 2);
+        hints.cross(darts.len(), place, begins[place] / 2);
         raise_after(begins, place);
     }
 }
@@ -103,7 +103,7 @@ pub(crate) fn grow_numbered(
     hints.reserve(0)?;
     grow_rows(alloc, rows, u, position, kind)?;
     begin_after(begins, 1);
-    hints.join(rows, 0);
+    hints.join(rows, begins, 0);
     Ok(())
 }
 
@@ -135,6 +135,6 @@ pub(crate) fn apply_numbered(
     let edges = rows.edges.as_slice();
     raise_across(begins, hints, &edges[..edges.len() - 1], darts);
     begin_after(begins, darts.len() as u32 + 1);
-    hints.join(rows, darts.len());
+    hints.join(rows, begins, darts.len());
     Ok(())
 }

@@ -170,5 +170,5 @@ pub(crate) fn delete_rows(alloc: Global, rows: &mut Rows, hints: &mut Hints, e: 
     let row = delete_edge(alloc, rows, hints, e);
     leave_ends(alloc, rows, &row);
     delete_crossings(alloc, rows, e);
-    hints.leave_crossings(row.crossings.as_slice());
+    hints.leave_crossings(rows, row.crossings.as_slice());
 }
