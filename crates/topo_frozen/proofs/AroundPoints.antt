@@ -30,8 +30,7 @@ use Rattle.topo_core.proofs.SystemDarts.{crossing_there, edge_at_row, eqb_self, 
 use Rattle.topo_core.proofs.Turning.{distinct_tail, head_not_later, IsDistinct, next_around}
 use Rattle.topo_core.proofs.WithoutRows.{has_id_in, in_has_id}
 use Rattle.topo_frozen.specs.Ids.{IsPlaceOf}
-use Rattle.topo_frozen.specs.Placed.{CrossesAt, entry_after, IsPlaced, passing, placed_dart, way_after}
-use Rattle.topo_frozen.specs.declared.placed.PlacedDart.{PlacedDart}
+use Rattle.topo_frozen.specs.Placed.{CrossesAt, entry_after, IsPlaced, passing, placed_dart, way_after, PlacedDart}
 use Rattle.topo_frozen.proofs.Begins.{AtPlace}
 use Rattle.topo_frozen.proofs.Linking.{in_has}
 use Rattle.topo_frozen.proofs.Lookups.{item_at, row_found}
@@ -212,6 +211,29 @@ module _ (rows : Rows) (good : IsWellFormed rows) where
 
     pub on_newcomer : has_id (edge_at rows c.newcomer).crossings c.id ≡ true
     on_newcomer = on_edge c.newcomer newcomer_known (or_right (eqb c.newcomer c.crossed) (eqb c.newcomer c.newcomer) (eqb_self c.newcomer))
+
+  -- how a dart of one of its edges turns at a crossing: onto the other edge
+  pub record TurnsAcross (e x : ℕ) (w : Way) (c : CrossRow) (crossed : Bool) : Type 0 where
+    pub known : is_some (edge_row rows (cond crossed c.newcomer c.crossed)) ≡ true
+    pub on : has_id (edge_at rows (cond crossed c.newcomer c.crossed)).crossings x ≡ true
+    pub turn : passing rows (cond crossed c.newcomer c.crossed) x (way_after c.sign crossed w) ≡ turn (system rows) (passing rows e x w)
+
+  pub turns_across : (e x : ℕ) (w : Way) (c : CrossRow) → AtCrossing rows e x c → TurnsAcross e x w c (eqb e c.crossed)
+  turns_across e x w c p = elim (cases_Bool (eqb e c.crossed)) [
+    | inl t ↦ subst (TurnsAcross e x w c) (sym t) (record {
+      known = newcomer_known c p.inside;
+      on = ap (has_id (edge_at rows c.newcomer).crossings) (sym p.named) ∙ on_newcomer c p.inside;
+      turn = ap (λ y. passing rows c.newcomer y (way_after c.sign true w)) (sym p.named) ∙ sym (turn_of_crossed c p.inside w)
+          ∙ ap (λ y. turn (system rows) (passing rows c.crossed y w)) p.named ∙ ap (λ f. turn (system rows) (passing rows f x w)) (sym (eqb-true e c.crossed t));
+    })
+    | inr n ↦ subst (TurnsAcross e x w c) (sym n) (record {
+      known = crossed_known c p.inside;
+      on = ap (has_id (edge_at rows c.crossed).crossings) (sym p.named) ∙ on_crossed c p.inside;
+      turn = ap (λ y. passing rows c.crossed y (way_after c.sign false w)) (sym p.named) ∙ sym (turn_of_newcomer c p.inside w)
+          ∙ ap (λ y. turn (system rows) (passing rows c.newcomer y w)) p.named
+          ∙ ap (λ f. turn (system rows) (passing rows f x w)) (sym (eqb-true e c.newcomer (or_second (eqb e c.crossed) (eqb e c.newcomer) n p.ends)));
+    })
+  ]
 
   -- ---- A dart by the place of its edge
 

@@ -13,8 +13,7 @@ use Rattle.topo_core.specs.Systems.{turn}
 use Rattle.topo_core.proofs.Numbering.{has_at, image_of, index_of_get, index_twin, twin_in}
 use Rattle.topo_core.proofs.SystemDarts.{get_there, row_id}
 use Rattle.topo_frozen.specs.Flats.{places_from}
-use Rattle.topo_frozen.specs.Placed.{IsPlaced, placed_dart}
-use Rattle.topo_frozen.specs.declared.placed.PlacedDart.{PlacedDart}
+use Rattle.topo_frozen.specs.Placed.{IsPlaced, placed_dart, PlacedDart}
 use Rattle.topo_frozen.proofs.AroundPoints.{edge_named}
 use Rattle.topo_frozen.proofs.Lookups.{edge_told, number_told, NumberTold, row_found, seg_told, some_and}
 use Rattle.topo_frozen.proofs.Places.{place_within}

@@ -127,11 +127,7 @@ fn placed_numbered(rows: &Rows, begins: &[u32], place: usize, number: u32) -> Pl
     ensures dart { slice_get (darts rows.now) number ≡ Some (placed_dart rows.now result) }
 {
     let dart = dart_numbered(rows, begins, place, number);
-    PlacedDart {
-        place,
-        segment: dart.seg as usize,
-        way: dart.way,
-    }
+    PlacedDart::new(place, dart.seg as usize, dart.way)
 }
 
 /// The number of the next dart along the face on the left, turned on the rows themselves. The place of
@@ -153,9 +149,9 @@ pub(crate) fn next_numbered(
 {
     let here = placed_numbered(rows, begins, place, number);
     let next = turned(rows, hints, opposite(here));
-    noted.set(next.place);
-    let first = begins[next.place] + 2 * next.segment as u32;
-    match next.way {
+    noted.set(next.place());
+    let first = begins[next.place()] + 2 * next.segment() as u32;
+    match next.way() {
         Way::Forward => first,
         Way::Back => first + 1,
     }

@@ -1,6 +1,6 @@
 //! Darts by the places of their edges, and how they turn: read off the rows.
 
-ghost use Rattle.std.specs.Prelude.{◌≡◌, ◌<◌, ◌≤◌, ◌==◌, ℕ, Bool, find, is_some, length, map, true};
+ghost use Rattle.std.specs.Prelude.{◌≡◌, ◌<◌, ◌≤◌, ◌==◌, ℕ, Bool, cond, find, is_some, length, map, true};
 ghost use Rattle.std.specs.List.{position_or_len};
 ghost use Rattle.topo_core.specs.Darts.{dart_twin, reversed};
 ghost use Rattle.topo_core.specs.Items.{has_id};
@@ -12,15 +12,79 @@ ghost use Rattle.topo_frozen.specs.Placed.{CrossesAt, IsPlaced, entry_after, pas
 
 use crate::by_id::{place_of_crossing, place_of_edge};
 use crate::hints::Hints;
+use std::marker::Model;
 use topo_core::darts::{Sign, Way};
-use topo_core::rows::Rows;
+use topo_core::rows::{CrossRow, Rows};
 
-/// A dart: the place of its edge's row among the edges, the segment, and the way along the edge.
-#[derive(Clone, Copy, Debug, PartialEq, Eq)]
+/// A dart: the place of its edge's row among the edges, the segment, and the way along the edge. The way is
+/// kept as a word, 0 forward and 1 back, since a walk hands darts on at each step and whole words are
+/// copied at once.
+#[derive(Clone, Copy)]
 pub struct PlacedDart {
-    pub place: usize,
-    pub segment: usize,
-    pub way: Way,
+    place: usize,
+    segment: usize,
+    back: usize,
+}
+
+impl Model for PlacedDart {
+    ghost use Rattle.std.specs.Prelude.{◌<◌};
+    ghost use Rattle.topo_frozen.specs.Placed.{PlacedDart, way_kept, word_of};
+
+    ghost Value = { PlacedDart };
+
+    ghost use Rattle.topo_frozen.specs.PlacedInverse.{placed_inverse};
+
+    ghost view = { λ d. record { place = d.place; segment = d.segment; way = way_kept d.back } };
+
+    ghost invariant = { λ d. d.back < 2 };
+
+    ghost inverse = { λ d. record { place = d.place; segment = d.segment; back = word_of d.way } };
+
+    ghost inverse_ok = { placed_inverse };
+}
+
+impl PlacedDart {
+    ghost use Rattle.std.specs.Prelude.{◌≡◌};
+
+    /// The dart of a segment of the edge at a place, that way.
+    pub fn new(place: usize, segment: usize, way: Way) -> Self
+        ensures { result ≡ record { place = place; segment = segment; way = way } }
+    {
+        let back = match way {
+            Way::Forward => 0,
+            Way::Back => 1,
+        };
+        PlacedDart {
+            place,
+            segment,
+            back,
+        }
+    }
+
+    /// The place of its edge.
+    pub fn place(self) -> usize
+        ensures { result ≡ self.place }
+    {
+        self.place
+    }
+
+    /// The segment.
+    pub fn segment(self) -> usize
+        ensures { result ≡ self.segment }
+    {
+        self.segment
+    }
+
+    /// The way along its edge.
+    pub fn way(self) -> Way
+        ensures { result ≡ self.way }
+    {
+        if self.back == 0 {
+            Way::Forward
+        } else {
+            Way::Back
+        }
+    }
 }
 
 /// The other way.
@@ -38,11 +102,7 @@ pub fn opposite(at: PlacedDart) -> PlacedDart
     ensures placed { (rows : Rows) → IsPlaced rows at → IsPlaced rows result }
     ensures twin { (rows : Rows) → placed_dart rows result ≡ dart_twin (placed_dart rows at) }
 {
-    PlacedDart {
-        place: at.place,
-        segment: at.segment,
-        way: reversed(at.way),
-    }
+    PlacedDart::new(at.place(), at.segment(), reversed(at.way()))
 }
 
 /// The first place of a number in a list, and the list's length where it has none.
@@ -82,17 +142,9 @@ fn end_placed(rows: &Rows, hints: &Hints, v: u32, e: u32) -> PlacedDart
     let place = place_of_edge(edges, hints, e);
     let row = &edges[place];
     if row.a == v {
-        PlacedDart {
-            place,
-            segment: 0,
-            way: Way::Forward,
-        }
+        PlacedDart::new(place, 0, Way::Forward)
     } else {
-        PlacedDart {
-            place,
-            segment: row.crossings.as_slice().len(),
-            way: Way::Back,
-        }
+        PlacedDart::new(place, row.crossings.as_slice().len(), Way::Back)
     }
 }
 
@@ -121,16 +173,8 @@ fn passing(rows: &Rows, hints: &Hints, e: u32, x: u32, way: Way) -> PlacedDart
     let row = &edges[place];
     let before = position_on(row.crossings.as_slice(), x);
     match way {
-        Way::Forward => PlacedDart {
-            place,
-            segment: before + 1,
-            way,
-        },
-        Way::Back => PlacedDart {
-            place,
-            segment: before,
-            way,
-        },
+        Way::Forward => PlacedDart::new(place, before + 1, way),
+        Way::Back => PlacedDart::new(place, before, way),
     }
 }
 
@@ -144,6 +188,13 @@ fn way_after(sign: Sign, crossed: bool, way: Way) -> Way
     }
 }
 
+/// The other edge of a crossing.
+fn edge_across(row: CrossRow, crossed: bool) -> u32
+    ensures { result ≡ cond crossed row.newcomer row.crossed }
+{
+    if crossed { row.newcomer } else { row.crossed }
+}
+
 /// The next dart clockwise after that of edge `e`, at its crossing `x`.
 fn turned_at_crossing(rows: &Rows, hints: &Hints, e: u32, x: u32, way: Way) -> PlacedDart
     requires well_formed { IsWellFormed rows.now }
@@ -153,11 +204,9 @@ fn turned_at_crossing(rows: &Rows, hints: &Hints, e: u32, x: u32, way: Way) -> P
 {
     let crossings = rows.crossings.as_slice();
     let row = crossings[place_of_crossing(crossings, hints, x)];
-    if e == row.crossed {
-        passing(rows, hints, row.newcomer, x, way_after(row.sign, true, way))
-    } else {
-        passing(rows, hints, row.crossed, x, way_after(row.sign, false, way))
-    }
+    let crossed = e == row.crossed;
+    let other = edge_across(row, crossed);
+    passing(rows, hints, other, x, way_after(row.sign, crossed, way))
 }
 
 /// The next dart clockwise at its point. It looks through the list of the vertex, or through the path
@@ -168,21 +217,22 @@ pub fn turned(rows: &Rows, hints: &Hints, at: PlacedDart) -> PlacedDart
     ensures placed { IsPlaced rows.now result }
     ensures turn { placed_dart rows.now result ≡ turn (system rows.now) (placed_dart rows.now at) }
 {
-    let row = &rows.edges.as_slice()[at.place];
+    let row = &rows.edges.as_slice()[at.place()];
     let path = row.crossings.as_slice();
-    match at.way {
+    let segment = at.segment();
+    match at.way() {
         Way::Forward => {
-            if at.segment == 0 {
+            if segment == 0 {
                 turned_at_vertex(rows, hints, row.a, row.id)
             } else {
-                turned_at_crossing(rows, hints, row.id, path[at.segment - 1], Way::Forward)
+                turned_at_crossing(rows, hints, row.id, path[segment - 1], Way::Forward)
             }
         }
         Way::Back => {
-            if at.segment == path.len() {
+            if segment == path.len() {
                 turned_at_vertex(rows, hints, row.b, row.id)
             } else {
-                turned_at_crossing(rows, hints, row.id, path[at.segment], Way::Back)
+                turned_at_crossing(rows, hints, row.id, path[segment], Way::Back)
             }
         }
     }

@@ -31,8 +31,7 @@ use Rattle.topo_route.proofs.Rounds.{unmet_all, unmet_home}
 use Rattle.topo_frozen.proofs.Begins.{edge_ids_climb}
 use Rattle.topo_frozen.proofs.Sorting.{place_is}
 use Rattle.topo_frozen.proofs.Lookups.{dart_there, row_found}
-use Rattle.topo_frozen.specs.declared.placed.PlacedDart.{PlacedDart}
-use Rattle.topo_frozen.specs.Placed.{IsPlaced, placed_dart}
+use Rattle.topo_frozen.specs.Placed.{IsPlaced, placed_dart, PlacedDart}
 use Rattle.topo_picture.proofs.Skipping.{or_at, Skips, skips_alike, skips_ends, skips_here, unchord_skips}
 
 not_opened : (e i : ℕ) → (e == e && nat_lt i i) ≡ false

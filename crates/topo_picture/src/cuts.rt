@@ -22,7 +22,7 @@ fn is_out(rows: &Rows, e: u32, out: usize, at: PlacedDart) -> bool
     requires placed { IsPlaced rows.now at }
     ensures { result ≡ is_opened e out (placed_dart rows.now at) }
 {
-    rows.edges.as_slice()[at.place].id == e && at.segment < out
+    rows.edges.as_slice()[at.place()].id == e && at.segment() < out
 }
 
 /// The next dart along the face when the first `out` segments of an edge are out.
@@ -52,7 +52,7 @@ fn are_same(a: PlacedDart, b: PlacedDart) -> bool
     ensures same { result ≡ true → a ≡ b }
     ensures apart { result ≡ false → a ≢ b }
 {
-    a == b
+    a.place() == b.place() && a.segment() == b.segment() && a.way() == b.way()
 }
 
 /// Whether a segment of the edge at a place has one face on both sides when those before it are out.
@@ -63,11 +63,7 @@ fn has_one_face(rows: &Rows, hints: &Hints, e: u32, place: usize, segment: usize
     requires few { length (darts rows.now) < 2 ^ 32 }
     ensures { IsTrue result ↔ HasOneFace rows.now e segment }
 {
-    let dart = PlacedDart {
-        place,
-        segment,
-        way: Way::Forward,
-    };
+    let dart = PlacedDart::new(place, segment, Way::Forward);
     let other = opposite(dart);
     let mut at = dart;
     for _steps in 0..u32::MAX {
