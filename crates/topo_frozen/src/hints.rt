@@ -97,9 +97,38 @@ impl Hints {
         }
     }
 
+    /// Follows the segments of an edge that goes, as long as it stands: its own go, and at each of its
+    /// crossings two of the other edge become one.
+    pub fn part(&mut self, rows: &Rows, edge: u32) {
+        let place = self.edge(edge);
+        if let Some(row) = rows.edges.as_slice().get(place) {
+            let path = row.crossings.as_slice();
+            if row.id == edge && path.len() <= FEW {
+                for x in path {
+                    self.merge(rows, edge, *x);
+                }
+                let first = take_of(&mut self.segments, place, path.len().saturating_add(1));
+                lower_from(&mut self.segments, first);
+            }
+        }
+    }
+
+    /// Makes two segments one where an edge crosses another.
+    fn merge(&mut self, rows: &Rows, edge: u32, x: u32) {
+        if let Some(row) = rows.crossings.as_slice().get(self.crossing(x)) {
+            let other = if row.crossed == edge {
+                row.newcomer
+            } else {
+                row.crossed
+            };
+            let place = self.edge(other);
+            let _first = take_of(&mut self.segments, place, 1);
+        }
+    }
+
     /// Follows an edge that goes.
     pub fn leave(&mut self, edge: u32) {
-        lower_after(&mut self.edges, edge);
+        lower_from(&mut self.edges, (edge as usize).saturating_add(1));
     }
 
     /// Follows crossings that are gone.
@@ -109,17 +138,20 @@ impl Hints {
             return;
         }
         for x in crossings {
-            lower_after(&mut self.crossings, *x);
+            lower_from(&mut self.crossings, (*x as usize).saturating_add(1));
         }
     }
 
-    /// Notes the segments anew, once an edge is gone with its crossings, and forgets ids where few of
-    /// them are left.
+    /// Notes the segments anew where they were not followed, once an edge is gone with its crossings, and
+    /// forgets ids where few of them are left.
     pub fn settle(&mut self, rows: &Rows, begins: &[u32]) {
         forget_sparse(&mut self.edges, rows.edges.as_slice().len());
         forget_sparse(&mut self.crossings, rows.crossings.as_slice().len());
-        self.segments.truncate((dart_total(begins) / 2) as usize);
-        note_segments(&mut self.segments, begins);
+        let segments = (dart_total(begins) / 2) as usize;
+        if self.segments.len() != segments {
+            self.segments.truncate(segments);
+            note_segments(&mut self.segments, begins);
+        }
     }
 }
 
@@ -180,11 +212,37 @@ fn note_last<T: Identified>(places: &mut Vec<u32>, rows: &[T], place: usize) {
     }
 }
 
-/// Moves the rows behind an id one place down.
-fn lower_after(places: &mut [u32], id: u32) {
-    for i in (id as usize).saturating_add(1)..places.len() {
+/// Moves all that is noted from an index on one place down.
+fn lower_from(places: &mut [u32], first: usize) {
+    for i in first..places.len() {
         places[i] = places[i].wrapping_sub(1);
     }
+}
+
+/// Where a place stands first among the segments, whose places rise, or would stand.
+fn first_of(segments: &[u32], place: usize) -> usize {
+    let mut low = 0;
+    let mut high = segments.len();
+    while low < high {
+        let middle = low + (high - low) / 2;
+        if (segments[middle] as usize) < place {
+            low = middle + 1;
+        } else {
+            high = middle;
+        }
+    }
+    low
+}
+
+/// Takes so many segments of the edge at a place out, and answers where they were.
+fn take_of(segments: &mut Vec<u32>, place: usize, count: usize) -> usize {
+    let first = first_of(segments, place);
+    let end = first.saturating_add(count);
+    if end <= segments.len() {
+        segments.copy_within(end.., first);
+        segments.truncate(segments.len() - count);
+    }
+    first
 }
 
 /// Lets go of the places of ids where most of the ids are gone.

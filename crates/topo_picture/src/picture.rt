@@ -308,6 +308,7 @@ impl Picture {
         match first_cut(&self.rows, &self.hints, edge) {
             Some(segment) => Err(Refusal::Cut(segment)),
             None => {
+                self.hints.part(&self.rows, edge);
                 delete_rows(alloc, &mut self.rows, &mut self.hints, edge);
                 begin_again(&mut self.begins, self.rows.edges.as_slice());
                 self.hints.settle(&self.rows, self.begins.as_slice());

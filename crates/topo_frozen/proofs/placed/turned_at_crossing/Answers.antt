@@ -1,4 +1,4 @@
-use Rattle.std.proofs.Common.{ap, eqb, get_or, is_some, true, ◌≡◌, ◌∙◌, ℕ}
+use Rattle.std.proofs.Common.{ap, get_or, is_some, ◌∙◌}
 use Rattle.topo_core.specs.declared.darts.Sign.TheVariants.{LeftToRight}
 use Rattle.topo_core.specs.declared.rows.CrossRow.{CrossRow}
 use Rattle.topo_core.specs.Items.{has_id}
