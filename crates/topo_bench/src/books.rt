@@ -9,7 +9,7 @@ use crate::searches::{next_number, prices};
 use std::alloc::Global;
 use std::io;
 use std::sync::Arc;
-use std::time::{Clock, Instant};
+use std::time::{Clock, Duration, Instant};
 use topo_book::Book;
 use topo_core::rows::Facts;
 use topo_picture::Picture;
@@ -23,7 +23,7 @@ fn vertex_of(state: u64, vertices: u32) -> u32 {
     ((state >> 40) as u32).checked_rem(vertices).unwrap_or(0)
 }
 
-/// Times the frozen picture.
+/// Times the frozen picture, and not its end.
 fn time_freezes<R: Clock + Print + AllocGlobal>(
     rt: &R,
     picture: &Picture,
@@ -31,14 +31,17 @@ fn time_freezes<R: Clock + Print + AllocGlobal>(
 ) -> io::Result<()>
     requires some { 0 < darts }
 {
-    let start = Instant::now(rt)?;
+    let mut taken = Duration::ZERO;
     for _turn in 0..CALLS {
-        let _frozen = picture.freeze(rt.alloc())?;
+        let start = Instant::now(rt)?;
+        let frozen = picture.freeze(rt.alloc())?;
+        taken = taken.saturating_add(start.elapsed(rt)?);
+        drop(frozen);
     }
-    print_line(rt, "freeze", darts, CALLS, start.elapsed(rt)?)
+    print_line(rt, "freeze", darts, CALLS, taken)
 }
 
-/// Times the copy.
+/// Times the copy, and not its end.
 fn time_copies<R: Clock + Print + AllocGlobal>(
     rt: &R,
     picture: &Picture,
@@ -46,11 +49,14 @@ fn time_copies<R: Clock + Print + AllocGlobal>(
 ) -> io::Result<()>
     requires some { 0 < darts }
 {
-    let start = Instant::now(rt)?;
+    let mut taken = Duration::ZERO;
     for _turn in 0..CALLS {
-        let _copy = picture.copy(rt.alloc())?;
+        let start = Instant::now(rt)?;
+        let copy = picture.copy(rt.alloc())?;
+        taken = taken.saturating_add(start.elapsed(rt)?);
+        drop(copy);
     }
-    print_line(rt, "copy", darts, CALLS, start.elapsed(rt)?)
+    print_line(rt, "copy", darts, CALLS, taken)
 }
 
 /// Times growths at random vertices.

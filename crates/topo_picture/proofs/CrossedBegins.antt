@@ -51,7 +51,7 @@ module _ (rows : Rows) (u v kind : ℕ) (r : Route) (good : IsWellFormed rows) (
   pub crossed_ids_rise : IdsRise (map (λ row. row.id) before_last)
   crossed_ids_rise =
       let rise = crossed_rise rows.next_crossing r.crossed rows.edges (edges_rise rows good) in
-      subst (λ (es : List EdgeRow). IdsRise (map (λ row. row.id) es)) (sym are_crossed) (rise.limit, rise.rise)
+      subst (λ (es : List EdgeRow). IdsRise (map (λ row. row.id) es)) (sym are_crossed) rise
 
   pub crossed_there : (ds : List Dart) → ds ≡ r.crossed → (d : Dart) → IsIn d ds → is_some (find (λ row. row.id == d.edge) before_last) ≡ true
   crossed_there ds same d h =

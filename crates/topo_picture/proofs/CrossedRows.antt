@@ -1,14 +1,10 @@
 -- Edges whose paths are crossed one by one.
 use Rattle.std.proofs.Common.{Err, Ok, OnErr, OnOk, Result, ◌≡◌, ◌≢◌, ℕ, zero, suc, ◌+◌, ◌<◌, ◌≤◌, append-nil, Bool, true, false, cond, List, [], ◌∷◌, ◌++◌, length, get_or, set, take, refl, subst, sym, ap, ◌∙◌, arith, inl, inr}
-use Rattle.std.specs.Prelude.{◌==◌, ◌&&◌, nat_lt, map, filter, IfSome, IfNone}
+use Rattle.std.specs.Prelude.{◌==◌, ◌&&◌, nat_lt, map, filter, find, None, Some}
 use Rattle.std.specs.List.{All, list_all}
-use Rattle.std.specs.List.Sorted.{IsBinarySearchResult, IsNonDecreasing, IsNonDecreasingBy, IsSearchInRange}
-use Rattle.std.specs.Ordering.{nat_cmp, ordering_index}
-use Rattle.std.specs.Result.{is_err, result_ok}
-use Rattle.std.proofs.lemmas.Cmp.{ranked}
-use Rattle.std.proofs.lemmas.Bool.{cases_Bool, cases_lt, eq-eqb, eqb-true, lt-ltb, le-ltb}
-use Rattle.std.proofs.lemmas.Bool.Decides.{nat_tests}
-use Rattle.std.proofs.lemmas.List.{get_or-map, length-map, length-take-le, take_more}
+use Rattle.std.specs.Result.{is_err}
+use Rattle.std.proofs.lemmas.Bool.{cases_Bool, eq-eqb, eqb-true, lt-ltb, le-ltb}
+use Rattle.std.proofs.lemmas.List.{length-take-le, take_more}
 use Rattle.std.proofs.lemmas.List.Elements.{filter-append}
 use Rattle.topo_core.specs.declared.darts.Dart.{Dart}
 use Rattle.topo_core.specs.declared.rows.EdgeRow.{EdgeRow}
@@ -16,9 +12,8 @@ use Rattle.topo_core.specs.Items.{IsIn, rises_below}
 use Rattle.topo_core.specs.Changes.{woven}
 use Rattle.topo_core.proofs.Counting.{eqb_symm, ids_above, lt_of_test}
 use Rattle.topo_core.proofs.Members.{in_map, right_true, test_of_each}
-use Rattle.topo_picture.specs.Inserting.{AreOnPaths, IdsRise, IsPlaceOf, crossed_by, crossed_path, crossings_on, paths_below, repathed}
+use Rattle.topo_picture.specs.Inserting.{AreOnPaths, EdgesRise, crossed_by, crossed_path, crossings_on, paths_below, repathed}
 use Rattle.topo_picture.proofs.CrossedPaths.{crossed_woven, crossings_below, crossings_from, crossings_more, filter_all, filter_woven, woven_none, woven_same}
-use Rattle.topo_frozen.proofs.Sorting.{rises_strictly, rising}
 
 -- ---- Lists
 
@@ -45,36 +40,6 @@ pub map_same : {X : Type 0} (f : X → X) (xs : List X) → ((x : X) → IsIn x 
 map_same f [] same = refl
 map_same f (x ∷ xs) same = ap (λ y. y ∷ map f xs) (same x (inl refl)) ∙ ap (λ ys. x ∷ ys) (map_same f xs (λ y k. same y (inr k)))
 
--- ---- The place of an edge
-
-module _ (edges : List EdgeRow) (rise : IdsRise edges) (e : ℕ) where
-  abbrev ids : List ℕ
-  ids = map (λ row. row.id) edges
-
-  ids_climb : (i j : ℕ) (d : EdgeRow) → i ≤ j → j < length edges → (get_or edges i d).id ≤ (get_or edges j d).id
-  ids_climb i j d below inside =
-      let long : length ids ≡ length edges = length-map edges (λ (row : EdgeRow). row.id) in
-      let climb : IsNonDecreasing ids = rising ids (rises_strictly rise.limit ids rise.rise) in
-      let up : get_or ids i d.id ≤ get_or ids j d.id = climb i j d.id below (omega arith) in
-      let left : get_or ids i d.id ≡ (get_or edges i d).id = get_or-map (λ (row : EdgeRow). row.id) edges i d d.id (omega arith) in
-      let right : get_or ids j d.id ≡ (get_or edges j d).id = get_or-map (λ (row : EdgeRow). row.id) edges j d d.id inside in
-      omega arith
-
-  compared : IsNonDecreasingBy (λ row. ordering_index (nat_cmp row.id e)) edges
-  compared i j d below inside = let up = ids_climb i j d below inside in grind (arith, nat_tests)
-
-  -- what a binary search by ids finds
-  pub place_found : (r : Result ℕ ℕ) → IsSearchInRange r (length edges) → IsBinarySearchResult (λ row. nat_cmp row.id e) edges r
-      → record { some : IfSome (result_ok r) (IsPlaceOf edges e); none : IfNone (result_ok r) (All (λ row. row.id ≢ e) edges) }
-  place_found (Ok at) inside equal = record { some = record { inside = inside; here = λ d. ranked _ e _ (sym (equal d)) }; none = tt }
-  place_found (Err at) inside parted = record {
-    some = tt;
-    none = λ k d within. elim (cases_lt k at) [
-      | inl before ↦ (λ same. let less : (get_or edges k d).id < e = ranked _ e _ (sym ((parted compared).0 k d (omega arith) before)) in omega arith)
-      | inr behind ↦ (λ same. let more : e < (get_or edges k d).id = ranked _ e _ (sym ((parted compared).1 k d behind within)) in omega arith)
-    ];
-  }
-
 -- ---- A path changed
 
 -- another edge keeps its path
@@ -85,8 +50,14 @@ repathed_other e change row other = elim (cases_Bool (row.id == e)) [
 ]
 
 -- where there is no such edge nothing changes
-pub none_repathed : (e : ℕ) (change : List ℕ → List ℕ) (edges : List EdgeRow) → All (λ row. row.id ≢ e) edges → map (repathed e change) edges ≡ edges
-none_repathed e change edges none = map_same (repathed e change) edges (λ row h. repathed_other e change row (all_in (λ (row : EdgeRow). row.id ≢ e) edges none row h))
+pub none_repathed : (e : ℕ) (change : List ℕ → List ℕ) (edges : List EdgeRow) → find (λ row. row.id == e) edges ≡ None → map (repathed e change) edges ≡ edges
+none_repathed e change [] none = refl
+none_repathed e change (row ∷ edges) none = elim (cases_Bool (row.id == e)) [
+  | inl same ↦ absurd (let here : find (λ row. row.id == e) (row ∷ edges) ≡ Some row = ap (λ (b : Bool). cond b (Some row) (find (λ row. row.id == e) edges)) same in cc)
+  | inr differs ↦
+      ap (λ (b : Bool). record row { crossings = cond b (change row.crossings) row.crossings } ∷ map (repathed e change) edges) differs
+      ∙ ap (λ rest. row ∷ rest) (none_repathed e change edges (sym (ap (λ (b : Bool). cond b (Some row) (find (λ row. row.id == e) edges)) differs) ∙ none))
+]
 
 -- a path written at the edge's place
 pub repathed_at : (limit e i : ℕ) (change : List ℕ → List ℕ) (d : EdgeRow) (edges : List EdgeRow) → rises_below limit (map (λ row. row.id) edges) ≡ true → i < length edges → (get_or edges i d).id ≡ e
@@ -106,14 +77,11 @@ repathed_at limit e (suc i) change d (row ∷ edges) rise inside here =
 pub ids_stay : (e : ℕ) (change : List ℕ → List ℕ) (edges : List EdgeRow) → map (λ row. row.id) (map (repathed e change) edges) ≡ map (λ row. row.id) edges
 ids_stay e change edges = map_map_same (λ row. row.id) (repathed e change) (λ row. row.id) edges (λ row h. refl)
 
-pub still_rise : (e : ℕ) (change : List ℕ → List ℕ) (edges : List EdgeRow) → IdsRise edges → IdsRise (map (repathed e change) edges)
-still_rise e change edges rise = record { limit = rise.limit; rise = ap (rises_below rise.limit) (ids_stay e change edges) ∙ rise.rise }
+pub still_rise : (e : ℕ) (change : List ℕ → List ℕ) (edges : List EdgeRow) → EdgesRise edges → EdgesRise (map (repathed e change) edges)
+still_rise e change edges rise = (rise.0, ap (rises_below rise.0) (ids_stay e change edges) ∙ rise.1)
 
-pub crossed_rise : (first : ℕ) (darts : List Dart) (edges : List EdgeRow) → IdsRise edges → IdsRise (map (crossed_by first darts) edges)
-crossed_rise first darts edges rise = record {
-  limit = rise.limit;
-  rise = ap (rises_below rise.limit) (map_map_same (λ row. row.id) (crossed_by first darts) (λ row. row.id) edges (λ row h. refl)) ∙ rise.rise;
-}
+pub crossed_rise : (first : ℕ) (darts : List Dart) (edges : List EdgeRow) → EdgesRise edges → EdgesRise (map (crossed_by first darts) edges)
+crossed_rise first darts edges rise = (rise.0, ap (rises_below rise.0) (map_map_same (λ row. row.id) (crossed_by first darts) (λ row. row.id) edges (λ row h. refl)) ∙ rise.1)
 
 -- ---- One dart more or less
 

@@ -23,7 +23,7 @@ use Rattle.topo_core.proofs.ShownRows.{known_crossing_below, known_edge_below, r
 use Rattle.topo_core.proofs.SimpleRoutes.{simple_is_insertable}
 use Rattle.topo_core.proofs.Standing.{good_rotation, listed_test, of_rows_is_dart}
 use Rattle.topo_core.proofs.SystemDarts.{crossing_there}
-use Rattle.topo_picture.specs.Inserting.{AreOnPaths, IdsRise, crossed_by, paths_below}
+use Rattle.topo_picture.specs.Inserting.{AreOnPaths, EdgesRise, crossed_by, paths_below}
 use Rattle.topo_frozen.specs.Shown.{IsPicture}
 use Rattle.topo_picture.proofs.InsertedLawful.{insertion_keeps_lawful}
 
@@ -35,8 +35,8 @@ all_pass p (x ∷ xs) each = both (p x) (list_all p xs) (each x (inl refl)) (all
   both a b e f = ap (λ (t : Bool). t && b) e ∙ f
 
 module _ (rows : Rows) (good : IsWellFormed rows) where
-  pub edges_rise : IdsRise rows.edges
-  edges_rise = record { limit = rows.next_edge; rise = left_true _ (list_all (has_good_path rows) rows.edges) good.paths }
+  pub edges_rise : EdgesRise rows.edges
+  edges_rise = (rows.next_edge, left_true _ (list_all (has_good_path rows) rows.edges) good.paths)
 
   -- the crossings on the paths are old
   pub crossings_old : paths_below rows.next_crossing rows.edges ≡ true

@@ -19,7 +19,7 @@ use Rattle.topo_frozen.specs.Flats.{begins_from}
 use Rattle.topo_frozen.proofs.Begins.{begins_length}
 use Rattle.topo_core.proofs.Counting.{ids_above}
 use Rattle.topo_core.proofs.Members.{in_map, right_true}
-use Rattle.topo_picture.specs.Inserting.{AreOnPaths, IdsRise, crossed_by, crossed_path, paths_below, repathed, segment_end}
+use Rattle.topo_picture.specs.Inserting.{AreOnPaths, EdgesRise, crossed_by, crossed_path, paths_below, repathed, segment_end}
 use Rattle.topo_picture.specs.Raising.{darts_before}
 use Rattle.topo_picture.proofs.CrossedPaths.{ends_within}
 use Rattle.topo_picture.proofs.CrossedRows.{crossed_by_none, crossed_rise, map_same, one_more, repathed_other}
@@ -143,7 +143,7 @@ found_still first e darts (row ∷ edges) = by_test (row.id == e) (found_still f
   by_test true rest = refl
   by_test false rest = rest
 
-module _ (first : ℕ) (was : List EdgeRow) (darts : List Dart) (rise : IdsRise was) (old : paths_below first was ≡ true) (on : AreOnPaths was darts) where
+module _ (first : ℕ) (was : List EdgeRow) (darts : List Dart) (rise : EdgesRise was) (old : paths_below first was ≡ true) (on : AreOnPaths was darts) where
   raised_step : (d : Dart) (j : ℕ) → j < length darts
       → ((i : ℕ) → i < length was + 1 → slice_index (begins_from 0 (map (crossed_by first (take j darts)) was)) i ≡ slice_index (begins_from 0 was) i + 2 * darts_before was i (take j darts))
       → (i : ℕ) → i < length was + 1 → slice_index (begins_from 0 (map (crossed_by first (take (j + 1) darts)) was)) i ≡ slice_index (begins_from 0 was) i + 2 * darts_before was i (take (j + 1) darts)
@@ -154,7 +154,7 @@ module _ (first : ℕ) (was : List EdgeRow) (darts : List Dart) (rise : IdsRise 
       let long : length so_far ≡ length was = length-map was (crossed_by first (take j darts)) in
       let still = crossed_rise first (take j darts) was rise in
       let more : map (repathed here.edge change) so_far ≡ map (crossed_by first (take (j + 1) darts)) was = one_more first j darts d was so_far (map (repathed here.edge change) so_far) h old on refl refl in
-      let one = begins_repathed still.limit here.edge change (path_longer first here.seg (first + j)) 0 so_far i still.rise (omega arith) in
+      let one = begins_repathed still.0 here.edge change (path_longer first here.seg (first + j)) 0 so_far i still.1 (omega arith) in
       let before = so i inside in
       let count = before_more was darts d j (place_of was here.edge) h refl i in
       let same_place : cond {A = ℕ} (nat_lt (place_of so_far here.edge) i) 2 0 ≡ cond {A = ℕ} (nat_lt (place_of was here.edge) i) 2 0 = ap (λ p. cond {A = ℕ} (nat_lt p i) 2 0) (places_stay first here.edge (take j darts) was) in

@@ -1,20 +1,15 @@
 -- What an insertion does to the edges, crossing by crossing.
-use Rattle.std.specs.Prelude.{◌≡◌, ◌<◌, ◌≤◌, ℕ, ◌+◌, ◌-◌, ◌==◌, nat_lt, Bool, true, cond, ◌&&◌, List, [], ◌∷◌, map, filter, insert, length}
-use Rattle.std.specs.List.{HoldsAt, list_all, enumerate_from}
+use Rattle.std.specs.Prelude.{◌≡◌, ◌≤◌, ℕ, ◌+◌, ◌-◌, ◌==◌, nat_lt, Bool, cond, ◌&&◌, List, [], ◌∷◌, map, filter, insert, length}
+use Rattle.std.specs.List.{list_all, enumerate_from}
 use Rattle.topo_core.specs.declared.darts.Dart.{Dart}
 use Rattle.topo_core.specs.declared.rows.EdgeRow.{EdgeRow}
-use Rattle.topo_core.specs.Items.{IsIn, rises_below}
+use Rattle.topo_core.specs.Items.{IsIn}
 use Rattle.topo_core.specs.Changes.{woven}
+use Rattle.topo_frozen.specs.Ids.{IdsRise}
 
 -- the ids of the edges rise
-pub record IdsRise (edges : List EdgeRow) : Type 0 where
-  pub limit : ℕ
-  pub rise : rises_below limit (map (λ row. row.id) edges) ≡ true
-
--- the place of edge e among the edges
-pub record IsPlaceOf (edges : List EdgeRow) (e i : ℕ) : Type 0 where
-  pub inside : i < length edges
-  pub here : HoldsAt (λ row. row.id ≡ e) edges i
+abbrev pub EdgesRise : List EdgeRow → Type 0
+EdgesRise edges = IdsRise (map (λ row. row.id) edges)
 
 -- the darts lie on the paths of their edges, of those that are there
 abbrev pub AreOnPaths : List EdgeRow → List Dart → Type 0

@@ -131,7 +131,7 @@ pub(crate) fn apply_numbered(
     let darts = route.crossed.as_slice();
     begins.reserve(1)?;
     hints.reserve(darts.len())?;
-    apply_rows(alloc, rows, ends.0, ends.1, kind, route)?;
+    apply_rows(alloc, rows, hints, ends.0, ends.1, kind, route)?;
     let edges = rows.edges.as_slice();
     raise_across(begins, hints, &edges[..edges.len() - 1], darts);
     begin_after(begins, darts.len() as u32 + 1);

@@ -1,12 +1,12 @@
 //! Insertion on plain rows. What can fail comes before what cannot, and what was changed before a
 //! failure is changed back.
 
-ghost use Rattle.std.specs.Prelude.{◌≡◌, ◌≢◌, ◌+◌, ◌<◌, ◌≤◌, ◌^◌, ℕ, List, true, nat_lt, IfOk, OnOk, OnErr, IfSome, IfNone, length, map, filter, take, slice_index_or, [], ◌∷◌, ◌++◌};
-ghost use Rattle.std.specs.List.{All, enumerate_from, list_all};
+ghost use Rattle.std.specs.Prelude.{◌≡◌, ◌≢◌, ◌+◌, ◌<◌, ◌≤◌, ◌^◌, ℕ, List, true, nat_lt, IfOk, OnOk, OnErr, length, map, filter, take, slice_index_or, [], ◌∷◌, ◌++◌};
+ghost use Rattle.std.specs.List.{enumerate_from, list_all};
 ghost use Rattle.topo_core.specs.Changes.{new_crossing, shown, sign_of, with_end};
 ghost use Rattle.topo_core.specs.Insertions.{IsInsertable};
 ghost use Rattle.topo_core.specs.Lawful.{IsWellFormed};
-ghost use Rattle.topo_picture.specs.Inserting.{AreOnPaths, IdsRise, IsPlaceOf, crossed_by, crossed_path, paths_below, repathed, segment_end};
+ghost use Rattle.topo_picture.specs.Inserting.{AreOnPaths, EdgesRise, crossed_by, crossed_path, paths_below, repathed, segment_end};
 
 use crate::growth::put_into;
 use std::alloc::{AllocError, Global};
@@ -15,6 +15,8 @@ use topo_core::darts::{Dart, Sign, Way};
 use topo_core::listed::Listed;
 use topo_core::routes::Route;
 use topo_core::rows::{CrossRow, EdgeRow, Rows};
+use topo_frozen::Hints;
+use topo_frozen::by_id::edge_place;
 
 /// The place on a path where a segment ends, when only the crossings with ids before `first` count.
 fn segment_end(path: &[u32], segment: u32, first: u32) -> usize
@@ -61,40 +63,32 @@ fn keep_below(alloc: Global, list: &mut Listed<u32>, first: u32)
     *list = Listed::from_vec(items);
 }
 
-/// The place of an edge.
-fn place_of(edges: &[EdgeRow], e: u32) -> Option<usize>
-    requires { IdsRise edges.now }
-    ensures some { IfSome result (IsPlaceOf edges.now e) }
-    ensures none { IfNone result (All (λ row. row.id ≢ e) edges.now) }
-{
-    edges.binary_search_by_key(&e, |row| row.id).ok()
-}
-
 /// Puts crossing `x` on the path of edge `e`.
 fn cross_edge(
     alloc: Global,
     edges: &mut [EdgeRow],
+    hints: &Hints,
     e: u32,
     segment: u32,
     first: u32,
     x: u32,
 ) -> Result<(), AllocError>
-    requires { IdsRise edges.old }
+    requires { EdgesRise edges.old }
     ensures ok { OnOk result (edges.new ≡ map (repathed e (crossed_path first segment x)) edges.old) }
     ensures err { OnErr result (edges.new ≡ edges.old) }
 {
-    match place_of(edges, e) {
+    match edge_place(edges, hints, e) {
         Some(i) => cross_path(alloc, &mut edges[i].crossings, segment, first, x),
         None => Ok(()),
     }
 }
 
 /// Takes the crossings from `first` on out of the path of edge `e`.
-fn uncross_edge(alloc: Global, edges: &mut [EdgeRow], e: u32, first: u32)
-    requires { IdsRise edges.old }
+fn uncross_edge(alloc: Global, edges: &mut [EdgeRow], hints: &Hints, e: u32, first: u32)
+    requires { EdgesRise edges.old }
     ensures { edges.new ≡ map (repathed e (filter (λ x. nat_lt x first))) edges.old }
 {
-    match place_of(edges, e) {
+    match edge_place(edges, hints, e) {
         Some(i) => keep_below(alloc, &mut edges[i].crossings, first),
         None => {}
     }
@@ -102,8 +96,14 @@ fn uncross_edge(alloc: Global, edges: &mut [EdgeRow], e: u32, first: u32)
 
 /// Puts crossings on the segments of the darts, with ids from `first` on, as far as there is memory,
 /// and answers how many.
-fn cross_some(alloc: Global, edges: &mut [EdgeRow], darts: &[Dart], first: u32) -> usize
-    requires rise { IdsRise edges.old }
+fn cross_some(
+    alloc: Global,
+    edges: &mut [EdgeRow],
+    hints: &Hints,
+    darts: &[Dart],
+    first: u32,
+) -> usize
+    requires rise { EdgesRise edges.old }
     requires below { paths_below first edges.old ≡ true }
     requires there { AreOnPaths edges.old darts.now }
     requires ids { first + length darts.now < 2 ^ 32 }
@@ -112,7 +112,7 @@ fn cross_some(alloc: Global, edges: &mut [EdgeRow], darts: &[Dart], first: u32) 
 {
     for (i, dart) in darts.iter().enumerate() {
         let x = first + i as u32;
-        if cross_edge(alloc, edges, dart.edge.number(), dart.seg, first, x).is_err() {
+        if cross_edge(alloc, edges, hints, dart.edge.number(), dart.seg, first, x).is_err() {
             return i;
         }
     }
@@ -120,30 +120,42 @@ fn cross_some(alloc: Global, edges: &mut [EdgeRow], darts: &[Dart], first: u32) 
 }
 
 /// Takes the crossings of the darts out again, the last one first.
-fn uncross(alloc: Global, edges: &mut [EdgeRow], darts: &[Dart], first: u32)
-    requires rise { IdsRise edges.old }
+fn uncross(alloc: Global, edges: &mut [EdgeRow], hints: &Hints, darts: &[Dart], first: u32)
+    requires rise { EdgesRise edges.old }
     requires ids { first + length darts.now < 2 ^ 32 }
     ensures { (was : List EdgeRow) → paths_below first was ≡ true → edges.old ≡ map (crossed_by first darts.now) was → edges.new ≡ was }
 {
     let mut n = darts.len();
     while n > 0 {
         n -= 1;
-        uncross_edge(alloc, edges, darts[n].edge.number(), first + n as u32);
+        uncross_edge(
+            alloc,
+            edges,
+            hints,
+            darts[n].edge.number(),
+            first + n as u32,
+        );
     }
 }
 
 /// Puts crossings on the segments of the darts, with ids from `first` on, or none where memory is short.
-fn cross(alloc: Global, edges: &mut [EdgeRow], darts: &[Dart], first: u32) -> Result<(), AllocError>
-    requires rise { IdsRise edges.old }
+fn cross(
+    alloc: Global,
+    edges: &mut [EdgeRow],
+    hints: &Hints,
+    darts: &[Dart],
+    first: u32,
+) -> Result<(), AllocError>
+    requires rise { EdgesRise edges.old }
     requires below { paths_below first edges.old ≡ true }
     requires there { AreOnPaths edges.old darts.now }
     requires ids { first + length darts.now < 2 ^ 32 }
     ensures ok { OnOk result (edges.new ≡ map (crossed_by first darts.now) edges.old) }
     ensures err { OnErr result (edges.new ≡ edges.old) }
 {
-    let done = cross_some(alloc, edges, darts, first);
+    let done = cross_some(alloc, edges, hints, darts, first);
     if done < darts.len() {
-        uncross(alloc, edges, &darts[..done], first);
+        uncross(alloc, edges, hints, &darts[..done], first);
         return Err(AllocError);
     }
     Ok(())
@@ -224,6 +236,7 @@ fn insert_lists(
     rotations: &mut [Listed<u32>],
     edges: &mut Vec<EdgeRow>,
     crossings: &mut Vec<CrossRow>,
+    hints: &Hints,
     row: EdgeRow,
     route: &Route,
     first: u32,
@@ -234,7 +247,7 @@ fn insert_lists(
     requires start { route.now.start ≤ length (slice_index_or rotations.old row.a []) }
     requires end { route.now.end ≤ length (slice_index_or rotations.old row.b []) }
     requires new { list_all (λ e. nat_lt e row.id) (slice_index_or rotations.old row.a []) ≡ true }
-    requires rise { IdsRise edges.old.items }
+    requires rise { EdgesRise edges.old.items }
     requires below { paths_below first edges.old.items ≡ true }
     requires there { AreOnPaths edges.old.items route.now.crossed }
     requires ids { first + length route.now.crossed < 2 ^ 32 }
@@ -249,9 +262,9 @@ fn insert_lists(
     let made = crossings_of(alloc, darts, first, row.id)?;
     edges.reserve(1)?;
     crossings.reserve(made.len())?;
-    cross(alloc, edges, darts, first)?;
+    cross(alloc, edges, hints, darts, first)?;
     if join_ends(alloc, rotations, &row, route).is_err() {
-        uncross(alloc, edges, darts, first);
+        uncross(alloc, edges, hints, darts, first);
         return Err(AllocError);
     }
     edges.push(row).unwrap();
@@ -264,6 +277,7 @@ fn insert_lists(
 pub(crate) fn apply_rows(
     alloc: Global,
     rows: &mut Rows,
+    hints: &Hints,
     u: u32,
     v: u32,
     kind: u32,
@@ -292,6 +306,7 @@ pub(crate) fn apply_rows(
         &mut rotations,
         &mut edges,
         &mut crossings,
+        hints,
         row,
         route,
         first,

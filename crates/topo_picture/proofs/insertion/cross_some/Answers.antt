@@ -2,7 +2,7 @@ use Rattle.std.proofs.Common.{◌+◌, ◌∙◌, ap, arith, length, subst, sym,
 use Rattle.std.specs.Prelude.{map}
 use Rattle.std.proofs.lemmas.List.{take_all}
 use Rattle.topo_core.specs.declared.darts.Dart.{Dart}
-use Rattle.topo_picture.specs.Inserting.{IdsRise, crossed_by, crossed_path, repathed}
+use Rattle.topo_picture.specs.Inserting.{EdgesRise, crossed_by, crossed_path, repathed}
 use Rattle.topo_picture.proofs.CrossedRows.{crossed_by_none, crossed_rise, one_more, when_err, when_ok}
 use Rattle.topo_picture.proofs.insertion.cross_some.Goals as goal
 
@@ -10,7 +10,7 @@ pub loop-i-init : goal.loop-i-init
 loop-i-init c = sym (crossed_by_none c.args.first c.args.edges.now)
 
 pub cross_edge-requires : goal.cross_edge-requires
-cross_edge-requires c = subst IdsRise (sym c.loop-i.invariant) (crossed_rise c.args.first (take c.loop-i.i c.args.darts.now) c.args.edges.now c.requires.rise)
+cross_edge-requires c = subst EdgesRise (sym c.loop-i.invariant) (crossed_rise c.args.first (take c.loop-i.i c.args.darts.now) c.args.edges.now c.requires.rise)
 
 pub returns-then-is_err-clause-crossed : goal.returns-then-is_err-clause-crossed
 returns-then-is_err-clause-crossed c = when_err c.cross_edge.result (sym c.if-is_err.ensures.value) c.cross_edge.ensures.err ∙ c.loop-i.invariant

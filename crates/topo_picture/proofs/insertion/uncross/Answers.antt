@@ -1,6 +1,6 @@
 use Rattle.std.proofs.Common.{◌≡◌, ◌-◌, ◌+◌, ◌∙◌, ap, arith, subst, sym, take}
 use Rattle.std.specs.Prelude.{filter, map, nat_lt}
-use Rattle.topo_picture.specs.Inserting.{IdsRise, crossed_by, repathed}
+use Rattle.topo_picture.specs.Inserting.{EdgesRise, crossed_by, repathed}
 use Rattle.topo_picture.proofs.CrossedRows.{crossed_by_none, one_less, still_rise}
 use Rattle.topo_picture.proofs.insertion.uncross.Goals as goal
 
@@ -14,7 +14,7 @@ loop-n-preserved c =
     let more : c.loop-n.n ≡ n + 1 = omega arith in
     record {
       within = omega arith;
-      rise = subst IdsRise (sym c.uncross_edge.ensures) (still_rise c.number.result (filter (λ x. nat_lt x (first + n))) edges c.loop-n.invariant.rise);
+      rise = subst EdgesRise (sym c.uncross_edge.ensures) (still_rise c.number.result (filter (λ x. nat_lt x (first + n))) edges c.loop-n.invariant.rise);
       crossed = λ was old is. one_less first n darts d was edges c.uncross_edge.new.edges (omega arith) old
           (c.loop-n.invariant.crossed was old is ∙ ap (λ m. map (crossed_by first (take m darts)) was) more)
           (c.uncross_edge.ensures
