@@ -79,7 +79,7 @@ bounded entries down (suc m) (suc n) zero a b = refl
 bounded entries down (suc m) (suc n) (suc i) a b =
     let below = (slice_index_or entries i no_entry).below in
     let low = down i in
-    ap (λ ds. (slice_index_or entries i no_entry).dart ∷ ds) (bounded entries down m n below (omega arith) (omega arith))
+    ap (λ ds. (slice_index_or entries i no_entry).item ∷ ds) (bounded entries down m n below (omega arith) (omega arith))
 
 -- an entry at the end changes no chain of the others
 appended : (entries : List Entry) (e : Entry) → GoesDown entries → (m h : ℕ) → h ≤ length entries → chain (entries ++ e ∷ []) m h ≡ chain entries m h
@@ -88,19 +88,19 @@ appended entries e down (suc m) zero l = refl
 appended entries e down (suc m) (suc i) l =
     let same : slice_index_or (entries ++ e ∷ []) i no_entry ≡ slice_index_or entries i no_entry = get_or-append entries (e ∷ []) no_entry i (omega arith) in
     let low = down i in
-    ap (λ x. x.dart ∷ chain (entries ++ e ∷ []) m x.below) same
-    ∙ ap (λ ds. (slice_index_or entries i no_entry).dart ∷ ds) (appended entries e down m (slice_index_or entries i no_entry).below (omega arith))
+    ap (λ x. x.item ∷ chain (entries ++ e ∷ []) m x.below) same
+    ∙ ap (λ ds. (slice_index_or entries i no_entry).item ∷ ds) (appended entries e down m (slice_index_or entries i no_entry).below (omega arith))
 
 -- the chain of a head
-pub unchained : (entries : List Entry) → GoesDown entries → (i : ℕ) → chained entries (suc i) ≡ (slice_index_or entries i no_entry).dart ∷ chained entries (slice_index_or entries i no_entry).below
+pub unchained : (entries : List Entry) → GoesDown entries → (i : ℕ) → chained entries (suc i) ≡ (slice_index_or entries i no_entry).item ∷ chained entries (slice_index_or entries i no_entry).below
 unchained entries down i =
     let below = (slice_index_or entries i no_entry).below in
     let low = down i in
-    ap (λ ds. (slice_index_or entries i no_entry).dart ∷ ds) (bounded entries down i below below low (omega arith))
+    ap (λ ds. (slice_index_or entries i no_entry).item ∷ ds) (bounded entries down i below below low (omega arith))
 
-module _ (entries : List Entry) (heads : List ℕ) (down : GoesDown entries) (stay : StaysBelow entries heads) (b dart below : ℕ) (is_below : below ≡ slice_index heads b) (within : b < length heads) where
+module _ (entries : List Entry) (heads : List ℕ) (down : GoesDown entries) (stay : StaysBelow entries heads) (b item below : ℕ) (is_below : below ≡ slice_index heads b) (within : b < length heads) where
   abbrev e : Entry
-  e = record { dart = dart; below = below }
+  e = record { item = item; below = below }
 
   abbrev longer : List Entry
   longer = entries ++ e ∷ []
@@ -131,17 +131,17 @@ module _ (entries : List Entry) (heads : List ℕ) (down : GoesDown entries) (st
       let low : h ≤ length entries = let bound = stay i in omega arith in
       appended entries e down h h low)
 
-  on_top : chained longer (length longer) ≡ dart ∷ chained longer (slice_index heads b)
+  on_top : chained longer (length longer) ≡ item ∷ chained longer (slice_index heads b)
   on_top =
       let long : length longer ≡ suc (length entries) = omega (arith, length-append entries (e ∷ [])) in
       let at = get_or-append_seam entries e [] no_entry in
-      ap (chained longer) long ∙ unchained longer down_longer (length entries) ∙ ap (λ x. x.dart ∷ chained longer x.below) at ∙ ap (λ k. dart ∷ chained longer k) is_below
+      ap (chained longer) long ∙ unchained longer down_longer (length entries) ∙ ap (λ x. x.item ∷ chained longer x.below) at ∙ ap (λ k. item ∷ chained longer k) is_below
 
-  pub pushed_waits : (k : ℕ) → is_waiting (all_chained longer (set heads b (length longer))) k ≡ (dart == k || is_waiting (all_chained entries heads) k)
-  pushed_waits k = waiting_more (chained longer) heads b dart k (length longer) 0 within on_top ∙ ap (λ ws. dart == k || is_waiting ws k) same_others
+  pub pushed_waits : (k : ℕ) → is_waiting (all_chained longer (set heads b (length longer))) k ≡ (item == k || is_waiting (all_chained entries heads) k)
+  pushed_waits k = waiting_more (chained longer) heads b item k (length longer) 0 within on_top ∙ ap (λ ws. item == k || is_waiting ws k) same_others
 
   pub pushed_length : length (all_chained longer (set heads b (length longer))) ≡ length (all_chained entries heads) + 1
-  pushed_length = more_length (chained longer) heads b dart (length longer) 0 within on_top ∙ ap (λ ws. length ws + 1) same_others
+  pushed_length = more_length (chained longer) heads b item (length longer) 0 within on_top ∙ ap (λ ws. length ws + 1) same_others
 
 -- nothing in any chain
 pub all_empty : (entries : List Entry) (heads : List ℕ) → ((i : ℕ) → i < length heads → slice_index heads i ≡ 0) → all_chained entries heads ≡ []
@@ -159,16 +159,16 @@ all_zero n b = elim (cases_lt b n) [
 ]
 
 -- an entry is taken from the top of a chain
-module _ (entries : List Entry) (heads whole : List ℕ) (down : GoesDown entries) (b dart below : ℕ) (within : b < length heads) (some : 0 < slice_index heads b)
-    (is : dart ≡ (slice_index_or entries (slice_index heads b - 1) no_entry).dart) (is_below : below ≡ (slice_index_or entries (slice_index heads b - 1) no_entry).below) (same : all_chained entries heads ≡ whole) where
-  top : chained entries (slice_index heads b) ≡ dart ∷ chained entries below
+module _ (entries : List Entry) (heads whole : List ℕ) (down : GoesDown entries) (b item below : ℕ) (within : b < length heads) (some : 0 < slice_index heads b)
+    (is : item ≡ (slice_index_or entries (slice_index heads b - 1) no_entry).item) (is_below : below ≡ (slice_index_or entries (slice_index heads b - 1) no_entry).below) (same : all_chained entries heads ≡ whole) where
+  top : chained entries (slice_index heads b) ≡ item ∷ chained entries below
   top =
       let i = slice_index heads b - 1 in
       let next : slice_index heads b ≡ suc i = omega arith in
-      ap (chained entries) next ∙ unchained entries down i ∙ ap (λ d. d ∷ chained entries (slice_index_or entries i no_entry).below) (sym is) ∙ ap (λ k. dart ∷ chained entries k) (sym is_below)
+      ap (chained entries) next ∙ unchained entries down i ∙ ap (λ d. d ∷ chained entries (slice_index_or entries i no_entry).below) (sym is) ∙ ap (λ k. item ∷ chained entries k) (sym is_below)
 
-  pub popped_waits : (k : ℕ) → is_waiting whole k ≡ (dart == k || is_waiting (all_chained entries (set heads b below)) k)
-  popped_waits k = ap (λ ws. is_waiting ws k) (sym same) ∙ waiting_less (chained entries) heads b dart k below 0 within top
+  pub popped_waits : (k : ℕ) → is_waiting whole k ≡ (item == k || is_waiting (all_chained entries (set heads b below)) k)
+  popped_waits k = ap (λ ws. is_waiting ws k) (sym same) ∙ waiting_less (chained entries) heads b item k below 0 within top
 
   pub popped_length : length (all_chained entries (set heads b below)) + 1 ≡ length whole
-  popped_length = less_length (chained entries) heads b dart below 0 within top ∙ ap length same
+  popped_length = less_length (chained entries) heads b item below 0 within top ∙ ap length same

@@ -1,5 +1,5 @@
 -- A dart in hand is crossed backwards, and lowers its twin.
-use Rattle.std.proofs.Common.{◌≡◌, ℕ, ◌+◌, ◌*◌, ◌<◌, ◌≤◌, ◌||◌, ◌==◌, ◌∙◌, List, length, arith, ap, sym, subst}
+use Rattle.std.proofs.Common.{◌≡◌, ℕ, ◌+◌, ◌*◌, ◌^◌, ◌<◌, ◌≤◌, ◌||◌, ◌==◌, ◌∙◌, List, length, arith, ap, sym, subst}
 use Rattle.std.specs.Prelude.{min, slice_index}
 use Rattle.std.proofs.Math.ListN.{set}
 use Rattle.topo_core.specs.declared.rows.Rows.{Rows}
@@ -9,7 +9,7 @@ use Rattle.topo_core.specs.Rotations.{twin}
 use Rattle.topo_core.specs.Routes.{KeepsPromise, Price, Pricing, Reaches}
 use Rattle.topo_core.proofs.Certificates.{single_price}
 use Rattle.topo_route.specs.Numbers.{dart_of}
-use Rattle.topo_route.specs.Settling.{IsCrossed, IsReached, Spreads, is_waiting, reached}
+use Rattle.topo_route.specs.Settling.{IsCrossed, IsReached, Spreads, is_waiting, item_of, reached}
 use Rattle.topo_route.proofs.Numbers.{twin_other}
 use Rattle.topo_route.proofs.Reaching.{reaches_twin}
 use Rattle.topo_route.proofs.Settled.{lowered_there, lowered_other, lowered_waits}
@@ -30,8 +30,8 @@ module _ (price : Pricing) (rows : Rows) (lawful : Lawful rows) (v bound : ℕ) 
   near = omega (arith, promise.at_most asked.facts p asked.asked, spreads.costs.bounded d in_hand.0 in_hand.1)
 
   -- the twin waits
-  pub twin_waits : (after : List ℕ) → ((k : ℕ) → is_waiting after k ≡ (other == k || is_waiting waiting k)) → Spreads price rows v bound (set heights other x) after d
-  twin_waits after = lowered_waits price rows v heights spreads.costs other x there (omega arith) walk near bound waiting after d spreads
+  pub twin_waits : (after : List ℕ) → other < 2 ^ 32 → ((i : ℕ) → is_waiting after i ≡ (item_of other x == i || is_waiting waiting i)) → Spreads price rows v bound (set heights other x) after d
+  twin_waits after short = lowered_waits price rows v heights spreads.costs other x there (omega arith) walk near bound waiting after d short spreads
 
   pub is_crossed : IsCrossed price rows bound (set heights other x) d
   is_crossed q priced =

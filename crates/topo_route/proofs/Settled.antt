@@ -1,5 +1,5 @@
 -- How heights spread, on numbers of darts.
-use Rattle.std.proofs.Common.{◌≡◌, ◌≢◌, ℕ, ◌+◌, ◌*◌, ◌<◌, ◌≤◌, ◌||◌, ◌==◌, Bool, true, false, cond, List, [], length, Some, inl, inr, refl, sym, ap, subst, ◌∙◌, arith, get_or-set_same, get_or-set_other}
+use Rattle.std.proofs.Common.{◌≡◌, ◌≢◌, ℕ, ◌+◌, ◌*◌, ◌^◌, ◌<◌, ◌≤◌, ◌||◌, ◌==◌, Bool, true, false, cond, List, [], length, Some, inl, inr, refl, sym, ap, subst, ◌∙◌, arith, get_or-set_same, get_or-set_other}
 use Rattle.std.specs.Prelude.{◌⊎◌, slice_index, sum_by}
 use Rattle.std.proofs.Math.ListN.{set}
 use Rattle.std.proofs.lemmas.Bool.{cases_eq, cases_lt, eqb-true, eq-eqb, ne_eqb, false≢true}
@@ -15,7 +15,7 @@ use Rattle.topo_core.specs.Routes.{Pricing, Reaches, unreached}
 use Rattle.topo_route.specs.Numbers.{dart_of, next_of}
 use Rattle.topo_route.specs.Plans.{MeetsTarget, height_in}
 use Rattle.topo_route.proofs.Tests.{before_some, height_at}
-use Rattle.topo_route.specs.Settling.{AreCosts, AreLowered, IsCrossed, IsSettled, Spreads, effort, is_waiting, reached}
+use Rattle.topo_route.specs.Settling.{AreCosts, AreLowered, IsCrossed, IsReached, IsSettled, Spreads, dart_of_item, effort, is_pending, is_waiting, item_of, reached}
 
 abbrev pub counts : ℕ → ℕ
 counts h = cond {A = ℕ} (h == unreached) 0 1
@@ -33,6 +33,30 @@ either_false false b e = (refl, e)
 either_true : (a b : Bool) → (a || b) ≡ true → (a ≡ true) ⊎ (b ≡ true)
 either_true true b e = inl refl
 either_true false b e = inr e
+
+-- ---- Items
+
+-- an item is that of its dart
+pub dart_of_own : (d h : ℕ) → d < 2 ^ 32 → dart_of_item (item_of d h) ≡ d
+dart_of_own d h short = omega arith
+
+module _ (heights waiting after : List ℕ) (item : ℕ) (taken : (i : ℕ) → is_waiting waiting i ≡ (item == i || is_waiting after i)) where
+  -- with an item goes no other
+  others_stay : (i : ℕ) → item ≢ i → is_waiting after i ≡ is_waiting waiting i
+  others_stay i ne = sym (taken i ∙ ap (λ (b : Bool). b || is_waiting after i) (ne_eqb item i ne))
+
+  pub taken_fewer : (i : ℕ) → is_waiting after i ≡ true → is_waiting waiting i ≡ true
+  taken_fewer i waits = taken i ∙ ap (λ (b : Bool). item == i || b) waits ∙ or-true (item == i)
+
+  -- with an item goes no other dart
+  pub fresh_taken : (k : ℕ) → k < 2 ^ 32 → k ≢ dart_of_item item → is_pending heights after k ≡ is_pending heights waiting k
+  fresh_taken k short ne = others_stay (item_of k (slice_index heights k)) (λ e. ne (sym (ap dart_of_item e ∙ dart_of_own k (slice_index heights k) short)))
+
+  -- and none at all with an item of another height
+  pub stale_taken : item_of (dart_of_item item) (slice_index heights (dart_of_item item)) ≢ item → (k : ℕ) → k < 2 ^ 32 → is_pending heights after k ≡ is_pending heights waiting k
+  stale_taken stale k short = others_stay (item_of k (slice_index heights k)) (λ e.
+      let same : dart_of_item item ≡ k = ap dart_of_item e ∙ dart_of_own k (slice_index heights k) short in
+      stale (ap (λ j. item_of j (slice_index heights j)) same ∙ sym e))
 
 -- ---- One height lowered
 
@@ -114,22 +138,24 @@ module _ (price : Pricing) (rows : Rows) (v : ℕ) (heights : List ℕ) (costs :
       )
 
   -- t is lowered and waits
-  pub lowered_waits : (bound : ℕ) (waiting after : List ℕ) (in_hand : ℕ) → Spreads price rows v bound heights waiting in_hand
-      → ((k : ℕ) → is_waiting after k ≡ (t == k || is_waiting waiting k)) → Spreads price rows v bound (set heights t x) after in_hand
-  lowered_waits bound waiting after in_hand spreads added = record {
+  pub lowered_waits : (bound : ℕ) (waiting after : List ℕ) (in_hand : ℕ) → t < 2 ^ 32 → Spreads price rows v bound heights waiting in_hand
+      → ((i : ℕ) → is_waiting after i ≡ (item_of t x == i || is_waiting waiting i)) → Spreads price rows v bound (set heights t x) after in_hand
+  lowered_waits bound waiting after in_hand short spreads added = record {
     costs = lowered_costs;
     others = λ k l ne less idle.
-        let both = either_false (t == k) (is_waiting waiting k) (sym (added k) ∙ idle) in
-        let apart : k ≢ t = λ e. false≢true (sym both.0 ∙ eq-eqb t k (sym e)) in
+        let item = item_of k (slice_index (set heights t x) k) in
+        let both = either_false (item_of t x == item) (is_waiting waiting item) (sym (added item) ∙ idle) in
+        let own : k ≡ t → item ≡ item_of t x = λ e. ap (λ j. item_of j (slice_index (set heights t x) j)) e ∙ ap (item_of t) (lowered_there heights t x inside) in
+        let apart : k ≢ t = λ e. false≢true (sym both.0 ∙ eq-eqb (item_of t x) item (sym (own e))) in
         let same = lowered_other heights t x inside k apart in
-        lowered_settled bound k apart (spreads.others k l ne (omega arith) both.1);
-    reached_waits = λ k waits. elim (either_true (t == k) (is_waiting waiting k) (sym (added k) ∙ waits)) [
+        lowered_settled bound k apart (spreads.others k l ne (omega arith) (ap (λ h. is_waiting waiting (item_of k h)) (sym same) ∙ both.1));
+    reached_waits = λ item waits. elim (either_true (item_of t x == item) (is_waiting waiting item) (sym (added item) ∙ waits)) [
       | inl here ↦
-          let is : t ≡ k = eqb-true t k here in (
+          let is : t ≡ dart_of_item item = sym (dart_of_own t x short) ∙ ap dart_of_item (eqb-true (item_of t x) item here) in (
             subst (λ j. j < length (darts rows)) is there,
             subst (λ j. slice_index (set heights t x) j ≢ unreached) is (λ e. some (sym (lowered_there heights t x inside) ∙ e)),
           )
-      | inr before ↦ let was = spreads.reached_waits k before in (was.0, lowered_stays k was.1)
+      | inr before ↦ let was = spreads.reached_waits item before in (was.0, lowered_stays (dart_of_item item) was.1)
     ];
   }
 
@@ -157,9 +183,9 @@ passed_on price rows v bound heights waiting d t spreads is there low crossed wa
             )
         | inr other ↦
             let same = lowered_other heights t x within k ne in
-            lowered_settled price rows v heights costs t x there low walk near' bound k ne (spreads.others k l other (omega arith) idle)
+            lowered_settled price rows v heights costs t x there low walk near' bound k ne (spreads.others k l other (omega arith) (ap (λ h. is_waiting waiting (item_of k h)) (sym same) ∙ idle))
       ];
-      reached_waits = λ k waits. let was = spreads.reached_waits k waits in (was.0, lowered_stays price rows v heights costs t x there low walk near' k was.1);
+      reached_waits = λ item waits. let was = spreads.reached_waits item waits in (was.0, lowered_stays price rows v heights costs t x there low walk near' (dart_of_item item) was.1);
     }
 
 -- the dart in hand is settled
@@ -198,22 +224,29 @@ narrowed price rows v bound lower heights waiting in_hand spreads low = record {
 }
 
 -- a dart is taken from those that wait
-pub taken_up : (price : Pricing) (rows : Rows) (v bound : ℕ) (heights waiting after : List ℕ) (d : ℕ) → Spreads price rows v bound heights waiting (length (darts rows))
-    → ((k : ℕ) → is_waiting waiting k ≡ (d == k || is_waiting after k)) → Spreads price rows v bound heights after d
-taken_up price rows v bound heights waiting after d spreads taken = record {
+pub taken_up : (price : Pricing) (rows : Rows) (v bound : ℕ) (heights waiting after : List ℕ) (d : ℕ) → length (darts rows) < 2 ^ 32
+    → Spreads price rows v bound heights waiting (length (darts rows)) → ((k : ℕ) → k < 2 ^ 32 → k ≢ d → is_pending heights after k ≡ is_pending heights waiting k)
+    → ((item : ℕ) → is_waiting after item ≡ true → is_waiting waiting item ≡ true) → Spreads price rows v bound heights after d
+taken_up price rows v bound heights waiting after d small spreads same fewer = record {
   costs = spreads.costs;
-  others = λ k l ne less idle. spreads.others k l (omega arith) less (taken k ∙ ap (λ (b : Bool). b || is_waiting after k) (ne_eqb d k (λ e. ne (sym e))) ∙ idle);
-  reached_waits = λ k waits. spreads.reached_waits k (taken k ∙ ap (λ (b : Bool). d == k || b) waits ∙ or-true (d == k));
+  others = λ k l ne less idle. spreads.others k l (omega arith) less (sym (same k (omega arith) ne) ∙ idle);
+  reached_waits = λ item waits. spreads.reached_waits item (fewer item waits);
 }
+
+-- and has been reached
+pub taken_reached : (price : Pricing) (rows : Rows) (v bound : ℕ) (heights waiting : List ℕ) (in_hand d : ℕ) → d < 2 ^ 32 → Spreads price rows v bound heights waiting in_hand
+    → is_pending heights waiting d ≡ true → IsReached rows heights d
+taken_reached price rows v bound heights waiting in_hand d short spreads pending =
+    subst (IsReached rows heights) (dart_of_own d (slice_index heights d) short) (spreads.reached_waits (item_of d (slice_index heights d)) pending)
 
 -- a corner of the target gets height 0 and waits
 module _ (price : Pricing) (rows : Rows) (lawful : Lawful rows) (v bound : ℕ) (heights waiting after : List ℕ) (in_hand i c : ℕ) (spreads : Spreads price rows v bound heights waiting in_hand)
     (there : c < length (darts rows)) (at : corner rows v i ≡ Some (dart_of rows c)) (high : 0 < slice_index heights c)
-    (added : (k : ℕ) → is_waiting after k ≡ (c == k || is_waiting waiting k)) where
+    (short : c < 2 ^ 32) (added : (i : ℕ) → is_waiting after i ≡ (item_of c 0 == i || is_waiting waiting i)) where
   pub started : Spreads price rows v bound (set heights c 0) after in_hand
   started =
       let walk : Reaches price rows v (dart_of rows c) 0 = record { crossed = []; position = i; to = dart_of rows c; ends = at; walk = record { steps = 0; leads = refl }; cost = refl } in
-      lowered_waits price rows v heights spreads.costs c 0 there high walk (omega arith) bound waiting after in_hand spreads added
+      lowered_waits price rows v heights spreads.costs c 0 there high walk (omega arith) bound waiting after in_hand short spreads added
 
   pub started_zero : ((p : ℕ) (d : Dart) → p < i → corner rows v p ≡ Some d → height_in rows heights d ≡ 0)
       → (p : ℕ) (d : Dart) → p < i + 1 → corner rows v p ≡ Some d → height_in rows (set heights c 0) d ≡ 0
@@ -223,10 +256,10 @@ module _ (price : Pricing) (rows : Rows) (lawful : Lawful rows) (v bound : ℕ) 
       (height_at rows lawful (set heights c 0) c there ∙ lowered_there heights c 0 within)
       (λ p d l here. let was = before p d l here in let less = lowered_less heights c 0 within (index_of rows d) (omega arith) in omega arith)
 
--- nothing waits, so all below the bound are settled
-pub all_settled : (price : Pricing) (rows : Rows) (v bound : ℕ) (heights waiting : List ℕ) → Spreads price rows v bound heights waiting (length (darts rows)) → waiting ≡ []
-    → (k : ℕ) → k < length (darts rows) → slice_index heights k < bound → IsSettled price rows bound heights k
-all_settled price rows v bound heights waiting spreads none k l less = spreads.others k l (omega arith) less (ap (λ w. is_waiting w k) none)
+-- none waits with its height, so all below the bound are settled
+pub all_settled : (price : Pricing) (rows : Rows) (v bound : ℕ) (heights waiting : List ℕ) → length (darts rows) < 2 ^ 32 → Spreads price rows v bound heights waiting (length (darts rows))
+    → ((k : ℕ) → k < 2 ^ 32 → is_pending heights waiting k ≡ false) → (k : ℕ) → k < length (darts rows) → slice_index heights k < bound → IsSettled price rows bound heights k
+all_settled price rows v bound heights waiting small spreads none k l less = spreads.others k l (omega arith) less (none k (omega arith))
 
 -- what is not reached is settled
 pub every_settled : (price : Pricing) (rows : Rows) (v : ℕ) (heights : List ℕ) → AreCosts price rows v heights

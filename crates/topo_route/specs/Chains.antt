@@ -3,15 +3,15 @@ use Rattle.std.specs.Prelude.{ℕ, zero, suc, ◌≤◌, List, [], ◌∷◌, le
 use Rattle.topo_route.specs.declared.waiting.Entry.{Entry}
 
 abbrev pub no_entry : Entry
-no_entry = record { dart = 0; below = 0 }
+no_entry = record { item = 0; below = 0 }
 
--- the darts of a chain of at most so many entries: entry i where its head is i + 1, and then the chain below it
+-- the items of a chain of at most so many entries: entry i where its head is i + 1, and then the chain below it
 abbrev pub chain : List Entry → ℕ → ℕ → List ℕ
 chain entries zero head = []
 chain entries (suc most) zero = []
-chain entries (suc most) (suc i) = (slice_index_or entries i no_entry).dart ∷ chain entries most (slice_index_or entries i no_entry).below
+chain entries (suc most) (suc i) = (slice_index_or entries i no_entry).item ∷ chain entries most (slice_index_or entries i no_entry).below
 
--- the darts of a whole chain
+-- the items of a whole chain
 abbrev pub chained : List Entry → ℕ → List ℕ
 chained entries head = chain entries head head
 

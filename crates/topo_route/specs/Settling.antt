@@ -1,5 +1,5 @@
 -- Heights while a search spreads them.
-use Rattle.std.specs.Prelude.{◌≡◌, ◌≢◌, ℕ, ◌+◌, ◌*◌, ◌/◌, ◌<◌, ◌≤◌, ◌==◌, Bool, true, false, cond, List, length, min, Option, None, slice_index, slice_index_or, sum_by}
+use Rattle.std.specs.Prelude.{◌≡◌, ◌≢◌, ℕ, ◌+◌, ◌*◌, ◌/◌, ◌%◌, ◌^◌, ◌<◌, ◌≤◌, ◌==◌, Bool, true, false, cond, List, length, min, Option, None, slice_index, slice_index_or, sum_by}
 use Rattle.std.specs.List.{list_any}
 use Rattle.topo_core.specs.declared.rows.Rows.{Rows}
 use Rattle.topo_core.specs.Picture.{darts}
@@ -27,6 +27,17 @@ pub record ArePrices (price : Pricing) (rows : Rows) (prices : List (Option ℕ)
 abbrev pub is_waiting : List ℕ → ℕ → Bool
 is_waiting waiting k = list_any (λ x. x == k) waiting
 
+-- what waits when a dart is given a height: the number of the dart, and the low half of the height above it
+abbrev pub item_of : ℕ → ℕ → ℕ
+item_of dart height = dart + 2 ^ 32 * (height % 2 ^ 32)
+
+abbrev pub dart_of_item : ℕ → ℕ
+dart_of_item item = item % 2 ^ 32
+
+-- the dart waits with the height that it has
+abbrev pub is_pending : List ℕ → List ℕ → ℕ → Bool
+is_pending heights waiting k = is_waiting waiting (item_of k (slice_index heights k))
+
 -- ---- Heights
 
 -- how many heights are less than the greatest number
@@ -48,15 +59,16 @@ IsCrossed price rows bound heights k = (p : ℕ) → Price price rows (dart_of r
 abbrev pub IsSettled : Pricing → Rows → ℕ → List ℕ → ℕ → Type 0
 IsSettled price rows bound heights k = (slice_index heights (next_of rows k) ≤ slice_index heights k) × IsCrossed price rows bound heights k
 
--- Heights are costs, and each dart lower than the bound, but the one in hand, is settled or waits.
-pub record Spreads (price : Pricing) (rows : Rows) (v bound : ℕ) (heights waiting : List ℕ) (in_hand : ℕ) : Type 0 where
-  pub costs : AreCosts price rows v heights
-  pub others : (k : ℕ) → k < length (darts rows) → k ≢ in_hand → slice_index heights k < bound → is_waiting waiting k ≡ false → IsSettled price rows bound heights k
-  pub reached_waits : (k : ℕ) → is_waiting waiting k ≡ true → (k < length (darts rows)) × (slice_index heights k ≢ unreached)
-
 -- a dart of the picture that has been reached
 abbrev pub IsReached : Rows → List ℕ → ℕ → Type 0
 IsReached rows heights k = (k < length (darts rows)) × (slice_index heights k ≢ unreached)
+
+-- Heights are costs, and each dart lower than the bound, but the one in hand, is settled or waits with
+-- its height. What waits is of darts that have been reached, and may be of a height from before.
+pub record Spreads (price : Pricing) (rows : Rows) (v bound : ℕ) (heights waiting : List ℕ) (in_hand : ℕ) : Type 0 where
+  pub costs : AreCosts price rows v heights
+  pub others : (k : ℕ) → k < length (darts rows) → k ≢ in_hand → slice_index heights k < bound → is_pending heights waiting k ≡ false → IsSettled price rows bound heights k
+  pub reached_waits : (item : ℕ) → is_waiting waiting item ≡ true → IsReached rows heights (dart_of_item item)
 
 -- no height is above what it was
 abbrev pub AreLowered : List ℕ → List ℕ → Type 0

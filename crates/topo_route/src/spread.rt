@@ -1,19 +1,19 @@
 //! Heights spread from the target over the picture.
 
-ghost use Rattle.std.specs.Prelude.{◌≡◌, ◌≢◌, ◌<◌, ◌≤◌, ℕ, IfOk, OnOk, length, slice_index};
+ghost use Rattle.std.specs.Prelude.{◌≡◌, ◌≢◌, ◌<◌, ◌≤◌, ◌^◌, ℕ, IfOk, IfSome, MatchOption, OnOk, false, length, slice_index, true};
 ghost use Rattle.topo_core.specs.Picture.{darts};
 ghost use Rattle.topo_price.specs.Prices.{prices_of};
 ghost use Rattle.topo_core.specs.Routes.{unreached};
 ghost use Rattle.topo_route.specs.Descents.{AreHeightsFor, HasCornerBelow};
 ghost use Rattle.topo_route.specs.Plans.{AreHeights, HasOneEach, MeetsTarget};
-ghost use Rattle.topo_route.specs.Settling.{AreLowered, ArePrices, IsCrossed, IsReached, Spreads, effort};
+ghost use Rattle.topo_route.specs.Settling.{AreLowered, ArePrices, IsCrossed, IsReached, Spreads, dart_of_item, effort, is_pending, is_waiting};
 
 use crate::descent::least_corner;
 use crate::dual::Dual;
 use crate::faces::{across, corner_at, next_along};
 use crate::graph::Graph;
 use crate::sheet::Sheet;
-use crate::waiting::Waiting;
+use crate::waiting::{Waiting, dart_of_item, item_of};
 use std::alloc::AllocError;
 use topo_price::tariff::Asks;
 
@@ -48,7 +48,7 @@ fn cross_back<D: Dual, F: Asks>(
             let price = price as u64;
             if height < high.saturating_sub(price) {
                 heights.set(other, height + price);
-                waiting.push(height + price, other)?;
+                waiting.push(height + price, item_of(other, height + price))?;
             }
             Ok(())
         }
@@ -78,8 +78,8 @@ fn spread_one<D: Dual, F: Asks>(
     }
     let mut at = dart;
     loop {
-        cross_back(graph, heights, waiting, v, bound, at)?;
         let next = next_along(graph.dual, at);
+        cross_back(graph, heights, waiting, v, bound, at)?;
         let height = heights.get(at);
         let there = heights.get(next);
         if there <= height {
@@ -88,6 +88,26 @@ fn spread_one<D: Dual, F: Asks>(
         heights.set(next, height);
         at = next;
     }
+}
+
+/// Takes out the next dart that waits with the height that it has. An item of another height is passed
+/// over: the dart was lowered since, and then a walk round its face spread its new height, or that
+/// waits too.
+fn next_pending(heights: &Sheet, waiting: &mut Waiting) -> Option<u32>
+    requires within { (item : ℕ) → is_waiting waiting.old item ≡ true → dart_of_item item < length heights.now }
+    ensures pending { IfSome result (λ dart. is_pending heights.now waiting.old dart ≡ true) }
+    ensures others { MatchOption result ((k : ℕ) → k < 2 ^ 32 → is_pending heights.now waiting.old k ≡ false)
+        (λ dart. (k : ℕ) → k < 2 ^ 32 → k ≢ dart → is_pending heights.now waiting.new k ≡ is_pending heights.now waiting.old k) }
+    ensures fewer { (item : ℕ) → is_waiting waiting.new item ≡ true → is_waiting waiting.old item ≡ true }
+    ensures len { IfSome result (λ _. length waiting.new < length waiting.old) }
+{
+    while let Some(item) = waiting.pop() {
+        let dart = dart_of_item(item);
+        if item_of(dart, heights.get(dart)) == item {
+            return Some(dart);
+        }
+    }
+    None
 }
 
 /// Spreads the heights of all that wait.
@@ -104,10 +124,10 @@ fn spread_all<D: Dual, F: Asks>(
     ensures are_heights { IfOk result (λ _. AreHeights (prices_of (F.answers graph.now.tariff.now)) (D.shows graph.now.dual.now) v heights.new) }
     ensures in_range { IfOk result (λ _. (k : ℕ) → slice_index heights.new k ≤ unreached) }
 {
-    while let Some(dart) = waiting.pop() {
+    let _darts = graph.dual.len();
+    while let Some(dart) = next_pending(heights, waiting) {
         spread_one(graph, heights, waiting, v, u64::MAX, dart)?;
     }
-    let _darts = graph.dual.len();
     Ok(())
 }
 
@@ -135,9 +155,10 @@ fn spread_up_to<D: Dual, F: Asks>(
     requires some { 0 < length (darts (D.shows graph.now.dual.now)) }
     ensures { IfOk result (λ _. AreHeightsFor (prices_of (F.answers graph.now.tariff.now)) (D.shows graph.now.dual.now) u v heights.new) }
 {
+    let _darts = graph.dual.len();
     let mut bound = u64::MAX;
     let mut steps = 0;
-    while let Some(dart) = waiting.pop() {
+    while let Some(dart) = next_pending(heights, waiting) {
         spread_one(graph, heights, waiting, v, bound, dart)?;
         if steps == 0 {
             bound = bound.min(bound_at(graph.dual, u, heights));
@@ -146,7 +167,6 @@ fn spread_up_to<D: Dual, F: Asks>(
             steps -= 1;
         }
     }
-    let _darts = graph.dual.len();
     Ok(())
 }
 
@@ -165,7 +185,7 @@ fn start_at<D: Dual, F: Asks>(
         if let Some(corner) = corner_at(graph.dual, v, position) {
             if heights.get(corner) > 0 {
                 heights.set(corner, 0);
-                waiting.push(0, corner)?;
+                waiting.push(0, item_of(corner, 0))?;
             }
         }
     }

@@ -1,7 +1,7 @@
-//! The darts that wait to spread their heights.
+//! The items that wait: darts that spread the heights that were written for them.
 
 ghost use Rattle.std.specs.Prelude.{◌≡◌, ℕ, ◌+◌, ◌<◌, ◌≤◌, ◌==◌, ◌||◌, MatchOption, IfOk, length, [], slice_index};
-ghost use Rattle.topo_route.specs.Settling.{is_waiting};
+ghost use Rattle.topo_route.specs.Settling.{dart_of_item, is_waiting, item_of};
 
 use std::alloc::{AllocError, Global};
 use std::marker::Model;
@@ -9,16 +9,19 @@ use std::marker::Model;
 /// No price is above 1000, so the heights of those that wait are less than this number apart.
 const BUCKETS: usize = 1001;
 
-/// A dart that waits, or has waited, and what lies below it in its bucket: one more than the place
+/// How many numbers half an item holds.
+const HALF: u64 = 1 << 32;
+
+/// An item that waits, or has waited, and what lies below it in its bucket: one more than the place
 /// of an earlier entry, and 0 where there is none.
 #[derive(Clone, Copy, Drop)]
 pub(crate) struct Entry {
-    dart: u32,
+    item: u64,
     below: usize,
 }
 
-/// Darts in buckets by their heights modulo 1001, the least heights first. Contracts see the list of
-/// the darts: which of them comes out first is speed alone. A bucket is a chain of entries, from one
+/// Items in buckets by their heights modulo 1001, the least heights first. Contracts see the list of
+/// the items: which of them comes out first is speed alone. A bucket is a chain of entries, from one
 /// more than the place of its last one down; entries are put at the end and never moved.
 #[derive(Drop)]
 pub(crate) struct Waiting {
@@ -62,21 +65,21 @@ impl Waiting {
         self.first = 0;
     }
 
-    /// Lets a dart of this height wait.
-    pub(crate) fn push(&mut self, height: u64, dart: u32) -> Result<(), AllocError>
-        ensures waits { IfOk result (λ _. (k : ℕ) → is_waiting self.new k ≡ (dart == k || is_waiting self.old k)) }
+    /// Lets an item of this height wait.
+    pub(crate) fn push(&mut self, height: u64, item: u64) -> Result<(), AllocError>
+        ensures waits { IfOk result (λ _. (k : ℕ) → is_waiting self.new k ≡ (item == k || is_waiting self.old k)) }
         ensures len { IfOk result (λ _. length self.new ≡ length self.old + 1) }
     {
         let bucket = (height % BUCKETS as u64) as usize;
         let below = self.heads[bucket];
-        self.entries.push(Entry { dart, below })?;
+        self.entries.push(Entry { item, below })?;
         self.heads[bucket] = self.entries.len();
         Ok(())
     }
 
     /// Takes out one that waits, the least first.
-    pub(crate) fn pop(&mut self) -> Option<u32>
-        ensures waits { MatchOption result (self.old ≡ []) (λ dart. (k : ℕ) → is_waiting self.old k ≡ (dart == k || is_waiting self.new k)) }
+    pub(crate) fn pop(&mut self) -> Option<u64>
+        ensures waits { MatchOption result (self.old ≡ []) (λ item. (k : ℕ) → is_waiting self.old k ≡ (item == k || is_waiting self.new k)) }
         ensures len { MatchOption result (self.new ≡ []) (λ _. length self.new + 1 ≡ length self.old) }
     {
         match full_bucket(self.heads.as_slice(), self.first) {
@@ -84,7 +87,7 @@ impl Waiting {
                 let entry = self.entries[self.heads[bucket] - 1];
                 self.first = bucket;
                 self.heads[bucket] = entry.below;
-                Some(entry.dart)
+                Some(entry.item)
             }
             None => None,
         }
@@ -115,4 +118,19 @@ fn full_between(heads: &[usize], from: usize, to: usize) -> Option<usize>
         }
     }
     None
+}
+
+/// What waits when a dart is given a height: the dart, and the low half of the height above it. Who
+/// takes it out sees by it whether the dart has been given another height since.
+pub(crate) fn item_of(dart: u32, height: u64) -> u64
+    ensures { result ≡ item_of dart height }
+{
+    dart as u64 + HALF * (height % HALF)
+}
+
+/// The dart of an item.
+pub(crate) fn dart_of_item(item: u64) -> u32
+    ensures { result ≡ dart_of_item item }
+{
+    (item % HALF) as u32
 }

@@ -1,21 +1,30 @@
-use Rattle.std.proofs.Common.{◌<◌, ◌^◌, ◌∙◌, ◌||◌, Bool, arith, ap, length, eq-eqb, refl}
+use Rattle.std.proofs.Common.{◌<◌, ◌^◌, arith, length}
 use Rattle.topo_core.specs.Picture.{darts}
 use Rattle.topo_core.specs.Routes.{unreached}
 use Rattle.topo_price.specs.Prices.{prices_of}
-use Rattle.topo_route.specs.Settling.{is_waiting}
 use Rattle.topo_route.proofs.Reaching.{are_heights}
-use Rattle.topo_route.proofs.Settled.{all_settled, every_settled, taken_up}
+use Rattle.topo_route.proofs.Settled.{all_settled, every_settled, meets_lower, taken_reached, taken_up}
 use Rattle.topo_route.proofs.spread.spread_all.Goals as goal
 
 pub spread_one-requires-clause-spreads : goal.spread_one-requires-clause-spreads
 spread_one-requires-clause-spreads g c =
-    taken_up (prices_of (g.F.Asks.answers c.args.graph.now.tariff.now)) (g.D.Dual.shows c.args.graph.now.dual.now) c.args.v unreached c.loop-dart.heights c.loop-dart.waiting c.pop.new.self c.in-Some.dart
-    c.loop-dart.invariant.spreads c.in-Some.ensures.waits
+    let rows = g.D.Dual.shows c.args.graph.now.dual.now in
+    let small : length (darts rows) < 2 ^ 32 = omega (arith, c.len-darts.ensures, c.len-darts.type_inv) in
+    taken_up (prices_of (g.F.Asks.answers c.args.graph.now.tariff.now)) rows c.args.v unreached c.loop-dart.heights c.loop-dart.waiting c.next_pending.new.waiting c.in-Some.dart small
+    c.loop-dart.invariant.spreads c.in-Some.ensures.others c.in-Some.ensures.fewer
 
 pub spread_one-requires-clause-in_hand : goal.spread_one-requires-clause-in_hand
 spread_one-requires-clause-in_hand g c =
-    let d = c.in-Some.dart in
-    c.loop-dart.invariant.spreads.reached_waits d (c.in-Some.ensures.waits d ∙ ap (λ (b : Bool). b || is_waiting c.pop.new.self d) (eq-eqb d d refl))
+    let rows = g.D.Dual.shows c.args.graph.now.dual.now in
+    let short : c.in-Some.dart < 2 ^ 32 = omega arith in
+    taken_reached (prices_of (g.F.Asks.answers c.args.graph.now.tariff.now)) rows c.args.v unreached c.loop-dart.heights c.loop-dart.waiting (length (darts rows)) c.in-Some.dart short
+    c.loop-dart.invariant.spreads c.in-Some.ensures.pending
+
+pub loop-dart-preserved : goal.loop-dart-preserved
+loop-dart-preserved g c = record {
+  spreads = c.in_ok-spread_one.ensures.spreads;
+  target = meets_lower (g.D.Dual.shows c.args.graph.now.dual.now) c.args.v c.loop-dart.heights c.spread_one.new.heights c.in_ok-spread_one.ensures.lower c.loop-dart.invariant.target;
+}
 
 pub returns-clause-are_heights : goal.returns-clause-are_heights
 returns-clause-are_heights g c =
@@ -24,7 +33,7 @@ returns-clause-are_heights g c =
     let small : length (darts rows) < 2 ^ 32 = omega (arith, c.len-darts.ensures, c.len-darts.type_inv) in
     let costs = c.loop-dart.invariant.spreads.costs in
     are_heights price rows (g.met.D.Dual.lawful c.args.graph.now.dual.now) c.args.v unreached c.loop-dart.heights costs.capped c.loop-dart.invariant.target
-    (every_settled price rows c.args.v c.loop-dart.heights costs (all_settled price rows c.args.v unreached c.loop-dart.heights c.loop-dart.waiting c.loop-dart.invariant.spreads c.in_default.ensures.waits))
+    (every_settled price rows c.args.v c.loop-dart.heights costs (all_settled price rows c.args.v unreached c.loop-dart.heights c.loop-dart.waiting small c.loop-dart.invariant.spreads c.in_default.ensures.others))
     (c.requires.right.promise c.requires.some) costs small
 
 pub returns-clause-in_range : goal.returns-clause-in_range

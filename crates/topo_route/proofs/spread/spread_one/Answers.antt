@@ -13,29 +13,29 @@ pub returns-then-there-height-clause-spreads : goal.returns-then-there-height-cl
 returns-then-there-height-clause-spreads g c =
     let rows = g.D.Dual.shows c.args.graph.now.dual.now in
     let hs = c.cross_back.new.heights in
-    let step : get_or hs c.next_along-next.result 0 ≡ get_or hs (next_of rows c.loop-next.at) 0 = ap (λ k. get_or hs k 0) c.next_along-next.ensures.next in
-    put_down (prices_of (g.F.Asks.answers c.args.graph.now.tariff.now)) rows c.args.v c.args.bound hs c.cross_back.new.waiting c.loop-next.at c.in_ok-cross_back.ensures.spreads
+    let step : get_or hs c.next_along-next.result 0 ≡ get_or hs (next_of rows c.loop-heights.at) 0 = ap (λ k. get_or hs k 0) c.next_along-next.ensures.next in
+    put_down (prices_of (g.F.Asks.answers c.args.graph.now.tariff.now)) rows c.args.v c.args.bound hs c.cross_back.new.waiting c.loop-heights.at c.in_ok-cross_back.ensures.spreads
     (omega arith, c.in_ok-cross_back.ensures.crossed)
 
 pub returns-then-there-height-clause-lower : goal.returns-then-there-height-clause-lower
-returns-then-there-height-clause-lower g c k = omega (arith, c.in_ok-cross_back.ensures.lower k, c.loop-next.invariant.lower k)
+returns-then-there-height-clause-lower g c k = omega (arith, c.in_ok-cross_back.ensures.lower k, c.loop-heights.invariant.lower k)
 
 pub returns-then-get-bound-clause-spreads : goal.returns-then-get-bound-clause-spreads
 returns-then-get-bound-clause-spreads g c =
     put_aside (prices_of (g.F.Asks.answers c.args.graph.now.tariff.now)) (g.D.Dual.shows c.args.graph.now.dual.now) c.args.v c.args.bound c.args.heights.now c.args.waiting.now c.args.dart c.requires.spreads
     (omega (arith, c.if-get-bound.true, c.get.ensures))
 
-pub loop-next-preserved : goal.loop-next-preserved
-loop-next-preserved g c =
+pub loop-heights-preserved : goal.loop-heights-preserved
+loop-heights-preserved g c =
     let rows = g.D.Dual.shows c.args.graph.now.dual.now in
     let lawful = g.met.D.Dual.lawful c.args.graph.now.dual.now in
     let price = prices_of (g.F.Asks.answers c.args.graph.now.tariff.now) in
     let hs = c.cross_back.new.heights in
-    let d = c.loop-next.at in
+    let d = c.loop-heights.at in
     let t = c.next_along-next.result in
     let spreads = c.in_ok-cross_back.ensures.spreads in
-    let here = c.loop-next.invariant.in_hand.0 in
-    let some : slice_index hs d ≢ unreached = λ e. c.loop-next.invariant.in_hand.1 (sym c.in_ok-cross_back.ensures.same ∙ e) in
+    let here = c.loop-heights.invariant.in_hand.0 in
+    let some : slice_index hs d ≢ unreached = λ e. c.loop-heights.invariant.in_hand.1 (sym c.in_ok-cross_back.ensures.same ∙ e) in
     let there = c.next_along-next.ensures.within in
     let within : t < length hs = omega (arith, spreads.costs.one_each) in
     let walk = subst (λ k. Reaches price rows c.args.v (dart_of rows k) (slice_index hs d)) (sym c.next_along-next.ensures.next)
@@ -47,10 +47,10 @@ loop-next-preserved g c =
     record {
       spreads = subst (λ (xs : List ℕ). Spreads price rows c.args.v c.args.bound xs c.cross_back.new.waiting t) (sym is) (passed_on price rows c.args.v c.args.bound hs c.cross_back.new.waiting d t spreads c.next_along-next.ensures.next there lower_there c.in_ok-cross_back.ensures.crossed walk (spreads.costs.bounded d here some));
       in_hand = (there, λ e. some (sym (lowered_there hs t (slice_index hs d) within) ∙ sym (ap (λ (xs : List ℕ). slice_index xs t) is) ∙ e));
-      falls = omega (arith, c.in_ok-cross_back.ensures.falls, c.loop-next.invariant.falls);
+      falls = omega (arith, c.in_ok-cross_back.ensures.falls, c.loop-heights.invariant.falls);
       lower = λ k.
           let was = c.in_ok-cross_back.ensures.lower k in
           let low = lowered_less hs t (slice_index hs d) within k (omega arith) in
           let same = ap (λ (xs : List ℕ). slice_index xs k) is in
-          omega (arith, c.loop-next.invariant.lower k);
+          omega (arith, c.loop-heights.invariant.lower k);
     }

@@ -1,23 +1,27 @@
-use Rattle.std.proofs.Common.{subst, ◌<◌, ◌^◌, ◌∙◌, ◌||◌, Bool, arith, ap, length, eq-eqb, inl, inr, refl}
+use Rattle.std.proofs.Common.{subst, ◌<◌, ◌^◌, arith, length, inl, inr}
 use Rattle.std.proofs.lemmas.Bool.{cases_eq}
 use Rattle.topo_core.specs.Picture.{darts}
 use Rattle.topo_core.specs.Routes.{unreached}
 use Rattle.topo_price.specs.Prices.{prices_of}
-use Rattle.topo_route.specs.Settling.{IsSettled, is_waiting}
+use Rattle.topo_route.specs.Settling.{IsSettled}
 use Rattle.topo_route.proofs.Known.{corner_least, corner_lower, for_all, for_some, known_below}
 use Rattle.topo_route.proofs.Reaching.{are_heights}
-use Rattle.topo_route.proofs.Settled.{all_settled, every_settled, meets_lower, narrowed, taken_up}
+use Rattle.topo_route.proofs.Settled.{all_settled, every_settled, meets_lower, narrowed, taken_reached, taken_up}
 use Rattle.topo_route.proofs.spread.spread_up_to.Goals as goal
 
 pub spread_one-requires-clause-spreads : goal.spread_one-requires-clause-spreads
 spread_one-requires-clause-spreads g c =
-    taken_up (prices_of (g.F.Asks.answers c.args.graph.now.tariff.now)) (g.D.Dual.shows c.args.graph.now.dual.now) c.args.v c.loop-dart.bound c.loop-dart.heights c.loop-dart.waiting c.pop.new.self c.in-Some.dart
-    c.loop-dart.invariant.spreads c.in-Some.ensures.waits
+    let rows = g.D.Dual.shows c.args.graph.now.dual.now in
+    let small : length (darts rows) < 2 ^ 32 = omega (arith, c.len-darts.ensures, c.len-darts.type_inv) in
+    taken_up (prices_of (g.F.Asks.answers c.args.graph.now.tariff.now)) rows c.args.v c.loop-dart.bound c.loop-dart.heights c.loop-dart.waiting c.next_pending.new.waiting c.in-Some.dart small
+    c.loop-dart.invariant.spreads c.in-Some.ensures.others c.in-Some.ensures.fewer
 
 pub spread_one-requires-clause-in_hand : goal.spread_one-requires-clause-in_hand
 spread_one-requires-clause-in_hand g c =
-    let d = c.in-Some.dart in
-    c.loop-dart.invariant.spreads.reached_waits d (c.in-Some.ensures.waits d ∙ ap (λ (b : Bool). b || is_waiting c.pop.new.self d) (eq-eqb d d refl))
+    let rows = g.D.Dual.shows c.args.graph.now.dual.now in
+    let short : c.in-Some.dart < 2 ^ 32 = omega arith in
+    taken_reached (prices_of (g.F.Asks.answers c.args.graph.now.tariff.now)) rows c.args.v c.loop-dart.bound c.loop-dart.heights c.loop-dart.waiting (length (darts rows)) c.in-Some.dart short
+    c.loop-dart.invariant.spreads c.in-Some.ensures.pending
 
 pub loop-dart-preserved-then-steps-eq0 : goal.loop-dart-preserved-then-steps-eq0
 loop-dart-preserved-then-steps-eq0 g c =
@@ -32,6 +36,17 @@ loop-dart-preserved-then-steps-eq0 g c =
       corner = corner_least rows c.args.u heights c.loop-dart.bound c.bound_at.result c.min-bound.result (omega arith) (λ some. corner_lower rows c.args.u c.loop-dart.heights heights c.loop-dart.bound lower (c.loop-dart.invariant.corner some)) c.bound_at.ensures;
     }
 
+pub loop-dart-preserved : goal.loop-dart-preserved
+loop-dart-preserved g c =
+    let rows = g.D.Dual.shows c.args.graph.now.dual.now in
+    let lower = c.in_ok-spread_one.ensures.lower in
+    record {
+      spreads = c.in_ok-spread_one.ensures.spreads;
+      target = meets_lower rows c.args.v c.loop-dart.heights c.spread_one.new.heights lower c.loop-dart.invariant.target;
+      in_range = c.loop-dart.invariant.in_range;
+      corner = λ some. corner_lower rows c.args.u c.loop-dart.heights c.spread_one.new.heights c.loop-dart.bound lower (c.loop-dart.invariant.corner some);
+    }
+
 pub returns : goal.returns
 returns g c =
     let rows = g.D.Dual.shows c.args.graph.now.dual.now in
@@ -41,8 +56,8 @@ returns g c =
     let bound = c.loop-dart.bound in
     let invariant = c.loop-dart.invariant in
     let costs = invariant.spreads.costs in
-    let settled = all_settled price rows c.args.v bound heights c.loop-dart.waiting invariant.spreads c.in_default.ensures.waits in
     let small : length (darts rows) < 2 ^ 32 = omega (arith, c.len-darts.ensures, c.len-darts.type_inv) in
+    let settled = all_settled price rows c.args.v bound heights c.loop-dart.waiting small invariant.spreads c.in_default.ensures.others in
     elim (cases_eq bound unreached) [
       | inl e ↦ for_all price rows lawful c.args.u c.args.v heights costs.capped (are_heights price rows lawful c.args.v unreached heights costs.capped invariant.target
           (every_settled price rows c.args.v heights costs (λ k l less. subst (λ b. IsSettled price rows b heights k) e (settled k l (omega arith)))) (c.requires.right.promise c.requires.some) costs small)

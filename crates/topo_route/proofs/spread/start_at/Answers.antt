@@ -1,4 +1,4 @@
-use Rattle.std.proofs.Common.{◌≡◌, ◌<◌, ◌+◌, ◌∙◌, ℕ, List, arith, sym, subst, length, Some}
+use Rattle.std.proofs.Common.{◌≡◌, ◌<◌, ◌+◌, ◌^◌, ◌==◌, ◌||◌, ◌∙◌, ℕ, List, ap, arith, sym, subst, length, Some}
 use Rattle.std.proofs.Math.ListN.{set}
 use Rattle.topo_core.specs.declared.darts.Dart.{Dart}
 use Rattle.topo_core.specs.Picture.{corner, darts}
@@ -6,7 +6,7 @@ use Rattle.topo_core.specs.Routes.{unreached}
 use Rattle.topo_price.specs.Prices.{prices_of}
 use Rattle.topo_route.specs.Numbers.{dart_of}
 use Rattle.topo_route.specs.Plans.{height_in}
-use Rattle.topo_route.specs.Settling.{Spreads}
+use Rattle.topo_route.specs.Settling.{Spreads, is_waiting, item_of}
 use Rattle.topo_route.proofs.Settled.{started, started_zero}
 use Rattle.topo_route.proofs.Tests.{before_all, before_past, before_some, height_at}
 use Rattle.topo_route.proofs.spread.start_at.Goals as goal
@@ -24,10 +24,12 @@ loop-position-preserved g c =
     elim c.match-corner_at.branch [
       | in-Some+then-get-gt0+in_ok-push w ↦
           let k = w.in-Some.corner in
+          let short : k < 2 ^ 32 = omega arith in
+          let added : (i : ℕ) → is_waiting w.push.new.self i ≡ (item_of k 0 == i || is_waiting c.loop-position.waiting i) = λ i. w.in_ok-push.ensures.waits i ∙ ap (λ (j : ℕ). j == i || is_waiting c.loop-position.waiting i) w.item_of.ensures in
           let spreads = started price rows lawful v unreached c.loop-position.heights c.loop-position.waiting w.push.new.self (length (darts rows)) i k c.loop-position.invariant.spreads w.in-Some.ensures.0 w.in-Some.ensures.1
-          (omega (arith, w.if-get-gt0.true, w.get.ensures)) w.in_ok-push.ensures.waits in
+          (omega (arith, w.if-get-gt0.true, w.get.ensures)) short added in
           let zero = started_zero price rows lawful v unreached c.loop-position.heights c.loop-position.waiting w.push.new.self (length (darts rows)) i k c.loop-position.invariant.spreads w.in-Some.ensures.0 w.in-Some.ensures.1
-          (omega (arith, w.if-get-gt0.true, w.get.ensures)) w.in_ok-push.ensures.waits c.loop-position.invariant.target in
+          (omega (arith, w.if-get-gt0.true, w.get.ensures)) short added c.loop-position.invariant.target in
           record {
             spreads = subst (λ hs. With hs c.match-corner_at.waiting) (sym (w.heights-is ∙ w.set.ensures)) (subst (With (set c.loop-position.heights k 0)) (sym w.waiting-is) spreads);
             target = subst Zero (sym (w.heights-is ∙ w.set.ensures)) zero;

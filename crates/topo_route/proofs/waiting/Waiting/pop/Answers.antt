@@ -19,7 +19,7 @@ returns-in-Some-clause-waits c =
     let inside : c.index.result.now - 1 < length entries = omega arith in
     let entry : c.index-entry.result.now ≡ slice_index_or entries (slice_index heads b - 1) no_entry =
     c.index-entry.ensures ∙ get_or_default entries (c.index.result.now - 1) c.index-entry.result.now no_entry inside ∙ ap (λ k. slice_index_or entries (k - 1) no_entry) head in
-    popped_waits entries heads c.args.self.now c.self.invariant.2 b c.index-entry.result.now.dart c.index-entry.result.now.below within some (ap (λ x. x.dart) entry) (ap (λ x. x.below) entry) c.self.view_is
+    popped_waits entries heads c.args.self.now c.self.invariant.2 b c.index-entry.result.now.item c.index-entry.result.now.below within some (ap (λ x. x.item) entry) (ap (λ x. x.below) entry) c.self.view_is
 
 pub returns-in-Some-clause-len : goal.returns-in-Some-clause-len
 returns-in-Some-clause-len c =
@@ -35,7 +35,7 @@ returns-in-Some-clause-len c =
     let inside : c.index.result.now - 1 < length entries = omega arith in
     let entry : c.index-entry.result.now ≡ slice_index_or entries (slice_index heads b - 1) no_entry =
     c.index-entry.ensures ∙ get_or_default entries (c.index.result.now - 1) c.index-entry.result.now no_entry inside ∙ ap (λ k. slice_index_or entries (k - 1) no_entry) head in
-    popped_length entries heads c.args.self.now c.self.invariant.2 b c.index-entry.result.now.dart c.index-entry.result.now.below within some (ap (λ x. x.dart) entry) (ap (λ x. x.below) entry) c.self.view_is
+    popped_length entries heads c.args.self.now c.self.invariant.2 b c.index-entry.result.now.item c.index-entry.result.now.below within some (ap (λ x. x.item) entry) (ap (λ x. x.below) entry) c.self.view_is
 
 pub returns-in-None-clause-waits : goal.returns-in-None-clause-waits
 returns-in-None-clause-waits c = sym c.self.view_is ∙ all_empty c.self.inside.entries.items c.self.inside.heads.items (λ i l. ap (λ xs. slice_index xs i) (sym c.as_slice.ensures.value) ∙ c.in-None.ensures i (omega (arith, c.as_slice.ensures.len, ap length c.as_slice.ensures.value)))
