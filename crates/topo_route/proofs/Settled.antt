@@ -4,7 +4,6 @@ use Rattle.std.specs.Prelude.{◌⊎◌, slice_index, sum_by}
 use Rattle.std.proofs.Math.ListN.{set}
 use Rattle.std.proofs.lemmas.Bool.{cases_eq, cases_lt, eqb-true, eq-eqb, ne_eqb, false≢true}
 use Rattle.std.proofs.lemmas.List.{length-set}
-use Rattle.std.proofs.Math.Bool.{or-true}
 use Rattle.std.proofs.lemmas.List.Sums.{sum_by-set}
 use Rattle.topo_core.specs.declared.darts.Dart.{Dart}
 use Rattle.topo_core.specs.declared.rows.Rows.{Rows}
@@ -39,24 +38,6 @@ either_true false b e = inr e
 -- an item is that of its dart
 pub dart_of_own : (d h : ℕ) → d < 2 ^ 32 → dart_of_item (item_of d h) ≡ d
 dart_of_own d h short = omega arith
-
-module _ (heights waiting after : List ℕ) (item : ℕ) (taken : (i : ℕ) → is_waiting waiting i ≡ (item == i || is_waiting after i)) where
-  -- with an item goes no other
-  others_stay : (i : ℕ) → item ≢ i → is_waiting after i ≡ is_waiting waiting i
-  others_stay i ne = sym (taken i ∙ ap (λ (b : Bool). b || is_waiting after i) (ne_eqb item i ne))
-
-  pub taken_fewer : (i : ℕ) → is_waiting after i ≡ true → is_waiting waiting i ≡ true
-  taken_fewer i waits = taken i ∙ ap (λ (b : Bool). item == i || b) waits ∙ or-true (item == i)
-
-  -- with an item goes no other dart
-  pub fresh_taken : (k : ℕ) → k < 2 ^ 32 → k ≢ dart_of_item item → is_pending heights after k ≡ is_pending heights waiting k
-  fresh_taken k short ne = others_stay (item_of k (slice_index heights k)) (λ e. ne (sym (ap dart_of_item e ∙ dart_of_own k (slice_index heights k) short)))
-
-  -- and none at all with an item of another height
-  pub stale_taken : item_of (dart_of_item item) (slice_index heights (dart_of_item item)) ≢ item → (k : ℕ) → k < 2 ^ 32 → is_pending heights after k ≡ is_pending heights waiting k
-  stale_taken stale k short = others_stay (item_of k (slice_index heights k)) (λ e.
-      let same : dart_of_item item ≡ k = ap dart_of_item e ∙ dart_of_own k (slice_index heights k) short in
-      stale (ap (λ j. item_of j (slice_index heights j)) same ∙ sym e))
 
 -- ---- One height lowered
 
@@ -225,11 +206,11 @@ narrowed price rows v bound lower heights waiting in_hand spreads low = record {
 
 -- a dart is taken from those that wait
 pub taken_up : (price : Pricing) (rows : Rows) (v bound : ℕ) (heights waiting after : List ℕ) (d : ℕ) → length (darts rows) < 2 ^ 32
-    → Spreads price rows v bound heights waiting (length (darts rows)) → ((k : ℕ) → k < 2 ^ 32 → k ≢ d → is_pending heights after k ≡ is_pending heights waiting k)
+    → Spreads price rows v bound heights waiting (length (darts rows)) → ((k : ℕ) → k < 2 ^ 32 → slice_index heights k < bound → k ≢ d → is_pending heights after k ≡ is_pending heights waiting k)
     → ((item : ℕ) → is_waiting after item ≡ true → is_waiting waiting item ≡ true) → Spreads price rows v bound heights after d
 taken_up price rows v bound heights waiting after d small spreads same fewer = record {
   costs = spreads.costs;
-  others = λ k l ne less idle. spreads.others k l (omega arith) less (sym (same k (omega arith) ne) ∙ idle);
+  others = λ k l ne less idle. spreads.others k l (omega arith) less (sym (same k (omega arith) less ne) ∙ idle);
   reached_waits = λ item waits. spreads.reached_waits item (fewer item waits);
 }
 
@@ -258,8 +239,8 @@ module _ (price : Pricing) (rows : Rows) (lawful : Lawful rows) (v bound : ℕ) 
 
 -- none waits with its height, so all below the bound are settled
 pub all_settled : (price : Pricing) (rows : Rows) (v bound : ℕ) (heights waiting : List ℕ) → length (darts rows) < 2 ^ 32 → Spreads price rows v bound heights waiting (length (darts rows))
-    → ((k : ℕ) → k < 2 ^ 32 → is_pending heights waiting k ≡ false) → (k : ℕ) → k < length (darts rows) → slice_index heights k < bound → IsSettled price rows bound heights k
-all_settled price rows v bound heights waiting small spreads none k l less = spreads.others k l (omega arith) less (none k (omega arith))
+    → ((k : ℕ) → k < 2 ^ 32 → slice_index heights k < bound → is_pending heights waiting k ≡ false) → (k : ℕ) → k < length (darts rows) → slice_index heights k < bound → IsSettled price rows bound heights k
+all_settled price rows v bound heights waiting small spreads none k l less = spreads.others k l (omega arith) less (none k (omega arith) less)
 
 -- what is not reached is settled
 pub every_settled : (price : Pricing) (rows : Rows) (v : ℕ) (heights : List ℕ) → AreCosts price rows v heights

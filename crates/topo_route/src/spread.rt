@@ -13,7 +13,7 @@ use crate::dual::Dual;
 use crate::faces::{across, corner_at, next_along};
 use crate::graph::Graph;
 use crate::sheet::Sheet;
-use crate::waiting::{Waiting, dart_of_item, item_of};
+use crate::waiting::{Waiting, dart_of_item, item_of, least_height};
 use std::alloc::AllocError;
 use topo_price::tariff::Asks;
 
@@ -92,19 +92,21 @@ fn spread_one<D: Dual, F: Asks>(
 
 /// Takes out the next dart that waits with the height that it has. An item of another height is passed
 /// over: the dart was lowered since, and then a walk round its face spread its new height, or that
-/// waits too.
-fn next_pending(heights: &Sheet, waiting: &mut Waiting) -> Option<u32>
+/// waits too. So is one whose height is not below the bound, and no height is read for it.
+fn next_pending(heights: &Sheet, waiting: &mut Waiting, bound: u64) -> Option<u32>
     requires within { (item : ℕ) → is_waiting waiting.old item ≡ true → dart_of_item item < length heights.now }
     ensures pending { IfSome result (λ dart. is_pending heights.now waiting.old dart ≡ true) }
-    ensures others { MatchOption result ((k : ℕ) → k < 2 ^ 32 → is_pending heights.now waiting.old k ≡ false)
-        (λ dart. (k : ℕ) → k < 2 ^ 32 → k ≢ dart → is_pending heights.now waiting.new k ≡ is_pending heights.now waiting.old k) }
+    ensures others { MatchOption result ((k : ℕ) → k < 2 ^ 32 → slice_index heights.now k < bound → is_pending heights.now waiting.old k ≡ false)
+        (λ dart. (k : ℕ) → k < 2 ^ 32 → slice_index heights.now k < bound → k ≢ dart → is_pending heights.now waiting.new k ≡ is_pending heights.now waiting.old k) }
     ensures fewer { (item : ℕ) → is_waiting waiting.new item ≡ true → is_waiting waiting.old item ≡ true }
     ensures len { IfSome result (λ _. length waiting.new < length waiting.old) }
 {
     while let Some(item) = waiting.pop() {
-        let dart = dart_of_item(item);
-        if item_of(dart, heights.get(dart)) == item {
-            return Some(dart);
+        if least_height(item) < bound {
+            let dart = dart_of_item(item);
+            if item_of(dart, heights.get(dart)) == item {
+                return Some(dart);
+            }
         }
     }
     None
@@ -125,7 +127,7 @@ fn spread_all<D: Dual, F: Asks>(
     ensures in_range { IfOk result (λ _. (k : ℕ) → slice_index heights.new k ≤ unreached) }
 {
     let _darts = graph.dual.len();
-    while let Some(dart) = next_pending(heights, waiting) {
+    while let Some(dart) = next_pending(heights, waiting, u64::MAX) {
         spread_one(graph, heights, waiting, v, u64::MAX, dart)?;
     }
     Ok(())
@@ -158,7 +160,7 @@ fn spread_up_to<D: Dual, F: Asks>(
     let _darts = graph.dual.len();
     let mut bound = u64::MAX;
     let mut steps = 0;
-    while let Some(dart) = next_pending(heights, waiting) {
+    while let Some(dart) = next_pending(heights, waiting, bound) {
         spread_one(graph, heights, waiting, v, bound, dart)?;
         if steps == 0 {
             bound = bound.min(bound_at(graph.dual, u, heights));

@@ -1,6 +1,6 @@
 //! The items that wait: darts that spread the heights that were written for them.
 
-ghost use Rattle.std.specs.Prelude.{◌≡◌, ℕ, ◌+◌, ◌<◌, ◌≤◌, ◌==◌, ◌||◌, MatchOption, IfOk, length, [], slice_index};
+ghost use Rattle.std.specs.Prelude.{◌≡◌, ℕ, ◌+◌, ◌/◌, ◌^◌, ◌<◌, ◌≤◌, ◌==◌, ◌||◌, MatchOption, IfOk, length, [], slice_index};
 ghost use Rattle.topo_route.specs.Settling.{dart_of_item, is_waiting, item_of};
 
 use std::alloc::{AllocError, Global};
@@ -126,6 +126,13 @@ pub(crate) fn item_of(dart: u32, height: u64) -> u64
     ensures { result ≡ item_of dart height }
 {
     dart as u64 + HALF * (height % HALF)
+}
+
+/// The low half of the height of an item: the height is not less.
+pub(crate) fn least_height(item: u64) -> u64
+    ensures { result ≡ item / 2 ^ 32 }
+{
+    item / HALF
 }
 
 /// The dart of an item.
