@@ -1,0 +1,35 @@
+//! The table of half-edges.
+
+use std::marker::Model;
+
+/// What stands at the name of a dart: the name of its twin, the name of the next dart clockwise at its
+/// point, and the id of its edge.
+#[derive(Clone, Copy)]
+pub struct Link {
+    pub twin: u32,
+    pub next: u32,
+    pub edge: u32,
+}
+
+/// The names of the darts that start at the ends of an edge.
+#[derive(Clone, Copy)]
+pub struct Ends {
+    pub a: u32,
+    pub b: u32,
+}
+
+/// A table of half-edges. Contracts see for each name what stands there, and for each edge, by its place
+/// among the edges, the names at its ends.
+#[derive(Drop)]
+pub struct Links {
+    pub(crate) links: Vec<Link>,
+    pub(crate) ends: Vec<Ends>,
+}
+
+impl Model for Links {
+    ghost use Rattle.topo_links.specs.Tables.{Table};
+
+    ghost Value = { Table };
+
+    ghost view = { λ t. record { links = t.links.items; ends = t.ends.items } };
+}
