@@ -1,0 +1,4 @@
+pub mod Corners
+pub mod Found
+pub mod Straight
+pub mod Walking
