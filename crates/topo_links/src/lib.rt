@@ -8,5 +8,6 @@
 #![tactic(auto)]
 
 pub mod table;
+mod making;
 mod names;
 mod staging;
