@@ -9,7 +9,8 @@ use Rattle.topo_core.specs.Picture.{darts, edge_at}
 use Rattle.topo_core.specs.Rotations.{twin}
 use Rattle.topo_core.specs.Routes.{AreFactsOf, KeepsPromise, Price, Pricing}
 use Rattle.topo_core.proofs.Numbering.{even_images, images_length}
-use Rattle.topo_route.specs.Numbers.{IsPriceAt, dart_of, no_dart}
+use Rattle.topo_route.specs.Names.{no_dart}
+use Rattle.topo_route.specs.Numbers.{IsPriceAt, dart_of}
 use Rattle.topo_route.specs.Settling.{ArePrices, ArePricesOf}
 use Rattle.topo_route.proofs.Numbers.{in_list, twin_cases, twin_dart}
 

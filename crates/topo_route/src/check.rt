@@ -24,7 +24,7 @@ fn verdict<D: Dual, F: Asks>(
     ensures promise { OnOk result (KeepsPromise (prices_of (F.answers tariff.now))) }
 {
     let heights = plan.heights.as_slice();
-    if heights.len() != dual.len() as usize {
+    if heights.len() != dual.size() as usize {
         return Err(PlanFault::WrongLength);
     }
     if !is_even(dual, heights) {

@@ -9,7 +9,7 @@ ghost use Rattle.topo_price.specs.Prices.{prices_of};
 ghost use Rattle.topo_route.specs.Numbers.{IsPriceAt, dart_of, next_of};
 
 use crate::dual::Dual;
-use topo_core::darts::Dart;
+use crate::steps;
 use topo_price::tariff::{Asks, Tariff};
 
 /// The next dart along the face on the left.
@@ -18,7 +18,7 @@ pub(crate) fn next_along<D: Dual>(dual: &D, dart: u32) -> u32
     ensures next { result ≡ next_of (D.shows dual.now) dart }
     ensures within { result < length (darts (D.shows dual.now)) }
 {
-    dual.next(dart)
+    steps::next_along(dual, dart)
 }
 
 /// The same segment, the other way.
@@ -27,7 +27,7 @@ pub(crate) fn across<D: Dual>(dual: &D, dart: u32) -> u32
     ensures twin { result ≡ twin dart }
     ensures within { result < length (darts (D.shows dual.now)) }
 {
-    dual.twin(dart)
+    steps::across(dual, dart)
 }
 
 /// The dart that names a corner.
@@ -35,7 +35,7 @@ pub(crate) fn corner_at<D: Dual>(dual: &D, v: u32, position: u32) -> Option<u32>
     ensures { MatchOption result (corner (D.shows dual.now) v position ≡ None)
         (λ c. (c < length (darts (D.shows dual.now))) × (corner (D.shows dual.now) v position ≡ Some (dart_of (D.shows dual.now) c))) }
 {
-    dual.corner(v, position)
+    steps::corner_at(dual, v, position)
 }
 
 /// The price of crossing a dart.
@@ -45,8 +45,7 @@ pub(crate) fn price_at<D: Dual, F: Asks>(dual: &D, tariff: &Tariff<F>, dart: u32
     ensures in_range { IfSome result (λ p. (1 ≤ p) × (p ≤ 1000)) }
     ensures promise { KeepsPromise (prices_of (F.answers tariff.now)) }
 {
-    let facts = dual.facts(dart);
-    tariff.price(&facts)
+    steps::price_at(dual, tariff, dart)
 }
 
 /// Whether two darts have one face on their left.
@@ -55,7 +54,7 @@ pub(crate) fn same_face<D: Dual>(dual: &D, a: u32, b: u32) -> bool
     ensures { IsTrue result ↔ SameCycle (next_of (D.shows dual.now)) a b }
 {
     let mut at = a;
-    for _steps in 0..dual.len() {
+    for _steps in 0..dual.size() {
         if at == b {
             return true;
         }

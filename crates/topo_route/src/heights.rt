@@ -15,7 +15,7 @@ pub(crate) fn is_even<D: Dual>(dual: &D, heights: &[u64]) -> bool
     requires { HasOneEach (D.shows dual.now) heights.now }
     ensures { IsTrue result ↔ IsEven (D.shows dual.now) heights.now }
 {
-    for dart in 0..dual.len() {
+    for dart in 0..dual.size() {
         let next = next_along(dual, dart);
         if heights[next as usize] != heights[dart as usize] {
             return false;
@@ -30,7 +30,7 @@ pub(crate) fn is_gentle<D: Dual, F: Asks>(dual: &D, tariff: &Tariff<F>, heights:
     ensures gentle { IsTrue result ↔ IsGentle (prices_of (F.answers tariff.now)) (D.shows dual.now) heights.now }
     ensures promise { 0 < length (darts (D.shows dual.now)) → KeepsPromise (prices_of (F.answers tariff.now)) }
 {
-    for dart in 0..dual.len() {
+    for dart in 0..dual.size() {
         if let Some(price) = price_at(dual, tariff, dart) {
             let other = heights[across(dual, dart) as usize];
             if heights[dart as usize].saturating_sub(other) > price as u64 {

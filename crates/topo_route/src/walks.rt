@@ -158,7 +158,7 @@ fn has_tight_before<D: Dual, F: Asks>(
     ensures { IsTrue result ↔ HasTightBefore (prices_of (F.answers tariff.now)) (D.shows dual.now) heights.now at number }
 {
     let mut dart = at;
-    for _steps in 0..dual.len() {
+    for _steps in 0..dual.size() {
         if dart < number && is_tight(dual, tariff, heights, dart) {
             return true;
         }

@@ -1,0 +1,70 @@
+-- The numbers in canonical order as names.
+use Rattle.std.proofs.Common.{◌≡◌, ℕ, ◌<◌, Some, length, sym, ap, subst, ◌∙◌}
+use Rattle.std.specs.Prelude.{Option, MatchOption, None}
+use Rattle.topo_core.specs.Rotations.{twin}
+use Rattle.topo_core.specs.declared.darts.Dart.{Dart}
+use Rattle.topo_core.specs.declared.rows.Rows.{Rows}
+use Rattle.topo_core.specs.Darts.{dart_twin}
+use Rattle.topo_core.specs.Lawful.{Lawful}
+use Rattle.topo_core.specs.Picture.{corner, darts, index_of, system}
+use Rattle.topo_core.specs.Routes.{Pricing}
+use Rattle.topo_core.specs.Systems.{face_step}
+use Rattle.topo_core.proofs.Numbering.{index_apart, index_twin}
+use Rattle.topo_route.specs.Names.{IsName, IsNamed, Named, canonical, dart_named, next_name, twin_name}
+use Rattle.topo_route.specs.Numbers.{IsPriceAt, IsPriceFor, dart_of, next_of}
+use Rattle.topo_route.proofs.Names.{dart_of_name, name_below, name_is}
+use Rattle.topo_route.proofs.Numbers.{dart_in, next_number, number_below, number_of}
+
+module _ (rows : Rows) (lawful : Lawful rows) where
+  pub canonical_named : IsNamed (canonical rows)
+  canonical_named = record { within = number_below rows lawful; apart = index_apart rows lawful.embedding.well_formed.paths }
+
+  -- the names are the numbers below the count of darts
+  pub canonical_is : (k : ℕ) → k < length (darts rows) → IsName (canonical rows) k
+  canonical_is k l = subst (IsName (canonical rows)) (number_of rows lawful k l) (name_is (canonical rows) canonical_named (dart_of rows k) (dart_in rows lawful k l))
+
+  pub canonical_below : (k : ℕ) → IsName (canonical rows) k → k < length (darts rows)
+  canonical_below = name_below (canonical rows) canonical_named
+
+  pub canonical_dart : (k : ℕ) → k < length (darts rows) → dart_named (canonical rows) k ≡ dart_of rows k
+  canonical_dart k l =
+      ap (dart_named (canonical rows)) (sym (number_of rows lawful k l)) ∙ dart_of_name (canonical rows) canonical_named (dart_of rows k) (dart_in rows lawful k l)
+
+  pub canonical_next : (k : ℕ) → k < length (darts rows) → next_name (canonical rows) k ≡ next_of rows k
+  canonical_next k l =
+      ap (λ d. index_of rows (face_step (system rows) d)) (canonical_dart k l) ∙ sym (next_number rows lawful (dart_of rows k) (dart_in rows lawful k l)) ∙ ap (next_of rows) (number_of rows lawful k l)
+
+  pub canonical_twin : (k : ℕ) → k < length (darts rows) → twin_name (canonical rows) k ≡ twin k
+  canonical_twin k l =
+      ap (λ d. index_of rows (dart_twin d)) (canonical_dart k l) ∙ index_twin rows (dart_of rows k) (dart_in rows lawful k l) ∙ ap twin (number_of rows lawful k l)
+
+-- a picture whose names are the numbers
+module _ (g : Named) (rows : Rows) (numbered : g ≡ canonical rows) (lawful : Lawful g.rows) where
+  pub lawful_shown : Lawful rows
+  lawful_shown = subst (λ (n : Named). Lawful n.rows) numbered lawful
+
+  pub number_is : (k : ℕ) → k < length (darts rows) → IsName g k
+  number_is k l = subst (λ n. IsName n k) (sym numbered) (canonical_is rows lawful_shown k l)
+
+  pub is_number : (k : ℕ) → IsName g k → k < length (darts rows)
+  is_number k name = canonical_below rows lawful_shown k (subst (λ n. IsName n k) numbered name)
+
+  pub next_is_number : (k : ℕ) → k < length (darts rows) → next_name g k ≡ next_of rows k
+  next_is_number k l = subst (λ n. next_name n k ≡ next_of rows k) (sym numbered) (canonical_next rows lawful_shown k l)
+
+  pub twin_is_number : (k : ℕ) → k < length (darts rows) → twin_name g k ≡ twin k
+  twin_is_number k l = subst (λ n. twin_name n k ≡ twin k) (sym numbered) (canonical_twin rows lawful_shown k l)
+
+  pub dart_is_number : (k : ℕ) → k < length (darts rows) → dart_named g k ≡ dart_of rows k
+  dart_is_number k l = subst (λ n. dart_named n k ≡ dart_of rows k) (sym numbered) (canonical_dart rows lawful_shown k l)
+
+  pub price_is_at : (price : Pricing) (k : ℕ) (answer : Option ℕ) → k < length (darts rows) → IsPriceFor price g.rows (dart_named g k) answer → IsPriceAt price rows k answer
+  price_is_at price k answer l asked =
+      subst (λ d. IsPriceFor price rows d answer) (dart_is_number k l) (subst (λ (n : Named). IsPriceFor price n.rows (dart_named g k) answer) numbered asked)
+
+  pub corner_is_number : (v p : ℕ) (result : Option ℕ) → MatchOption result (corner g.rows v p ≡ None) (λ c. IsName g c × (corner g.rows v p ≡ Some (dart_named g c)))
+      → MatchOption result (corner rows v p ≡ None) (λ c. (c < length (darts rows)) × (corner rows v p ≡ Some (dart_of rows c)))
+  corner_is_number v p (Some c) (name, at) =
+      let l = is_number c name in
+      (l, subst (λ (n : Named). corner n.rows v p ≡ Some (dart_named g c)) numbered at ∙ ap (λ d. Some d) (dart_is_number c l))
+  corner_is_number v p None at = subst (λ (n : Named). corner n.rows v p ≡ None) numbered at
