@@ -38,25 +38,29 @@ module _ (rows : Rows) (lawful : Lawful rows) where
   canonical_twin k l =
       ap (λ d. index_of rows (dart_twin d)) (canonical_dart k l) ∙ index_twin rows (dart_of rows k) (dart_in rows lawful k l) ∙ ap twin (number_of rows lawful k l)
 
--- a picture whose names are the numbers
+-- ---- A picture whose names are the numbers
+
+pub lawful_shown : {g : Named} {rows : Rows} → g ≡ canonical rows → Lawful g.rows → Lawful rows
+lawful_shown numbered lawful = subst (λ (n : Named). Lawful n.rows) numbered lawful
+
 module _ (g : Named) (rows : Rows) (numbered : g ≡ canonical rows) (lawful : Lawful g.rows) where
-  pub lawful_shown : Lawful rows
-  lawful_shown = subst (λ (n : Named). Lawful n.rows) numbered lawful
+  shown : Lawful rows
+  shown = lawful_shown numbered lawful
 
   pub number_is : (k : ℕ) → k < length (darts rows) → IsName g k
-  number_is k l = subst (λ n. IsName n k) (sym numbered) (canonical_is rows lawful_shown k l)
+  number_is k l = subst (λ n. IsName n k) (sym numbered) (canonical_is rows shown k l)
 
   pub is_number : (k : ℕ) → IsName g k → k < length (darts rows)
-  is_number k name = canonical_below rows lawful_shown k (subst (λ n. IsName n k) numbered name)
+  is_number k name = canonical_below rows shown k (subst (λ n. IsName n k) numbered name)
 
   pub next_is_number : (k : ℕ) → k < length (darts rows) → next_name g k ≡ next_of rows k
-  next_is_number k l = subst (λ n. next_name n k ≡ next_of rows k) (sym numbered) (canonical_next rows lawful_shown k l)
+  next_is_number k l = subst (λ n. next_name n k ≡ next_of rows k) (sym numbered) (canonical_next rows shown k l)
 
   pub twin_is_number : (k : ℕ) → k < length (darts rows) → twin_name g k ≡ twin k
-  twin_is_number k l = subst (λ n. twin_name n k ≡ twin k) (sym numbered) (canonical_twin rows lawful_shown k l)
+  twin_is_number k l = subst (λ n. twin_name n k ≡ twin k) (sym numbered) (canonical_twin rows shown k l)
 
   pub dart_is_number : (k : ℕ) → k < length (darts rows) → dart_named g k ≡ dart_of rows k
-  dart_is_number k l = subst (λ n. dart_named n k ≡ dart_of rows k) (sym numbered) (canonical_dart rows lawful_shown k l)
+  dart_is_number k l = subst (λ n. dart_named n k ≡ dart_of rows k) (sym numbered) (canonical_dart rows shown k l)
 
   pub price_is_at : (price : Pricing) (k : ℕ) (answer : Option ℕ) → k < length (darts rows) → IsPriceFor price g.rows (dart_named g k) answer → IsPriceAt price rows k answer
   price_is_at price k answer l asked =

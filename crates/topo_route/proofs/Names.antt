@@ -10,6 +10,7 @@ use Rattle.topo_core.specs.Cycles.{SameCycle, after}
 use Rattle.topo_core.specs.Darts.{dart_twin, same_dart}
 use Rattle.topo_core.specs.Lawful.{Lawful}
 use Rattle.topo_core.specs.Picture.{corner, darts, index_of, system}
+use Rattle.topo_core.specs.Routes.{Price, Pricing}
 use Rattle.topo_core.specs.Systems.{SameFace, face_step, has_dart}
 use Rattle.topo_core.proofs.DartLaws.{same_dart_self, same_dart_true, twin-twin}
 use Rattle.topo_core.proofs.Numbering.{index_twin, twin_in}
@@ -173,3 +174,17 @@ module _ (g : Named) (lawful : Lawful g.rows) (has : IsNamed g) where
     steps = same.steps;
     leads = sym (after_is same.steps i n).is ∙ ap g.name (dart_after same.steps i n ∙ same.leads);
   }
+
+  -- ---- Heights
+
+  pub even_names : (heights : List ℕ) → ((k : ℕ) → IsName g k → slice_index heights (next_name g k) ≡ slice_index heights k)
+      → (d : Dart) → has_dart (darts g.rows) d ≡ true → height_of g heights (face_step (system g.rows) d) ≡ height_of g heights d
+  even_names heights even d h =
+      ap (λ c. height_of g heights (face_step (system g.rows) c)) (sym (dart_of_name g has d h)) ∙ even (g.name d) (name_is g has d h)
+
+  pub gentle_names : (heights : List ℕ) (price : Pricing) → ((k p : ℕ) → IsName g k → Price price g.rows (dart_named g k) p → slice_index heights k ≤ p + slice_index heights (twin_name g k))
+      → (d : Dart) (p : ℕ) → has_dart (darts g.rows) d ≡ true → Price price g.rows d p → height_of g heights d ≤ p + height_of g heights (dart_twin d)
+  gentle_names heights price gentle d p h asked =
+      let climb = gentle (g.name d) p (name_is g has d h) (subst (λ c. Price price g.rows c p) (sym (dart_of_name g has d h)) asked) in
+      let other : slice_index heights (twin_name g (g.name d)) ≡ height_of g heights (dart_twin d) = ap (λ c. height_of g heights (dart_twin c)) (dart_of_name g has d h) in
+      omega arith

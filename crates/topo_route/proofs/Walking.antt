@@ -20,7 +20,7 @@ use Rattle.topo_route.specs.Numbers.{CannotCross, Crossing, HasTightBefore, Paym
 use Rattle.topo_route.specs.Plans.{height_in}
 use Rattle.topo_route.proofs.Numbers.{dart_in, dart_of_number, face_of_numbers, face_stays, number_below, number_of, numbers_of_face, twin_dart}
 use Rattle.topo_route.proofs.Rounds.{round_home}
-use Rattle.topo_route.proofs.Order.{number_order}
+use Rattle.topo_route.proofs.Order.{not_later, number_order}
 use Rattle.topo_route.proofs.Tests.{height_at, height_twin}
 
 -- ---- Numbers of darts
@@ -106,14 +106,7 @@ module _ (price : Pricing) (rows : Rows) (lawful : Lawful rows) where
         before = less;
         tight = subst (IsTight price rows height) (sym (dart_of_number rows lawful y y_in)) tight;
       })
-      | inr low ↦ elim (cases_eq (index_of rows x) (index_of rows y)) [
-        | inl e ↦
-            let one : x ≡ y = sym (dart_of_number rows lawful x x_in) ∙ ap (dart_of rows) e ∙ dart_of_number rows lawful y y_in in
-            let bad : Equal ≡ Greater = sym (dart_cmp_self x) ∙ ap (dart_cmp x) one ∙ greater in cc
-        | inr ne ↦
-            let order = number_order rows lawful.embedding.well_formed.paths x y x_in y_in (omega arith) in
-            let bad : Less ≡ Greater = sym order.0 ∙ greater in cc
-      ]
+      | inr low ↦ not_later rows lawful x y x_in y_in (omega arith) greater
     ]
 
     pub first_fails : (at : ℕ) (x : Dart) (xs : List Dart) → at < length (darts rows) → has_dart (darts rows) x ≡ true → HasTightBefore price rows heights at (index_of rows x)

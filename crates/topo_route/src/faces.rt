@@ -1,4 +1,4 @@
-//! Steps from dart to dart by their numbers, and walks round a face.
+//! Steps from dart to dart by their numbers in canonical order, and walks round a face.
 
 ghost use Rattle.std.specs.Prelude.{◌≡◌, ◌<◌, ◌≤◌, ◌↔◌, IsTrue, length, Some, None, MatchOption, IfSome, slice_get};
 ghost use Rattle.topo_core.specs.Cycles.{SameCycle};
@@ -11,6 +11,13 @@ ghost use Rattle.topo_route.specs.Numbers.{IsPriceAt, dart_of, next_of};
 use crate::dual::Dual;
 use crate::steps;
 use topo_price::tariff::{Asks, Tariff};
+
+/// How many darts there are.
+pub(crate) fn dart_count<D: Dual>(dual: &D) -> u32
+    ensures { result ≡ length (darts (D.shows dual.now)) }
+{
+    dual.size()
+}
 
 /// The next dart along the face on the left.
 pub(crate) fn next_along<D: Dual>(dual: &D, dart: u32) -> u32
@@ -54,7 +61,7 @@ pub(crate) fn same_face<D: Dual>(dual: &D, a: u32, b: u32) -> bool
     ensures { IsTrue result ↔ SameCycle (next_of (D.shows dual.now)) a b }
 {
     let mut at = a;
-    for _steps in 0..dual.size() {
+    for _steps in 0..dart_count(dual) {
         if at == b {
             return true;
         }

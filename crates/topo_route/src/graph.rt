@@ -72,7 +72,7 @@ pub(crate) fn segment_prices<D: Dual, F: Asks>(
 ) -> Result<Vec<Option<u32>>, AllocError>
     ensures { IfOk result (λ prices. ArePrices (prices_of (F.answers tariff.now)) (D.named dual.now) prices.items) }
 {
-    let segments = dual.size() / 2;
+    let segments = faces::dart_count(dual) / 2;
     let mut prices = Vec::with_capacity(alloc, segments as usize)?;
     for segment in 0..segments {
         let price = segment_price(dual, tariff, prices.as_slice(), 2 * segment);

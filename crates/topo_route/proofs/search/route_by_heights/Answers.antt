@@ -3,6 +3,7 @@ use Rattle.topo_price.specs.Prices.{prices_of}
 use Rattle.topo_route.specs.Descents.{IsDescent}
 use Rattle.topo_route.specs.Numbers.{dart_of}
 use Rattle.topo_route.specs.Plans.{height_in}
+use Rattle.topo_route.proofs.Canonical.{lawful_shown}
 use Rattle.topo_route.proofs.Descending.{has_end, is_first}
 use Rattle.topo_route.proofs.Marking.{end_none, end_some}
 use Rattle.topo_route.proofs.Tests.{height_at}
