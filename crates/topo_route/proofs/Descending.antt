@@ -145,9 +145,10 @@ module _ (price : Pricing) (g : Named) (lawful : Lawful g.rows) (has : IsNamed g
           let onward : Costs price g.rows (x ∷ rest) (height (dart_named g at)) = (tight.cost, height (dart_named g next), tight.asked, cost, drop_here) in
           subst (λ xs. Costs price g.rows xs (height (dart_named g from))) (sym (append_assoc crossed (x ∷ []) rest)) (far.cost (x ∷ rest) onward);
       first_darts = λ rest takes.
-          let onward : TakesFirstDarts price g.rows height (dart_named g at) (x ∷ rest) =
-          (subst (λ d. (y : Dart) → has_dart (darts g.rows) y ≡ true → SameFace (system g.rows) (dart_named g at) y → IsTight price g.rows height y → dart_cmp d y ≢ Greater) is first.first,
-              subst (λ c. TakesFirstDarts price g.rows height c rest) lands_on takes) in
+          let onward : TakesFirstDarts price g.rows height (dart_named g at) (x ∷ rest) = (
+            subst (λ d. (y : Dart) → has_dart (darts g.rows) y ≡ true → SameFace (system g.rows) (dart_named g at) y → IsTight price g.rows height y → dart_cmp d y ≢ Greater) is first.first,
+            subst (λ c. TakesFirstDarts price g.rows height c rest) lands_on takes,
+          ) in
           subst (TakesFirstDarts price g.rows height (dart_named g from)) (sym (append_assoc crossed (x ∷ []) rest)) (far.first_darts (x ∷ rest) onward);
       arrives = λ rest. ap (arrival (dart_named g from)) (append_assoc crossed (x ∷ []) rest) ∙ far.arrives (x ∷ rest) ∙ ap (λ c. arrival c rest) (sym lands_on);
     }

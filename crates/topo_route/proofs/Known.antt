@@ -1,5 +1,5 @@
 -- Heights that are known below a bound.
-use Rattle.std.proofs.Common.{◌≡◌, ◌≢◌, ℕ, ◌<◌, ◌≤◌, List, length, inl, inr, subst, arith}
+use Rattle.std.proofs.Common.{◌≡◌, ◌≢◌, ℕ, ◌<◌, ◌≤◌, List, inl, inr, subst, arith}
 use Rattle.std.specs.Prelude.{min, slice_index}
 use Rattle.std.proofs.lemmas.Bool.{cases_lt}
 use Rattle.topo_core.specs.declared.darts.Dart.{Dart}

@@ -38,7 +38,6 @@ module _ (f : ℕ → ℕ) (last i : ℕ) (marks : List ℕ) (so_far : MarksSoFa
     ];
   }
 
-
 pub marked_home : (f : ℕ → ℕ) (last i : ℕ) (marks : List ℕ) → MarksSoFar f last (i + 1) marks → f (after f i last) ≡ last → (k : ℕ) → SameCycle f last k → slice_index_or marks k unreached ≡ 0
 marked_home f last i marks so_far home = round_home f (λ k. slice_index_or marks k unreached ≡ 0) last (suc i) (omega arith) home (λ j l. so_far.met j (omega arith))
 

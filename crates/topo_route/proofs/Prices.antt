@@ -1,11 +1,11 @@
 -- The price of a dart is that of the facts of its edge.
-use Rattle.std.proofs.Common.{◌≡◌, ℕ, ◌<◌, Some, None, length, subst}
-use Rattle.std.specs.Prelude.{Option, IsSomeAnd, MatchOption, slice_get}
+use Rattle.std.proofs.Common.{ℕ, Some, None, subst}
+use Rattle.std.specs.Prelude.{Option}
 use Rattle.topo_core.specs.declared.darts.Dart.{Dart}
 use Rattle.topo_core.specs.declared.rows.Rows.{Rows}
 use Rattle.topo_core.specs.declared.rows.Facts.{Facts}
-use Rattle.topo_core.specs.Picture.{darts, edge_at}
-use Rattle.topo_core.specs.Routes.{Pricing, Price, AreFactsOf}
+use Rattle.topo_core.specs.Picture.{edge_at}
+use Rattle.topo_core.specs.Routes.{Pricing, AreFactsOf}
 use Rattle.topo_core.proofs.Certificates.{one_facts}
 use Rattle.topo_price.specs.Prices.{IsPriceOf}
 use Rattle.topo_route.specs.Numbers.{IsPriceFor}

@@ -40,7 +40,12 @@ pub(crate) fn least_corner<W: Walked>(walked: &W, u: u32, heights: &Sheet) -> u6
 }
 
 /// The first corner of this height: its position and its dart.
-fn corner_of_height<W: Walked>(walked: &W, u: u32, heights: &Sheet, height: u64) -> Option<(u32, u32)>
+fn corner_of_height<W: Walked>(
+    walked: &W,
+    u: u32,
+    heights: &Sheet,
+    height: u64,
+) -> Option<(u32, u32)>
     requires { length heights.now ≡ (W.named walked.now).size }
     ensures { MatchOption result ((p : ℕ) → (c : Dart) → corner (W.named walked.now).rows u p ≡ Some c → height_of (W.named walked.now) heights.now c ≢ height)
         (λ r. IsName (W.named walked.now) r.1 × (corner (W.named walked.now).rows u r.0 ≡ Some (dart_named (W.named walked.now) r.1))

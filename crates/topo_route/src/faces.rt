@@ -2,7 +2,7 @@
 
 ghost use Rattle.std.specs.Prelude.{◌≡◌, ◌<◌, ◌≤◌, ◌↔◌, IsTrue, length, Some, None, MatchOption, IfSome, slice_get};
 ghost use Rattle.topo_core.specs.Cycles.{SameCycle};
-ghost use Rattle.topo_core.specs.Picture.{corner, darts, index_of};
+ghost use Rattle.topo_core.specs.Picture.{corner, darts, rotation};
 ghost use Rattle.topo_core.specs.Rotations.{twin};
 ghost use Rattle.topo_core.specs.Routes.{KeepsPromise};
 ghost use Rattle.topo_price.specs.Prices.{prices_of};
@@ -10,6 +10,7 @@ ghost use Rattle.topo_route.specs.Numbers.{IsPriceAt, dart_of, next_of};
 
 use crate::dual::Dual;
 use crate::steps;
+use topo_core::darts::Dart;
 use topo_price::tariff::{Asks, Tariff};
 
 /// How many darts there are.
@@ -17,6 +18,21 @@ pub(crate) fn dart_count<D: Dual>(dual: &D) -> u32
     ensures { result ≡ length (darts (D.shows dual.now)) }
 {
     dual.size()
+}
+
+/// How many corners a vertex has, and 0 where it is no vertex.
+pub(crate) fn degree<D: Dual>(dual: &D, v: u32) -> u32
+    ensures { result ≡ length (rotation (D.shows dual.now) v) }
+{
+    dual.degree(v)
+}
+
+/// The dart of a number.
+pub(crate) fn dart_at<D: Dual>(dual: &D, dart: u32) -> Dart
+    requires { dart < length (darts (D.shows dual.now)) }
+    ensures { result ≡ dart_of (D.shows dual.now) dart }
+{
+    dual.dart(dart)
 }
 
 /// The next dart along the face on the left.

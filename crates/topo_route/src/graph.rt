@@ -55,8 +55,8 @@ fn segment_price<D: Dual, F: Asks>(
     ensures promise { KeepsPromise (prices_of (F.answers tariff.now)) }
 {
     if dart > 0 {
-        let edge = dual.dart(dart).edge.number();
-        let before = dual.dart(dart - 2).edge.number();
+        let edge = faces::dart_at(dual, dart).edge.number();
+        let before = faces::dart_at(dual, dart - 2).edge.number();
         if before == edge {
             return prices[(dart / 2 - 1) as usize];
         }

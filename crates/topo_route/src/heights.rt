@@ -7,7 +7,7 @@ ghost use Rattle.topo_price.specs.Prices.{prices_of};
 ghost use Rattle.topo_route.specs.Plans.{HasFirstStart, HasOneEach, IsEven, IsGentle, IsLeastHeight, MeetsTarget};
 
 use crate::dual::Dual;
-use crate::faces::{across, corner_at, dart_count, next_along, price_at};
+use crate::faces::{across, corner_at, dart_count, degree, next_along, price_at};
 use topo_price::tariff::{Asks, Tariff};
 
 /// Whether each dart has the height of the next along its face.
@@ -46,7 +46,7 @@ pub(crate) fn meets_target<D: Dual>(dual: &D, v: u32, heights: &[u64]) -> bool
     requires { HasOneEach (D.shows dual.now) heights.now }
     ensures { IsTrue result ↔ MeetsTarget (D.shows dual.now) v heights.now }
 {
-    for position in 0..dual.degree(v) {
+    for position in 0..degree(dual, v) {
         if let Some(corner) = corner_at(dual, v, position) {
             if heights[corner as usize] != 0 {
                 return false;
@@ -62,7 +62,7 @@ pub(crate) fn is_least_height<D: Dual>(dual: &D, u: u32, heights: &[u64], price:
     ensures { IsTrue result ↔ IsLeastHeight (D.shows dual.now) u heights.now price }
 {
     let mut found = false;
-    for position in 0..dual.degree(u) {
+    for position in 0..degree(dual, u) {
         if let Some(corner) = corner_at(dual, u, position) {
             let height = heights[corner as usize];
             if height < price {

@@ -37,11 +37,7 @@ pub(crate) fn corner_at<W: Walked>(walked: &W, v: u32, position: u32) -> Option<
 }
 
 /// The price of crossing a dart.
-pub(crate) fn price_at<W: Walked, F: Asks>(
-    walked: &W,
-    tariff: &Tariff<F>,
-    dart: u32,
-) -> Option<u32>
+pub(crate) fn price_at<W: Walked, F: Asks>(walked: &W, tariff: &Tariff<F>, dart: u32) -> Option<u32>
     requires { IsName (W.named walked.now) dart }
     ensures price { IsPriceFor (prices_of (F.answers tariff.now)) (W.named walked.now).rows (dart_named (W.named walked.now) dart) result }
     ensures in_range { IfSome result (λ p. (1 ≤ p) × (p ≤ 1000)) }

@@ -1,5 +1,4 @@
-use Rattle.std.proofs.Common.{◌<◌, ◌∙◌, sym, subst, length}
-use Rattle.topo_core.specs.Picture.{darts}
+use Rattle.std.proofs.Common.{◌∙◌}
 use Rattle.topo_route.proofs.Canonical.{is_number, next_is_number, number_is}
 use Rattle.topo_route.proofs.faces.next_along.Goals as goal
 

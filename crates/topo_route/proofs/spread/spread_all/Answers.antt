@@ -1,4 +1,4 @@
-use Rattle.std.proofs.Common.{◌<◌, ◌^◌, arith, length}
+use Rattle.std.proofs.Common.{◌<◌, ◌^◌, arith}
 use Rattle.topo_core.specs.Routes.{unreached}
 use Rattle.topo_price.specs.Prices.{prices_of}
 use Rattle.topo_route.proofs.Reaching.{are_heights}

@@ -1,4 +1,3 @@
-use Rattle.std.proofs.Common.{length}
 use Rattle.topo_core.specs.Routes.{unreached}
 use Rattle.topo_price.specs.Prices.{prices_of}
 use Rattle.topo_route.specs.Names.{height_of}

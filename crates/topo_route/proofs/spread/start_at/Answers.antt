@@ -1,4 +1,4 @@
-use Rattle.std.proofs.Common.{◌≡◌, ◌<◌, ◌+◌, ◌^◌, ◌==◌, ◌||◌, ◌∙◌, ℕ, List, ap, arith, sym, subst, length, Some}
+use Rattle.std.proofs.Common.{◌≡◌, ◌<◌, ◌+◌, ◌^◌, ◌==◌, ◌||◌, ◌∙◌, ℕ, List, ap, arith, sym, subst, Some}
 use Rattle.std.proofs.Math.ListN.{set}
 use Rattle.topo_core.specs.declared.darts.Dart.{Dart}
 use Rattle.topo_core.specs.Picture.{corner}
@@ -7,7 +7,7 @@ use Rattle.topo_price.specs.Prices.{prices_of}
 use Rattle.topo_route.specs.Names.{dart_named, height_of}
 use Rattle.topo_route.specs.Settling.{Spreads, is_waiting, item_of}
 use Rattle.topo_route.proofs.Settled.{started, started_zero}
-use Rattle.topo_route.proofs.Names.{height_named, name_below}
+use Rattle.topo_route.proofs.Names.{height_named}
 use Rattle.topo_route.proofs.Tests.{before_all, before_past, before_some}
 use Rattle.topo_route.proofs.spread.start_at.Goals as goal
 use Rattle.topo_route.proofs.spread.start_at.Goals.{in-Some+then-get-gt0+in_ok-push, in-Some+else-get-gt0, in_default}
