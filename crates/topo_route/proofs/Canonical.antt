@@ -1,18 +1,21 @@
 -- The numbers in canonical order as names.
-use Rattle.std.proofs.Common.{◌≡◌, ℕ, ◌<◌, Some, length, sym, ap, subst, ◌∙◌}
-use Rattle.std.specs.Prelude.{Option, MatchOption, None}
+use Rattle.std.proofs.Common.{◌≡◌, ℕ, ◌<◌, Some, length, sym, ap, subst, ◌∙◌, arith}
+use Rattle.std.specs.Prelude.{IsSomeAnd, slice_get, Option, MatchOption, None}
 use Rattle.topo_core.specs.Rotations.{twin}
+use Rattle.topo_core.specs.declared.darts.Dart.{Dart}
 use Rattle.topo_core.specs.declared.rows.Rows.{Rows}
-use Rattle.topo_core.specs.Darts.{dart_twin}
+use Rattle.std.specs.declared.cmp.Ordering.TheVariants.{Less}
+use Rattle.topo_core.specs.Darts.{dart_cmp, dart_twin}
 use Rattle.topo_core.specs.Lawful.{Lawful}
 use Rattle.topo_core.specs.Picture.{corner, darts, index_of, system}
 use Rattle.topo_core.specs.Routes.{Pricing}
 use Rattle.topo_core.specs.Systems.{face_step}
 use Rattle.topo_core.proofs.Numbering.{index_apart, index_twin}
-use Rattle.topo_route.specs.Names.{IsName, IsNamed, Named, canonical, dart_named, next_name, twin_name}
+use Rattle.topo_route.specs.Names.{IsName, IsNamed, Named, canonical, dart_named, next_name, no_dart, twin_name}
 use Rattle.topo_route.specs.Numbers.{IsPriceAt, IsPriceFor, dart_of, next_of}
 use Rattle.topo_route.proofs.Names.{dart_of_name, name_below, name_is}
-use Rattle.topo_route.proofs.Numbers.{dart_in, next_number, number_below, number_of}
+use Rattle.topo_route.proofs.Numbers.{dart_in, got, in_list, next_number, number_below, number_of}
+use Rattle.topo_route.proofs.Order.{number_order, order_number}
 
 module _ (rows : Rows) (lawful : Lawful rows) where
   pub canonical_named : IsNamed (canonical rows)
@@ -36,6 +39,26 @@ module _ (rows : Rows) (lawful : Lawful rows) where
   pub canonical_twin : (k : ℕ) → k < length (darts rows) → twin_name (canonical rows) k ≡ twin k
   canonical_twin k l =
       ap (λ d. index_of rows (dart_twin d)) (canonical_dart k l) ∙ index_twin rows (dart_of rows k) (dart_in rows lawful k l) ∙ ap twin (number_of rows lawful k l)
+
+  -- what is said of the dart at a place
+  pub canonical_at : (k : ℕ) (d : Dart) → IsName (canonical rows) k → slice_get (darts rows) k ≡ Some d → d ≡ dart_named (canonical rows) k
+  canonical_at k d name at = sym (in_list (darts rows) k d no_dart at) ∙ sym (canonical_dart k (canonical_below k name))
+
+  pub canonical_some : (P : Dart → Type 0) (k : ℕ) → IsName (canonical rows) k → IsSomeAnd (slice_get (darts rows) k) P → P (dart_named (canonical rows) k)
+  canonical_some P k name holds = by_item (slice_get (darts rows) k) holds (got rows lawful k (canonical_below k name)) where
+    by_item : (o : Option Dart) → IsSomeAnd o P → o ≡ Some (dart_of rows k) → P (dart_named (canonical rows) k)
+    by_item (Some d) h e = let same : d ≡ dart_of rows k = cc in subst P (same ∙ sym (canonical_dart k (canonical_below k name))) h
+    by_item None h e = elim h [ ]
+
+  -- the order of the numbers is that of the darts
+  pub canonical_order : (i j : ℕ) → IsName (canonical rows) i → IsName (canonical rows) j
+      → (i < j → dart_cmp (dart_named (canonical rows) i) (dart_named (canonical rows) j) ≡ Less) × (dart_cmp (dart_named (canonical rows) i) (dart_named (canonical rows) j) ≡ Less → i < j)
+  canonical_order i j ni nj =
+      let c = dart_named (canonical rows) i in
+      let d = dart_named (canonical rows) j in (
+        (λ less. (number_order rows lawful.embedding.well_formed.paths c d ni.there nj.there (omega (arith, ni.is, nj.is))).0),
+        (λ less. omega (arith, order_number rows lawful c d ni.there nj.there less, ni.is, nj.is)),
+      )
 
 -- ---- A picture whose names are the numbers
 
