@@ -12,6 +12,8 @@ use Rattle.topo_core.specs.Lawful.{IsWellFormed, Lawful}
 use Rattle.topo_core.specs.Picture.{system}
 use Rattle.topo_core.specs.Rotations.{along, Cross, Joined, Move, moved, Turn}
 use Rattle.topo_core.specs.Systems.{turn}
+use Rattle.topo_route.specs.Names.{IsNamed, canonical}
+use Rattle.topo_route.proofs.Canonical.{canonical_named}
 use Rattle.topo_core.proofs.DartLaws.{same_dart_self, same_dart_true}
 use Rattle.topo_core.proofs.Members.{or_second}
 
@@ -105,3 +107,7 @@ lawful_again rows merely = record {
   };
   genus_zero = ∥∥₁_elim merely (ℕ_set _ _) (λ l. l.genus_zero);
 }
+
+-- and each of its darts has a number of its own
+pub names_again : (rows : Rows) → ∥ Lawful rows ∥₁ → IsNamed (canonical rows)
+names_again rows merely = canonical_named rows (lawful_again rows merely)

@@ -13,6 +13,7 @@ use std::marker::Model;
 use topo_core::darts::{Dart, Point};
 use topo_core::rows::{Facts, Rows};
 use topo_route::dual::Dual;
+use topo_route::walked::Walked;
 
 /// A frozen picture: lawful rows with their darts as numbers in flat lists. Contracts see the rows.
 /// The darts are numbered in canonical order: 2i and 2i + 1 are the two of one segment. No question
@@ -83,12 +84,13 @@ impl Frozen {
     }
 }
 
-impl Dual for Frozen {
-    ghost use Rattle.topo_frozen.specs.Recovering.{lawful_again};
+impl Walked for Frozen {
+    ghost use Rattle.topo_frozen.specs.Recovering.{lawful_again, names_again};
+    ghost use Rattle.topo_route.specs.Names.{canonical};
 
-    ghost shows = { λ f. f.rows };
+    ghost named = { λ f. canonical f.rows };
 
-    fn len(&self) -> u32 {
+    fn size(&self) -> u32 {
         self.turns.as_slice().len() as u32
     }
 
@@ -104,11 +106,6 @@ impl Dual for Frozen {
         facts_numbered(&self.rows, self.place(dart), dart)
     }
 
-    fn tail(&self, dart: u32) -> Point {
-        let begins = self.begins.as_slice();
-        tail_numbered(&self.rows, begins, self.place(dart), dart)
-    }
-
     fn corner(&self, v: u32, position: u32) -> Option<u32> {
         corner_number(&self.rows, self.begins.as_slice(), &self.hints, v, position)
     }
@@ -117,14 +114,33 @@ impl Dual for Frozen {
         self.rows.degree(v) as u32
     }
 
-    fn dart(&self, index: u32) -> Dart {
+    fn dart(&self, dart: u32) -> Dart {
         let begins = self.begins.as_slice();
-        dart_numbered(&self.rows, begins, self.place(index), index)
+        dart_numbered(&self.rows, begins, self.place(dart), dart)
+    }
+
+    fn precedes(&self, dart: u32, other: u32) -> bool {
+        dart < other
+    }
+
+    ghost lawful = { λ f. lawful_again f.rows f.lawful };
+
+    ghost has_names = { λ f. names_again f.rows f.lawful };
+}
+
+impl Dual for Frozen {
+    ghost use Rattle.std.specs.Prelude.{refl};
+
+    ghost shows = { λ f. f.rows };
+
+    fn tail(&self, dart: u32) -> Point {
+        let begins = self.begins.as_slice();
+        tail_numbered(&self.rows, begins, self.place(dart), dart)
     }
 
     fn index(&self, dart: Dart) -> Option<u32> {
         number_of(&self.rows, self.begins.as_slice(), &self.hints, dart)
     }
 
-    ghost lawful = { λ f. lawful_again f.rows f.lawful };
+    ghost numbered = { λ f. refl };
 }

@@ -13,6 +13,7 @@ use std::marker::Model;
 use topo_core::darts::{Dart, Point};
 use topo_core::rows::{Facts, Rows};
 use topo_route::dual::Dual;
+use topo_route::walked::Walked;
 
 /// Lawful rows with their darts as numbers, and no more beside them than where the darts of each edge
 /// begin, hints, and the place of the edge that was looked at last, where a walk along a face goes on.
@@ -78,12 +79,13 @@ impl<'a> RowDual<'a> {
     }
 }
 
-impl Dual for RowDual<'_> {
-    ghost use Rattle.topo_frozen.specs.Recovering.{lawful_again};
+impl Walked for RowDual<'_> {
+    ghost use Rattle.topo_frozen.specs.Recovering.{lawful_again, names_again};
+    ghost use Rattle.topo_route.specs.Names.{canonical};
 
-    ghost shows = { λ d. d.rows };
+    ghost named = { λ d. canonical d.rows };
 
-    fn len(&self) -> u32 {
+    fn size(&self) -> u32 {
         dart_count(self.rows, self.begins) as u32
     }
 
@@ -106,10 +108,6 @@ impl Dual for RowDual<'_> {
         facts_numbered(self.rows, self.place(dart), dart)
     }
 
-    fn tail(&self, dart: u32) -> Point {
-        tail_numbered(self.rows, self.begins, self.place(dart), dart)
-    }
-
     fn corner(&self, v: u32, position: u32) -> Option<u32> {
         corner_number(self.rows, self.begins, self.hints, v, position)
     }
@@ -118,13 +116,31 @@ impl Dual for RowDual<'_> {
         self.rows.degree(v) as u32
     }
 
-    fn dart(&self, index: u32) -> Dart {
-        dart_numbered(self.rows, self.begins, self.place(index), index)
+    fn dart(&self, dart: u32) -> Dart {
+        dart_numbered(self.rows, self.begins, self.place(dart), dart)
+    }
+
+    fn precedes(&self, dart: u32, other: u32) -> bool {
+        dart < other
+    }
+
+    ghost lawful = { λ d. lawful_again d.rows d.lawful };
+
+    ghost has_names = { λ d. names_again d.rows d.lawful };
+}
+
+impl Dual for RowDual<'_> {
+    ghost use Rattle.std.specs.Prelude.{refl};
+
+    ghost shows = { λ d. d.rows };
+
+    fn tail(&self, dart: u32) -> Point {
+        tail_numbered(self.rows, self.begins, self.place(dart), dart)
     }
 
     fn index(&self, dart: Dart) -> Option<u32> {
         number_of(self.rows, self.begins, self.hints, dart)
     }
 
-    ghost lawful = { λ d. lawful_again d.rows d.lawful };
+    ghost numbered = { λ d. refl };
 }

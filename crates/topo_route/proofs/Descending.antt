@@ -1,19 +1,19 @@
 -- Down the heights across the first tight darts.
-use Rattle.std.proofs.Common.{◌≡◌, ℕ, zero, suc, ◌+◌, ◌<◌, ◌≤◌, ◌||◌, ◌==◌, Bool, true, false, List, [], ◌∷◌, ◌++◌, length, Some, inl, inr, refl, sym, ap, subst, ◌∙◌, arith, append_assoc}
-use Rattle.std.specs.Prelude.{map, min, slice_get}
+use Rattle.std.proofs.Common.{◌≡◌, ◌≢◌, ℕ, zero, suc, ◌+◌, ◌<◌, ◌≤◌, ◌||◌, ◌==◌, Bool, true, false, List, [], ◌∷◌, ◌++◌, length, Some, inl, inr, refl, sym, ap, subst, ◌∙◌, arith, append_assoc}
+use Rattle.std.specs.Prelude.{IfSome, IsSomeAnd, None, Option, map, min, slice_get, slice_index}
 use Rattle.std.specs.List.{list_any, range_with_len}
 use Rattle.std.proofs.lemmas.List.Folds.{list_any-append}
-use Rattle.std.proofs.lemmas.Bool.{cases_eq}
+use Rattle.std.proofs.lemmas.Bool.{cases_eq, cases_lt}
 use Rattle.std.proofs.lemmas.List.{append-nil}
 use Rattle.topo_core.specs.declared.darts.Dart.{Dart}
 use Rattle.topo_core.specs.declared.rows.Rows.{Rows}
 use Rattle.topo_core.specs.Cycles.{SameCycle, after}
-use Rattle.topo_core.specs.Darts.{dart_twin}
+use Rattle.std.specs.declared.cmp.Ordering.TheVariants.{Greater, Less}
+use Rattle.topo_core.specs.Darts.{dart_cmp, dart_twin}
 use Rattle.topo_core.specs.Lawful.{Lawful}
 use Rattle.topo_core.specs.Picture.{around_crossing, around_vertex, corner, darts, index_of, system, vertices}
-use Rattle.topo_core.specs.Rotations.{twin}
 use Rattle.topo_core.specs.RouteLaws.{IsFirstByHeights, IsTight, TakesFirstDarts, arrival}
-use Rattle.topo_core.specs.Routes.{Costs, Crosses, HasNoRoute, IsFirst, IsPricedRoute, KeepsPromise, Pricing}
+use Rattle.topo_core.specs.Routes.{Costs, Crosses, HasNoRoute, IsFirst, IsPricedRoute, KeepsPromise, Price, Pricing}
 use Rattle.topo_core.specs.Systems.{SameFace, has_dart}
 use Rattle.topo_core.proofs.Certificates.{face_height, face_in, first_by_heights, height_bounds}
 use Rattle.topo_core.proofs.Numbering.{twin_in}
@@ -21,73 +21,81 @@ use Rattle.topo_core.proofs.RouteDarts.{certified}
 use Rattle.topo_route.specs.declared.plan.Plan.{Plan}
 use Rattle.topo_route.specs.declared.plan.PricedRoute.{PricedRoute}
 use Rattle.topo_route.specs.Descents.{Descends, HasNoStart, IsDescent, IsEnd, IsFirstOf, IsFirstRoute, IsFirstTight, IsStart}
-use Rattle.topo_route.specs.Numbers.{HasTightBefore, dart_of, next_of}
+use Rattle.topo_route.specs.Names.{IsName, IsNamed, Named, canonical, dart_named, height_of, next_name, twin_name}
 use Rattle.topo_route.specs.Plans.{AreHeights, AreHeightsBelow, IsPlan, capped, height_in}
 use Rattle.topo_route.proofs.Levels.{capped_at}
-use Rattle.topo_route.proofs.Numbers.{corner_below, dart_in, dart_of_number, face_of_numbers, face_stays, next_permutes, number_below, number_of, numbers_of_face, twin_below, twin_dart}
-use Rattle.topo_route.proofs.Walking.{first_holds, none_before}
-use Rattle.topo_route.proofs.Rounds.{round_all}
+use Rattle.topo_route.proofs.Names.{dart_of_name, dart_of_twin, face_of_names, height_named, names_of_face, round_names, twin_is}
+use Rattle.topo_route.proofs.Numbers.{corner_below, face_stays, number_below}
+use Rattle.topo_route.proofs.Order.{not_later, number_order, order_number}
+use Rattle.topo_route.proofs.Rounds.{round_home}
 
-module _ (price : Pricing) (rows : Rows) (lawful : Lawful rows) (v bound : ℕ) (heights : List ℕ) (known : AreHeightsBelow price rows v bound heights) where
+-- a tight dart lies in the face of `at`
+pub record HasTight (price : Pricing) (g : Named) (heights : List ℕ) (at : ℕ) : Type 0 where
+  pub dart : Dart
+  pub there : has_dart (darts g.rows) dart ≡ true
+  pub face : SameFace (system g.rows) (dart_named g at) dart
+  pub tight : IsTight price g.rows (height_of g heights) dart
+
+module _ (price : Pricing) (g : Named) (lawful : Lawful g.rows) (has : IsNamed g) (v bound : ℕ) (heights : List ℕ) (known : AreHeightsBelow price g v bound heights) where
   abbrev height : Dart → ℕ
-  height = height_in rows heights
+  height = height_of g heights
 
   -- the height up to the bound: a certificate
   abbrev level : Dart → ℕ
-  level = height_in rows (capped bound heights)
+  level = height_of g (capped bound heights)
 
   level_is : (d : Dart) → level d ≡ min (height d) bound
-  level_is d = capped_at bound heights (index_of rows d)
+  level_is d = capped_at bound heights (g.name d)
 
-  one_level : (c d : Dart) → has_dart (darts rows) c ≡ true → SameFace (system rows) c d → level d ≡ level c
-  one_level = face_height price rows (system rows) (darts rows) level (face_stays rows lawful) (twin_in rows) known.certificate.even known.certificate.gentle
+  one_level : (c d : Dart) → has_dart (darts g.rows) c ≡ true → SameFace (system g.rows) c d → level d ≡ level c
+  one_level = face_height price g.rows (system g.rows) (darts g.rows) level (face_stays g.rows lawful) (twin_in g.rows) known.certificate.even known.certificate.gentle
 
-  level_bounds : (xs : List Dart) (c to : Dart) (n : ℕ) → has_dart (darts rows) c ≡ true → Crosses (system rows) c xs to → Costs price rows xs n → level to ≡ 0 → level c ≤ n
-  level_bounds = height_bounds price rows (system rows) (darts rows) level (face_stays rows lawful) (twin_in rows) known.certificate.even known.certificate.gentle
+  level_bounds : (xs : List Dart) (c to : Dart) (n : ℕ) → has_dart (darts g.rows) c ≡ true → Crosses (system g.rows) c xs to → Costs price g.rows xs n → level to ≡ 0 → level c ≤ n
+  level_bounds = height_bounds price g.rows (system g.rows) (darts g.rows) level (face_stays g.rows lawful) (twin_in g.rows) known.certificate.even known.certificate.gentle
 
-  in_face : (c d : Dart) → has_dart (darts rows) c ≡ true → SameFace (system rows) c d → has_dart (darts rows) d ≡ true
-  in_face = face_in price rows (system rows) (darts rows) level (face_stays rows lawful) (twin_in rows) known.certificate.even known.certificate.gentle
+  in_face : (c d : Dart) → has_dart (darts g.rows) c ≡ true → SameFace (system g.rows) c d → has_dart (darts g.rows) d ≡ true
+  in_face = face_in price g.rows (system g.rows) (darts g.rows) level (face_stays g.rows lawful) (twin_in g.rows) known.certificate.even known.certificate.gentle
 
   -- a face below the bound has one height
-  one_height : (c d : Dart) → has_dart (darts rows) c ≡ true → height c < bound → SameFace (system rows) c d → height d ≡ height c
+  one_height : (c d : Dart) → has_dart (darts g.rows) c ≡ true → height c < bound → SameFace (system g.rows) c d → height d ≡ height c
   one_height c d h below same = omega (arith, one_level c d h same, level_is c, level_is d)
 
   -- below the bound a walk at the cost of its face goes down by just the prices
-  goes_down : (x : Dart) (xs : List Dart) (c to : Dart) (n : ℕ) → has_dart (darts rows) c ≡ true → Crosses (system rows) c (x ∷ xs) to → (cost : Costs price rows (x ∷ xs) n) → level to ≡ 0 → level c ≡ n
+  goes_down : (x : Dart) (xs : List Dart) (c to : Dart) (n : ℕ) → has_dart (darts g.rows) c ≡ true → Crosses (system g.rows) c (x ∷ xs) to → (cost : Costs price g.rows (x ∷ xs) n) → level to ≡ 0 → level c ≡ n
       → (level x ≡ n) × (level (dart_twin x) ≡ cost.1)
   goes_down x xs c to n h walk cost down same =
       let there = in_face c x h walk.0 in
       let one = one_level c x h walk.0 in
       let climb = known.certificate.gentle x cost.0 there cost.2 in
-      let rest = level_bounds xs (dart_twin x) to cost.1 (twin_in rows x there) walk.1 cost.3 down in
+      let rest = level_bounds xs (dart_twin x) to cost.1 (twin_in g.rows x there) walk.1 cost.3 down in
       let total = cost.4 in (omega arith, omega arith)
 
   -- above the target the face of a dart below the bound has a tight one
-  tight_there : (at : ℕ) (xs : List Dart) (to : Dart) (n : ℕ) → at < length (darts rows) → Crosses (system rows) (dart_of rows at) xs to → Costs price rows xs n → level to ≡ 0
-      → height (dart_of rows at) ≡ n → n < bound → 0 < n → HasTightBefore price rows heights at (length (darts rows))
+  tight_there : (at : ℕ) (xs : List Dart) (to : Dart) (n : ℕ) → IsName g at → Crosses (system g.rows) (dart_named g at) xs to → Costs price g.rows xs n → level to ≡ 0
+      → height (dart_named g at) ≡ n → n < bound → 0 < n → HasTight price g heights at
   tight_there at [] to n l walk cost down same below above = let zero_cost : n ≡ 0 = cost in absurd (omega arith)
   tight_there at (x ∷ xs) to n l walk cost down same below above =
-      let here = dart_in rows lawful at l in
-      let there = in_face (dart_of rows at) x here walk.0 in
-      let start : level (dart_of rows at) ≡ n = omega (arith, level_is (dart_of rows at)) in
-      let (from, next) = goes_down x xs (dart_of rows at) to n here walk cost down start in
+      let here = l.there in
+      let there = in_face (dart_named g at) x here walk.0 in
+      let start : level (dart_named g at) ≡ n = omega (arith, level_is (dart_named g at)) in
+      let (from, next) = goes_down x xs (dart_named g at) to n here walk cost down start in
       let total = cost.4 in
-      let tight : IsTight price rows height x = record { cost = cost.0; asked = cost.2; drop = omega (arith, level_is x, level_is (dart_twin x)) } in
+      let tight : IsTight price g.rows height x = record { cost = cost.0; asked = cost.2; drop = omega (arith, level_is x, level_is (dart_twin x)) } in
       record {
-        dart = index_of rows x;
-        face = numbers_of_face rows lawful at x l walk.0;
-        before = number_below rows lawful x there;
-        tight = subst (IsTight price rows height) (sym (dart_of_number rows lawful x there)) tight;
+        dart = x;
+        there = there;
+        face = walk.0;
+        tight = tight;
       }
 
-  pub has_tight : (at : ℕ) → at < length (darts rows) → height (dart_of rows at) < bound → 0 < height (dart_of rows at) → HasTightBefore price rows heights at (length (darts rows))
+  pub has_tight : (at : ℕ) → IsName g at → height (dart_named g at) < bound → 0 < height (dart_named g at) → HasTight price g heights at
   has_tight at l below above =
-      let walk = known.reaches (dart_of rows at) (dart_in rows lawful at l) below in
-      tight_there at walk.crossed walk.to (height (dart_of rows at)) l walk.walk walk.cost (known.certificate.target walk.position walk.to walk.ends) refl below above
+      let walk = known.reaches (dart_named g at) (l.there) below in
+      tight_there at walk.crossed walk.to (height (dart_named g at)) l walk.walk walk.cost (known.certificate.target walk.position walk.to walk.ends) refl below above
 
   -- the first tight darts are those by the levels too
-  first_levels : (c : Dart) (xs : List Dart) (to : Dart) (n : ℕ) → has_dart (darts rows) c ≡ true → Crosses (system rows) c xs to → Costs price rows xs n → level to ≡ 0 → level c ≡ n → n < bound
-      → TakesFirstDarts price rows height c xs → TakesFirstDarts price rows level c xs
+  first_levels : (c : Dart) (xs : List Dart) (to : Dart) (n : ℕ) → has_dart (darts g.rows) c ≡ true → Crosses (system g.rows) c xs to → Costs price g.rows xs n → level to ≡ 0 → level c ≡ n → n < bound
+      → TakesFirstDarts price g.rows height c xs → TakesFirstDarts price g.rows level c xs
   first_levels c [] to n h walk cost down same below takes = tt
   first_levels c (x ∷ xs) to n h walk cost down same below takes =
       let (from, next) = goes_down x xs c to n h walk cost down same in
@@ -97,95 +105,95 @@ module _ (price : Pricing) (rows : Rows) (lawful : Lawful rows) (v bound : ℕ) 
           asked = tight.asked;
           drop = omega (arith, tight.drop, one_level c y h face, level_is y, level_is (dart_twin y));
         })),
-        first_levels (dart_twin x) xs to cost.1 (twin_in rows x (in_face c x h walk.0)) walk.1 cost.3 down next (omega arith) takes.1,
+        first_levels (dart_twin x) xs to cost.1 (twin_in g.rows x (in_face c x h walk.0)) walk.1 cost.3 down next (omega arith) takes.1,
       )
 
   -- ---- One step down
 
-  module _ (promise : KeepsPromise price) (from at dart next : ℕ) (crossed : List Dart) (x : Dart) (far : Descends price rows heights from crossed at) (first : IsFirstTight price rows heights at dart)
-      (is : dart_of rows dart ≡ x) (lands : next ≡ twin dart) (below : height (dart_of rows from) < bound) where
-    x_in : has_dart (darts rows) x ≡ true
-    x_in = subst (λ d. has_dart (darts rows) d ≡ true) is (dart_in rows lawful dart first.within)
+  module _ (promise : KeepsPromise price) (from at dart next : ℕ) (crossed : List Dart) (x : Dart) (far : Descends price g heights from crossed at) (first : IsFirstTight price g heights at dart)
+      (is : dart_named g dart ≡ x) (lands : next ≡ twin_name g dart) (below : height (dart_named g from) < bound) where
+    x_in : has_dart (darts g.rows) x ≡ true
+    x_in = subst (λ d. has_dart (darts g.rows) d ≡ true) is first.name.there
 
-    face : SameFace (system rows) (dart_of rows at) x
-    face = subst (SameFace (system rows) (dart_of rows at)) is (face_of_numbers rows lawful at dart far.within first.within first.face)
+    face : SameFace (system g.rows) (dart_named g at) x
+    face = subst (SameFace (system g.rows) (dart_named g at)) is first.face
 
-    lands_on : dart_of rows next ≡ dart_twin x
-    lands_on = ap (dart_of rows) lands ∙ twin_dart rows lawful dart first.within ∙ ap dart_twin is
+    lands_on : dart_named g next ≡ dart_twin x
+    lands_on = ap (dart_named g) lands ∙ dart_of_twin g lawful has dart first.name ∙ ap dart_twin is
 
-    tight : IsTight price rows height x
-    tight = subst (IsTight price rows height) is first.tight
+    tight : IsTight price g.rows height x
+    tight = subst (IsTight price g.rows height) is first.tight
 
-    drop_here : height (dart_of rows at) ≡ tight.cost + height (dart_of rows next)
+    drop_here : height (dart_named g at) ≡ tight.cost + height (dart_named g next)
     drop_here =
-        let low : height (dart_of rows at) < bound = let far_low = far.low in omega arith in
-        let one = one_height (dart_of rows at) x (dart_in rows lawful at far.within) low face in
-        let there : height (dart_of rows next) ≡ height (dart_twin x) = ap height lands_on in
+        let low : height (dart_named g at) < bound = let far_low = far.low in omega arith in
+        let one = one_height (dart_named g at) x far.name.there low face in
+        let there : height (dart_named g next) ≡ height (dart_twin x) = ap height lands_on in
         let drop = tight.drop in omega arith
 
-    pub lower : height (dart_of rows next) < height (dart_of rows at)
+    pub lower : height (dart_named g next) < height (dart_named g at)
     lower = let drop = drop_here in let one = promise.positive tight.asked.facts tight.cost tight.asked.asked in omega arith
 
-    pub descends_on : Descends price rows heights from (crossed ++ x ∷ []) next
+    pub descends_on : Descends price g heights from (crossed ++ x ∷ []) next
     descends_on = record {
-      within = subst (λ k. k < length (darts rows)) (sym lands) (twin_below rows lawful dart first.within);
+      name = subst (IsName g) (sym lands) (twin_is g lawful has dart first.name);
       low = let less = lower in let far_low = far.low in omega arith;
       walk = λ rest to walk.
-          let onward : Crosses (system rows) (dart_of rows at) (x ∷ rest) to = (face, subst (λ c. Crosses (system rows) c rest to) lands_on walk) in
-          subst (λ xs. Crosses (system rows) (dart_of rows from) xs to) (sym (append_assoc crossed (x ∷ []) rest)) (far.walk (x ∷ rest) to onward);
+          let onward : Crosses (system g.rows) (dart_named g at) (x ∷ rest) to = (face, subst (λ c. Crosses (system g.rows) c rest to) lands_on walk) in
+          subst (λ xs. Crosses (system g.rows) (dart_named g from) xs to) (sym (append_assoc crossed (x ∷ []) rest)) (far.walk (x ∷ rest) to onward);
       cost = λ rest cost.
-          let onward : Costs price rows (x ∷ rest) (height (dart_of rows at)) = (tight.cost, height (dart_of rows next), tight.asked, cost, drop_here) in
-          subst (λ xs. Costs price rows xs (height (dart_of rows from))) (sym (append_assoc crossed (x ∷ []) rest)) (far.cost (x ∷ rest) onward);
+          let onward : Costs price g.rows (x ∷ rest) (height (dart_named g at)) = (tight.cost, height (dart_named g next), tight.asked, cost, drop_here) in
+          subst (λ xs. Costs price g.rows xs (height (dart_named g from))) (sym (append_assoc crossed (x ∷ []) rest)) (far.cost (x ∷ rest) onward);
       first_darts = λ rest takes.
-          let none : HasTightBefore price rows heights at (index_of rows x) → ⊥ =
-          subst (λ k. HasTightBefore price rows heights at k → ⊥) (sym (number_of rows lawful dart first.within) ∙ ap (index_of rows) is) first.first in
-          let onward : TakesFirstDarts price rows height (dart_of rows at) (x ∷ rest) =
-          (first_holds price rows lawful heights at x far.within x_in none, subst (λ c. TakesFirstDarts price rows height c rest) lands_on takes) in
-          subst (TakesFirstDarts price rows height (dart_of rows from)) (sym (append_assoc crossed (x ∷ []) rest)) (far.first_darts (x ∷ rest) onward);
-      arrives = λ rest. ap (arrival (dart_of rows from)) (append_assoc crossed (x ∷ []) rest) ∙ far.arrives (x ∷ rest) ∙ ap (λ c. arrival c rest) (sym lands_on);
+          let onward : TakesFirstDarts price g.rows height (dart_named g at) (x ∷ rest) = (
+            subst (λ d. (y : Dart) → has_dart (darts g.rows) y ≡ true → SameFace (system g.rows) (dart_named g at) y → IsTight price g.rows height y → dart_cmp d y ≢ Greater) is first.first,
+            subst (λ c. TakesFirstDarts price g.rows height c rest) lands_on takes,
+          ) in
+          subst (TakesFirstDarts price g.rows height (dart_named g from)) (sym (append_assoc crossed (x ∷ []) rest)) (far.first_darts (x ∷ rest) onward);
+      arrives = λ rest. ap (arrival (dart_named g from)) (append_assoc crossed (x ∷ []) rest) ∙ far.arrives (x ∷ rest) ∙ ap (λ c. arrival c rest) (sym lands_on);
     }
 
   -- ---- From the start to the target
 
-  pub at_start : (from : ℕ) → from < length (darts rows) → Descends price rows heights from [] from
-  at_start from l = record { within = l; low = omega arith; walk = λ rest to walk. walk; cost = λ rest cost. cost; first_darts = λ rest takes. takes; arrives = λ rest. refl }
+  pub at_start : (from : ℕ) → IsName g from → Descends price g heights from [] from
+  at_start from l = record { name = l; low = omega arith; walk = λ rest to walk. walk; cost = λ rest cost. cost; first_darts = λ rest takes. takes; arrives = λ rest. refl }
 
-  pub at_target : (from at : ℕ) (crossed : List Dart) → Descends price rows heights from crossed at → height (dart_of rows at) ≡ 0 → IsDescent price rows heights from crossed at
+  pub at_target : (from at : ℕ) (crossed : List Dart) → Descends price g heights from crossed at → height (dart_named g at) ≡ 0 → IsDescent price g heights from crossed at
   at_target from at crossed far down = record {
-    within = far.within;
+    name = far.name;
     zero_there = down;
-    walk = λ to same. subst (λ xs. Crosses (system rows) (dart_of rows from) xs to) (append-nil crossed) (far.walk [] to same);
-    cost = subst (λ xs. Costs price rows xs (height (dart_of rows from))) (append-nil crossed) (far.cost [] down);
-    first_darts = subst (TakesFirstDarts price rows height (dart_of rows from)) (append-nil crossed) (far.first_darts [] tt);
-    arrives = ap (arrival (dart_of rows from)) (sym (append-nil crossed)) ∙ far.arrives [];
+    walk = λ to same. subst (λ xs. Crosses (system g.rows) (dart_named g from) xs to) (append-nil crossed) (far.walk [] to same);
+    cost = subst (λ xs. Costs price g.rows xs (height (dart_named g from))) (append-nil crossed) (far.cost [] down);
+    first_darts = subst (TakesFirstDarts price g.rows height (dart_named g from)) (append-nil crossed) (far.first_darts [] tt);
+    arrives = ap (arrival (dart_named g from)) (sym (append-nil crossed)) ∙ far.arrives [];
   }
 
   -- a walk that costs nothing crosses nothing
-  no_end : KeepsPromise price → (c : Dart) (xs : List Dart) (to : Dart) (n p : ℕ) → Crosses (system rows) c xs to → Costs price rows xs n → n ≡ 0 → corner rows v p ≡ Some to
-      → ((p : ℕ) (d : Dart) → corner rows v p ≡ Some d → SameFace (system rows) c d → ⊥) → ⊥
+  no_end : KeepsPromise price → (c : Dart) (xs : List Dart) (to : Dart) (n p : ℕ) → Crosses (system g.rows) c xs to → Costs price g.rows xs n → n ≡ 0 → corner g.rows v p ≡ Some to
+      → ((p : ℕ) (d : Dart) → corner g.rows v p ≡ Some d → SameFace (system g.rows) c d → ⊥) → ⊥
   no_end promise c [] to n p walk cost nothing at none = none p to at walk
   no_end promise c (x ∷ xs) to n p walk cost nothing at none = let one = promise.positive cost.2.facts cost.0 cost.2.asked in let total = cost.4 in omega arith
 
   -- a face of height 0 has a corner of the target
-  pub has_end : (promise : KeepsPromise price) (last : ℕ) → last < length (darts rows) → height (dart_of rows last) ≡ 0 → 0 < bound
-      → ((p : ℕ) (c : Dart) → corner rows v p ≡ Some c → SameFace (system rows) (dart_of rows last) c → ⊥) → ⊥
+  pub has_end : (promise : KeepsPromise price) (last : ℕ) → IsName g last → height (dart_named g last) ≡ 0 → 0 < bound
+      → ((p : ℕ) (c : Dart) → corner g.rows v p ≡ Some c → SameFace (system g.rows) (dart_named g last) c → ⊥) → ⊥
   has_end promise last l down above none =
-      let walk = known.reaches (dart_of rows last) (dart_in rows lawful last l) (omega arith) in
-      no_end promise (dart_of rows last) walk.crossed walk.to (height (dart_of rows last)) walk.position walk.walk walk.cost down walk.ends none
+      let walk = known.reaches (dart_named g last) l.there (omega arith) in
+      no_end promise (dart_named g last) walk.crossed walk.to (height (dart_named g last)) walk.position walk.walk walk.cost down walk.ends none
 
   -- a route from the first lowest corner down to its end is the first
-  pub is_first : (promise : KeepsPromise price) (u : ℕ) (found : PricedRoute) (from last : ℕ) → IsStart rows u heights found.route.start from → found.price ≡ height (dart_of rows from)
-      → height (dart_of rows from) < bound → IsDescent price rows heights from found.route.crossed last → IsEnd rows v last found.route.end → IsFirstRoute price rows u v heights found
+  pub is_first : (promise : KeepsPromise price) (u : ℕ) (found : PricedRoute) (from last : ℕ) → IsStart g u heights found.route.start from → found.price ≡ height (dart_named g from)
+      → height (dart_named g from) < bound → IsDescent price g heights from found.route.crossed last → IsEnd g.rows v (dart_named g last) found.route.end → IsFirstRoute price g u v heights found
   is_first promise u found from last start cost below descent end =
-      let n = height (dart_of rows from) in
-      let c = dart_of rows from in
+      let n = height (dart_named g from) in
+      let c = dart_named g from in
       let walk = descent.walk end.to end.face in
-      let priced : IsPricedRoute price rows u v found.route n = record {
+      let priced : IsPricedRoute price g.rows u v found.route n = record {
         route = record { from = c; to = end.to; starts = start.there; ends = end.there; walk = walk };
         cost = descent.cost;
       } in
-      let first_end = subst (λ c. (p : ℕ) (d : Dart) → p < found.route.end → corner rows v p ≡ Some d → SameFace (system rows) c d → ⊥) (sym descent.arrives) end.first in
-      let by_heights : IsFirstByHeights price rows u v height found.route n = record {
+      let first_end = subst (λ c. (p : ℕ) (d : Dart) → p < found.route.end → corner g.rows v p ≡ Some d → SameFace (system g.rows) c d → ⊥) (sym descent.arrives) end.first in
+      let by_heights : IsFirstByHeights price g.rows u v height found.route n = record {
         priced = priced;
         least_height = start.least;
         first_start = start.first;
@@ -193,105 +201,129 @@ module _ (price : Pricing) (rows : Rows) (lawful : Lawful rows) (v bound : ℕ) 
         first_end = first_end;
       } in
       let at_level : level c ≡ n = omega (arith, level_is c) in
-      let by_levels : IsFirstByHeights price rows u v level found.route n = record {
+      let by_levels : IsFirstByHeights price g.rows u v level found.route n = record {
         priced = priced;
         least_height = λ p d at. omega (arith, start.least p d at, level_is d);
         first_start = λ p d less at same. start.first p d less at (omega (arith, level_is d));
-        first_darts = first_levels c found.route.crossed end.to n (dart_in rows lawful from start.within) walk descent.cost (known.certificate.target found.route.end end.to end.there) at_level below descent.first_darts;
+        first_darts = first_levels c found.route.crossed end.to n start.name.there walk descent.cost (known.certificate.target found.route.end end.to end.there) at_level below descent.first_darts;
         first_end = first_end;
       } in
-      let first = first_by_heights price rows u v level (certified price rows u v level lawful.embedding.well_formed known.certificate)
+      let first = first_by_heights price g.rows u v level (certified price g.rows u v level lawful.embedding.well_formed known.certificate)
       (λ d p asked. promise.positive asked.facts p asked.asked) found.route n by_levels in
       record {
-        first = subst (IsFirst price rows u v found.route) (sym cost) first;
-        by_heights = subst (IsFirstByHeights price rows u v height found.route) (sym cost) by_heights;
+        first = subst (IsFirst price g.rows u v found.route) (sym cost) first;
+        by_heights = subst (IsFirstByHeights price g.rows u v height found.route) (sym cost) by_heights;
       }
 
 -- no corner of u is reached, so there is no route
-pub no_route : (price : Pricing) (rows : Rows) → Lawful rows → (v : ℕ) (heights : List ℕ) → AreHeights price rows v heights → (u : ℕ) → HasNoStart rows u heights → HasNoRoute price rows u v
-no_route price rows lawful v heights are u none r n priced =
+pub no_route : (price : Pricing) (g : Named) → Lawful g.rows → (v : ℕ) (heights : List ℕ) → AreHeights price g v heights → (u : ℕ) → HasNoStart g u heights → HasNoRoute price g.rows u v
+no_route price g lawful v heights are u none r n priced =
     let from = priced.route.from in
-    are.unreached_none from (corner_below rows lawful u r.start from priced.route.starts) (none r.start from priced.route.starts) n
+    are.unreached_none from (corner_below g.rows lawful u r.start from priced.route.starts) (none r.start from priced.route.starts) n
     (record { crossed = r.crossed; position = r.end; to = priced.route.to; ends = priced.route.ends; walk = priced.route.walk; cost = priced.cost })
 
 -- the first route by the heights of a search is its plan
-pub is_plan : (price : Pricing) (rows : Rows) (u v : ℕ) (heights : List ℕ) (found : PricedRoute) (plan : Plan) → AreHeights price rows v heights → IsFirstRoute price rows u v heights found
+pub is_plan : (price : Pricing) (rows : Rows) (u v : ℕ) (heights : List ℕ) (found : PricedRoute) (plan : Plan) → AreHeights price (canonical rows) v heights → IsFirstRoute price (canonical rows) u v heights found
     → plan.route ≡ found.route → plan.price ≡ found.price → plan.heights ≡ heights → IsPlan price rows u v plan
 is_plan price rows u v heights found plan are is route cost same = record {
-  heights = subst (AreHeights price rows v) (sym same) are;
+  heights = subst (AreHeights price (canonical rows) v) (sym same) are;
   first = subst (λ r. IsFirst price rows u v r plan.price) (sym route) (subst (IsFirst price rows u v found.route) (sym cost) is.first);
   by_heights = subst (λ hs. IsFirstByHeights price rows u v (height_in rows hs) plan.route plan.price) (sym same)
       (subst (λ r. IsFirstByHeights price rows u v (height_in rows heights) r plan.price) (sym route) (subst (IsFirstByHeights price rows u v (height_in rows heights) found.route) (sym cost) is.by_heights));
 }
 
+-- ---- Tight darts by their names
+
+module _ (price : Pricing) (g : Named) (has : IsNamed g) (heights : List ℕ) (k p : ℕ) (name : IsName g k) where
+  pub tight_is : Price price g.rows (dart_named g k) p → slice_index heights k ≡ p + slice_index heights (twin_name g k) → IsTight price g.rows (height_of g heights) (dart_named g k)
+  tight_is asked drop = record { cost = p; asked = asked; drop = omega (arith, height_named g has heights k name) }
+
+  pub tight_drop : ((q : ℕ) → Price price g.rows (dart_named g k) q → q ≡ p) → IsTight price g.rows (height_of g heights) (dart_named g k) → slice_index heights k ≡ p + slice_index heights (twin_name g k)
+  tight_drop single tight = omega (arith, single tight.cost tight.asked, tight.drop, height_named g has heights k name)
+
 -- ---- The first tight dart of a face
 
--- what a walk round a face has met in its first steps
-pub record FirstSoFar (price : Pricing) (rows : Rows) (heights : List ℕ) (at i first : ℕ) : Type 0 where
-  pub bound : first ≤ length (darts rows)
-  pub there : first < length (darts rows) → SameCycle (next_of rows) at first × IsTight price rows (height_in rows heights) (dart_of rows first)
-  pub none : (j : ℕ) → j < i → after (next_of rows) j at < first → IsTight price rows (height_in rows heights) (dart_of rows (after (next_of rows) j at)) → ⊥
-
-module _ (price : Pricing) (rows : Rows) (lawful : Lawful rows) (heights : List ℕ) (at : ℕ) where
+module _ (price : Pricing) (g : Named) (heights : List ℕ) (at : ℕ) where
   abbrev Tight : ℕ → Type 0
-  Tight k = IsTight price rows (height_in rows heights) (dart_of rows k)
+  Tight k = IsTight price g.rows (height_of g heights) (dart_named g k)
 
-  pub none_so_far : FirstSoFar price rows heights at 0 (length (darts rows))
-  none_so_far = record { bound = omega arith; there = λ l. absurd (omega arith); none = λ j l. absurd (omega arith) }
+  abbrev number : ℕ → ℕ
+  number k = index_of g.rows (dart_named g k)
 
-  pub first_step : (i first dart result : ℕ) → dart ≡ after (next_of rows) i at → dart < length (darts rows) → FirstSoFar price rows heights at i first → IsFirstOf price rows heights first dart result
-      → FirstSoFar price rows heights at (i + 1) result
-  first_step i first dart result place within so_far (inl (is, less, tight)) = record {
-    bound = omega arith;
-    there = λ l. subst (λ k. SameCycle (next_of rows) at k × Tight k) (sym is) (record { steps = i; leads = sym place }, tight);
-    none = λ j l low is_tight. elim (cases_eq j i) [
-      | inl e ↦ let same : after (next_of rows) j at ≡ dart = ap (λ k. after (next_of rows) k at) e ∙ sym place in omega arith
-      | inr ne ↦ so_far.none j (omega arith) (omega arith) is_tight
-    ];
-  }
-  first_step i first dart result place within so_far (inr (is, none)) = record {
-    bound = omega (arith, so_far.bound);
-    there = λ l. subst (λ k. SameCycle (next_of rows) at k × Tight k) (sym is) (so_far.there (omega arith));
-    none = λ j l low is_tight. elim (cases_eq j i) [
-      | inl e ↦
-          let same : after (next_of rows) j at ≡ dart = ap (λ k. after (next_of rows) k at) e ∙ sym place in
-          none (omega arith) (subst Tight same is_tight)
-      | inr ne ↦ so_far.none j (omega arith) (omega arith) is_tight
-    ];
-  }
+  -- there is a first so far, and it is no later than k
+  abbrev NoLater : Option ℕ → ℕ → Type 0
+  NoLater first k = IsSomeAnd first (λ f. number f ≤ number k)
 
-  -- the walk is home, or has met all
-  pub first_home : (i first : ℕ) → FirstSoFar price rows heights at (i + 1) first → next_of rows (after (next_of rows) i at) ≡ at → HasTightBefore price rows heights at (length (darts rows))
-      → IsFirstTight price rows heights at first
-  first_home i first so_far home some =
-      let within = some_below (λ e. none_before price rows heights at (length (darts rows)) i home
-      (λ j l. subst (λ k. after (next_of rows) j at < k → Tight (after (next_of rows) j at) → ⊥) e (so_far.none j (omega arith)))
-      (subst (λ k. after (next_of rows) i at < k → Tight (after (next_of rows) i at) → ⊥) e (so_far.none i (omega arith))) some) in
-      record {
-        within = within;
-        face = (so_far.there within).0;
-        tight = (so_far.there within).1;
-        first = none_before price rows heights at first i home (λ j l. so_far.none j (omega arith)) (so_far.none i (omega arith));
-      } where
-        some_below : (first ≡ length (darts rows) → ⊥) → first < length (darts rows)
-        some_below ne = let bound = so_far.bound in elim (cases_eq first (length (darts rows))) [ inl e ↦ absurd (ne e) | inr other ↦ omega arith ]
+  -- what a walk round a face has met in its first steps
+  pub record FirstSoFar (i : ℕ) (first : Option ℕ) : Type 0 where
+    pub there : IfSome first (λ f. IsName g f × SameFace (system g.rows) (dart_named g at) (dart_named g f) × Tight f)
+    pub none : (j : ℕ) → j < i → Tight (after (next_name g) j at) → NoLater first (after (next_name g) j at)
 
-  pub first_all : (i first : ℕ) → length (darts rows) ≤ i → FirstSoFar price rows heights at i first → at < length (darts rows) → HasTightBefore price rows heights at (length (darts rows))
-      → IsFirstTight price rows heights at first
-  first_all i first enough so_far at_in some =
-      let Free = λ (k : ℕ) (x : ℕ). x < k → Tight x → ⊥ in
-      let all : (x : ℕ) → SameCycle (next_of rows) at x → Free first x =
-      round_all (next_of rows) (Free first) at (length (darts rows)) (next_permutes rows lawful) at_in (λ j l. so_far.none j (omega arith)) in
-      let within : first < length (darts rows) = elim (cases_eq first (length (darts rows))) [
-        | inl e ↦ absurd (all some.dart some.face (subst (λ k. some.dart < k) (sym e) some.before) some.tight)
-        | inr other ↦ let bound = so_far.bound in omega arith
-      ] in
-      record {
-        within = within;
-        face = (so_far.there within).0;
-        tight = (so_far.there within).1;
-        first = λ before. all before.dart before.face before.before before.tight;
-      }
+  pub none_so_far : FirstSoFar 0 None
+  none_so_far = record { there = tt; none = λ j l. absurd (omega arith) }
+
+  -- a name that is known so far
+  pub known_so_far : (i : ℕ) (first : Option ℕ) → FirstSoFar i first → IfSome first (IsName g)
+  known_so_far i (Some f) so_far = so_far.there.0
+  known_so_far i None so_far = tt
+
+  module _ (lawful : Lawful g.rows) (has : IsNamed g) (name : IsName g at) where
+    less_later : (first : Option ℕ) (dart k : ℕ) → IsName g dart → IfSome first (IsName g) → IfSome first (λ b. dart_cmp (dart_named g dart) (dart_named g b) ≡ Less) → NoLater first k → number dart ≤ number k
+    less_later (Some b) dart k name_d names less later =
+        let order = order_number g.rows lawful (dart_named g dart) (dart_named g b) name_d.there names.there less in omega arith
+    less_later None dart k name_d names less later = elim later [ ]
+
+    none_less : (first : Option ℕ) (dart : ℕ) → IsName g dart → IfSome first (IsName g) → IsSomeAnd first (λ b. dart_cmp (dart_named g dart) (dart_named g b) ≢ Less) → NoLater first dart
+    none_less (Some b) dart name_d names kept = elim (cases_lt (number dart) (number b)) [
+      | inl less ↦ absurd (kept (number_order g.rows lawful.embedding.well_formed.paths (dart_named g dart) (dart_named g b) name_d.there names.there less).0)
+      | inr more ↦ omega arith
+    ]
+    none_less None dart name_d names kept = elim kept [ ]
+
+    pub first_step : (i dart : ℕ) (first result : Option ℕ) → dart ≡ after (next_name g) i at → IsName g dart → FirstSoFar i first → IsFirstOf price g heights first dart result → FirstSoFar (i + 1) result
+    first_step i dart first result place name_d so_far (inl (is, tight, less)) =
+        let face = face_of_names g lawful has at dart name (record { steps = i; leads = sym place }) in
+        subst (FirstSoFar (i + 1)) (sym is) (record {
+          there = (name_d, face, tight);
+          none = λ j l is_tight. elim (cases_eq j i) [
+            | inl e ↦ let same : number (after (next_name g) j at) ≡ number dart = ap number (ap (λ k. after (next_name g) k at) e ∙ sym place) in omega arith
+            | inr ne ↦ less_later first dart (after (next_name g) j at) name_d (known_so_far i first so_far) less (so_far.none j (omega arith) is_tight)
+          ];
+        })
+    first_step i dart first result place name_d so_far (inr (is, kept)) =
+        subst (FirstSoFar (i + 1)) (sym is) (record {
+          there = so_far.there;
+          none = λ j l is_tight. elim (cases_eq j i) [
+            | inl e ↦
+                let same : after (next_name g) j at ≡ dart = ap (λ k. after (next_name g) k at) e ∙ sym place in
+                subst (NoLater first) (sym same) (none_less first dart name_d (known_so_far i first so_far) (kept (subst Tight same is_tight)))
+            | inr ne ↦ so_far.none j (omega arith) is_tight
+          ];
+        })
+
+    -- all tight darts of the face are known
+    first_known : (i : ℕ) (first : Option ℕ) → FirstSoFar i first → ((x : ℕ) → SameCycle (next_name g) at x → Tight x → NoLater first x) → HasTight price g heights at → IsSomeAnd first (IsFirstTight price g heights at)
+    first_known i (Some f) so_far all some = record {
+      name = so_far.there.0;
+      face = so_far.there.1;
+      tight = so_far.there.2;
+      first = λ y y_in face tight.
+          let is = dart_of_name g has y y_in in
+          let later = all (g.name y) (names_of_face g lawful has at y name face) (subst (IsTight price g.rows (height_of g heights)) (sym is) tight) in
+          let low : number f ≤ index_of g.rows y = subst (λ d. number f ≤ index_of g.rows d) is later in
+          not_later g.rows lawful (dart_named g f) y so_far.there.0.there y_in low;
+    }
+    first_known i None so_far all some =
+        all (g.name some.dart) (names_of_face g lawful has at some.dart name some.face) (subst (IsTight price g.rows (height_of g heights)) (sym (dart_of_name g has some.dart some.there)) some.tight)
+
+    -- the walk is home, or has met all
+    pub first_home : (i : ℕ) (first : Option ℕ) → FirstSoFar (i + 1) first → next_name g (after (next_name g) i at) ≡ at → HasTight price g heights at → IsSomeAnd first (IsFirstTight price g heights at)
+    first_home i first so_far home some =
+        first_known (i + 1) first so_far (round_home (next_name g) (λ x. Tight x → NoLater first x) at (suc i) (omega arith) home (λ j l. so_far.none j (omega arith))) some
+
+    pub first_all : (i : ℕ) (first : Option ℕ) → g.size ≤ i → FirstSoFar i first → HasTight price g heights at → IsSomeAnd first (IsFirstTight price g heights at)
+    first_all i first enough so_far some =
+        first_known i first so_far (round_names g lawful has (λ x. Tight x → NoLater first x) at name (λ j l. so_far.none j (omega arith))) some
 
 -- ---- A lawful picture with a vertex has darts
 

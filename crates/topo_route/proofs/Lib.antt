@@ -15,3 +15,5 @@ pub mod Descending
 pub mod Levels
 pub mod Known
 pub mod Marking
+pub mod Names
+pub mod Canonical

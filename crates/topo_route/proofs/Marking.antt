@@ -6,15 +6,16 @@ use Rattle.std.proofs.lemmas.Bool.{cases_eq}
 use Rattle.std.proofs.lemmas.List.{get_or_default}
 use Rattle.topo_core.specs.declared.darts.Dart.{Dart}
 use Rattle.topo_core.specs.declared.rows.Rows.{Rows}
-use Rattle.topo_core.specs.Cycles.{IsPermutation, SameCycle, after}
+use Rattle.topo_core.specs.Cycles.{SameCycle, after}
 use Rattle.topo_core.specs.Lawful.{Lawful}
-use Rattle.topo_core.specs.Picture.{corner, darts, index_of, system}
+use Rattle.topo_core.specs.Picture.{corner, system}
 use Rattle.topo_core.specs.Routes.{unreached}
 use Rattle.topo_core.specs.Systems.{SameFace}
 use Rattle.topo_route.specs.Descents.{IsEnd, IsMarked}
-use Rattle.topo_route.specs.Numbers.{dart_of, next_of}
-use Rattle.topo_route.proofs.Numbers.{corner_below, dart_of_number, face_of_numbers, number_below, numbers_of_face}
-use Rattle.topo_route.proofs.Rounds.{round_all, round_home}
+use Rattle.topo_route.specs.Names.{IsName, IsNamed, Named, dart_named, next_name}
+use Rattle.topo_route.proofs.Names.{dart_of_name, face_of_names, names_of_face, round_names}
+use Rattle.topo_route.proofs.Numbers.{corner_below}
+use Rattle.topo_route.proofs.Rounds.{round_home}
 
 -- just darts of the cycle have marks, and the first ones do
 pub record MarksSoFar (f : ℕ → ℕ) (last i : ℕ) (marks : List ℕ) : Type 0 where
@@ -37,11 +38,12 @@ module _ (f : ℕ → ℕ) (last i : ℕ) (marks : List ℕ) (so_far : MarksSoFa
     ];
   }
 
-  pub marked_all : (n : ℕ) → IsPermutation f n → last < n → n ≤ i → (k : ℕ) → SameCycle f last k → slice_index_or marks k unreached ≡ 0
-  marked_all n permutes within enough = round_all f (λ k. slice_index_or marks k unreached ≡ 0) last n permutes within (λ j l. so_far.met j (omega arith))
-
 pub marked_home : (f : ℕ → ℕ) (last i : ℕ) (marks : List ℕ) → MarksSoFar f last (i + 1) marks → f (after f i last) ≡ last → (k : ℕ) → SameCycle f last k → slice_index_or marks k unreached ≡ 0
 marked_home f last i marks so_far home = round_home f (λ k. slice_index_or marks k unreached ≡ 0) last (suc i) (omega arith) home (λ j l. so_far.met j (omega arith))
+
+pub marked_all : (g : Named) → Lawful g.rows → IsNamed g → (last i : ℕ) (marks : List ℕ) → IsName g last → g.size ≤ i → MarksSoFar (next_name g) last i marks
+    → (k : ℕ) → SameCycle (next_name g) last k → slice_index_or marks k unreached ≡ 0
+marked_all g lawful has last i marks name enough so_far = round_names g lawful has (λ k. slice_index_or marks k unreached ≡ 0) last name (λ j l. so_far.met j (omega arith))
 
 -- a blank sheet has no mark
 pub blank_unmarked : (n k : ℕ) → slice_index_or (replicate n unreached) k unreached ≢ 0
@@ -53,29 +55,28 @@ blank_unmarked (suc n) (suc k) e = blank_unmarked n k e
 pub same_mark : (marks : List ℕ) (k : ℕ) → k < length marks → slice_index_or marks k unreached ≡ slice_index marks k
 same_mark marks k within = get_or_default marks k unreached 0 within
 
+-- what a search for the end says of its answer
+abbrev EndsAt : Rows → ℕ → Dart → Option ℕ → Type 0
+EndsAt rows v last found = MatchOption found ((p : ℕ) (c : Dart) → corner rows v p ≡ Some c → SameFace (system rows) last c → ⊥) (IsEnd rows v last)
+
 -- the first marked corner lies in the face
-pub marked_end : (rows : Rows) → Lawful rows → (v last : ℕ) (marks : List ℕ) (found : Option ℕ) → last < length (darts rows)
-    → ((k : ℕ) → slice_index_or marks k unreached ≡ 0 → SameCycle (next_of rows) last k) → ((k : ℕ) → SameCycle (next_of rows) last k → slice_index_or marks k unreached ≡ 0)
-    → MatchOption found ((p : ℕ) (c : Dart) → corner rows v p ≡ Some c → slice_index_or marks (index_of rows c) unreached ≢ 0) (IsMarked rows v marks)
-    → MatchOption found ((p : ℕ) (c : Dart) → corner rows v p ≡ Some c → SameFace (system rows) (dart_of rows last) c → ⊥) (IsEnd rows v last)
-marked_end rows lawful v last marks (Some position) within sound complete marked =
-    let c_in = corner_below rows lawful v position marked.to marked.there in
-    let l = number_below rows lawful marked.to c_in in
+pub marked_end : (g : Named) → Lawful g.rows → IsNamed g → (v last : ℕ) (marks : List ℕ) (found : Option ℕ) → IsName g last
+    → ((k : ℕ) → slice_index_or marks k unreached ≡ 0 → SameCycle (next_name g) last k) → ((k : ℕ) → SameCycle (next_name g) last k → slice_index_or marks k unreached ≡ 0)
+    → MatchOption found ((p : ℕ) (c : Dart) → corner g.rows v p ≡ Some c → slice_index_or marks (g.name c) unreached ≢ 0) (IsMarked g v marks)
+    → EndsAt g.rows v (dart_named g last) found
+marked_end g lawful has v last marks (Some position) name sound complete marked =
+    let there = corner_below g.rows lawful v position marked.to marked.there in
     record {
       to = marked.to;
       there = marked.there;
-      face = subst (SameFace (system rows) (dart_of rows last)) (dart_of_number rows lawful marked.to c_in) (face_of_numbers rows lawful last (index_of rows marked.to) within l (sound (index_of rows marked.to) marked.marked));
-      first = λ p d less at same. marked.first p d less at (complete (index_of rows d) (numbers_of_face rows lawful last d within same));
+      face = subst (SameFace (system g.rows) (dart_named g last)) (dart_of_name g has marked.to there) (face_of_names g lawful has last (g.name marked.to) name (sound (g.name marked.to) marked.marked));
+      first = λ p d less at same. marked.first p d less at (complete (g.name d) (names_of_face g lawful has last d name same));
     }
-marked_end rows lawful v last marks None within sound complete none =
-    λ p d at same. none p d at (complete (index_of rows d) (numbers_of_face rows lawful last d within same))
+marked_end g lawful has v last marks None name sound complete none =
+    λ p d at same. none p d at (complete (g.name d) (names_of_face g lawful has last d name same))
 
--- what a search for the end says of its answer
-abbrev EndsAt : Rows → ℕ → ℕ → Option ℕ → Type 0
-EndsAt rows v last found = MatchOption found ((p : ℕ) (c : Dart) → corner rows v p ≡ Some c → SameFace (system rows) (dart_of rows last) c → ⊥) (IsEnd rows v last)
-
-pub end_none : (rows : Rows) (v last : ℕ) (found : Option ℕ) → found ≡ None → EndsAt rows v last found → (p : ℕ) (c : Dart) → corner rows v p ≡ Some c → SameFace (system rows) (dart_of rows last) c → ⊥
+pub end_none : (rows : Rows) (v : ℕ) (last : Dart) (found : Option ℕ) → found ≡ None → EndsAt rows v last found → (p : ℕ) (c : Dart) → corner rows v p ≡ Some c → SameFace (system rows) last c → ⊥
 end_none rows v last found is ends = subst (EndsAt rows v last) is ends
 
-pub end_some : (rows : Rows) (v last : ℕ) (found : Option ℕ) (position : ℕ) → found ≡ Some position → EndsAt rows v last found → IsEnd rows v last position
+pub end_some : (rows : Rows) (v : ℕ) (last : Dart) (found : Option ℕ) (position : ℕ) → found ≡ Some position → EndsAt rows v last found → IsEnd rows v last position
 end_some rows v last found position is ends = subst (EndsAt rows v last) is ends

@@ -13,7 +13,8 @@ use Rattle.topo_core.specs.Lawful.{IsWellFormed, Lawful}
 use Rattle.topo_core.proofs.Numbering.{index_of_get, get_index, has_at, twin_in, index_twin, images_length, turn_permutes, index_less, turn_stays, dart_at}
 use Rattle.topo_core.proofs.Renumbering.{face_carried, face_numbers, face_darts}
 use Rattle.topo_core.proofs.RouteDarts.{corner_in}
-use Rattle.topo_route.specs.Numbers.{dart_of, next_of, no_dart}
+use Rattle.topo_route.specs.Names.{no_dart}
+use Rattle.topo_route.specs.Numbers.{dart_of, next_of}
 
 pub in_list : {X : Type 0} (xs : List X) (i : ℕ) (x d : X) → slice_get xs i ≡ Some x → slice_index_or xs i d ≡ x
 in_list [] i x d e = cc

@@ -1,10 +1,10 @@
 -- The numbers of darts follow the canonical order.
-use Rattle.std.proofs.Common.{◌≡◌, ℕ, zero, suc, ◌+◌, ◌<◌, ◌≤◌, ◌||◌, not, Bool, true, false, cond, List, [], ◌∷◌, ◌++◌, refl, sym, ap, subst, ◌∙◌, arith, inl, inr}
+use Rattle.std.proofs.Common.{◌≡◌, ◌≢◌, ℕ, zero, suc, ◌+◌, ◌<◌, ◌≤◌, ◌||◌, not, Bool, true, false, cond, List, [], ◌∷◌, ◌++◌, refl, sym, ap, subst, ◌∙◌, arith, inl, inr}
 use Rattle.std.specs.Prelude.{◌⊎◌, flat_map, map, nat_lt, slice_index_or}
 use Rattle.std.specs.List.{list_all, position_or_len, range_with_len}
 use Rattle.std.specs.Ordering.{nat_cmp, ordering_then}
 use Rattle.std.specs.declared.cmp.Ordering.TheVariants.{Less, Equal, Greater}
-use Rattle.std.proofs.lemmas.Bool.{false≢true, cases_Bool}
+use Rattle.std.proofs.lemmas.Bool.{cases_Bool, cases_eq, cases_lt, false≢true}
 use Rattle.std.proofs.lemmas.Bool.Decides.{nat_tests}
 use Rattle.topo_core.specs.declared.darts.Dart.{Dart}
 use Rattle.topo_core.specs.declared.darts.Way.TheVariants.{Forward, Back}
@@ -12,13 +12,14 @@ use Rattle.topo_core.specs.declared.rows.EdgeRow.{EdgeRow}
 use Rattle.topo_core.specs.declared.rows.Rows.{Rows}
 use Rattle.topo_core.specs.Darts.{both_ways, dart_cmp, same_dart, way_cmp}
 use Rattle.topo_core.specs.Items.{IsIn, rises_below}
-use Rattle.topo_core.specs.Lawful.{has_good_path, has_good_paths}
+use Rattle.topo_core.specs.Lawful.{Lawful, has_good_path, has_good_paths}
 use Rattle.topo_core.specs.Picture.{darts, darts_of, index_of, segment_count}
 use Rattle.topo_core.specs.Systems.{has_dart}
 use Rattle.topo_core.proofs.Counting.{ids_above}
 use Rattle.topo_core.proofs.DartLaws.{same_dart_self, same_dart_true}
-use Rattle.topo_core.proofs.DartOrder.{nat_cmp_self}
+use Rattle.topo_core.proofs.DartOrder.{dart_cmp_self, nat_cmp_self}
 use Rattle.topo_core.proofs.Members.{left_true, right_true}
+use Rattle.topo_core.proofs.Numbering.{index_apart}
 
 -- c comes before d
 abbrev Precedes : Dart → Dart → Type 0
@@ -173,3 +174,29 @@ place_order (x ∷ ds) rises c d c_in d_in less = elim (cases_Bool (same_dart d 
 pub number_order : (rows : Rows) → has_good_paths rows ≡ true → (c d : Dart) → has_dart (darts rows) c ≡ true → has_dart (darts rows) d ≡ true
     → index_of rows c < index_of rows d → (dart_cmp c d ≡ Less) × (dart_cmp d c ≡ Greater)
 number_order rows paths = place_order (darts rows) (all_rise rows.next_edge rows.edges (left_true (rises_below rows.next_edge (map (λ row. row.id) rows.edges)) (list_all (has_good_path rows) rows.edges) paths))
+
+module _ (rows : Rows) (lawful : Lawful rows) (c d : Dart) (c_in : has_dart (darts rows) c ≡ true) (d_in : has_dart (darts rows) d ≡ true) where
+  -- no later number is that of no later dart
+  pub not_later : index_of rows c ≤ index_of rows d → dart_cmp c d ≢ Greater
+  not_later low greater = elim (cases_eq (index_of rows c) (index_of rows d)) [
+    | inl e ↦
+        let one : c ≡ d = index_apart rows lawful.embedding.well_formed.paths c d c_in d_in e in
+        let bad : Equal ≡ Greater = sym (dart_cmp_self c) ∙ ap (dart_cmp c) one ∙ greater in cc
+    | inr ne ↦
+        let order = number_order rows lawful.embedding.well_formed.paths c d c_in d_in (omega arith) in
+        let bad : Less ≡ Greater = sym order.0 ∙ greater in cc
+  ]
+
+  -- an earlier dart has a smaller number
+  pub order_number : dart_cmp c d ≡ Less → index_of rows c < index_of rows d
+  order_number less = elim (cases_eq (index_of rows c) (index_of rows d)) [
+    | inl e ↦
+        let one : c ≡ d = index_apart rows lawful.embedding.well_formed.paths c d c_in d_in e in
+        let bad : Equal ≡ Less = sym (dart_cmp_self c) ∙ ap (dart_cmp c) one ∙ less in cc
+    | inr ne ↦ elim (cases_lt (index_of rows c) (index_of rows d)) [
+      | inl below ↦ below
+      | inr above ↦
+          let order = number_order rows lawful.embedding.well_formed.paths d c d_in c_in (omega arith) in
+          let bad : Greater ≡ Less = sym order.1 ∙ less in cc
+    ]
+  ]

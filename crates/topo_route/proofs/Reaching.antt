@@ -8,20 +8,18 @@ use Rattle.topo_core.specs.declared.rows.Rows.{Rows}
 use Rattle.topo_core.specs.Cycles.{SameCycle, after}
 use Rattle.topo_core.specs.Darts.{dart_twin}
 use Rattle.topo_core.specs.Lawful.{Lawful}
-use Rattle.topo_core.specs.Picture.{corner, darts, index_of, system}
-use Rattle.topo_core.specs.Rotations.{twin}
+use Rattle.topo_core.specs.Picture.{corner, darts, system}
 use Rattle.topo_core.specs.Routes.{Costs, Crosses, IsCertificate, IsHeight, KeepsPromise, Price, Pricing, Reaches, unreached}
 use Rattle.topo_core.specs.Systems.{SameFace, face_step, has_dart}
 use Rattle.topo_core.proofs.Certificates.{face_height, face_in, height_bounds}
 use Rattle.topo_core.proofs.DartLaws.{twin-twin}
 use Rattle.topo_core.proofs.Numbering.{twin_in}
-use Rattle.topo_route.specs.Numbers.{dart_of, next_of}
-use Rattle.topo_route.specs.Plans.{AreHeights, MeetsTarget, height_in}
+use Rattle.topo_route.specs.Names.{IsName, IsNamed, Named, dart_named, height_of, next_name, twin_name}
+use Rattle.topo_route.specs.Plans.{AreHeights, IsZeroAt}
 use Rattle.topo_route.specs.Settling.{AreCosts, IsSettled, reached}
-use Rattle.topo_route.proofs.Numbers.{dart_of_number, face_of_numbers, face_stays, next_below, next_permutes, number_below, twin_below, twin_dart, twin_twin}
-use Rattle.topo_core.proofs.Orbits.{SameCycle-sym, after-within}
+use Rattle.topo_route.proofs.Names.{after_is, back_round, dart_of_name, dart_of_twin, even_names, face_of_names, gentle_names, name_is, next_is, twin_back, twin_is}
+use Rattle.topo_route.proofs.Numbers.{face_stays}
 use Rattle.topo_route.proofs.Settled.{counts}
-use Rattle.topo_route.proofs.Tests.{even_darts, gentle_darts}
 
 -- ---- Faces
 
@@ -40,40 +38,40 @@ crosses_from : (rows : Rows) (c d : Dart) (xs : List Dart) (to : Dart) → SameF
 crosses_from rows c d [] to same walk = same_through (face_step (system rows)) c d to same walk
 crosses_from rows c d (x ∷ xs) to same walk = (same_through (face_step (system rows)) c d x same walk.0, walk.1)
 
-module _ (price : Pricing) (rows : Rows) (lawful : Lawful rows) (v : ℕ) where
+module _ (price : Pricing) (g : Named) (lawful : Lawful g.rows) (has : IsNamed g) (v : ℕ) where
   -- the next dart of the face reaches the target at the same cost
-  pub reaches_next : (k h : ℕ) → k < length (darts rows) → Reaches price rows v (dart_of rows k) h → Reaches price rows v (dart_of rows (next_of rows k)) h
+  pub reaches_next : (k h : ℕ) → IsName g k → Reaches price g.rows v (dart_named g k) h → Reaches price g.rows v (dart_named g (next_name g k)) h
   reaches_next k h l walk =
-      let step : SameCycle (next_of rows) k (next_of rows k) = record { steps = 1; leads = refl } in
-      let back = SameCycle-sym (next_of rows) (length (darts rows)) (next_permutes rows lawful) k (next_of rows k) l step in
-      let same = face_of_numbers rows lawful (next_of rows k) k (next_below rows lawful k l) l back in
+      let step : SameCycle (next_name g) k (next_name g k) = record { steps = 1; leads = refl } in
+      let back = back_round g lawful has k (next_name g k) l step in
+      let same = face_of_names g lawful has (next_name g k) k (next_is g lawful has k l) back in
       record {
         crossed = walk.crossed;
         position = walk.position;
         to = walk.to;
         ends = walk.ends;
-        walk = crosses_from rows (dart_of rows (next_of rows k)) (dart_of rows k) walk.crossed walk.to same walk.walk;
+        walk = crosses_from g.rows (dart_named g (next_name g k)) (dart_named g k) walk.crossed walk.to same walk.walk;
         cost = walk.cost;
       }
 
   -- the twin reaches it across the segment, at its price more
-  pub reaches_twin : (k h p : ℕ) → k < length (darts rows) → Price price rows (dart_of rows k) p → Reaches price rows v (dart_of rows k) h → Reaches price rows v (dart_of rows (twin k)) (p + h)
+  pub reaches_twin : (k h p : ℕ) → IsName g k → Price price g.rows (dart_named g k) p → Reaches price g.rows v (dart_named g k) h → Reaches price g.rows v (dart_named g (twin_name g k)) (p + h)
   reaches_twin k h p l asked walk =
-      let d = dart_of rows k in
-      let other : Price price rows (dart_twin d) p = record { facts = asked.facts; known = asked.known; asked = asked.asked } in
-      let home : SameFace (system rows) (dart_twin d) (dart_twin d) = record { steps = 0; leads = refl } in
-      let across : Reaches price rows v (dart_twin d) (p + h) = record {
+      let d = dart_named g k in
+      let other : Price price g.rows (dart_twin d) p = record { facts = asked.facts; known = asked.known; asked = asked.asked } in
+      let home : SameFace (system g.rows) (dart_twin d) (dart_twin d) = record { steps = 0; leads = refl } in
+      let across : Reaches price g.rows v (dart_twin d) (p + h) = record {
         crossed = dart_twin d ∷ walk.crossed;
         position = walk.position;
         to = walk.to;
         ends = walk.ends;
-        walk = (home, subst (λ c. Crosses (system rows) c walk.crossed walk.to) (sym (twin-twin d)) walk.walk);
+        walk = (home, subst (λ c. Crosses (system g.rows) c walk.crossed walk.to) (sym (twin-twin d)) walk.walk);
         cost = (p, h, other, walk.cost, refl);
       } in
-      subst (λ c. Reaches price rows v c (p + h)) (sym (twin_dart rows lawful k l)) across
+      subst (λ c. Reaches price g.rows v c (p + h)) (sym (dart_of_twin g lawful has k l)) across
 
   -- a corner of the target costs nothing
-  pub reaches_corner : (position : ℕ) (c : Dart) → corner rows v position ≡ Some c → Reaches price rows v c 0
+  pub reaches_corner : (position : ℕ) (c : Dart) → corner g.rows v position ≡ Some c → Reaches price g.rows v c 0
   reaches_corner position c at = record { crossed = []; position = position; to = c; ends = at; walk = record { steps = 0; leads = refl }; cost = refl }
 
 -- ---- When all are settled
@@ -85,69 +83,66 @@ reached_most (h ∷ heights) = elim (cases_Bool (h == unreached)) [
   | inr e ↦ let one : counts h ≡ 1 = ap (λ (b : Bool). cond {A = ℕ} b 0 1) e in omega (arith, sum_by-cons counts h heights, reached_most heights)
 ]
 
-module _ (price : Pricing) (rows : Rows) (lawful : Lawful rows) (v : ℕ) (bound : ℕ) (heights : List ℕ) (top : (k : ℕ) → slice_index heights k ≤ bound) (meets : MeetsTarget rows v heights)
-    (settled : (k : ℕ) → k < length (darts rows) → IsSettled price rows bound heights k) where
-  abbrev n : ℕ
-  n = length (darts rows)
-
+module _ (price : Pricing) (g : Named) (lawful : Lawful g.rows) (has : IsNamed g) (v : ℕ) (bound : ℕ) (heights : List ℕ) (top : (k : ℕ) → slice_index heights k ≤ bound) (meets : IsZeroAt g.rows v (height_of g heights))
+    (settled : (k : ℕ) → IsName g k → IsSettled price g bound heights k) where
   abbrev height : Dart → ℕ
-  height = height_in rows heights
+  height = height_of g heights
 
-  falls : (j k : ℕ) → k < n → slice_index heights (after (next_of rows) j k) ≤ slice_index heights k
+  falls : (j k : ℕ) → IsName g k → slice_index heights (after (next_name g) j k) ≤ slice_index heights k
   falls zero k l = omega arith
   falls (suc j) k l =
       let rest = falls j k l in
-      let step = (settled (after (next_of rows) j k) (after-within (next_of rows) n (next_permutes rows lawful) j k l)).0 in omega arith
+      let step = (settled (after (next_name g) j k) (after_is g lawful has j k l)).0 in omega arith
 
-  even : (k : ℕ) → k < n → slice_index heights (next_of rows k) ≡ slice_index heights k
+  even : (k : ℕ) → IsName g k → slice_index heights (next_name g k) ≡ slice_index heights k
   even k l =
-      let step : SameCycle (next_of rows) k (next_of rows k) = record { steps = 1; leads = refl } in
-      let back = SameCycle-sym (next_of rows) n (next_permutes rows lawful) k (next_of rows k) l step in
-      let round = falls back.steps (next_of rows k) (next_below rows lawful k l) in
-      let home : slice_index heights (after (next_of rows) back.steps (next_of rows k)) ≡ slice_index heights k = ap (slice_index heights) back.leads in
+      let step : SameCycle (next_name g) k (next_name g k) = record { steps = 1; leads = refl } in
+      let back = back_round g lawful has k (next_name g k) l step in
+      let round = falls back.steps (next_name g k) (next_is g lawful has k l) in
+      let home : slice_index heights (after (next_name g) back.steps (next_name g k)) ≡ slice_index heights k = ap (slice_index heights) back.leads in
       let down = (settled k l).0 in omega arith
 
-  gentle : (k p : ℕ) → k < n → Price price rows (dart_of rows k) p → slice_index heights k ≤ p + slice_index heights (twin k)
+  gentle : (k p : ℕ) → IsName g k → Price price g.rows (dart_named g k) p → slice_index heights k ≤ p + slice_index heights (twin_name g k)
   gentle k p l asked =
-      let other : Price price rows (dart_twin (dart_of rows k)) p = record { facts = asked.facts; known = asked.known; asked = asked.asked } in
-      let there = subst (λ c. Price price rows c p) (sym (twin_dart rows lawful k l)) other in
-      let climb = (settled (twin k) (twin_below rows lawful k l)).1 p there in
-      let back : slice_index heights (twin (twin k)) ≡ slice_index heights k = ap (slice_index heights) (twin_twin k) in
-      let low = top (twin (twin k)) in omega arith
+      let other : Price price g.rows (dart_twin (dart_named g k)) p = record { facts = asked.facts; known = asked.known; asked = asked.asked } in
+      let there = subst (λ c. Price price g.rows c p) (sym (dart_of_twin g lawful has k l)) other in
+      let climb = (settled (twin_name g k) (twin_is g lawful has k l)).1 p there in
+      let back : slice_index heights (twin_name g (twin_name g k)) ≡ slice_index heights k = ap (slice_index heights) (twin_back g lawful has k l) in
+      let low = top (twin_name g (twin_name g k)) in omega arith
 
-  pub certificate : IsCertificate price rows v height
-  certificate = record { even = even_darts rows lawful heights even; gentle = gentle_darts rows lawful heights price gentle; target = meets }
+  pub certificate : IsCertificate price g.rows v height
+  certificate = record { even = even_names g lawful has heights even; gentle = gentle_names g lawful has heights price gentle; target = meets }
 
-  module _ (promise : KeepsPromise price) (costs : AreCosts price rows v heights) (small : n < 2 ^ 32) where
-    cap : (d : Dart) → has_dart (darts rows) d ≡ true → height d ≢ unreached → height d ≤ 1000 * 4294967296
+  module _ (promise : KeepsPromise price) (costs : AreCosts price g v heights) (small : g.size < 2 ^ 32) where
+    cap : (d : Dart) → has_dart (darts g.rows) d ≡ true → height d ≢ unreached → height d ≤ 1000 * 4294967296
     cap d h ne =
-        let bound = costs.bounded (index_of rows d) (number_below rows lawful d h) ne in
+        let bound = costs.bounded (g.name d) (name_is g has d h) ne in
         let most = reached_most heights in
         let each = costs.one_each in omega arith
 
     -- a face from which a walk leads to the target is reached
-    is_reached : (xs : List Dart) (c to : Dart) (m : ℕ) → has_dart (darts rows) c ≡ true → Crosses (system rows) c xs to → Costs price rows xs m → height to ≡ 0 → height c ≢ unreached
+    is_reached : (xs : List Dart) (c to : Dart) (m : ℕ) → has_dart (darts g.rows) c ≡ true → Crosses (system g.rows) c xs to → Costs price g.rows xs m → height to ≡ 0 → height c ≢ unreached
     is_reached [] c to m h walk cost zero_there e =
-        let one = face_height price rows (system rows) (darts rows) height (face_stays rows lawful) (twin_in rows) certificate.even certificate.gentle c to h walk in omega arith
+        let one = face_height price g.rows (system g.rows) (darts g.rows) height (face_stays g.rows lawful) (twin_in g.rows) certificate.even certificate.gentle c to h walk in omega arith
     is_reached (x ∷ xs) c to m h walk cost zero_there e =
-        let one = face_height price rows (system rows) (darts rows) height (face_stays rows lawful) (twin_in rows) certificate.even certificate.gentle c x h walk.0 in
-        let there = face_in price rows (system rows) (darts rows) height (face_stays rows lawful) (twin_in rows) certificate.even certificate.gentle c x h walk.0 in
-        let other = is_reached xs (dart_twin x) to cost.1 (twin_in rows x there) walk.1 cost.3 zero_there in
-        let low = cap (dart_twin x) (twin_in rows x there) other in
+        let one = face_height price g.rows (system g.rows) (darts g.rows) height (face_stays g.rows lawful) (twin_in g.rows) certificate.even certificate.gentle c x h walk.0 in
+        let there = face_in price g.rows (system g.rows) (darts g.rows) height (face_stays g.rows lawful) (twin_in g.rows) certificate.even certificate.gentle c x h walk.0 in
+        let other = is_reached xs (dart_twin x) to cost.1 (twin_in g.rows x there) walk.1 cost.3 zero_there in
+        let low = cap (dart_twin x) (twin_in g.rows x there) other in
         let climb = certificate.gentle x cost.0 there cost.2 in
         let most = promise.at_most cost.2.facts cost.0 cost.2.asked in omega arith
 
-    exact : (d : Dart) → has_dart (darts rows) d ≡ true → IsHeight price rows v d (height d)
+    exact : (d : Dart) → has_dart (darts g.rows) d ≡ true → IsHeight price g.rows v d (height d)
     exact d h = elim (cases_eq (height d) unreached) [
       | inl e ↦ inr (e, λ m walk. is_reached walk.crossed d walk.to m h walk.walk walk.cost (meets walk.position walk.to walk.ends) e)
       | inr ne ↦ inl (
-        subst (λ c. Reaches price rows v c (height d)) (dart_of_number rows lawful d h) (costs.costs (index_of rows d) (number_below rows lawful d h) ne),
-        λ m walk. height_bounds price rows (system rows) (darts rows) height (face_stays rows lawful) (twin_in rows) certificate.even certificate.gentle
+        subst (λ c. Reaches price g.rows v c (height d)) (dart_of_name g has d h) (costs.costs (g.name d) (name_is g has d h) ne),
+        λ m walk. height_bounds price g.rows (system g.rows) (darts g.rows) height (face_stays g.rows lawful) (twin_in g.rows) certificate.even certificate.gentle
             walk.crossed d walk.to m h walk.walk walk.cost (meets walk.position walk.to walk.ends),
       )
     ]
 
-    pub are_heights : AreHeights price rows v heights
+    pub are_heights : AreHeights price g v heights
     are_heights = record {
       one_each = costs.one_each;
       exact = exact;

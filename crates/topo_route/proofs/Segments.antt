@@ -1,6 +1,6 @@
 -- One price for each segment.
 use Rattle.std.proofs.Common.{◌≡◌, ℕ, zero, suc, ◌+◌, ◌*◌, ◌/◌, ◌%◌, ◌<◌, List, [], ◌∷◌, ◌++◌, length, Some, None, inl, inr, refl, sym, ap, subst, ◌∙◌, arith, length-append}
-use Rattle.std.specs.Prelude.{Option, MatchOption, slice_get, slice_index_or}
+use Rattle.std.specs.Prelude.{Option, slice_index_or}
 use Rattle.std.proofs.lemmas.Bool.{cases_eq}
 use Rattle.topo_core.specs.declared.darts.Dart.{Dart}
 use Rattle.topo_core.specs.declared.rows.Rows.{Rows}
@@ -9,26 +9,24 @@ use Rattle.topo_core.specs.Picture.{darts, edge_at}
 use Rattle.topo_core.specs.Rotations.{twin}
 use Rattle.topo_core.specs.Routes.{AreFactsOf, KeepsPromise, Price, Pricing}
 use Rattle.topo_core.proofs.Numbering.{even_images, images_length}
-use Rattle.topo_route.specs.Numbers.{IsPriceAt, dart_of, no_dart}
+use Rattle.topo_route.specs.Names.{canonical, dart_named}
+use Rattle.topo_route.specs.Numbers.{IsPriceAt, IsPriceFor, dart_of}
 use Rattle.topo_route.specs.Settling.{ArePrices, ArePricesOf}
-use Rattle.topo_route.proofs.Numbers.{in_list, twin_cases, twin_dart}
+use Rattle.topo_route.proofs.Canonical.{canonical_below, canonical_dart}
+use Rattle.topo_route.proofs.Numbers.{twin_cases, twin_dart}
 
 -- the prices of an edge are those of its darts
 price_along : (price : Pricing) (rows : Rows) (d e : Dart) (p : ℕ) → d.edge ≡ e.edge → Price price rows d p → Price price rows e p
 price_along price rows d e p same asked = record { facts = asked.facts; known = subst (λ x. AreFactsOf (edge_at rows x) asked.facts) same asked.known; asked = asked.asked }
 
-answer_along : (price : Pricing) (rows : Rows) (d e : Dart) (answer : Option ℕ) → d.edge ≡ e.edge → MatchOption answer ((p : ℕ) → Price price rows d p → ⊥) (λ p. Price price rows d p)
-    → MatchOption answer ((p : ℕ) → Price price rows e p → ⊥) (λ p. Price price rows e p)
+answer_along : (price : Pricing) (rows : Rows) (d e : Dart) (answer : Option ℕ) → d.edge ≡ e.edge → IsPriceFor price rows d answer
+    → IsPriceFor price rows e answer
 answer_along price rows d e (Some p) same asked = price_along price rows d e p same asked
 answer_along price rows d e None same none = λ p asked. none p (price_along price rows e d p (sym same) asked)
 
 -- two darts of one edge have one price
-pub price_of_edge : (price : Pricing) (rows : Rows) (i j : ℕ) (c d : Dart) (answer : Option ℕ) → slice_get (darts rows) i ≡ Some c → slice_get (darts rows) j ≡ Some d → c.edge ≡ d.edge
-    → IsPriceAt price rows i answer → IsPriceAt price rows j answer
-price_of_edge price rows i j c d answer at_i at_j same priced =
-    let is_c : dart_of rows i ≡ c = in_list (darts rows) i c no_dart at_i in
-    let is_d : dart_of rows j ≡ d = in_list (darts rows) j d no_dart at_j in
-    answer_along price rows (dart_of rows i) (dart_of rows j) answer (ap (λ x. x.edge) is_c ∙ same ∙ ap (λ x. x.edge) (sym is_d)) priced
+pub price_of_edge : (price : Pricing) (rows : Rows) (i j : ℕ) (answer : Option ℕ) → (dart_of rows i).edge ≡ (dart_of rows j).edge → IsPriceAt price rows i answer → IsPriceAt price rows j answer
+price_of_edge price rows i j answer same priced = answer_along price rows (dart_of rows i) (dart_of rows j) answer same priced
 
 at_end : {X : Type 0} (xs : List X) (x d : X) → slice_index_or (xs ++ x ∷ []) (length xs) d ≡ x
 at_end [] x d = refl
@@ -56,21 +54,21 @@ next_price price rows prices s answer are is promise = record {
 }
 
 -- the prices of all segments
-pub all_prices : (price : Pricing) (rows : Rows) → Lawful rows → (prices : List (Option ℕ)) (s : ℕ) → s ≡ length (darts rows) / 2 → ArePricesOf price rows prices s → ArePrices price rows prices
+pub all_prices : (price : Pricing) (rows : Rows) → Lawful rows → (prices : List (Option ℕ)) (s : ℕ) → s ≡ length (darts rows) / 2 → ArePricesOf price rows prices s → ArePrices price (canonical rows) prices
 all_prices price rows lawful prices s whole are =
     let even : length (darts rows) % 2 ≡ 0 = ap (λ n. n % 2) (sym (images_length rows)) ∙ even_images rows in
     record {
-      right = λ k l kept.
-          let at = are.right (k / 2) (omega arith) in
-          elim (cases_eq k (2 * (k / 2))) [
-            | inl e ↦ subst (λ i. IsPriceAt price rows i (slice_index_or prices (k / 2) None)) (sym e) at
+      right = λ k name kept.
+          let l = canonical_below rows lawful k name in
+          let is = ap (λ d. d.edge) (sym (canonical_dart rows lawful k l)) in
+          let first = 2 * (k / 2) in
+          let in_first : first < length (darts rows) = omega arith in
+          let along : (dart_of rows first).edge ≡ (dart_of rows k).edge = elim (cases_eq k first) [
+            | inl e ↦ ap (λ i. (dart_of rows i).edge) (sym e)
             | inr ne ↦
-                let first = 2 * (k / 2) in
-                let in_first : first < length (darts rows) = omega arith in
-                let is : k ≡ twin first = omega (arith, twin_cases first) in
-                let there = twin_dart rows lawful first in_first in
-                answer_along price rows (dart_of rows first) (dart_of rows k) (slice_index_or prices (k / 2) None)
-                (sym (ap (λ x. x.edge) (ap (dart_of rows) is ∙ there))) at
-          ];
+                let twins : k ≡ twin first = omega (arith, twin_cases first) in
+                sym (ap (λ d. d.edge) (ap (dart_of rows) twins ∙ twin_dart rows lawful first in_first))
+          ] in
+          answer_along price rows (dart_of rows first) (dart_named (canonical rows) k) (slice_index_or prices (k / 2) None) (along ∙ is) (are.right (k / 2) (omega arith));
       promise = λ l. are.promise (omega arith);
     }

@@ -1,4 +1,4 @@
--- How heights spread, on numbers of darts.
+-- How heights spread, on names of darts.
 use Rattle.std.proofs.Common.{◌≡◌, ◌≢◌, ℕ, ◌+◌, ◌*◌, ◌^◌, ◌<◌, ◌≤◌, ◌||◌, ◌==◌, Bool, true, false, cond, List, [], length, Some, inl, inr, refl, sym, ap, subst, ◌∙◌, arith, get_or-set_same, get_or-set_other}
 use Rattle.std.specs.Prelude.{◌⊎◌, slice_index, sum_by}
 use Rattle.std.proofs.Math.ListN.{set}
@@ -6,14 +6,12 @@ use Rattle.std.proofs.lemmas.Bool.{cases_eq, cases_lt, eqb-true, eq-eqb, ne_eqb,
 use Rattle.std.proofs.lemmas.List.{length-set}
 use Rattle.std.proofs.lemmas.List.Sums.{sum_by-set}
 use Rattle.topo_core.specs.declared.darts.Dart.{Dart}
-use Rattle.topo_core.specs.declared.rows.Rows.{Rows}
-use Rattle.topo_core.specs.Lawful.{Lawful}
-use Rattle.topo_core.specs.Picture.{corner, darts, index_of}
-use Rattle.topo_core.specs.Rotations.{twin}
+use Rattle.topo_core.specs.Picture.{corner}
 use Rattle.topo_core.specs.Routes.{Pricing, Reaches, unreached}
-use Rattle.topo_route.specs.Numbers.{dart_of, next_of}
-use Rattle.topo_route.specs.Plans.{MeetsTarget, height_in}
-use Rattle.topo_route.proofs.Tests.{before_some, height_at}
+use Rattle.topo_route.specs.Names.{IsName, IsNamed, Named, dart_named, height_of, next_name, twin_name}
+use Rattle.topo_route.specs.Plans.{IsZeroAt}
+use Rattle.topo_route.proofs.Names.{height_named, name_below}
+use Rattle.topo_route.proofs.Tests.{before_some}
 use Rattle.topo_route.specs.Settling.{AreCosts, AreLowered, IsCrossed, IsReached, IsSettled, Spreads, dart_of_item, effort, is_pending, is_waiting, item_of, reached}
 
 abbrev pub counts : ℕ → ℕ
@@ -38,6 +36,10 @@ either_true false b e = inr e
 -- an item is that of its dart
 pub dart_of_own : (d h : ℕ) → d < 2 ^ 32 → dart_of_item (item_of d h) ≡ d
 dart_of_own d h short = omega arith
+
+-- heights have one for each name
+pub has_height : (price : Pricing) (g : Named) → IsNamed g → (v : ℕ) (heights : List ℕ) → AreCosts price g v heights → (k : ℕ) → IsName g k → k < length heights
+has_height price g has v heights costs k name = omega (arith, costs.one_each, name_below g has k name)
 
 -- ---- One height lowered
 
@@ -70,26 +72,26 @@ module _ (heights : List ℕ) (t x : ℕ) (within : t < length heights) where
     | inr was ↦ let one = counts_reached (slice_index heights t) was in omega arith
   ]
 
-module _ (price : Pricing) (rows : Rows) (v : ℕ) (heights : List ℕ) (costs : AreCosts price rows v heights) (t x : ℕ) (there : t < length (darts rows))
-    (low : x < slice_index heights t) (walk : Reaches price rows v (dart_of rows t) x) (near : x ≤ 1000 * reached heights + 1000) where
+module _ (price : Pricing) (g : Named) (v : ℕ) (heights : List ℕ) (has : IsNamed g) (costs : AreCosts price g v heights) (t x : ℕ) (there : IsName g t)
+    (low : x < slice_index heights t) (walk : Reaches price g.rows v (dart_named g t) x) (near : x ≤ 1000 * reached heights + 1000) where
   inside : t < length heights
-  inside = let e = costs.one_each in omega arith
+  inside = omega (arith, costs.one_each, name_below g has t there)
 
   some : x ≢ unreached
   some e = let cap = costs.capped t in omega arith
 
   -- a lower cost keeps heights costs
-  pub lowered_costs : AreCosts price rows v (set heights t x)
+  pub lowered_costs : AreCosts price g v (set heights t x)
   lowered_costs = record {
     one_each = length-set heights t x ∙ costs.one_each;
     capped = λ k. let less = lowered_less heights t x inside k (omega arith) in let cap = costs.capped k in omega arith;
     costs = λ k l reached_k. elim (cases_eq k t) [
       | inl e ↦
           let now : slice_index (set heights t x) k ≡ x = ap (slice_index (set heights t x)) e ∙ lowered_there heights t x inside in
-          subst (λ n. Reaches price rows v (dart_of rows k) n) (sym now) (subst (λ j. Reaches price rows v (dart_of rows j) x) (sym e) walk)
+          subst (λ n. Reaches price g.rows v (dart_named g k) n) (sym now) (subst (λ j. Reaches price g.rows v (dart_named g j) x) (sym e) walk)
       | inr ne ↦
           let same = lowered_other heights t x inside k ne in
-          subst (λ n. Reaches price rows v (dart_of rows k) n) (sym same) (costs.costs k l (λ was. reached_k (same ∙ was)))
+          subst (λ n. Reaches price g.rows v (dart_named g k) n) (sym same) (costs.costs k l (λ was. reached_k (same ∙ was)))
     ];
     bounded = λ k l reached_k.
         let more = lowered_more heights t x inside some in
@@ -111,16 +113,16 @@ module _ (price : Pricing) (rows : Rows) (v : ℕ) (heights : List ℕ) (costs :
   pub lowered_stays : (k : ℕ) → slice_index heights k ≢ unreached → slice_index (set heights t x) k ≢ unreached
   lowered_stays k was now = let less = lowered_less heights t x inside k (omega arith) in let cap = costs.capped k in was (omega arith)
 
-  pub lowered_settled : (bound k : ℕ) → k ≢ t → IsSettled price rows bound heights k → IsSettled price rows bound (set heights t x) k
+  pub lowered_settled : (bound k : ℕ) → k ≢ t → IsSettled price g bound heights k → IsSettled price g bound (set heights t x) k
   lowered_settled bound k ne (face, crossed) =
       let same = lowered_other heights t x inside k ne in (
-        (let less = lowered_less heights t x inside (next_of rows k) (omega arith) in omega arith),
-        (λ p e. let bound = crossed p e in let less = lowered_less heights t x inside (twin k) (omega arith) in omega arith),
+        (let less = lowered_less heights t x inside (next_name g k) (omega arith) in omega arith),
+        (λ p e. let bound = crossed p e in let less = lowered_less heights t x inside (twin_name g k) (omega arith) in omega arith),
       )
 
   -- t is lowered and waits
-  pub lowered_waits : (bound : ℕ) (waiting after : List ℕ) (in_hand : ℕ) → t < 2 ^ 32 → Spreads price rows v bound heights waiting in_hand
-      → ((i : ℕ) → is_waiting after i ≡ (item_of t x == i || is_waiting waiting i)) → Spreads price rows v bound (set heights t x) after in_hand
+  pub lowered_waits : (bound : ℕ) (waiting after : List ℕ) (in_hand : ℕ) → t < 2 ^ 32 → Spreads price g v bound heights waiting in_hand
+      → ((i : ℕ) → is_waiting after i ≡ (item_of t x == i || is_waiting waiting i)) → Spreads price g v bound (set heights t x) after in_hand
   lowered_waits bound waiting after in_hand short spreads added = record {
     costs = lowered_costs;
     others = λ k l ne less idle.
@@ -133,7 +135,7 @@ module _ (price : Pricing) (rows : Rows) (v : ℕ) (heights : List ℕ) (costs :
     reached_waits = λ item waits. elim (either_true (item_of t x == item) (is_waiting waiting item) (sym (added item) ∙ waits)) [
       | inl here ↦
           let is : t ≡ dart_of_item item = sym (dart_of_own t x short) ∙ ap dart_of_item (eqb-true (item_of t x) item here) in (
-            subst (λ j. j < length (darts rows)) is there,
+            subst (IsName g) is there,
             subst (λ j. slice_index (set heights t x) j ≢ unreached) is (λ e. some (sym (lowered_there heights t x inside) ∙ e)),
           )
       | inr before ↦ let was = spreads.reached_waits item before in (was.0, lowered_stays (dart_of_item item) was.1)
@@ -141,50 +143,50 @@ module _ (price : Pricing) (rows : Rows) (v : ℕ) (heights : List ℕ) (costs :
   }
 
 -- t is the next along the face of the dart in hand, and is lowered to its height: now it is in hand
-pub passed_on : (price : Pricing) (rows : Rows) (v bound : ℕ) (heights waiting : List ℕ) (d t : ℕ) → Spreads price rows v bound heights waiting d
-    → t ≡ next_of rows d → t < length (darts rows) → slice_index heights d < slice_index heights t → IsCrossed price rows bound heights d
-    → Reaches price rows v (dart_of rows t) (slice_index heights d) → slice_index heights d ≤ 1000 * reached heights
-    → Spreads price rows v bound (set heights t (slice_index heights d)) waiting t
-passed_on price rows v bound heights waiting d t spreads is there low crossed walk near =
+pub passed_on : (price : Pricing) (g : Named) → IsNamed g → (v bound : ℕ) (heights waiting : List ℕ) (d t : ℕ) → Spreads price g v bound heights waiting d
+    → t ≡ next_name g d → IsName g t → slice_index heights d < slice_index heights t → IsCrossed price g bound heights d
+    → Reaches price g.rows v (dart_named g t) (slice_index heights d) → slice_index heights d ≤ 1000 * reached heights
+    → Spreads price g v bound (set heights t (slice_index heights d)) waiting t
+passed_on price g has v bound heights waiting d t spreads is there low crossed walk near =
     let x = slice_index heights d in
     let costs = spreads.costs in
-    let within : t < length heights = let e = costs.one_each in omega arith in
+    let within : t < length heights = omega (arith, costs.one_each, name_below g has t there) in
     let near' : x ≤ 1000 * reached heights + 1000 = omega arith in
     record {
-      costs = lowered_costs price rows v heights costs t x there low walk near';
+      costs = lowered_costs price g v heights has costs t x there low walk near';
       others = λ k l ne less idle. elim (cases_eq k d) [
         | inl e ↦
             let same : slice_index (set heights t x) k ≡ x = lowered_other heights t x within k ne ∙ ap (slice_index heights) e in
-            let now : slice_index (set heights t x) (next_of rows k) ≡ x = ap (λ j. slice_index (set heights t x) (next_of rows j)) e ∙ ap (slice_index (set heights t x)) (sym is) ∙ lowered_there heights t x within in (
+            let now : slice_index (set heights t x) (next_name g k) ≡ x = ap (λ j. slice_index (set heights t x) (next_name g j)) e ∙ ap (slice_index (set heights t x)) (sym is) ∙ lowered_there heights t x within in (
               (omega arith),
               (λ p priced.
-                  let bound = subst (IsCrossed price rows bound heights) (sym e) crossed p priced in
+                  let bound = subst (IsCrossed price g bound heights) (sym e) crossed p priced in
                   let was : slice_index heights k ≡ x = ap (slice_index heights) e in
-                  let less = lowered_less heights t x within (twin k) (omega arith) in omega arith),
+                  let less = lowered_less heights t x within (twin_name g k) (omega arith) in omega arith),
             )
         | inr other ↦
             let same = lowered_other heights t x within k ne in
-            lowered_settled price rows v heights costs t x there low walk near' bound k ne (spreads.others k l other (omega arith) (ap (λ h. is_waiting waiting (item_of k h)) (sym same) ∙ idle))
+            lowered_settled price g v heights has costs t x there low walk near' bound k ne (spreads.others k l other (omega arith) (ap (λ h. is_waiting waiting (item_of k h)) (sym same) ∙ idle))
       ];
-      reached_waits = λ item waits. let was = spreads.reached_waits item waits in (was.0, lowered_stays price rows v heights costs t x there low walk near' (dart_of_item item) was.1);
+      reached_waits = λ item waits. let was = spreads.reached_waits item waits in (was.0, lowered_stays price g v heights has costs t x there low walk near' (dart_of_item item) was.1);
     }
 
 -- the dart in hand is settled
-pub put_down : (price : Pricing) (rows : Rows) (v bound : ℕ) (heights waiting : List ℕ) (d : ℕ) → Spreads price rows v bound heights waiting d
-    → IsSettled price rows bound heights d → Spreads price rows v bound heights waiting (length (darts rows))
-put_down price rows v bound heights waiting d spreads settled = record {
+pub put_down : (price : Pricing) (g : Named) (v bound : ℕ) (heights waiting : List ℕ) (d : ℕ) → Spreads price g v bound heights waiting d
+    → IsSettled price g bound heights d → Spreads price g v bound heights waiting g.size
+put_down price g v bound heights waiting d spreads settled = record {
   costs = spreads.costs;
   others = λ k l ne less idle. elim (cases_eq k d) [
-    | inl e ↦ subst (IsSettled price rows bound heights) (sym e) settled
+    | inl e ↦ subst (IsSettled price g bound heights) (sym e) settled
     | inr other ↦ spreads.others k l other less idle
   ];
   reached_waits = spreads.reached_waits;
 }
 
 -- the dart in hand is not below the bound
-pub put_aside : (price : Pricing) (rows : Rows) (v bound : ℕ) (heights waiting : List ℕ) (d : ℕ) → Spreads price rows v bound heights waiting d
-    → bound ≤ slice_index heights d → Spreads price rows v bound heights waiting (length (darts rows))
-put_aside price rows v bound heights waiting d spreads high = record {
+pub put_aside : (price : Pricing) (g : Named) (v bound : ℕ) (heights waiting : List ℕ) (d : ℕ) → Spreads price g v bound heights waiting d
+    → bound ≤ slice_index heights d → Spreads price g v bound heights waiting g.size
+put_aside price g v bound heights waiting d spreads high = record {
   costs = spreads.costs;
   others = λ k l ne less idle. elim (cases_eq k d) [
     | inl e ↦ let same : slice_index heights k ≡ slice_index heights d = ap (slice_index heights) e in absurd (omega arith)
@@ -194,9 +196,9 @@ put_aside price rows v bound heights waiting d spreads high = record {
 }
 
 -- a lower bound
-pub narrowed : (price : Pricing) (rows : Rows) (v bound lower : ℕ) (heights waiting : List ℕ) (in_hand : ℕ) → Spreads price rows v bound heights waiting in_hand
-    → lower ≤ bound → Spreads price rows v lower heights waiting in_hand
-narrowed price rows v bound lower heights waiting in_hand spreads low = record {
+pub narrowed : (price : Pricing) (g : Named) (v bound lower : ℕ) (heights waiting : List ℕ) (in_hand : ℕ) → Spreads price g v bound heights waiting in_hand
+    → lower ≤ bound → Spreads price g v lower heights waiting in_hand
+narrowed price g v bound lower heights waiting in_hand spreads low = record {
   costs = spreads.costs;
   others = λ k l ne less idle.
       let (face, crossed) = spreads.others k l ne (omega arith) idle in
@@ -205,54 +207,54 @@ narrowed price rows v bound lower heights waiting in_hand spreads low = record {
 }
 
 -- a dart is taken from those that wait
-pub taken_up : (price : Pricing) (rows : Rows) (v bound : ℕ) (heights waiting after : List ℕ) (d : ℕ) → length (darts rows) < 2 ^ 32
-    → Spreads price rows v bound heights waiting (length (darts rows)) → ((k : ℕ) → k < 2 ^ 32 → slice_index heights k < bound → k ≢ d → is_pending heights after k ≡ is_pending heights waiting k)
-    → ((item : ℕ) → is_waiting after item ≡ true → is_waiting waiting item ≡ true) → Spreads price rows v bound heights after d
-taken_up price rows v bound heights waiting after d small spreads same fewer = record {
+pub taken_up : (price : Pricing) (g : Named) → IsNamed g → (v bound : ℕ) (heights waiting after : List ℕ) (d : ℕ) → g.size < 2 ^ 32
+    → Spreads price g v bound heights waiting g.size → ((k : ℕ) → k < 2 ^ 32 → slice_index heights k < bound → k ≢ d → is_pending heights after k ≡ is_pending heights waiting k)
+    → ((item : ℕ) → is_waiting after item ≡ true → is_waiting waiting item ≡ true) → Spreads price g v bound heights after d
+taken_up price g has v bound heights waiting after d small spreads same fewer = record {
   costs = spreads.costs;
-  others = λ k l ne less idle. spreads.others k l (omega arith) less (sym (same k (omega arith) less ne) ∙ idle);
+  others = λ k l ne less idle. let below = name_below g has k l in spreads.others k l (omega arith) less (sym (same k (omega arith) less ne) ∙ idle);
   reached_waits = λ item waits. spreads.reached_waits item (fewer item waits);
 }
 
 -- and has been reached
-pub taken_reached : (price : Pricing) (rows : Rows) (v bound : ℕ) (heights waiting : List ℕ) (in_hand d : ℕ) → d < 2 ^ 32 → Spreads price rows v bound heights waiting in_hand
-    → is_pending heights waiting d ≡ true → IsReached rows heights d
-taken_reached price rows v bound heights waiting in_hand d short spreads pending =
-    subst (IsReached rows heights) (dart_of_own d (slice_index heights d) short) (spreads.reached_waits (item_of d (slice_index heights d)) pending)
+pub taken_reached : (price : Pricing) (g : Named) (v bound : ℕ) (heights waiting : List ℕ) (in_hand d : ℕ) → d < 2 ^ 32 → Spreads price g v bound heights waiting in_hand
+    → is_pending heights waiting d ≡ true → IsReached g heights d
+taken_reached price g v bound heights waiting in_hand d short spreads pending =
+    subst (IsReached g heights) (dart_of_own d (slice_index heights d) short) (spreads.reached_waits (item_of d (slice_index heights d)) pending)
 
 -- a corner of the target gets height 0 and waits
-module _ (price : Pricing) (rows : Rows) (lawful : Lawful rows) (v bound : ℕ) (heights waiting after : List ℕ) (in_hand i c : ℕ) (spreads : Spreads price rows v bound heights waiting in_hand)
-    (there : c < length (darts rows)) (at : corner rows v i ≡ Some (dart_of rows c)) (high : 0 < slice_index heights c)
+module _ (price : Pricing) (g : Named) (has : IsNamed g) (v bound : ℕ) (heights waiting after : List ℕ) (in_hand i c : ℕ) (spreads : Spreads price g v bound heights waiting in_hand)
+    (there : IsName g c) (at : corner g.rows v i ≡ Some (dart_named g c)) (high : 0 < slice_index heights c)
     (short : c < 2 ^ 32) (added : (i : ℕ) → is_waiting after i ≡ (item_of c 0 == i || is_waiting waiting i)) where
-  pub started : Spreads price rows v bound (set heights c 0) after in_hand
+  pub started : Spreads price g v bound (set heights c 0) after in_hand
   started =
-      let walk : Reaches price rows v (dart_of rows c) 0 = record { crossed = []; position = i; to = dart_of rows c; ends = at; walk = record { steps = 0; leads = refl }; cost = refl } in
-      lowered_waits price rows v heights spreads.costs c 0 there high walk (omega arith) bound waiting after in_hand short spreads added
+      let walk : Reaches price g.rows v (dart_named g c) 0 = record { crossed = []; position = i; to = dart_named g c; ends = at; walk = record { steps = 0; leads = refl }; cost = refl } in
+      lowered_waits price g v heights has spreads.costs c 0 there high walk (omega arith) bound waiting after in_hand short spreads added
 
-  pub started_zero : ((p : ℕ) (d : Dart) → p < i → corner rows v p ≡ Some d → height_in rows heights d ≡ 0)
-      → (p : ℕ) (d : Dart) → p < i + 1 → corner rows v p ≡ Some d → height_in rows (set heights c 0) d ≡ 0
+  pub started_zero : ((p : ℕ) (d : Dart) → p < i → corner g.rows v p ≡ Some d → height_of g heights d ≡ 0)
+      → (p : ℕ) (d : Dart) → p < i + 1 → corner g.rows v p ≡ Some d → height_of g (set heights c 0) d ≡ 0
   started_zero before =
-      let within : c < length heights = omega (arith, spreads.costs.one_each) in
-      before_some rows v (λ p d. height_in rows (set heights c 0) d ≡ 0) i (dart_of rows c) at
-      (height_at rows lawful (set heights c 0) c there ∙ lowered_there heights c 0 within)
-      (λ p d l here. let was = before p d l here in let less = lowered_less heights c 0 within (index_of rows d) (omega arith) in omega arith)
+      let within : c < length heights = omega (arith, spreads.costs.one_each, name_below g has c there) in
+      before_some g.rows v (λ p d. height_of g (set heights c 0) d ≡ 0) i (dart_named g c) at
+      (height_named g has (set heights c 0) c there ∙ lowered_there heights c 0 within)
+      (λ p d l here. let was = before p d l here in let less = lowered_less heights c 0 within (g.name d) (omega arith) in omega arith)
 
 -- none waits with its height, so all below the bound are settled
-pub all_settled : (price : Pricing) (rows : Rows) (v bound : ℕ) (heights waiting : List ℕ) → length (darts rows) < 2 ^ 32 → Spreads price rows v bound heights waiting (length (darts rows))
-    → ((k : ℕ) → k < 2 ^ 32 → slice_index heights k < bound → is_pending heights waiting k ≡ false) → (k : ℕ) → k < length (darts rows) → slice_index heights k < bound → IsSettled price rows bound heights k
-all_settled price rows v bound heights waiting small spreads none k l less = spreads.others k l (omega arith) less (none k (omega arith) less)
+pub all_settled : (price : Pricing) (g : Named) → IsNamed g → (v bound : ℕ) (heights waiting : List ℕ) → g.size < 2 ^ 32 → Spreads price g v bound heights waiting g.size
+    → ((k : ℕ) → k < 2 ^ 32 → slice_index heights k < bound → is_pending heights waiting k ≡ false) → (k : ℕ) → IsName g k → slice_index heights k < bound → IsSettled price g bound heights k
+all_settled price g has v bound heights waiting small spreads none k l less = let below = name_below g has k l in spreads.others k l (omega arith) less (none k (omega arith) less)
 
 -- what is not reached is settled
-pub every_settled : (price : Pricing) (rows : Rows) (v : ℕ) (heights : List ℕ) → AreCosts price rows v heights
-    → ((k : ℕ) → k < length (darts rows) → slice_index heights k < unreached → IsSettled price rows unreached heights k) → (k : ℕ) → k < length (darts rows) → IsSettled price rows unreached heights k
-every_settled price rows v heights costs settled k l = elim (cases_lt (slice_index heights k) unreached) [
+pub every_settled : (price : Pricing) (g : Named) (v : ℕ) (heights : List ℕ) → AreCosts price g v heights
+    → ((k : ℕ) → IsName g k → slice_index heights k < unreached → IsSettled price g unreached heights k) → (k : ℕ) → IsName g k → IsSettled price g unreached heights k
+every_settled price g v heights costs settled k l = elim (cases_lt (slice_index heights k) unreached) [
   | inl less ↦ settled k l less
-  | inr high ↦ ((let cap = costs.capped (next_of rows k) in omega arith), (λ p e. let cap = costs.capped (twin k) in omega arith))
+  | inr high ↦ ((let cap = costs.capped (next_name g k) in omega arith), (λ p e. let cap = costs.capped (twin_name g k) in omega arith))
 ]
 
 -- lower heights meet the target where higher ones did
-pub meets_lower : (rows : Rows) (v : ℕ) (before after : List ℕ) → AreLowered before after → MeetsTarget rows v before → MeetsTarget rows v after
-meets_lower rows v before after lower meets p c at = omega (arith, lower (index_of rows c), meets p c at)
+pub meets_lower : (g : Named) (v : ℕ) (before after : List ℕ) → AreLowered before after → IsZeroAt g.rows v (height_of g before) → IsZeroAt g.rows v (height_of g after)
+meets_lower g v before after lower meets p c at = omega (arith, lower (g.name c), meets p c at)
 
 -- a step falls
 pub passed_effort : (heights waiting : List ℕ) (t x : ℕ) → t < length heights → x < slice_index heights t → effort (set heights t x) waiting < effort heights waiting

@@ -13,7 +13,7 @@ use Rattle.topo_core.specs.Routes.{Price, Pricing, unreached}
 use Rattle.topo_core.specs.Systems.{face_step}
 use Rattle.topo_core.proofs.Numbering.{index_twin}
 use Rattle.topo_route.specs.Numbers.{dart_of, next_of}
-use Rattle.topo_route.specs.Plans.{IsEven, IsGentle, IsLeastHeight, height_in}
+use Rattle.topo_route.specs.Plans.{IsEven, IsGentle, IsLeastAt, IsLeastHeight, height_in}
 use Rattle.topo_route.proofs.Numbers.{dart_in, dart_of_number, next_number, number_below, number_of}
 
 get_past : {X : Type 0} (xs : List X) (i : ℕ) → length xs ≤ i → slice_get xs i ≡ None
@@ -157,39 +157,39 @@ module _ (rows : Rows) (u : ℕ) (heights : List ℕ) (cost : ℕ) where
 
 -- ---- The lowest corner so far
 
-pub record LowestBefore (rows : Rows) (u : ℕ) (heights : List ℕ) (least i : ℕ) : Type 0 where
+pub record LowestBefore (rows : Rows) (u : ℕ) (height : Dart → ℕ) (least i : ℕ) : Type 0 where
   pub capped : least ≤ unreached
-  pub low : (p : ℕ) (c : Dart) → p < i → corner rows u p ≡ Some c → least ≤ height_in rows heights c
-  pub attained : least ≢ unreached → (p : ℕ) × (c : Dart) × (corner rows u p ≡ Some c) × (height_in rows heights c ≡ least)
+  pub low : (p : ℕ) (c : Dart) → p < i → corner rows u p ≡ Some c → least ≤ height c
+  pub attained : least ≢ unreached → (p : ℕ) × (c : Dart) × (corner rows u p ≡ Some c) × (height c ≡ least)
 
-module _ (rows : Rows) (u : ℕ) (heights : List ℕ) where
-  pub lowest_none : LowestBefore rows u heights unreached 0
-  lowest_none = record { capped = omega arith; low = before_none rows u (λ p c. unreached ≤ height_in rows heights c); attained = λ ne. absurd (ne refl) }
+module _ (rows : Rows) (u : ℕ) (height : Dart → ℕ) where
+  pub lowest_none : LowestBefore rows u height unreached 0
+  lowest_none = record { capped = omega arith; low = before_none rows u (λ p c. unreached ≤ height c); attained = λ ne. absurd (ne refl) }
 
-  pub lowest_lower : (least i x : ℕ) (d : Dart) → corner rows u i ≡ Some d → height_in rows heights d ≡ x → x < least → LowestBefore rows u heights least i → LowestBefore rows u heights x (i + 1)
+  pub lowest_lower : (least i x : ℕ) (d : Dart) → corner rows u i ≡ Some d → height d ≡ x → x < least → LowestBefore rows u height least i → LowestBefore rows u height x (i + 1)
   lowest_lower least i x d at is less lowest = record {
     capped = let cap = lowest.capped in omega arith;
-    low = before_some rows u (λ p c. x ≤ height_in rows heights c) i d at (omega arith) (λ p c l there. let low = lowest.low p c l there in omega arith);
+    low = before_some rows u (λ p c. x ≤ height c) i d at (omega arith) (λ p c l there. let low = lowest.low p c l there in omega arith);
     attained = λ ne. (i, d, at, is);
   }
 
-  pub lowest_kept : (least i : ℕ) (d : Dart) → corner rows u i ≡ Some d → least ≤ height_in rows heights d → LowestBefore rows u heights least i → LowestBefore rows u heights least (i + 1)
+  pub lowest_kept : (least i : ℕ) (d : Dart) → corner rows u i ≡ Some d → least ≤ height d → LowestBefore rows u height least i → LowestBefore rows u height least (i + 1)
   lowest_kept least i d at more lowest = record {
     capped = lowest.capped;
-    low = before_some rows u (λ p c. least ≤ height_in rows heights c) i d at more lowest.low;
+    low = before_some rows u (λ p c. least ≤ height c) i d at more lowest.low;
     attained = lowest.attained;
   }
 
-  pub lowest_past : (least i : ℕ) → corner rows u i ≡ None → LowestBefore rows u heights least i → LowestBefore rows u heights least (i + 1)
+  pub lowest_past : (least i : ℕ) → corner rows u i ≡ None → LowestBefore rows u height least i → LowestBefore rows u height least (i + 1)
   lowest_past least i none lowest = record {
     capped = lowest.capped;
-    low = before_past rows u (λ p c. least ≤ height_in rows heights c) i none lowest.low;
+    low = before_past rows u (λ p c. least ≤ height c) i none lowest.low;
     attained = lowest.attained;
   }
 
-  pub lowest_all : (least i : ℕ) → i ≡ length (rotation rows u) → LowestBefore rows u heights least i → (p : ℕ) (c : Dart) → corner rows u p ≡ Some c → least ≤ height_in rows heights c
-  lowest_all least i whole lowest = before_all rows u (λ p c. least ≤ height_in rows heights c) i whole lowest.low
+  pub lowest_all : (least i : ℕ) → i ≡ length (rotation rows u) → LowestBefore rows u height least i → (p : ℕ) (c : Dart) → corner rows u p ≡ Some c → least ≤ height c
+  lowest_all least i whole lowest = before_all rows u (λ p c. least ≤ height c) i whole lowest.low
 
-  pub lowest_found : (least i : ℕ) → i ≡ length (rotation rows u) → LowestBefore rows u heights least i → least ≢ unreached → IsLeastHeight rows u heights least
+  pub lowest_found : (least i : ℕ) → i ≡ length (rotation rows u) → LowestBefore rows u height least i → least ≢ unreached → IsLeastAt rows u height least
   lowest_found least i whole lowest some =
       let (p, c, at, is) = lowest.attained some in record { position = p; from = c; there = at; is_height = is; least = lowest_all least i whole lowest }

@@ -2,10 +2,10 @@
 use Rattle.std.proofs.Math.Seq.{drop-cons}
 use Rattle.std.proofs.Common.{add-one, drop, get_or, ◌≡◌, ◌≢◌, ℕ, zero, suc, ◌+◌, ◌<◌, Bool, true, false, List, [], ◌∷◌, length, Some, None, inl, inr, refl, sym, ap, subst, ◌∙◌, arith}
 use Rattle.std.specs.Prelude.{◌⊎◌, IsTrue, if◌then◌else◌, MatchOption, Option, slice_index}
-use Rattle.std.proofs.lemmas.Bool.{cases_eq, cases_lt, false≢true}
+use Rattle.std.proofs.lemmas.Bool.{cases_lt, false≢true}
 use Rattle.topo_core.specs.declared.darts.Dart.{Dart}
 use Rattle.topo_core.specs.declared.rows.Rows.{Rows}
-use Rattle.std.specs.declared.cmp.Ordering.TheVariants.{Less, Equal, Greater}
+use Rattle.std.specs.declared.cmp.Ordering.TheVariants.{Greater}
 use Rattle.topo_core.specs.Cycles.{SameCycle, after}
 use Rattle.topo_core.specs.Darts.{dart_cmp, dart_twin}
 use Rattle.topo_core.specs.Lawful.{Lawful}
@@ -15,12 +15,11 @@ use Rattle.topo_core.specs.RouteLaws.{IsTight, TakesFirstDarts, arrival}
 use Rattle.topo_core.specs.Routes.{Costs, Crosses, IsPricedRoute, Price, Pricing}
 use Rattle.topo_core.specs.Systems.{SameFace, face_step, has_dart}
 use Rattle.topo_core.specs.declared.routes.Route.{Route}
-use Rattle.topo_core.proofs.DartOrder.{dart_cmp_self}
 use Rattle.topo_route.specs.Numbers.{CannotCross, Crossing, HasTightBefore, Payment, Walks, dart_of, next_of}
 use Rattle.topo_route.specs.Plans.{height_in}
 use Rattle.topo_route.proofs.Numbers.{dart_in, dart_of_number, face_of_numbers, face_stays, number_below, number_of, numbers_of_face, twin_dart}
 use Rattle.topo_route.proofs.Rounds.{round_home}
-use Rattle.topo_route.proofs.Order.{number_order}
+use Rattle.topo_route.proofs.Order.{not_later, number_order}
 use Rattle.topo_route.proofs.Tests.{height_at, height_twin}
 
 -- ---- Numbers of darts
@@ -106,14 +105,7 @@ module _ (price : Pricing) (rows : Rows) (lawful : Lawful rows) where
         before = less;
         tight = subst (IsTight price rows height) (sym (dart_of_number rows lawful y y_in)) tight;
       })
-      | inr low ↦ elim (cases_eq (index_of rows x) (index_of rows y)) [
-        | inl e ↦
-            let one : x ≡ y = sym (dart_of_number rows lawful x x_in) ∙ ap (dart_of rows) e ∙ dart_of_number rows lawful y y_in in
-            let bad : Equal ≡ Greater = sym (dart_cmp_self x) ∙ ap (dart_cmp x) one ∙ greater in cc
-        | inr ne ↦
-            let order = number_order rows lawful.embedding.well_formed.paths x y x_in y_in (omega arith) in
-            let bad : Less ≡ Greater = sym order.0 ∙ greater in cc
-      ]
+      | inr low ↦ not_later rows lawful x y x_in y_in (omega arith) greater
     ]
 
     pub first_fails : (at : ℕ) (x : Dart) (xs : List Dart) → at < length (darts rows) → has_dart (darts rows) x ≡ true → HasTightBefore price rows heights at (index_of rows x)

@@ -1,7 +1,6 @@
 -- Darts by their numbers in canonical order.
 use Rattle.std.specs.Prelude.{◌≡◌, ℕ, ◌+◌, ◌<◌, ◌≤◌, List, length, slice_index_or, Option, MatchOption}
 use Rattle.topo_core.specs.declared.darts.Dart.{Dart}
-use Rattle.topo_core.specs.declared.darts.Way.TheVariants.{Forward}
 use Rattle.topo_core.specs.declared.rows.Rows.{Rows}
 use Rattle.topo_core.specs.Cycles.{SameCycle, map_of}
 use Rattle.topo_core.specs.Darts.{dart_twin}
@@ -10,10 +9,8 @@ use Rattle.topo_core.specs.Picture.{darts, system, turn_images}
 use Rattle.topo_core.specs.Routes.{Costs, Crosses, Price, Pricing}
 use Rattle.topo_core.specs.RouteLaws.{IsTight}
 use Rattle.topo_core.specs.Systems.{SameFace}
+use Rattle.topo_route.specs.Names.{no_dart}
 use Rattle.topo_route.specs.Plans.{height_in}
-
-abbrev pub no_dart : Dart
-no_dart = record { edge = 0; seg = 0; way = Forward }
 
 -- the dart of a number below their count
 abbrev pub dart_of : Rows → ℕ → Dart
@@ -23,9 +20,13 @@ dart_of rows k = slice_index_or (darts rows) k no_dart
 abbrev pub next_of : Rows → ℕ → ℕ
 next_of rows k = face_next (map_of (turn_images rows)) k
 
--- crossing the dart of this number has this price, or none
+-- crossing the dart has this price, or none
+abbrev pub IsPriceFor : Pricing → Rows → Dart → Option ℕ → Type 0
+IsPriceFor price rows d answer = MatchOption answer ((p : ℕ) → Price price rows d p → ⊥) (λ p. Price price rows d p)
+
+-- and the same of the dart of a number
 abbrev pub IsPriceAt : Pricing → Rows → ℕ → Option ℕ → Type 0
-IsPriceAt price rows k answer = MatchOption answer ((p : ℕ) → Price price rows (dart_of rows k) p → ⊥) (λ p. Price price rows (dart_of rows k) p)
+IsPriceAt price rows k answer = IsPriceFor price rows (dart_of rows k) answer
 
 -- ---- Steps of a walk
 

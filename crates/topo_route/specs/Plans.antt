@@ -7,6 +7,7 @@ use Rattle.topo_core.specs.Systems.{SameFace, face_step, has_dart}
 use Rattle.topo_core.specs.Picture.{corner, darts, index_of, system}
 use Rattle.topo_core.specs.Routes.{Pricing, Price, IsPricedRoute, IsFirst, IsHeight, IsCertificate, Reaches, unreached}
 use Rattle.topo_core.specs.RouteLaws.{TakesFirstDarts, arrival, IsFirstByHeights}
+use Rattle.topo_route.specs.Names.{Named, canonical, height_of}
 use Rattle.topo_route.specs.declared.plan.Plan.{Plan}
 use Rattle.topo_route.specs.declared.plan.PlanFault.{PlanFault}
 use Rattle.topo_route.specs.declared.plan.PlanFault.TheVariants.{WrongLength, UnevenFace, TooSteep, TargetNotZero, NotARoute, NotLeast, NotFirst}
@@ -16,27 +17,45 @@ abbrev pub height_in : Rows → List ℕ → Dart → ℕ
 height_in rows heights d = slice_index heights (index_of rows d)
 
 -- heights as a search finds them: the least costs to the target, and a certificate of it
-pub record AreHeights (price : Pricing) (rows : Rows) (v : ℕ) (heights : List ℕ) : Type 0 where
-  pub one_each : length heights ≡ length (darts rows)
-  pub exact : (d : Dart) → has_dart (darts rows) d ≡ true → IsHeight price rows v d (height_in rows heights d)
-  pub certificate : IsCertificate price rows v (height_in rows heights)
-  pub unreached_none : (d : Dart) → has_dart (darts rows) d ≡ true → height_in rows heights d ≡ unreached → (n : ℕ) → Reaches price rows v d n → ⊥
+pub record AreHeights (price : Pricing) (g : Named) (v : ℕ) (heights : List ℕ) : Type 0 where
+  pub one_each : length heights ≡ g.size
+  pub exact : (d : Dart) → has_dart (darts g.rows) d ≡ true → IsHeight price g.rows v d (height_of g heights d)
+  pub certificate : IsCertificate price g.rows v (height_of g heights)
+  pub unreached_none : (d : Dart) → has_dart (darts g.rows) d ≡ true → height_of g heights d ≡ unreached → (n : ℕ) → Reaches price g.rows v d n → ⊥
 
 -- heights as far as a bound, and the bound in place of those above it
 abbrev pub capped : ℕ → List ℕ → List ℕ
 capped bound heights = map (λ h. min h bound) heights
 
 -- heights of which those below a bound are the least costs to the target: a walk costs as much, and capped they are a certificate
-pub record AreHeightsBelow (price : Pricing) (rows : Rows) (v bound : ℕ) (heights : List ℕ) : Type 0 where
-  pub one_each : length heights ≡ length (darts rows)
-  pub reaches : (d : Dart) → has_dart (darts rows) d ≡ true → height_in rows heights d < bound → Reaches price rows v d (height_in rows heights d)
-  pub certificate : IsCertificate price rows v (height_in rows (capped bound heights))
+pub record AreHeightsBelow (price : Pricing) (g : Named) (v bound : ℕ) (heights : List ℕ) : Type 0 where
+  pub one_each : length heights ≡ g.size
+  pub reaches : (d : Dart) → has_dart (darts g.rows) d ≡ true → height_of g heights d < bound → Reaches price g.rows v d (height_of g heights d)
+  pub certificate : IsCertificate price g.rows v (height_of g (capped bound heights))
 
 -- a plan as a search makes it
 pub record IsPlan (price : Pricing) (rows : Rows) (u v : ℕ) (plan : Plan) : Type 0 where
-  pub heights : AreHeights price rows v plan.heights
+  pub heights : AreHeights price (canonical rows) v plan.heights
   pub first : IsFirst price rows u v plan.route plan.price
   pub by_heights : IsFirstByHeights price rows u v (height_in rows plan.heights) plan.route plan.price
+
+-- ---- Corners and heights
+
+-- the corners of v have height 0
+abbrev pub IsZeroAt : Rows → ℕ → (Dart → ℕ) → Type 0
+IsZeroAt rows v height = (p : ℕ) (c : Dart) → corner rows v p ≡ Some c → height c ≡ 0
+
+-- the cost is the least height of a corner of u
+pub record IsLeastAt (rows : Rows) (u : ℕ) (height : Dart → ℕ) (cost : ℕ) : Type 0 where
+  pub position : ℕ
+  pub from : Dart
+  pub there : corner rows u position ≡ Some from
+  pub is_height : height from ≡ cost
+  pub least : (p : ℕ) (c : Dart) → corner rows u p ≡ Some c → cost ≤ height c
+
+-- no corner of u before this position has the height
+abbrev pub HasNoneBefore : Rows → ℕ → (Dart → ℕ) → ℕ → ℕ → Type 0
+HasNoneBefore rows u height start cost = (p : ℕ) (c : Dart) → p < start → corner rows u p ≡ Some c → height c ≢ cost
 
 -- ---- The seven tests of a plan, in their order
 
@@ -54,19 +73,15 @@ IsGentle price rows heights = (d : Dart) (p : ℕ) → has_dart (darts rows) d �
 
 -- the corners of the target have height 0
 abbrev pub MeetsTarget : Rows → ℕ → List ℕ → Type 0
-MeetsTarget rows v heights = (p : ℕ) (c : Dart) → corner rows v p ≡ Some c → height_in rows heights c ≡ 0
+MeetsTarget rows v heights = IsZeroAt rows v (height_in rows heights)
 
 -- the cost is the least height of a corner at the start
-pub record IsLeastHeight (rows : Rows) (u : ℕ) (heights : List ℕ) (cost : ℕ) : Type 0 where
-  pub position : ℕ
-  pub from : Dart
-  pub there : corner rows u position ≡ Some from
-  pub is_height : height_in rows heights from ≡ cost
-  pub least : (p : ℕ) (c : Dart) → corner rows u p ≡ Some c → cost ≤ height_in rows heights c
+abbrev pub IsLeastHeight : Rows → ℕ → List ℕ → ℕ → Type 0
+IsLeastHeight rows u heights cost = IsLeastAt rows u (height_in rows heights) cost
 
 -- no corner at the start before this position has the height
 abbrev pub HasFirstStart : Rows → ℕ → List ℕ → ℕ → ℕ → Type 0
-HasFirstStart rows u heights start cost = (p : ℕ) (c : Dart) → p < start → corner rows u p ≡ Some c → height_in rows heights c ≢ cost
+HasFirstStart rows u heights start cost = HasNoneBefore rows u (height_in rows heights) start cost
 
 -- no corner at the target before this position lies in the face of the dart
 abbrev pub HasFirstEnd : Rows → ℕ → ℕ → Dart → Type 0

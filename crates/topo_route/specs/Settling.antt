@@ -3,10 +3,9 @@ use Rattle.std.specs.Prelude.{◌≡◌, ◌≢◌, ℕ, ◌+◌, ◌*◌, ◌/�
 use Rattle.std.specs.List.{list_any}
 use Rattle.topo_core.specs.declared.rows.Rows.{Rows}
 use Rattle.topo_core.specs.Picture.{darts}
-use Rattle.topo_core.specs.Rotations.{twin}
 use Rattle.topo_core.specs.Routes.{KeepsPromise, Price, Pricing, Reaches, unreached}
-use Rattle.topo_route.specs.Numbers.{IsPriceAt, dart_of, next_of}
-use Rattle.topo_route.specs.Plans.{HasOneEach}
+use Rattle.topo_route.specs.Names.{IsName, Named, dart_named, next_name, twin_name}
+use Rattle.topo_route.specs.Numbers.{IsPriceAt, IsPriceFor}
 
 -- ---- Prices
 
@@ -17,9 +16,9 @@ pub record ArePricesOf (price : Pricing) (rows : Rows) (prices : List (Option �
   pub promise : 0 < segments → KeepsPromise price
 
 -- the prices that are kept are those of their segments
-pub record ArePrices (price : Pricing) (rows : Rows) (prices : List (Option ℕ)) : Type 0 where
-  pub right : (k : ℕ) → k < length (darts rows) → k / 2 < length prices → IsPriceAt price rows k (slice_index_or prices (k / 2) None)
-  pub promise : 0 < length (darts rows) → KeepsPromise price
+pub record ArePrices (price : Pricing) (g : Named) (prices : List (Option ℕ)) : Type 0 where
+  pub right : (k : ℕ) → IsName g k → k / 2 < length prices → IsPriceFor price g.rows (dart_named g k) (slice_index_or prices (k / 2) None)
+  pub promise : 0 < length (darts g.rows) → KeepsPromise price
 
 -- ---- What waits
 
@@ -27,7 +26,7 @@ pub record ArePrices (price : Pricing) (rows : Rows) (prices : List (Option ℕ)
 abbrev pub is_waiting : List ℕ → ℕ → Bool
 is_waiting waiting k = list_any (λ x. x == k) waiting
 
--- what waits when a dart is given a height: the number of the dart, and the low half of the height above it
+-- what waits when a dart is given a height: the name of the dart, and the low half of the height above it
 abbrev pub item_of : ℕ → ℕ → ℕ
 item_of dart height = dart + 2 ^ 32 * (height % 2 ^ 32)
 
@@ -45,30 +44,30 @@ abbrev pub reached : List ℕ → ℕ
 reached heights = sum_by (λ h. cond {A = ℕ} (h == unreached) 0 1) heights
 
 -- heights but the greatest number are costs of walks to v
-pub record AreCosts (price : Pricing) (rows : Rows) (v : ℕ) (heights : List ℕ) : Type 0 where
-  pub one_each : HasOneEach rows heights
+pub record AreCosts (price : Pricing) (g : Named) (v : ℕ) (heights : List ℕ) : Type 0 where
+  pub one_each : length heights ≡ g.size
   pub capped : (k : ℕ) → slice_index heights k ≤ unreached
-  pub costs : (k : ℕ) → k < length (darts rows) → slice_index heights k ≢ unreached → Reaches price rows v (dart_of rows k) (slice_index heights k)
-  pub bounded : (k : ℕ) → k < length (darts rows) → slice_index heights k ≢ unreached → slice_index heights k ≤ 1000 * reached heights
+  pub costs : (k : ℕ) → IsName g k → slice_index heights k ≢ unreached → Reaches price g.rows v (dart_named g k) (slice_index heights k)
+  pub bounded : (k : ℕ) → IsName g k → slice_index heights k ≢ unreached → slice_index heights k ≤ 1000 * reached heights
 
 -- where the dart has a price, its twin stands no higher above it than that, as far as the bound
-abbrev pub IsCrossed : Pricing → Rows → ℕ → List ℕ → ℕ → Type 0
-IsCrossed price rows bound heights k = (p : ℕ) → Price price rows (dart_of rows k) p → min (slice_index heights (twin k)) bound ≤ p + slice_index heights k
+abbrev pub IsCrossed : Pricing → Named → ℕ → List ℕ → ℕ → Type 0
+IsCrossed price g bound heights k = (p : ℕ) → Price price g.rows (dart_named g k) p → min (slice_index heights (twin_name g k)) bound ≤ p + slice_index heights k
 
 -- and the next along the face no higher than the dart
-abbrev pub IsSettled : Pricing → Rows → ℕ → List ℕ → ℕ → Type 0
-IsSettled price rows bound heights k = (slice_index heights (next_of rows k) ≤ slice_index heights k) × IsCrossed price rows bound heights k
+abbrev pub IsSettled : Pricing → Named → ℕ → List ℕ → ℕ → Type 0
+IsSettled price g bound heights k = (slice_index heights (next_name g k) ≤ slice_index heights k) × IsCrossed price g bound heights k
 
 -- a dart of the picture that has been reached
-abbrev pub IsReached : Rows → List ℕ → ℕ → Type 0
-IsReached rows heights k = (k < length (darts rows)) × (slice_index heights k ≢ unreached)
+abbrev pub IsReached : Named → List ℕ → ℕ → Type 0
+IsReached g heights k = IsName g k × (slice_index heights k ≢ unreached)
 
 -- Heights are costs, and each dart lower than the bound, but the one in hand, is settled or waits with
 -- its height. What waits is of darts that have been reached, and may be of a height from before.
-pub record Spreads (price : Pricing) (rows : Rows) (v bound : ℕ) (heights waiting : List ℕ) (in_hand : ℕ) : Type 0 where
-  pub costs : AreCosts price rows v heights
-  pub others : (k : ℕ) → k < length (darts rows) → k ≢ in_hand → slice_index heights k < bound → is_pending heights waiting k ≡ false → IsSettled price rows bound heights k
-  pub reached_waits : (item : ℕ) → is_waiting waiting item ≡ true → IsReached rows heights (dart_of_item item)
+pub record Spreads (price : Pricing) (g : Named) (v bound : ℕ) (heights waiting : List ℕ) (in_hand : ℕ) : Type 0 where
+  pub costs : AreCosts price g v heights
+  pub others : (k : ℕ) → IsName g k → k ≢ in_hand → slice_index heights k < bound → is_pending heights waiting k ≡ false → IsSettled price g bound heights k
+  pub reached_waits : (item : ℕ) → is_waiting waiting item ≡ true → IsReached g heights (dart_of_item item)
 
 -- no height is above what it was
 abbrev pub AreLowered : List ℕ → List ℕ → Type 0

@@ -6,6 +6,7 @@ ghost use Rattle.topo_price.specs.Prices.{prices_of};
 ghost use Rattle.topo_route.specs.Plans.{FailsFirst, IsPlan, PassesAll};
 
 use crate::dual::Dual;
+use crate::faces::dart_count;
 use crate::heights::{is_even, is_gentle, is_least_height, meets_target};
 use crate::plan::{Plan, PlanFault};
 use crate::walks::{comes_first, start_of_route};
@@ -24,7 +25,7 @@ fn verdict<D: Dual, F: Asks>(
     ensures promise { OnOk result (KeepsPromise (prices_of (F.answers tariff.now))) }
 {
     let heights = plan.heights.as_slice();
-    if heights.len() != dual.len() as usize {
+    if heights.len() != dart_count(dual) as usize {
         return Err(PlanFault::WrongLength);
     }
     if !is_even(dual, heights) {

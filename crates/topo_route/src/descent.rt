@@ -1,35 +1,35 @@
 //! The route down the heights.
 
-ghost use Rattle.std.specs.Prelude.{◌≡◌, ◌≢◌, ◌<◌, ◌≤◌, ◌↔◌, ℕ, IsTrue, MatchOption, IfOk, Some, true, false, length, slice_index_or};
+ghost use Rattle.std.specs.Prelude.{◌≡◌, ◌≢◌, ◌<◌, ◌≤◌, ◌↔◌, ℕ, IsTrue, MatchOption, IfOk, IfSome, IsSomeAnd, Some, true, false, length, slice_index_or};
 ghost use Rattle.topo_core.specs.declared.darts.Dart.{Dart};
 ghost use Rattle.topo_core.specs.Cycles.{SameCycle};
-ghost use Rattle.topo_core.specs.Picture.{corner, darts, index_of, system};
+ghost use Rattle.topo_core.specs.Picture.{corner, system};
 ghost use Rattle.topo_core.specs.RouteLaws.{IsTight};
 ghost use Rattle.topo_core.specs.Routes.{unreached};
 ghost use Rattle.topo_core.specs.Systems.{SameFace};
 ghost use Rattle.topo_price.specs.Prices.{prices_of};
 ghost use Rattle.topo_route.specs.Descents.{AreHeightsUpTo, HasNoStart, IsDescent, IsEnd, IsFirstOf, IsFirstTight, IsMarked, IsStart};
-ghost use Rattle.topo_route.specs.Numbers.{dart_of, next_of};
-ghost use Rattle.topo_route.specs.Plans.{HasFirstStart, HasOneEach, IsLeastHeight, height_in};
+ghost use Rattle.topo_route.specs.Names.{IsName, dart_named, height_of, next_name};
+ghost use Rattle.topo_route.specs.Plans.{HasNoneBefore, IsLeastAt};
 ghost use Rattle.topo_route.specs.Settling.{ArePrices};
 
-use crate::dual::Dual;
-use crate::faces::{across, corner_at, next_along};
 use crate::graph::Graph;
 use crate::sheet::Sheet;
+use crate::steps::{across, corner_at, next_along};
+use crate::walked::Walked;
 use std::alloc::{AllocError, Global};
 use topo_core::darts::Dart;
 use topo_price::tariff::Asks;
 
 /// The least height of a corner, and the greatest number where there is none.
-pub(crate) fn least_corner<D: Dual>(dual: &D, u: u32, heights: &Sheet) -> u64
-    requires { HasOneEach (D.shows dual.now) heights.now }
-    ensures low { (p : ℕ) → (c : Dart) → corner (D.shows dual.now) u p ≡ Some c → result ≤ height_in (D.shows dual.now) heights.now c }
-    ensures attained { result ≢ unreached → IsLeastHeight (D.shows dual.now) u heights.now result }
+pub(crate) fn least_corner<W: Walked>(walked: &W, u: u32, heights: &Sheet) -> u64
+    requires { length heights.now ≡ (W.named walked.now).size }
+    ensures low { (p : ℕ) → (c : Dart) → corner (W.named walked.now).rows u p ≡ Some c → result ≤ height_of (W.named walked.now) heights.now c }
+    ensures attained { result ≢ unreached → IsLeastAt (W.named walked.now).rows u (height_of (W.named walked.now) heights.now) result }
 {
     let mut least = u64::MAX;
-    for position in 0..dual.degree(u) {
-        if let Some(corner) = corner_at(dual, u, position) {
+    for position in 0..walked.degree(u) {
+        if let Some(corner) = corner_at(walked, u, position) {
             let height = heights.get(corner);
             if height < least {
                 least = height;
@@ -40,14 +40,19 @@ pub(crate) fn least_corner<D: Dual>(dual: &D, u: u32, heights: &Sheet) -> u64
 }
 
 /// The first corner of this height: its position and its dart.
-fn corner_of_height<D: Dual>(dual: &D, u: u32, heights: &Sheet, height: u64) -> Option<(u32, u32)>
-    requires { HasOneEach (D.shows dual.now) heights.now }
-    ensures { MatchOption result ((p : ℕ) → (c : Dart) → corner (D.shows dual.now) u p ≡ Some c → height_in (D.shows dual.now) heights.now c ≢ height)
-        (λ r. (r.1 < length (darts (D.shows dual.now))) × (corner (D.shows dual.now) u r.0 ≡ Some (dart_of (D.shows dual.now) r.1))
-        × (height_in (D.shows dual.now) heights.now (dart_of (D.shows dual.now) r.1) ≡ height) × HasFirstStart (D.shows dual.now) u heights.now r.0 height) }
+fn corner_of_height<W: Walked>(
+    walked: &W,
+    u: u32,
+    heights: &Sheet,
+    height: u64,
+) -> Option<(u32, u32)>
+    requires { length heights.now ≡ (W.named walked.now).size }
+    ensures { MatchOption result ((p : ℕ) → (c : Dart) → corner (W.named walked.now).rows u p ≡ Some c → height_of (W.named walked.now) heights.now c ≢ height)
+        (λ r. IsName (W.named walked.now) r.1 × (corner (W.named walked.now).rows u r.0 ≡ Some (dart_named (W.named walked.now) r.1))
+        × (height_of (W.named walked.now) heights.now (dart_named (W.named walked.now) r.1) ≡ height) × HasNoneBefore (W.named walked.now).rows u (height_of (W.named walked.now) heights.now) r.0 height) }
 {
-    for position in 0..dual.degree(u) {
-        if let Some(corner) = corner_at(dual, u, position) {
+    for position in 0..walked.degree(u) {
+        if let Some(corner) = corner_at(walked, u, position) {
             if heights.get(corner) == height {
                 return Some((position, corner));
             }
@@ -57,31 +62,31 @@ fn corner_of_height<D: Dual>(dual: &D, u: u32, heights: &Sheet, height: u64) -> 
 }
 
 /// The first corner with the least height of all, if one is reached: its position and its dart.
-pub(crate) fn start_corner<D: Dual>(dual: &D, u: u32, heights: &Sheet) -> Option<(u32, u32)>
-    requires { HasOneEach (D.shows dual.now) heights.now }
-    ensures { MatchOption result (HasNoStart (D.shows dual.now) u heights.now) (λ r. IsStart (D.shows dual.now) u heights.now r.0 r.1) }
+pub(crate) fn start_corner<W: Walked>(walked: &W, u: u32, heights: &Sheet) -> Option<(u32, u32)>
+    requires { length heights.now ≡ (W.named walked.now).size }
+    ensures { MatchOption result (HasNoStart (W.named walked.now) u heights.now) (λ r. IsStart (W.named walked.now) u heights.now r.0 r.1) }
 {
-    let least = least_corner(dual, u, heights);
+    let least = least_corner(walked, u, heights);
     if least == u64::MAX {
         heights.in_range();
         return None;
     }
-    corner_of_height(dual, u, heights, least)
+    corner_of_height(walked, u, heights, least)
 }
 
 /// Marks the darts of the face of `last` by 0.
-fn mark_face<D: Dual>(dual: &D, last: u32, marks: &mut Sheet)
-    requires within { last < length (darts (D.shows dual.now)) }
-    requires as_many { length marks.old ≡ length (darts (D.shows dual.now)) }
+fn mark_face<W: Walked>(walked: &W, last: u32, marks: &mut Sheet)
+    requires name { IsName (W.named walked.now) last }
+    requires as_many { length marks.old ≡ (W.named walked.now).size }
     requires none { (k : ℕ) → slice_index_or marks.old k unreached ≢ 0 }
-    ensures as_many { length marks.new ≡ length (darts (D.shows dual.now)) }
-    ensures sound { (k : ℕ) → slice_index_or marks.new k unreached ≡ 0 → SameCycle (next_of (D.shows dual.now)) last k }
-    ensures complete { (k : ℕ) → SameCycle (next_of (D.shows dual.now)) last k → slice_index_or marks.new k unreached ≡ 0 }
+    ensures as_many { length marks.new ≡ (W.named walked.now).size }
+    ensures sound { (k : ℕ) → slice_index_or marks.new k unreached ≡ 0 → SameCycle (next_name (W.named walked.now)) last k }
+    ensures complete { (k : ℕ) → SameCycle (next_name (W.named walked.now)) last k → slice_index_or marks.new k unreached ≡ 0 }
 {
     let mut at = last;
-    for _steps in 0..dual.len() {
+    for _steps in 0..walked.size() {
         marks.set(at, 0);
-        at = next_along(dual, at);
+        at = next_along(walked, at);
         if at == last {
             return;
         }
@@ -89,13 +94,13 @@ fn mark_face<D: Dual>(dual: &D, last: u32, marks: &mut Sheet)
 }
 
 /// The first corner with a mark.
-fn marked_corner<D: Dual>(dual: &D, v: u32, marks: &Sheet) -> Option<u32>
-    requires { length marks.now ≡ length (darts (D.shows dual.now)) }
-    ensures { MatchOption result ((p : ℕ) → (c : Dart) → corner (D.shows dual.now) v p ≡ Some c → slice_index_or marks.now (index_of (D.shows dual.now) c) unreached ≢ 0)
-        (IsMarked (D.shows dual.now) v marks.now) }
+fn marked_corner<W: Walked>(walked: &W, v: u32, marks: &Sheet) -> Option<u32>
+    requires { length marks.now ≡ (W.named walked.now).size }
+    ensures { MatchOption result ((p : ℕ) → (c : Dart) → corner (W.named walked.now).rows v p ≡ Some c → slice_index_or marks.now ((W.named walked.now).name c) unreached ≢ 0)
+        (IsMarked (W.named walked.now) v marks.now) }
 {
-    for position in 0..dual.degree(v) {
-        if let Some(corner) = corner_at(dual, v, position) {
+    for position in 0..walked.degree(v) {
+        if let Some(corner) = corner_at(walked, v, position) {
             if marks.get(corner) == 0 {
                 return Some(position);
             }
@@ -105,41 +110,41 @@ fn marked_corner<D: Dual>(dual: &D, v: u32, marks: &Sheet) -> Option<u32>
 }
 
 /// The first corner in the face of `last`, by marks of which none is set.
-fn corner_by_marks<D: Dual>(dual: &D, v: u32, last: u32, marks: &mut Sheet) -> Option<u32>
-    requires within { last < length (darts (D.shows dual.now)) }
-    requires as_many { length marks.old ≡ length (darts (D.shows dual.now)) }
+fn corner_by_marks<W: Walked>(walked: &W, v: u32, last: u32, marks: &mut Sheet) -> Option<u32>
+    requires name { IsName (W.named walked.now) last }
+    requires as_many { length marks.old ≡ (W.named walked.now).size }
     requires none { (k : ℕ) → slice_index_or marks.old k unreached ≢ 0 }
-    ensures { MatchOption result ((p : ℕ) → (c : Dart) → corner (D.shows dual.now) v p ≡ Some c → SameFace (system (D.shows dual.now)) (dart_of (D.shows dual.now) last) c → ⊥)
-        (IsEnd (D.shows dual.now) v last) }
+    ensures { MatchOption result ((p : ℕ) → (c : Dart) → corner (W.named walked.now).rows v p ≡ Some c → SameFace (system (W.named walked.now).rows) (dart_named (W.named walked.now) last) c → ⊥)
+        (IsEnd (W.named walked.now).rows v (dart_named (W.named walked.now) last)) }
 {
-    mark_face(dual, last, marks);
-    marked_corner(dual, v, marks)
+    mark_face(walked, last, marks);
+    marked_corner(walked, v, marks)
 }
 
 /// The first corner in the face of `last`.
-pub(crate) fn end_corner<D: Dual>(
-    dual: &D,
+pub(crate) fn end_corner<W: Walked>(
+    walked: &W,
     v: u32,
     last: u32,
     marks: &mut Sheet,
 ) -> Result<Option<u32>, AllocError>
-    requires { last < length (darts (D.shows dual.now)) }
+    requires { IsName (W.named walked.now) last }
     ensures { IfOk result (λ found.
-        MatchOption found ((p : ℕ) → (c : Dart) → corner (D.shows dual.now) v p ≡ Some c → SameFace (system (D.shows dual.now)) (dart_of (D.shows dual.now) last) c → ⊥)
-        (IsEnd (D.shows dual.now) v last)) }
+        MatchOption found ((p : ℕ) → (c : Dart) → corner (W.named walked.now).rows v p ≡ Some c → SameFace (system (W.named walked.now).rows) (dart_named (W.named walked.now) last) c → ⊥)
+        (IsEnd (W.named walked.now).rows v (dart_named (W.named walked.now) last))) }
 {
-    marks.clear(dual.len() as usize)?;
-    Ok(corner_by_marks(dual, v, last, marks))
+    marks.clear(walked.size() as usize)?;
+    Ok(corner_by_marks(walked, v, last, marks))
 }
 
 /// Whether crossing the dart costs just what its height is above that of its twin.
-fn is_tight<D: Dual, F: Asks>(graph: &Graph<D, F>, heights: &Sheet, dart: u32) -> bool
-    requires right { ArePrices (prices_of (F.answers graph.now.tariff.now)) (D.shows graph.now.dual.now) graph.now.prices.items }
-    requires one_each { HasOneEach (D.shows graph.now.dual.now) heights.now }
-    requires within { dart < length (darts (D.shows graph.now.dual.now)) }
-    ensures { IsTrue result ↔ IsTight (prices_of (F.answers graph.now.tariff.now)) (D.shows graph.now.dual.now) (height_in (D.shows graph.now.dual.now) heights.now) (dart_of (D.shows graph.now.dual.now) dart) }
+fn is_tight<W: Walked, F: Asks>(graph: &Graph<W, F>, heights: &Sheet, dart: u32) -> bool
+    requires right { ArePrices (prices_of (F.answers graph.now.tariff.now)) (W.named graph.now.walked.now) graph.now.prices.items }
+    requires one_each { length heights.now ≡ (W.named graph.now.walked.now).size }
+    requires name { IsName (W.named graph.now.walked.now) dart }
+    ensures { IsTrue result ↔ IsTight (prices_of (F.answers graph.now.tariff.now)) (W.named graph.now.walked.now).rows (height_of (W.named graph.now.walked.now) heights.now) (dart_named (W.named graph.now.walked.now) dart) }
 {
-    let other = heights.get(across(graph.dual, dart));
+    let other = heights.get(across(graph.walked, dart));
     let height = heights.get(dart);
     if height <= other {
         return false;
@@ -150,34 +155,53 @@ fn is_tight<D: Dual, F: Asks>(graph: &Graph<D, F>, heights: &Sheet, dart: u32) -
     }
 }
 
-/// The smaller of two numbers, if it is that of a tight dart.
-fn first_of<D: Dual, F: Asks>(graph: &Graph<D, F>, heights: &Sheet, first: u32, dart: u32) -> u32
-    requires right { ArePrices (prices_of (F.answers graph.now.tariff.now)) (D.shows graph.now.dual.now) graph.now.prices.items }
-    requires one_each { HasOneEach (D.shows graph.now.dual.now) heights.now }
-    requires within { dart < length (darts (D.shows graph.now.dual.now)) }
-    ensures { IsFirstOf (prices_of (F.answers graph.now.tariff.now)) (D.shows graph.now.dual.now) heights.now first dart result }
+/// The first of the tight darts so far, and of this one if it is tight. Only then is it asked which of
+/// the two comes first.
+fn first_of<W: Walked, F: Asks>(
+    graph: &Graph<W, F>,
+    heights: &Sheet,
+    first: Option<u32>,
+    dart: u32,
+) -> Option<u32>
+    requires right { ArePrices (prices_of (F.answers graph.now.tariff.now)) (W.named graph.now.walked.now) graph.now.prices.items }
+    requires one_each { length heights.now ≡ (W.named graph.now.walked.now).size }
+    requires first_there { IfSome first (IsName (W.named graph.now.walked.now)) }
+    requires name { IsName (W.named graph.now.walked.now) dart }
+    ensures { IsFirstOf (prices_of (F.answers graph.now.tariff.now)) (W.named graph.now.walked.now) heights.now first dart result }
 {
-    if dart < first {
-        if is_tight(graph, heights, dart) {
-            return dart;
-        }
+    if !is_tight(graph, heights, dart) {
+        return first;
     }
-    first
+    match first {
+        Some(before) => {
+            if graph.walked.precedes(dart, before) {
+                Some(dart)
+            } else {
+                first
+            }
+        }
+        None => Some(dart),
+    }
 }
 
-/// The first tight dart of the face of `at`, whose height is known and above 0.
-fn first_tight<D: Dual, F: Asks>(graph: &Graph<D, F>, heights: &Sheet, v: u32, at: u32) -> u32
-    requires right { ArePrices (prices_of (F.answers graph.now.tariff.now)) (D.shows graph.now.dual.now) graph.now.prices.items }
-    requires known { AreHeightsUpTo (prices_of (F.answers graph.now.tariff.now)) (D.shows graph.now.dual.now) v heights.now at }
-    requires within { at < length (darts (D.shows graph.now.dual.now)) }
-    requires above { 0 < height_in (D.shows graph.now.dual.now) heights.now (dart_of (D.shows graph.now.dual.now) at) }
-    ensures { IsFirstTight (prices_of (F.answers graph.now.tariff.now)) (D.shows graph.now.dual.now) heights.now at result }
+/// The first tight dart of the face of `at`, whose height is known and above 0: there is one.
+fn first_tight<W: Walked, F: Asks>(
+    graph: &Graph<W, F>,
+    heights: &Sheet,
+    v: u32,
+    at: u32,
+) -> Option<u32>
+    requires right { ArePrices (prices_of (F.answers graph.now.tariff.now)) (W.named graph.now.walked.now) graph.now.prices.items }
+    requires known { AreHeightsUpTo (prices_of (F.answers graph.now.tariff.now)) (W.named graph.now.walked.now) v heights.now at }
+    requires name { IsName (W.named graph.now.walked.now) at }
+    requires above { 0 < height_of (W.named graph.now.walked.now) heights.now (dart_named (W.named graph.now.walked.now) at) }
+    ensures { IsSomeAnd result (IsFirstTight (prices_of (F.answers graph.now.tariff.now)) (W.named graph.now.walked.now) heights.now at) }
 {
     let mut dart = at;
-    let mut first = graph.dual.len();
-    for _steps in 0..graph.dual.len() {
+    let mut first = None;
+    for _steps in 0..graph.walked.size() {
         first = first_of(graph, heights, first, dart);
-        dart = next_along(graph.dual, dart);
+        dart = next_along(graph.walked, dart);
         if dart == at {
             return first;
         }
@@ -187,24 +211,28 @@ fn first_tight<D: Dual, F: Asks>(graph: &Graph<D, F>, heights: &Sheet, v: u32, a
 
 /// Walks down from a dart to the target across the first tight dart of each face: the darts that it
 /// crosses, and one of its last face.
-pub(crate) fn descend<D: Dual, F: Asks>(
+pub(crate) fn descend<W: Walked, F: Asks>(
     alloc: Global,
-    graph: &Graph<D, F>,
+    graph: &Graph<W, F>,
     heights: &Sheet,
     v: u32,
     from: u32,
 ) -> Result<(Vec<Dart>, u32), AllocError>
-    requires right { ArePrices (prices_of (F.answers graph.now.tariff.now)) (D.shows graph.now.dual.now) graph.now.prices.items }
-    requires known { AreHeightsUpTo (prices_of (F.answers graph.now.tariff.now)) (D.shows graph.now.dual.now) v heights.now from }
-    requires within { from < length (darts (D.shows graph.now.dual.now)) }
-    ensures { IfOk result (λ r. IsDescent (prices_of (F.answers graph.now.tariff.now)) (D.shows graph.now.dual.now) heights.now from r.0.items r.1) }
+    requires right { ArePrices (prices_of (F.answers graph.now.tariff.now)) (W.named graph.now.walked.now) graph.now.prices.items }
+    requires known { AreHeightsUpTo (prices_of (F.answers graph.now.tariff.now)) (W.named graph.now.walked.now) v heights.now from }
+    requires name { IsName (W.named graph.now.walked.now) from }
+    ensures { IfOk result (λ r. IsDescent (prices_of (F.answers graph.now.tariff.now)) (W.named graph.now.walked.now) heights.now from r.0.items r.1) }
 {
     let mut crossed = Vec::new(alloc);
     let mut at = from;
     while heights.get(at) > 0 {
-        let dart = first_tight(graph, heights, v, at);
-        crossed.push(graph.dual.dart(dart))?;
-        at = across(graph.dual, dart);
+        match first_tight(graph, heights, v, at) {
+            Some(dart) => {
+                crossed.push(graph.walked.dart(dart))?;
+                at = across(graph.walked, dart);
+            }
+            None => unreachable!(),
+        }
     }
     Ok((crossed, at))
 }

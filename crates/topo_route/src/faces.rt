@@ -1,16 +1,39 @@
-//! Steps from dart to dart by their numbers, and walks round a face.
+//! Steps from dart to dart by their numbers in canonical order, and walks round a face.
 
 ghost use Rattle.std.specs.Prelude.{◌≡◌, ◌<◌, ◌≤◌, ◌↔◌, IsTrue, length, Some, None, MatchOption, IfSome, slice_get};
 ghost use Rattle.topo_core.specs.Cycles.{SameCycle};
-ghost use Rattle.topo_core.specs.Picture.{corner, darts, index_of};
+ghost use Rattle.topo_core.specs.Picture.{corner, darts, rotation};
 ghost use Rattle.topo_core.specs.Rotations.{twin};
 ghost use Rattle.topo_core.specs.Routes.{KeepsPromise};
 ghost use Rattle.topo_price.specs.Prices.{prices_of};
 ghost use Rattle.topo_route.specs.Numbers.{IsPriceAt, dart_of, next_of};
 
 use crate::dual::Dual;
+use crate::steps;
 use topo_core::darts::Dart;
 use topo_price::tariff::{Asks, Tariff};
+
+/// How many darts there are.
+pub(crate) fn dart_count<D: Dual>(dual: &D) -> u32
+    ensures { result ≡ length (darts (D.shows dual.now)) }
+{
+    dual.size()
+}
+
+/// How many corners a vertex has, and 0 where it is no vertex.
+pub(crate) fn degree<D: Dual>(dual: &D, v: u32) -> u32
+    ensures { result ≡ length (rotation (D.shows dual.now) v) }
+{
+    dual.degree(v)
+}
+
+/// The dart of a number.
+pub(crate) fn dart_at<D: Dual>(dual: &D, dart: u32) -> Dart
+    requires { dart < length (darts (D.shows dual.now)) }
+    ensures { result ≡ dart_of (D.shows dual.now) dart }
+{
+    dual.dart(dart)
+}
 
 /// The next dart along the face on the left.
 pub(crate) fn next_along<D: Dual>(dual: &D, dart: u32) -> u32
@@ -18,7 +41,7 @@ pub(crate) fn next_along<D: Dual>(dual: &D, dart: u32) -> u32
     ensures next { result ≡ next_of (D.shows dual.now) dart }
     ensures within { result < length (darts (D.shows dual.now)) }
 {
-    dual.next(dart)
+    steps::next_along(dual, dart)
 }
 
 /// The same segment, the other way.
@@ -27,7 +50,7 @@ pub(crate) fn across<D: Dual>(dual: &D, dart: u32) -> u32
     ensures twin { result ≡ twin dart }
     ensures within { result < length (darts (D.shows dual.now)) }
 {
-    dual.twin(dart)
+    steps::across(dual, dart)
 }
 
 /// The dart that names a corner.
@@ -35,7 +58,7 @@ pub(crate) fn corner_at<D: Dual>(dual: &D, v: u32, position: u32) -> Option<u32>
     ensures { MatchOption result (corner (D.shows dual.now) v position ≡ None)
         (λ c. (c < length (darts (D.shows dual.now))) × (corner (D.shows dual.now) v position ≡ Some (dart_of (D.shows dual.now) c))) }
 {
-    dual.corner(v, position)
+    steps::corner_at(dual, v, position)
 }
 
 /// The price of crossing a dart.
@@ -45,8 +68,7 @@ pub(crate) fn price_at<D: Dual, F: Asks>(dual: &D, tariff: &Tariff<F>, dart: u32
     ensures in_range { IfSome result (λ p. (1 ≤ p) × (p ≤ 1000)) }
     ensures promise { KeepsPromise (prices_of (F.answers tariff.now)) }
 {
-    let facts = dual.facts(dart);
-    tariff.price(&facts)
+    steps::price_at(dual, tariff, dart)
 }
 
 /// Whether two darts have one face on their left.
@@ -55,7 +77,7 @@ pub(crate) fn same_face<D: Dual>(dual: &D, a: u32, b: u32) -> bool
     ensures { IsTrue result ↔ SameCycle (next_of (D.shows dual.now)) a b }
 {
     let mut at = a;
-    for _steps in 0..dual.len() {
+    for _steps in 0..dart_count(dual) {
         if at == b {
             return true;
         }

@@ -4,36 +4,39 @@ ghost use Rattle.std.specs.Prelude.{◌≡◌, ◌/◌, ◌%◌, ◌<◌, length
 ghost use Rattle.topo_core.specs.Picture.{darts};
 ghost use Rattle.topo_core.specs.Routes.{KeepsPromise};
 ghost use Rattle.topo_price.specs.Prices.{prices_of};
-ghost use Rattle.topo_route.specs.Numbers.{IsPriceAt};
+ghost use Rattle.topo_route.specs.Names.{IsName, dart_named};
+ghost use Rattle.topo_route.specs.Numbers.{IsPriceAt, IsPriceFor};
 ghost use Rattle.topo_route.specs.Settling.{ArePrices, ArePricesOf};
 
 use crate::dual::Dual;
-use crate::faces::price_at;
+use crate::faces;
+use crate::steps::price_at;
+use crate::walked::Walked;
 use std::alloc::{AllocError, Global};
 use topo_price::tariff::{Asks, Tariff};
 
-/// A picture with prices: those of the first segments are kept, and the others are asked for each
-/// time.
+/// A picture with prices: those of the first names are kept, one for two names, and the others are
+/// asked for each time.
 #[derive(Drop)]
-pub(crate) struct Graph<'a, D: Dual, F: Asks> {
-    pub dual: &'a D,
+pub(crate) struct Graph<'a, W: Walked, F: Asks> {
+    pub walked: &'a W,
     pub tariff: &'a Tariff<F>,
     pub prices: Vec<Option<u32>>,
 }
 
-impl<D: Dual, F: Asks> Graph<'_, D, F> {
+impl<W: Walked, F: Asks> Graph<'_, W, F> {
     /// The price of crossing a dart.
     pub(crate) fn price(&self, dart: u32) -> Option<u32>
-        requires within { dart < length (darts (D.shows self.now.dual.now)) }
-        requires right { ArePrices (prices_of (F.answers self.now.tariff.now)) (D.shows self.now.dual.now) self.now.prices.items }
-        ensures price { IsPriceAt (prices_of (F.answers self.now.tariff.now)) (D.shows self.now.dual.now) dart result }
+        requires name { IsName (W.named self.now.walked.now) dart }
+        requires right { ArePrices (prices_of (F.answers self.now.tariff.now)) (W.named self.now.walked.now) self.now.prices.items }
+        ensures price { IsPriceFor (prices_of (F.answers self.now.tariff.now)) (W.named self.now.walked.now).rows (dart_named (W.named self.now.walked.now) dart) result }
         ensures promise { KeepsPromise (prices_of (F.answers self.now.tariff.now)) }
     {
         let segment = (dart / 2) as usize;
         if segment < self.prices.len() {
             return self.prices[segment];
         }
-        price_at(self.dual, self.tariff, dart)
+        price_at(self.walked, self.tariff, dart)
     }
 }
 
@@ -52,13 +55,13 @@ fn segment_price<D: Dual, F: Asks>(
     ensures promise { KeepsPromise (prices_of (F.answers tariff.now)) }
 {
     if dart > 0 {
-        let edge = dual.dart(dart).edge.number();
-        let before = dual.dart(dart - 2).edge.number();
+        let edge = faces::dart_at(dual, dart).edge.number();
+        let before = faces::dart_at(dual, dart - 2).edge.number();
         if before == edge {
             return prices[(dart / 2 - 1) as usize];
         }
     }
-    price_at(dual, tariff, dart)
+    faces::price_at(dual, tariff, dart)
 }
 
 /// The prices of all segments. Each edge is asked for once.
@@ -67,9 +70,9 @@ pub(crate) fn segment_prices<D: Dual, F: Asks>(
     dual: &D,
     tariff: &Tariff<F>,
 ) -> Result<Vec<Option<u32>>, AllocError>
-    ensures { IfOk result (λ prices. ArePrices (prices_of (F.answers tariff.now)) (D.shows dual.now) prices.items) }
+    ensures { IfOk result (λ prices. ArePrices (prices_of (F.answers tariff.now)) (D.named dual.now) prices.items) }
 {
-    let segments = dual.len() / 2;
+    let segments = faces::dart_count(dual) / 2;
     let mut prices = Vec::with_capacity(alloc, segments as usize)?;
     for segment in 0..segments {
         let price = segment_price(dual, tariff, prices.as_slice(), 2 * segment);

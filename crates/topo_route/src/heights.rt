@@ -7,7 +7,7 @@ ghost use Rattle.topo_price.specs.Prices.{prices_of};
 ghost use Rattle.topo_route.specs.Plans.{HasFirstStart, HasOneEach, IsEven, IsGentle, IsLeastHeight, MeetsTarget};
 
 use crate::dual::Dual;
-use crate::faces::{across, corner_at, next_along, price_at};
+use crate::faces::{across, corner_at, dart_count, degree, next_along, price_at};
 use topo_price::tariff::{Asks, Tariff};
 
 /// Whether each dart has the height of the next along its face.
@@ -15,7 +15,7 @@ pub(crate) fn is_even<D: Dual>(dual: &D, heights: &[u64]) -> bool
     requires { HasOneEach (D.shows dual.now) heights.now }
     ensures { IsTrue result ↔ IsEven (D.shows dual.now) heights.now }
 {
-    for dart in 0..dual.len() {
+    for dart in 0..dart_count(dual) {
         let next = next_along(dual, dart);
         if heights[next as usize] != heights[dart as usize] {
             return false;
@@ -30,7 +30,7 @@ pub(crate) fn is_gentle<D: Dual, F: Asks>(dual: &D, tariff: &Tariff<F>, heights:
     ensures gentle { IsTrue result ↔ IsGentle (prices_of (F.answers tariff.now)) (D.shows dual.now) heights.now }
     ensures promise { 0 < length (darts (D.shows dual.now)) → KeepsPromise (prices_of (F.answers tariff.now)) }
 {
-    for dart in 0..dual.len() {
+    for dart in 0..dart_count(dual) {
         if let Some(price) = price_at(dual, tariff, dart) {
             let other = heights[across(dual, dart) as usize];
             if heights[dart as usize].saturating_sub(other) > price as u64 {
@@ -46,7 +46,7 @@ pub(crate) fn meets_target<D: Dual>(dual: &D, v: u32, heights: &[u64]) -> bool
     requires { HasOneEach (D.shows dual.now) heights.now }
     ensures { IsTrue result ↔ MeetsTarget (D.shows dual.now) v heights.now }
 {
-    for position in 0..dual.degree(v) {
+    for position in 0..degree(dual, v) {
         if let Some(corner) = corner_at(dual, v, position) {
             if heights[corner as usize] != 0 {
                 return false;
@@ -62,7 +62,7 @@ pub(crate) fn is_least_height<D: Dual>(dual: &D, u: u32, heights: &[u64], price:
     ensures { IsTrue result ↔ IsLeastHeight (D.shows dual.now) u heights.now price }
 {
     let mut found = false;
-    for position in 0..dual.degree(u) {
+    for position in 0..degree(dual, u) {
         if let Some(corner) = corner_at(dual, u, position) {
             let height = heights[corner as usize];
             if height < price {

@@ -1,10 +1,11 @@
 //! Routes in the dual graph of a picture: the first of the cheapest, and the check of a plan that
 //! somebody hands in.
 //!
-//! `Dual` is what a picture has to answer: its darts by their numbers in canonical order. `search`
+//! `Walked` is what a picture has to answer of its darts, which have names in no particular order, and
+//! `Dual` what it has to where the names are the numbers in canonical order. `search` takes a `Dual` and
 //! gives the first of the least routes with its price and, as a certificate, the least cost from
-//! each face to the target; `first_route` gives the route and its price alone, and walks no further
-//! than to the start. `check` says of any plan whether it is that, and which test it fails
+//! each face to the target; `first_route` takes any `Walked`, gives the route and its price alone, and
+//! walks no further than to the start. `check` says of any plan whether it is that, and which test it fails
 //! first: its Ok means that the route is the first of the least, whoever made the plan.
 #![tactic(auto)]
 
@@ -18,6 +19,8 @@ pub mod plan;
 pub mod search;
 mod sheet;
 mod spread;
+mod steps;
 mod waiting;
+pub mod walked;
 mod walks;
 pub mod workspace;

@@ -15,6 +15,7 @@ use crate::plan::{Plan, PricedRoute};
 use crate::sheet::Sheet;
 use crate::spread::{heights_for, least_heights};
 use crate::waiting::Waiting;
+use crate::walked::Walked;
 use crate::workspace::Workspace;
 use std::alloc::{AllocError, Global};
 use topo_core::listed::Listed;
@@ -23,25 +24,25 @@ use topo_price::tariff::{Asks, Tariff};
 
 /// Down the heights from `u` to `v`; none where no corner of `u` is reached. The sheet of the heights
 /// then serves for marks.
-fn route_by_heights<D: Dual, F: Asks>(
+fn route_by_heights<W: Walked, F: Asks>(
     alloc: Global,
-    graph: &Graph<D, F>,
+    graph: &Graph<W, F>,
     u: u32,
     v: u32,
     heights: &mut Sheet,
 ) -> Result<Option<PricedRoute>, AllocError>
-    requires right { ArePrices (prices_of (F.answers graph.now.tariff.now)) (D.shows graph.now.dual.now) graph.now.prices.items }
-    requires known { AreHeightsFor (prices_of (F.answers graph.now.tariff.now)) (D.shows graph.now.dual.now) u v heights.old }
-    requires some { 0 < length (darts (D.shows graph.now.dual.now)) }
+    requires right { ArePrices (prices_of (F.answers graph.now.tariff.now)) (W.named graph.now.walked.now) graph.now.prices.items }
+    requires known { AreHeightsFor (prices_of (F.answers graph.now.tariff.now)) (W.named graph.now.walked.now) u v heights.old }
+    requires some { 0 < length (darts (W.named graph.now.walked.now).rows) }
     ensures { IfOk result (λ found. MatchOption found
-        (HasNoRoute (prices_of (F.answers graph.now.tariff.now)) (D.shows graph.now.dual.now) u v)
-        (IsFirstRoute (prices_of (F.answers graph.now.tariff.now)) (D.shows graph.now.dual.now) u v heights.old)) }
+        (HasNoRoute (prices_of (F.answers graph.now.tariff.now)) (W.named graph.now.walked.now).rows u v)
+        (IsFirstRoute (prices_of (F.answers graph.now.tariff.now)) (W.named graph.now.walked.now) u v heights.old)) }
 {
-    match start_corner(graph.dual, u, heights) {
+    match start_corner(graph.walked, u, heights) {
         Some((start, from)) => {
             let price = heights.get(from);
             let (crossed, last) = descend(alloc, graph, heights, v, from)?;
-            let corner = end_corner(graph.dual, v, last, heights)?;
+            let corner = end_corner(graph.walked, v, last, heights)?;
             match corner {
                 Some(end) => {
                     let route = Route {
@@ -77,12 +78,12 @@ pub fn search<D: Dual, F: Asks>(
 {
     let prices = segment_prices(alloc, dual, tariff)?;
     let graph = Graph {
-        dual,
+        walked: dual,
         tariff,
         prices,
     };
     let mut heights = Sheet::new(alloc);
-    let mut waiting = Waiting::new(alloc, dual.len() as usize)?;
+    let mut waiting = Waiting::new(alloc, dual.size() as usize)?;
     least_heights(&graph, v, &mut heights, &mut waiting)?;
     let numbers = heights.numbers(alloc)?;
     let found = route_by_heights(alloc, &graph, u, v, &mut heights)?;
@@ -108,24 +109,24 @@ pub fn search<D: Dual, F: Asks>(
 /// stopped at `u`. Heights that are cut off at any bound are still a certificate, since a minimum
 /// with a constant keeps their inequalities: this is what proves the route, whatever the order in
 /// which darts were taken.
-pub fn first_route<D: Dual, F: Asks>(
+pub fn first_route<W: Walked, F: Asks>(
     alloc: Global,
-    dual: &D,
+    walked: &W,
     tariff: &Tariff<F>,
     u: u32,
     v: u32,
     work: &mut Workspace,
 ) -> Result<Option<PricedRoute>, AllocError>
-    requires u_there { u < length (D.shows dual.now).rotations }
-    requires v_there { v < length (D.shows dual.now).rotations }
+    requires u_there { u < length (W.named walked.now).rows.rotations }
+    requires v_there { v < length (W.named walked.now).rows.rotations }
     requires apart { u ≢ v }
     ensures { IfOk result (λ found. MatchOption found
-        (HasNoRoute (prices_of (F.answers tariff.now)) (D.shows dual.now) u v)
-        (λ r. IsFirst (prices_of (F.answers tariff.now)) (D.shows dual.now) u v r.route r.price)) }
+        (HasNoRoute (prices_of (F.answers tariff.now)) (W.named walked.now).rows u v)
+        (λ r. IsFirst (prices_of (F.answers tariff.now)) (W.named walked.now).rows u v r.route r.price)) }
 {
     tariff.keeps_promise();
     let graph = Graph {
-        dual,
+        walked,
         tariff,
         prices: Vec::new(alloc),
     };

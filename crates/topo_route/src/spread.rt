@@ -5,38 +5,39 @@ ghost use Rattle.topo_core.specs.Picture.{darts};
 ghost use Rattle.topo_price.specs.Prices.{prices_of};
 ghost use Rattle.topo_core.specs.Routes.{unreached};
 ghost use Rattle.topo_route.specs.Descents.{AreHeightsFor, HasCornerBelow};
-ghost use Rattle.topo_route.specs.Plans.{AreHeights, HasOneEach, MeetsTarget};
+ghost use Rattle.topo_route.specs.Names.{height_of};
+ghost use Rattle.topo_route.specs.Plans.{AreHeights, IsZeroAt};
 ghost use Rattle.topo_route.specs.Settling.{AreLowered, ArePrices, IsCrossed, IsReached, Spreads, dart_of_item, effort, is_pending, is_waiting};
 
 use crate::descent::least_corner;
-use crate::dual::Dual;
-use crate::faces::{across, corner_at, next_along};
 use crate::graph::Graph;
 use crate::sheet::Sheet;
+use crate::steps::{across, corner_at, next_along};
 use crate::waiting::{Waiting, dart_of_item, item_of, least_height};
+use crate::walked::Walked;
 use std::alloc::AllocError;
 use topo_price::tariff::Asks;
 
 /// Crosses a dart backwards: its twin reaches the target over it. A height that this lowers, and
 /// brings below the bound, waits. The price is not asked where not even 1 would do so.
-fn cross_back<D: Dual, F: Asks>(
-    graph: &Graph<D, F>,
+fn cross_back<W: Walked, F: Asks>(
+    graph: &Graph<W, F>,
     heights: &mut Sheet,
     waiting: &mut Waiting,
     v: u32,
     bound: u64,
     dart: u32,
 ) -> Result<(), AllocError>
-    requires right { ArePrices (prices_of (F.answers graph.now.tariff.now)) (D.shows graph.now.dual.now) graph.now.prices.items }
-    requires spreads { Spreads (prices_of (F.answers graph.now.tariff.now)) (D.shows graph.now.dual.now) v bound heights.old waiting.old dart }
-    requires in_hand { IsReached (D.shows graph.now.dual.now) heights.old dart }
-    ensures spreads { IfOk result (λ _. Spreads (prices_of (F.answers graph.now.tariff.now)) (D.shows graph.now.dual.now) v bound heights.new waiting.new dart) }
-    ensures crossed { IfOk result (λ _. IsCrossed (prices_of (F.answers graph.now.tariff.now)) (D.shows graph.now.dual.now) bound heights.new dart) }
+    requires right { ArePrices (prices_of (F.answers graph.now.tariff.now)) (W.named graph.now.walked.now) graph.now.prices.items }
+    requires spreads { Spreads (prices_of (F.answers graph.now.tariff.now)) (W.named graph.now.walked.now) v bound heights.old waiting.old dart }
+    requires in_hand { IsReached (W.named graph.now.walked.now) heights.old dart }
+    ensures spreads { IfOk result (λ _. Spreads (prices_of (F.answers graph.now.tariff.now)) (W.named graph.now.walked.now) v bound heights.new waiting.new dart) }
+    ensures crossed { IfOk result (λ _. IsCrossed (prices_of (F.answers graph.now.tariff.now)) (W.named graph.now.walked.now) bound heights.new dart) }
     ensures same { IfOk result (λ _. slice_index heights.new dart ≡ slice_index heights.old dart) }
     ensures falls { IfOk result (λ _. effort heights.new waiting.new ≤ effort heights.old waiting.old) }
     ensures lower { IfOk result (λ _. AreLowered heights.old heights.new) }
 {
-    let other = across(graph.dual, dart);
+    let other = across(graph.walked, dart);
     let height = heights.get(dart);
     let there = heights.get(other);
     let high = there.min(bound);
@@ -58,18 +59,18 @@ fn cross_back<D: Dual, F: Asks>(
 
 /// Spreads the height of one dart round its face and over the segments along it, as far as it lowers
 /// what is there. Nothing spreads from a dart that is not below the bound.
-fn spread_one<D: Dual, F: Asks>(
-    graph: &Graph<D, F>,
+fn spread_one<W: Walked, F: Asks>(
+    graph: &Graph<W, F>,
     heights: &mut Sheet,
     waiting: &mut Waiting,
     v: u32,
     bound: u64,
     dart: u32,
 ) -> Result<(), AllocError>
-    requires right { ArePrices (prices_of (F.answers graph.now.tariff.now)) (D.shows graph.now.dual.now) graph.now.prices.items }
-    requires spreads { Spreads (prices_of (F.answers graph.now.tariff.now)) (D.shows graph.now.dual.now) v bound heights.old waiting.old dart }
-    requires in_hand { IsReached (D.shows graph.now.dual.now) heights.old dart }
-    ensures spreads { IfOk result (λ _. Spreads (prices_of (F.answers graph.now.tariff.now)) (D.shows graph.now.dual.now) v bound heights.new waiting.new (length (darts (D.shows graph.now.dual.now)))) }
+    requires right { ArePrices (prices_of (F.answers graph.now.tariff.now)) (W.named graph.now.walked.now) graph.now.prices.items }
+    requires spreads { Spreads (prices_of (F.answers graph.now.tariff.now)) (W.named graph.now.walked.now) v bound heights.old waiting.old dart }
+    requires in_hand { IsReached (W.named graph.now.walked.now) heights.old dart }
+    ensures spreads { IfOk result (λ _. Spreads (prices_of (F.answers graph.now.tariff.now)) (W.named graph.now.walked.now) v bound heights.new waiting.new (W.named graph.now.walked.now).size) }
     ensures falls { IfOk result (λ _. effort heights.new waiting.new ≤ effort heights.old waiting.old) }
     ensures lower { IfOk result (λ _. AreLowered heights.old heights.new) }
 {
@@ -78,7 +79,7 @@ fn spread_one<D: Dual, F: Asks>(
     }
     let mut at = dart;
     loop {
-        let next = next_along(graph.dual, at);
+        let next = next_along(graph.walked, at);
         cross_back(graph, heights, waiting, v, bound, at)?;
         let height = heights.get(at);
         let there = heights.get(next);
@@ -113,20 +114,20 @@ fn next_pending(heights: &Sheet, waiting: &mut Waiting, bound: u64) -> Option<u3
 }
 
 /// Spreads the heights of all that wait.
-fn spread_all<D: Dual, F: Asks>(
-    graph: &Graph<D, F>,
+fn spread_all<W: Walked, F: Asks>(
+    graph: &Graph<W, F>,
     heights: &mut Sheet,
     waiting: &mut Waiting,
     v: u32,
 ) -> Result<(), AllocError>
-    requires right { ArePrices (prices_of (F.answers graph.now.tariff.now)) (D.shows graph.now.dual.now) graph.now.prices.items }
-    requires spreads { Spreads (prices_of (F.answers graph.now.tariff.now)) (D.shows graph.now.dual.now) v unreached heights.old waiting.old (length (darts (D.shows graph.now.dual.now))) }
-    requires target { MeetsTarget (D.shows graph.now.dual.now) v heights.old }
-    requires some { 0 < length (darts (D.shows graph.now.dual.now)) }
-    ensures are_heights { IfOk result (λ _. AreHeights (prices_of (F.answers graph.now.tariff.now)) (D.shows graph.now.dual.now) v heights.new) }
+    requires right { ArePrices (prices_of (F.answers graph.now.tariff.now)) (W.named graph.now.walked.now) graph.now.prices.items }
+    requires spreads { Spreads (prices_of (F.answers graph.now.tariff.now)) (W.named graph.now.walked.now) v unreached heights.old waiting.old (W.named graph.now.walked.now).size }
+    requires target { IsZeroAt (W.named graph.now.walked.now).rows v (height_of (W.named graph.now.walked.now) heights.old) }
+    requires some { 0 < length (darts (W.named graph.now.walked.now).rows) }
+    ensures are_heights { IfOk result (λ _. AreHeights (prices_of (F.answers graph.now.tariff.now)) (W.named graph.now.walked.now) v heights.new) }
     ensures in_range { IfOk result (λ _. (k : ℕ) → slice_index heights.new k ≤ unreached) }
 {
-    let _darts = graph.dual.len();
+    let _darts = graph.walked.size();
     while let Some(dart) = next_pending(heights, waiting, u64::MAX) {
         spread_one(graph, heights, waiting, v, u64::MAX, dart)?;
     }
@@ -134,37 +135,37 @@ fn spread_all<D: Dual, F: Asks>(
 }
 
 /// A bound above the heights that routes from `u` come through: one more than the least of a corner.
-fn bound_at<D: Dual>(dual: &D, u: u32, heights: &Sheet) -> u64
-    requires { HasOneEach (D.shows dual.now) heights.now }
-    ensures { result ≢ unreached → HasCornerBelow (D.shows dual.now) u heights.now result }
+fn bound_at<W: Walked>(walked: &W, u: u32, heights: &Sheet) -> u64
+    requires { length heights.now ≡ (W.named walked.now).size }
+    ensures { result ≢ unreached → HasCornerBelow (W.named walked.now) u heights.now result }
 {
-    least_corner(dual, u, heights).saturating_add(1)
+    least_corner(walked, u, heights).saturating_add(1)
 }
 
 /// Spreads the heights of those that wait, as far up as routes from `u` come. Once a corner of `u` is
 /// reached, nothing spreads any more from darts that are higher than it. Its corners are looked at
 /// once in as many steps as it has corners, so looking costs no more than the steps do.
-fn spread_up_to<D: Dual, F: Asks>(
-    graph: &Graph<D, F>,
+fn spread_up_to<W: Walked, F: Asks>(
+    graph: &Graph<W, F>,
     heights: &mut Sheet,
     waiting: &mut Waiting,
     u: u32,
     v: u32,
 ) -> Result<(), AllocError>
-    requires right { ArePrices (prices_of (F.answers graph.now.tariff.now)) (D.shows graph.now.dual.now) graph.now.prices.items }
-    requires spreads { Spreads (prices_of (F.answers graph.now.tariff.now)) (D.shows graph.now.dual.now) v unreached heights.old waiting.old (length (darts (D.shows graph.now.dual.now))) }
-    requires target { MeetsTarget (D.shows graph.now.dual.now) v heights.old }
-    requires some { 0 < length (darts (D.shows graph.now.dual.now)) }
-    ensures { IfOk result (λ _. AreHeightsFor (prices_of (F.answers graph.now.tariff.now)) (D.shows graph.now.dual.now) u v heights.new) }
+    requires right { ArePrices (prices_of (F.answers graph.now.tariff.now)) (W.named graph.now.walked.now) graph.now.prices.items }
+    requires spreads { Spreads (prices_of (F.answers graph.now.tariff.now)) (W.named graph.now.walked.now) v unreached heights.old waiting.old (W.named graph.now.walked.now).size }
+    requires target { IsZeroAt (W.named graph.now.walked.now).rows v (height_of (W.named graph.now.walked.now) heights.old) }
+    requires some { 0 < length (darts (W.named graph.now.walked.now).rows) }
+    ensures { IfOk result (λ _. AreHeightsFor (prices_of (F.answers graph.now.tariff.now)) (W.named graph.now.walked.now) u v heights.new) }
 {
-    let _darts = graph.dual.len();
+    let _darts = graph.walked.size();
     let mut bound = u64::MAX;
     let mut steps = 0;
     while let Some(dart) = next_pending(heights, waiting, bound) {
         spread_one(graph, heights, waiting, v, bound, dart)?;
         if steps == 0 {
-            bound = bound.min(bound_at(graph.dual, u, heights));
-            steps = graph.dual.degree(u);
+            bound = bound.min(bound_at(graph.walked, u, heights));
+            steps = graph.walked.degree(u);
         } else {
             steps -= 1;
         }
@@ -173,18 +174,18 @@ fn spread_up_to<D: Dual, F: Asks>(
 }
 
 /// Gives the corners of the target height 0, and lets them wait.
-fn start_at<D: Dual, F: Asks>(
-    graph: &Graph<D, F>,
+fn start_at<W: Walked, F: Asks>(
+    graph: &Graph<W, F>,
     heights: &mut Sheet,
     waiting: &mut Waiting,
     v: u32,
 ) -> Result<(), AllocError>
-    requires spreads { Spreads (prices_of (F.answers graph.now.tariff.now)) (D.shows graph.now.dual.now) v unreached heights.old waiting.old (length (darts (D.shows graph.now.dual.now))) }
-    ensures spreads { IfOk result (λ _. Spreads (prices_of (F.answers graph.now.tariff.now)) (D.shows graph.now.dual.now) v unreached heights.new waiting.new (length (darts (D.shows graph.now.dual.now)))) }
-    ensures target { IfOk result (λ _. MeetsTarget (D.shows graph.now.dual.now) v heights.new) }
+    requires spreads { Spreads (prices_of (F.answers graph.now.tariff.now)) (W.named graph.now.walked.now) v unreached heights.old waiting.old (W.named graph.now.walked.now).size }
+    ensures spreads { IfOk result (λ _. Spreads (prices_of (F.answers graph.now.tariff.now)) (W.named graph.now.walked.now) v unreached heights.new waiting.new (W.named graph.now.walked.now).size) }
+    ensures target { IfOk result (λ _. IsZeroAt (W.named graph.now.walked.now).rows v (height_of (W.named graph.now.walked.now) heights.new)) }
 {
-    for position in 0..graph.dual.degree(v) {
-        if let Some(corner) = corner_at(graph.dual, v, position) {
+    for position in 0..graph.walked.degree(v) {
+        if let Some(corner) = corner_at(graph.walked, v, position) {
             if heights.get(corner) > 0 {
                 heights.set(corner, 0);
                 waiting.push(0, item_of(corner, 0))?;
@@ -195,36 +196,36 @@ fn start_at<D: Dual, F: Asks>(
 }
 
 /// For each dart the least price from its face to a face at the target.
-pub(crate) fn least_heights<D: Dual, F: Asks>(
-    graph: &Graph<D, F>,
+pub(crate) fn least_heights<W: Walked, F: Asks>(
+    graph: &Graph<W, F>,
     v: u32,
     heights: &mut Sheet,
     waiting: &mut Waiting,
 ) -> Result<(), AllocError>
-    requires right { ArePrices (prices_of (F.answers graph.now.tariff.now)) (D.shows graph.now.dual.now) graph.now.prices.items }
-    requires some { 0 < length (darts (D.shows graph.now.dual.now)) }
-    ensures are_heights { OnOk result (AreHeights (prices_of (F.answers graph.now.tariff.now)) (D.shows graph.now.dual.now) v heights.new) }
+    requires right { ArePrices (prices_of (F.answers graph.now.tariff.now)) (W.named graph.now.walked.now) graph.now.prices.items }
+    requires some { 0 < length (darts (W.named graph.now.walked.now).rows) }
+    ensures are_heights { OnOk result (AreHeights (prices_of (F.answers graph.now.tariff.now)) (W.named graph.now.walked.now) v heights.new) }
     ensures in_range { OnOk result ((k : ℕ) → slice_index heights.new k ≤ unreached) }
 {
-    heights.clear(graph.dual.len() as usize)?;
+    heights.clear(graph.walked.size() as usize)?;
     waiting.clear();
     start_at(graph, heights, waiting, v)?;
     spread_all(graph, heights, waiting, v)
 }
 
 /// The least prices of the darts' faces to a face at the target, as far up as routes from `u` come.
-pub(crate) fn heights_for<D: Dual, F: Asks>(
-    graph: &Graph<D, F>,
+pub(crate) fn heights_for<W: Walked, F: Asks>(
+    graph: &Graph<W, F>,
     u: u32,
     v: u32,
     heights: &mut Sheet,
     waiting: &mut Waiting,
 ) -> Result<(), AllocError>
-    requires right { ArePrices (prices_of (F.answers graph.now.tariff.now)) (D.shows graph.now.dual.now) graph.now.prices.items }
-    requires some { 0 < length (darts (D.shows graph.now.dual.now)) }
-    ensures { OnOk result (AreHeightsFor (prices_of (F.answers graph.now.tariff.now)) (D.shows graph.now.dual.now) u v heights.new) }
+    requires right { ArePrices (prices_of (F.answers graph.now.tariff.now)) (W.named graph.now.walked.now) graph.now.prices.items }
+    requires some { 0 < length (darts (W.named graph.now.walked.now).rows) }
+    ensures { OnOk result (AreHeightsFor (prices_of (F.answers graph.now.tariff.now)) (W.named graph.now.walked.now) u v heights.new) }
 {
-    heights.clear(graph.dual.len() as usize)?;
+    heights.clear(graph.walked.size() as usize)?;
     waiting.clear();
     start_at(graph, heights, waiting, v)?;
     spread_up_to(graph, heights, waiting, u, v)

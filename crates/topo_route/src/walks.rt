@@ -11,7 +11,7 @@ ghost use Rattle.topo_route.specs.Numbers.{CannotCross, CannotPay, Crossing, Has
 ghost use Rattle.topo_route.specs.Plans.{ComesFirst, HasFirstEnd, HasOneEach, height_in};
 
 use crate::dual::Dual;
-use crate::faces::{across, corner_at, next_along, price_at, same_face};
+use crate::faces::{across, corner_at, dart_count, next_along, price_at, same_face};
 use crate::heights::has_first_start;
 use crate::plan::Plan;
 use topo_core::darts::Dart;
@@ -158,7 +158,7 @@ fn has_tight_before<D: Dual, F: Asks>(
     ensures { IsTrue result ↔ HasTightBefore (prices_of (F.answers tariff.now)) (D.shows dual.now) heights.now at number }
 {
     let mut dart = at;
-    for _steps in 0..dual.len() {
+    for _steps in 0..dart_count(dual) {
         if dart < number && is_tight(dual, tariff, heights, dart) {
             return true;
         }

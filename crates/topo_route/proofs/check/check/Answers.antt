@@ -1,13 +1,14 @@
 use Rattle.topo_price.specs.Prices.{prices_of}
+use Rattle.topo_route.proofs.Canonical.{lawful_shown}
 use Rattle.topo_route.proofs.Verdicts.{first_verdict, own_verdict}
 use Rattle.topo_route.proofs.check.check.Goals as goal
 
 pub returns-clause-first : goal.returns-clause-first
 returns-clause-first g c =
-    first_verdict (prices_of (g.F.Asks.answers c.args.tariff.now)) (g.D.Dual.shows c.args.dual.now) c.args.u c.args.v c.args.plan.now (g.met.D.Dual.lawful c.args.dual.now)
+    first_verdict (prices_of (g.F.Asks.answers c.args.tariff.now)) (g.D.Dual.shows c.args.dual.now) c.args.u c.args.v c.args.plan.now (lawful_shown (g.met.D.Dual.numbered c.args.dual.now) (g.met.D.Walked.lawful c.args.dual.now))
     c.verdict.result c.verdict.ensures.promise c.verdict.ensures.verdict
 
 pub returns-clause-own : goal.returns-clause-own
 returns-clause-own g c =
-    own_verdict (prices_of (g.F.Asks.answers c.args.tariff.now)) (g.D.Dual.shows c.args.dual.now) c.args.u c.args.v c.args.plan.now (g.met.D.Dual.lawful c.args.dual.now)
+    own_verdict (prices_of (g.F.Asks.answers c.args.tariff.now)) (g.D.Dual.shows c.args.dual.now) c.args.u c.args.v c.args.plan.now (lawful_shown (g.met.D.Dual.numbered c.args.dual.now) (g.met.D.Walked.lawful c.args.dual.now))
     c.verdict.result c.verdict.ensures.verdict

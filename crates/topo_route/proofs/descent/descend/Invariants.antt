@@ -4,7 +4,7 @@ use Rattle.topo_route.specs.Descents.{Descends}
 use Rattle.topo_route.proofs.descent.descend.Given as goal
 
 abbrev pub invariant-loop-dart : goal.invariant-loop-dart
-invariant-loop-dart g l = Descends (prices_of (g.F.Asks.answers l.graph.tariff.now)) (g.D.Dual.shows l.graph.dual.now) l.heights l.from l.crossed.items l.at
+invariant-loop-dart g l = Descends (prices_of (g.F.Asks.answers l.graph.tariff.now)) (g.W.Walked.named l.graph.walked.now) l.heights l.from l.crossed.items l.at
 
 abbrev pub decreases-loop-dart : goal.decreases-loop-dart
 decreases-loop-dart g l = slice_index l.heights l.at

@@ -1,5 +1,8 @@
+use Rattle.topo_route.specs.Names.{height_of}
 use Rattle.topo_route.proofs.Tests.{LowestBefore}
 use Rattle.topo_route.proofs.descent.least_corner.Given as goal
 
 abbrev pub invariant-loop-position : goal.invariant-loop-position
-invariant-loop-position g l = LowestBefore (g.D.Dual.shows l.dual) l.u l.heights l.least l.position
+invariant-loop-position g l =
+    let named = g.W.Walked.named l.walked in
+    LowestBefore named.rows l.u (height_of named l.heights) l.least l.position

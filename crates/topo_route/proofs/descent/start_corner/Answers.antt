@@ -1,7 +1,6 @@
 use Rattle.std.proofs.Common.{arith}
-use Rattle.topo_core.specs.Picture.{index_of}
 use Rattle.topo_route.proofs.descent.start_corner.Goals as goal
 
 pub returns-then-least : goal.returns-then-least
 returns-then-least g c p d at =
-    omega (arith, c.if-least.true, c.least_corner-least.ensures.low p d at, c.in_range.ensures (index_of (g.D.Dual.shows c.args.dual.now) d))
+    omega (arith, c.if-least.true, c.least_corner-least.ensures.low p d at, c.in_range.ensures ((g.W.Walked.named c.args.walked.now).name d))

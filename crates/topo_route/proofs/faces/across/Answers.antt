@@ -1,9 +1,18 @@
-use Rattle.std.proofs.Common.{◌<◌, sym, subst, length}
-use Rattle.topo_core.specs.Picture.{darts}
-use Rattle.topo_route.proofs.Numbers.{twin_below}
+use Rattle.std.proofs.Common.{◌∙◌}
+use Rattle.topo_route.proofs.Canonical.{is_number, number_is, twin_is_number}
 use Rattle.topo_route.proofs.faces.across.Goals as goal
+
+pub across-requires : goal.across-requires
+across-requires g c =
+    let dual = c.args.dual.now in
+    number_is (g.D.Walked.named dual) (g.D.Dual.shows dual) (g.met.D.Dual.numbered dual) (g.met.D.Walked.lawful dual) c.args.dart c.requires
+
+pub returns-clause-twin : goal.returns-clause-twin
+returns-clause-twin g c =
+    let dual = c.args.dual.now in
+    c.across.ensures.twin ∙ twin_is_number (g.D.Walked.named dual) (g.D.Dual.shows dual) (g.met.D.Dual.numbered dual) (g.met.D.Walked.lawful dual) c.args.dart c.requires
 
 pub returns-clause-within : goal.returns-clause-within
 returns-clause-within g c =
-    let rows = g.D.Dual.shows c.args.dual.now in
-    subst (λ k. k < length (darts rows)) (sym c.twin.ensures) (twin_below rows (g.met.D.Dual.lawful c.args.dual.now) c.args.dart c.requires)
+    let dual = c.args.dual.now in
+    is_number (g.D.Walked.named dual) (g.D.Dual.shows dual) (g.met.D.Dual.numbered dual) (g.met.D.Walked.lawful dual) c.across.result c.across.ensures.name

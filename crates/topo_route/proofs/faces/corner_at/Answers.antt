@@ -1,5 +1,7 @@
-use Rattle.topo_route.proofs.Numbers.{corner_number}
+use Rattle.topo_route.proofs.Canonical.{corner_is_number}
 use Rattle.topo_route.proofs.faces.corner_at.Goals as goal
 
 pub returns : goal.returns
-returns g c = corner_number (g.D.Dual.shows c.args.dual.now) (g.met.D.Dual.lawful c.args.dual.now) c.args.v c.args.position c.corner.result c.corner.ensures
+returns g c =
+    let dual = c.args.dual.now in
+    corner_is_number (g.D.Walked.named dual) (g.D.Dual.shows dual) (g.met.D.Dual.numbered dual) (g.met.D.Walked.lawful dual) c.args.v c.args.position c.corner_at.result c.corner_at.ensures

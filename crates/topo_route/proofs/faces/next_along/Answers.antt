@@ -1,9 +1,18 @@
-use Rattle.std.proofs.Common.{◌<◌, sym, subst, length}
-use Rattle.topo_core.specs.Picture.{darts}
-use Rattle.topo_route.proofs.Numbers.{next_below}
+use Rattle.std.proofs.Common.{◌∙◌}
+use Rattle.topo_route.proofs.Canonical.{is_number, next_is_number, number_is}
 use Rattle.topo_route.proofs.faces.next_along.Goals as goal
+
+pub next_along-requires : goal.next_along-requires
+next_along-requires g c =
+    let dual = c.args.dual.now in
+    number_is (g.D.Walked.named dual) (g.D.Dual.shows dual) (g.met.D.Dual.numbered dual) (g.met.D.Walked.lawful dual) c.args.dart c.requires
+
+pub returns-clause-next : goal.returns-clause-next
+returns-clause-next g c =
+    let dual = c.args.dual.now in
+    c.next_along.ensures.next ∙ next_is_number (g.D.Walked.named dual) (g.D.Dual.shows dual) (g.met.D.Dual.numbered dual) (g.met.D.Walked.lawful dual) c.args.dart c.requires
 
 pub returns-clause-within : goal.returns-clause-within
 returns-clause-within g c =
-    let rows = g.D.Dual.shows c.args.dual.now in
-    subst (λ k. k < length (darts rows)) (sym c.next.ensures) (next_below rows (g.met.D.Dual.lawful c.args.dual.now) c.args.dart c.requires)
+    let dual = c.args.dual.now in
+    is_number (g.D.Walked.named dual) (g.D.Dual.shows dual) (g.met.D.Dual.numbered dual) (g.met.D.Walked.lawful dual) c.next_along.result c.next_along.ensures.name

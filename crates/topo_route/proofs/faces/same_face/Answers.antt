@@ -3,6 +3,7 @@ use Rattle.std.proofs.lemmas.Bool.{false≢true}
 use Rattle.topo_core.specs.Cycles.{after}
 use Rattle.topo_core.specs.Picture.{darts}
 use Rattle.topo_route.specs.Numbers.{next_of}
+use Rattle.topo_route.proofs.Canonical.{lawful_shown}
 use Rattle.topo_route.proofs.Numbers.{next_permutes}
 use Rattle.topo_route.proofs.Rounds.{unmet_home, unmet_all}
 use Rattle.topo_route.proofs.faces.same_face.Goals as goal
@@ -22,6 +23,6 @@ pub returns : goal.returns
 returns g c =
     let rows = g.D.Dual.shows c.args.dual.now in (
       λ w. absurd (false≢true w),
-      λ s. absurd (unmet_all (next_of rows) c.args.a c.args.b (length (darts rows)) (next_permutes rows (g.met.D.Dual.lawful c.args.dual.now)) c.requires
+      λ s. absurd (unmet_all (next_of rows) c.args.a c.args.b (length (darts rows)) (next_permutes rows (lawful_shown (g.met.D.Dual.numbered c.args.dual.now) (g.met.D.Walked.lawful c.args.dual.now))) c.requires
           (λ j l. c.loop-steps.invariant.unmet j (omega arith)) s),
     )

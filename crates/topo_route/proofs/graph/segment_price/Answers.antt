@@ -1,4 +1,4 @@
-use Rattle.std.proofs.Common.{◌≡◌, ◌*◌, ◌-◌, ◌/◌, ◌∙◌, None, arith, subst, sym}
+use Rattle.std.proofs.Common.{◌≡◌, ◌*◌, ◌-◌, ◌/◌, ◌∙◌, None, ap, arith, subst, sym}
 use Rattle.std.specs.Prelude.{slice_index_or}
 use Rattle.topo_price.specs.Prices.{prices_of}
 use Rattle.topo_route.specs.Numbers.{IsPriceAt}
@@ -12,5 +12,5 @@ returns-then-before-edge-clause-price g c =
     let s = c.args.dart / 2 - 1 in
     let before : 2 * s ≡ c.args.dart - 2 = omega arith in
     let priced = subst (λ k. IsPriceAt price rows k (slice_index_or c.args.prices.now s None)) before (c.requires.right.right s (omega arith)) in
-    price_of_edge price rows (c.args.dart - 2) c.args.dart c.dart-then-dart-gt0.result c.dart.result (slice_index_or c.args.prices.now s None)
-    c.dart-then-dart-gt0.ensures c.dart.ensures (sym c.number-before.ensures ∙ c.if-before-edge.true ∙ c.number-edge.ensures) priced
+    price_of_edge price rows (c.args.dart - 2) c.args.dart (slice_index_or c.args.prices.now s None)
+    (ap (λ d. d.edge) (sym c.dart_at-then-dart-gt0.ensures) ∙ sym c.number-before.ensures ∙ c.if-before-edge.true ∙ c.number-edge.ensures ∙ ap (λ d. d.edge) c.dart_at.ensures) priced

@@ -1,7 +1,8 @@
 use Rattle.std.proofs.Common.{◌≡◌, ◌/◌, ◌+◌, arith, length, subst, sym}
 use Rattle.topo_core.specs.Picture.{darts}
 use Rattle.topo_price.specs.Prices.{prices_of}
-use Rattle.topo_route.specs.Settling.{ArePricesOf}
+use Rattle.topo_route.specs.Settling.{ArePrices, ArePricesOf}
+use Rattle.topo_route.proofs.Canonical.{lawful_shown}
 use Rattle.topo_route.proofs.Segments.{all_prices, next_price}
 use Rattle.topo_route.proofs.graph.segment_prices.Goals as goal
 
@@ -16,4 +17,7 @@ pub returns : goal.returns
 returns g c =
     let rows = g.D.Dual.shows c.args.dual.now in
     let whole : c.loop-segment.segment ≡ length (darts rows) / 2 = omega arith in
-    all_prices (prices_of (g.F.Asks.answers c.args.tariff.now)) rows (g.met.D.Dual.lawful c.args.dual.now) c.loop-segment.prices.items c.loop-segment.segment whole c.loop-segment.invariant
+    let numbered = g.met.D.Dual.numbered c.args.dual.now in
+    let price = prices_of (g.F.Asks.answers c.args.tariff.now) in
+    subst (λ n. ArePrices price n c.loop-segment.prices.items) (sym numbered)
+    (all_prices price rows (lawful_shown numbered (g.met.D.Walked.lawful c.args.dual.now)) c.loop-segment.prices.items c.loop-segment.segment whole c.loop-segment.invariant)

@@ -5,6 +5,7 @@ use Rattle.topo_core.specs.Rotations.{twin}
 use Rattle.topo_core.proofs.Certificates.{single_price}
 use Rattle.topo_price.specs.Prices.{prices_of}
 use Rattle.topo_route.specs.Numbers.{dart_of}
+use Rattle.topo_route.proofs.Canonical.{lawful_shown}
 use Rattle.topo_route.proofs.Tests.{gentle_darts, gentle_numbers, gentle_some, gentle_past}
 use Rattle.topo_route.proofs.heights.is_gentle.Goals as goal
 use Rattle.topo_route.proofs.heights.is_gentle.Goals.{in-Some+else-saturating_sub-price, in_default}
@@ -16,7 +17,7 @@ returns-then-saturating_sub-price-clause-gentle g c =
     let other : get_or c.args.heights.now c.across.result 0 ≡ get_or c.args.heights.now (twin c.loop-dart.dart) 0 = ap (λ k. get_or c.args.heights.now k 0) c.across.ensures.twin in (
       λ w. absurd (false≢true w),
       λ gentle.
-          let climb = gentle_numbers rows (g.met.D.Dual.lawful c.args.dual.now) c.args.heights.now (prices_of (g.F.Asks.answers c.args.tariff.now)) gentle c.loop-dart.dart c.in-Some.price within c.in-Some.ensures.price in
+          let climb = gentle_numbers rows (lawful_shown (g.met.D.Dual.numbered c.args.dual.now) (g.met.D.Walked.lawful c.args.dual.now)) c.args.heights.now (prices_of (g.F.Asks.answers c.args.tariff.now)) gentle c.loop-dart.dart c.in-Some.price within c.in-Some.ensures.price in
           absurd (omega arith),
     )
 
@@ -41,4 +42,4 @@ loop-dart-preserved g c =
 pub returns-clause-gentle : goal.returns-clause-gentle
 returns-clause-gentle g c =
     let rows = g.D.Dual.shows c.args.dual.now in
-    (λ w. gentle_darts rows (g.met.D.Dual.lawful c.args.dual.now) c.args.heights.now (prices_of (g.F.Asks.answers c.args.tariff.now)) (λ k p l. c.loop-dart.invariant.gentle k p (omega arith)), λ gentle. refl)
+    (λ w. gentle_darts rows (lawful_shown (g.met.D.Dual.numbered c.args.dual.now) (g.met.D.Walked.lawful c.args.dual.now)) c.args.heights.now (prices_of (g.F.Asks.answers c.args.tariff.now)) (λ k p l. c.loop-dart.invariant.gentle k p (omega arith)), λ gentle. refl)

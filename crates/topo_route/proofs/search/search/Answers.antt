@@ -1,27 +1,40 @@
-use Rattle.std.proofs.Common.{◌∙◌, refl, subst}
-use Rattle.topo_core.specs.Routes.{HasNoRoute}
+use Rattle.std.proofs.Common.{◌<◌, ◌∙◌, length, refl, subst, sym}
 use Rattle.std.specs.Prelude.{MatchOption}
-use Rattle.topo_route.specs.Descents.{IsFirstRoute}
+use Rattle.topo_core.specs.Picture.{darts}
+use Rattle.topo_core.specs.Routes.{HasNoRoute}
 use Rattle.topo_price.specs.Prices.{prices_of}
+use Rattle.topo_route.specs.Descents.{IsFirstRoute}
+use Rattle.topo_route.specs.Names.{Named, canonical}
+use Rattle.topo_route.specs.Plans.{AreHeights}
 use Rattle.topo_route.proofs.Descending.{has_darts, is_plan}
 use Rattle.topo_route.proofs.Known.{for_all}
+use Rattle.topo_route.proofs.Canonical.{lawful_shown}
 use Rattle.topo_route.proofs.search.search.Goals as goal
 
 pub least_heights-requires-clause-some : goal.least_heights-requires-clause-some
-least_heights-requires-clause-some g c = has_darts (g.D.Dual.shows c.args.dual.now) (g.met.D.Dual.lawful c.args.dual.now) c.args.u c.requires.u_there
+least_heights-requires-clause-some g c =
+    let dual = c.args.dual.now in
+    let numbered = g.met.D.Dual.numbered dual in
+    subst (λ (n : Named). 0 < length (darts n.rows)) (sym numbered) (has_darts (g.D.Dual.shows dual) (lawful_shown numbered (g.met.D.Walked.lawful dual)) c.args.u c.requires.u_there)
 
 pub route_by_heights-requires-clause-some : goal.route_by_heights-requires-clause-some
-route_by_heights-requires-clause-some g c = has_darts (g.D.Dual.shows c.args.dual.now) (g.met.D.Dual.lawful c.args.dual.now) c.args.u c.requires.u_there
+route_by_heights-requires-clause-some g c =
+    let dual = c.args.dual.now in
+    let numbered = g.met.D.Dual.numbered dual in
+    subst (λ (n : Named). 0 < length (darts n.rows)) (sym numbered) (has_darts (g.D.Dual.shows dual) (lawful_shown numbered (g.met.D.Walked.lawful dual)) c.args.u c.requires.u_there)
 
 pub route_by_heights-requires-clause-known : goal.route_by_heights-requires-clause-known
 route_by_heights-requires-clause-known g c =
+    let dual = c.args.dual.now in
     let done = c.in_ok-least_heights.ensures in
-    for_all (prices_of (g.F.Asks.answers c.args.tariff.now)) (g.D.Dual.shows c.args.dual.now) (g.met.D.Dual.lawful c.args.dual.now) c.args.u c.args.v c.least_heights.new.heights done.in_range done.are_heights
+    for_all (prices_of (g.F.Asks.answers c.args.tariff.now)) (g.D.Walked.named dual) (g.met.D.Walked.lawful dual) (g.met.D.Walked.has_names dual) c.args.u c.args.v c.least_heights.new.heights done.in_range done.are_heights
 
 pub returns-in-Some : goal.returns-in-Some
 returns-in-Some g c =
     let rows = g.D.Dual.shows c.args.dual.now in
+    let numbered = g.met.D.Dual.numbered c.args.dual.now in
     let price = prices_of (g.F.Asks.answers c.args.tariff.now) in
     let heights = c.least_heights.new.heights in
-    let found = subst (λ o. MatchOption o (HasNoRoute price rows c.args.u c.args.v) (IsFirstRoute price rows c.args.u c.args.v heights)) c.in-Some.is c.in_ok-found.ensures in
-    is_plan price rows c.args.u c.args.v heights c.in-Some.field-0 _ c.in_ok-least_heights.ensures.are_heights found refl refl (c.from_vec.ensures ∙ c.in_ok-numbers.ensures)
+    let by_numbers = subst (λ (n : Named). MatchOption c.in_ok-found.found (HasNoRoute price n.rows c.args.u c.args.v) (IsFirstRoute price n c.args.u c.args.v heights)) numbered c.in_ok-found.ensures in
+    let found = subst (λ o. MatchOption o (HasNoRoute price rows c.args.u c.args.v) (IsFirstRoute price (canonical rows) c.args.u c.args.v heights)) c.in-Some.is by_numbers in
+    is_plan price rows c.args.u c.args.v heights c.in-Some.field-0 _ (subst (λ (n : Named). AreHeights price n c.args.v heights) numbered c.in_ok-least_heights.ensures.are_heights) found refl refl (c.from_vec.ensures ∙ c.in_ok-numbers.ensures)

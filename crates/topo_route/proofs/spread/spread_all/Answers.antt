@@ -1,5 +1,4 @@
-use Rattle.std.proofs.Common.{◌<◌, ◌^◌, arith, length}
-use Rattle.topo_core.specs.Picture.{darts}
+use Rattle.std.proofs.Common.{◌<◌, ◌^◌, arith}
 use Rattle.topo_core.specs.Routes.{unreached}
 use Rattle.topo_price.specs.Prices.{prices_of}
 use Rattle.topo_route.proofs.Reaching.{are_heights}
@@ -8,32 +7,32 @@ use Rattle.topo_route.proofs.spread.spread_all.Goals as goal
 
 pub spread_one-requires-clause-spreads : goal.spread_one-requires-clause-spreads
 spread_one-requires-clause-spreads g c =
-    let rows = g.D.Dual.shows c.args.graph.now.dual.now in
-    let small : length (darts rows) < 2 ^ 32 = omega (arith, c.len-darts.ensures, c.len-darts.type_inv) in
-    taken_up (prices_of (g.F.Asks.answers c.args.graph.now.tariff.now)) rows c.args.v unreached c.loop-dart.heights c.loop-dart.waiting c.next_pending.new.waiting c.in-Some.dart small
+    let named = g.W.Walked.named c.args.graph.now.walked.now in
+    let small : named.size < 2 ^ 32 = omega (arith, c.size-darts.ensures, c.size-darts.type_inv) in
+    taken_up (prices_of (g.F.Asks.answers c.args.graph.now.tariff.now)) named (g.met.W.Walked.has_names c.args.graph.now.walked.now) c.args.v unreached c.loop-dart.heights c.loop-dart.waiting c.next_pending.new.waiting c.in-Some.dart small
     c.loop-dart.invariant.spreads c.in-Some.ensures.others c.in-Some.ensures.fewer
 
 pub spread_one-requires-clause-in_hand : goal.spread_one-requires-clause-in_hand
 spread_one-requires-clause-in_hand g c =
-    let rows = g.D.Dual.shows c.args.graph.now.dual.now in
+    let named = g.W.Walked.named c.args.graph.now.walked.now in
     let short : c.in-Some.dart < 2 ^ 32 = omega arith in
-    taken_reached (prices_of (g.F.Asks.answers c.args.graph.now.tariff.now)) rows c.args.v unreached c.loop-dart.heights c.loop-dart.waiting (length (darts rows)) c.in-Some.dart short
+    taken_reached (prices_of (g.F.Asks.answers c.args.graph.now.tariff.now)) named c.args.v unreached c.loop-dart.heights c.loop-dart.waiting named.size c.in-Some.dart short
     c.loop-dart.invariant.spreads c.in-Some.ensures.pending
 
 pub loop-dart-preserved : goal.loop-dart-preserved
 loop-dart-preserved g c = record {
   spreads = c.in_ok-spread_one.ensures.spreads;
-  target = meets_lower (g.D.Dual.shows c.args.graph.now.dual.now) c.args.v c.loop-dart.heights c.spread_one.new.heights c.in_ok-spread_one.ensures.lower c.loop-dart.invariant.target;
+  target = meets_lower (g.W.Walked.named c.args.graph.now.walked.now) c.args.v c.loop-dart.heights c.spread_one.new.heights c.in_ok-spread_one.ensures.lower c.loop-dart.invariant.target;
 }
 
 pub returns-clause-are_heights : goal.returns-clause-are_heights
 returns-clause-are_heights g c =
-    let rows = g.D.Dual.shows c.args.graph.now.dual.now in
+    let named = g.W.Walked.named c.args.graph.now.walked.now in
     let price = prices_of (g.F.Asks.answers c.args.graph.now.tariff.now) in
-    let small : length (darts rows) < 2 ^ 32 = omega (arith, c.len-darts.ensures, c.len-darts.type_inv) in
+    let small : named.size < 2 ^ 32 = omega (arith, c.size-darts.ensures, c.size-darts.type_inv) in
     let costs = c.loop-dart.invariant.spreads.costs in
-    are_heights price rows (g.met.D.Dual.lawful c.args.graph.now.dual.now) c.args.v unreached c.loop-dart.heights costs.capped c.loop-dart.invariant.target
-    (every_settled price rows c.args.v c.loop-dart.heights costs (all_settled price rows c.args.v unreached c.loop-dart.heights c.loop-dart.waiting small c.loop-dart.invariant.spreads c.in_default.ensures.others))
+    are_heights price named (g.met.W.Walked.lawful c.args.graph.now.walked.now) (g.met.W.Walked.has_names c.args.graph.now.walked.now) c.args.v unreached c.loop-dart.heights costs.capped c.loop-dart.invariant.target
+    (every_settled price named c.args.v c.loop-dart.heights costs (all_settled price named (g.met.W.Walked.has_names c.args.graph.now.walked.now) c.args.v unreached c.loop-dart.heights c.loop-dart.waiting small c.loop-dart.invariant.spreads c.in_default.ensures.others))
     (c.requires.right.promise c.requires.some) costs small
 
 pub returns-clause-in_range : goal.returns-clause-in_range

@@ -5,10 +5,10 @@ use Rattle.topo_route.proofs.spread.spread_one.Given as goal
 
 abbrev pub invariant-loop-heights : goal.invariant-loop-heights
 invariant-loop-heights g l =
-    let rows = g.D.Dual.shows l.graph.dual.now in
+    let named = g.W.Walked.named l.graph.walked.now in
     record {
-      spreads : Spreads (prices_of (g.F.Asks.answers l.graph.tariff.now)) rows l.v l.bound l.heights l.waiting l.at;
-      in_hand : IsReached rows l.heights l.at;
+      spreads : Spreads (prices_of (g.F.Asks.answers l.graph.tariff.now)) named l.v l.bound l.heights l.waiting l.at;
+      in_hand : IsReached named l.heights l.at;
       falls : effort l.heights l.waiting ≤ effort l.initial.heights l.initial.waiting;
       lower : AreLowered l.initial.heights l.heights;
     }

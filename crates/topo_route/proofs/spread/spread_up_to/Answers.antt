@@ -1,6 +1,5 @@
-use Rattle.std.proofs.Common.{subst, ◌<◌, ◌^◌, arith, length, inl, inr}
+use Rattle.std.proofs.Common.{subst, ◌<◌, ◌^◌, arith, inl, inr}
 use Rattle.std.proofs.lemmas.Bool.{cases_eq}
-use Rattle.topo_core.specs.Picture.{darts}
 use Rattle.topo_core.specs.Routes.{unreached}
 use Rattle.topo_price.specs.Prices.{prices_of}
 use Rattle.topo_route.specs.Settling.{IsSettled}
@@ -11,55 +10,56 @@ use Rattle.topo_route.proofs.spread.spread_up_to.Goals as goal
 
 pub spread_one-requires-clause-spreads : goal.spread_one-requires-clause-spreads
 spread_one-requires-clause-spreads g c =
-    let rows = g.D.Dual.shows c.args.graph.now.dual.now in
-    let small : length (darts rows) < 2 ^ 32 = omega (arith, c.len-darts.ensures, c.len-darts.type_inv) in
-    taken_up (prices_of (g.F.Asks.answers c.args.graph.now.tariff.now)) rows c.args.v c.loop-dart.bound c.loop-dart.heights c.loop-dart.waiting c.next_pending.new.waiting c.in-Some.dart small
+    let named = g.W.Walked.named c.args.graph.now.walked.now in
+    let small : named.size < 2 ^ 32 = omega (arith, c.size-darts.ensures, c.size-darts.type_inv) in
+    taken_up (prices_of (g.F.Asks.answers c.args.graph.now.tariff.now)) named (g.met.W.Walked.has_names c.args.graph.now.walked.now) c.args.v c.loop-dart.bound c.loop-dart.heights c.loop-dart.waiting c.next_pending.new.waiting c.in-Some.dart small
     c.loop-dart.invariant.spreads c.in-Some.ensures.others c.in-Some.ensures.fewer
 
 pub spread_one-requires-clause-in_hand : goal.spread_one-requires-clause-in_hand
 spread_one-requires-clause-in_hand g c =
-    let rows = g.D.Dual.shows c.args.graph.now.dual.now in
+    let named = g.W.Walked.named c.args.graph.now.walked.now in
     let short : c.in-Some.dart < 2 ^ 32 = omega arith in
-    taken_reached (prices_of (g.F.Asks.answers c.args.graph.now.tariff.now)) rows c.args.v c.loop-dart.bound c.loop-dart.heights c.loop-dart.waiting (length (darts rows)) c.in-Some.dart short
+    taken_reached (prices_of (g.F.Asks.answers c.args.graph.now.tariff.now)) named c.args.v c.loop-dart.bound c.loop-dart.heights c.loop-dart.waiting named.size c.in-Some.dart short
     c.loop-dart.invariant.spreads c.in-Some.ensures.pending
 
 pub loop-dart-preserved-then-steps-eq0 : goal.loop-dart-preserved-then-steps-eq0
 loop-dart-preserved-then-steps-eq0 g c =
-    let rows = g.D.Dual.shows c.args.graph.now.dual.now in
+    let named = g.W.Walked.named c.args.graph.now.walked.now in
     let price = prices_of (g.F.Asks.answers c.args.graph.now.tariff.now) in
     let heights = c.spread_one.new.heights in
     let lower = c.in_ok-spread_one.ensures.lower in
     record {
-      spreads = narrowed price rows c.args.v c.loop-dart.bound c.min-bound.result heights c.spread_one.new.waiting (length (darts rows)) c.in_ok-spread_one.ensures.spreads (omega arith);
-      target = meets_lower rows c.args.v c.loop-dart.heights heights lower c.loop-dart.invariant.target;
+      spreads = narrowed price named c.args.v c.loop-dart.bound c.min-bound.result heights c.spread_one.new.waiting named.size c.in_ok-spread_one.ensures.spreads (omega arith);
+      target = meets_lower named c.args.v c.loop-dart.heights heights lower c.loop-dart.invariant.target;
       in_range = omega (arith, c.loop-dart.invariant.in_range);
-      corner = corner_least rows c.args.u heights c.loop-dart.bound c.bound_at.result c.min-bound.result (omega arith) (λ some. corner_lower rows c.args.u c.loop-dart.heights heights c.loop-dart.bound lower (c.loop-dart.invariant.corner some)) c.bound_at.ensures;
+      corner = corner_least named c.args.u heights c.loop-dart.bound c.bound_at.result c.min-bound.result (omega arith) (λ some. corner_lower named c.args.u c.loop-dart.heights heights c.loop-dart.bound lower (c.loop-dart.invariant.corner some)) c.bound_at.ensures;
     }
 
 pub loop-dart-preserved : goal.loop-dart-preserved
 loop-dart-preserved g c =
-    let rows = g.D.Dual.shows c.args.graph.now.dual.now in
+    let named = g.W.Walked.named c.args.graph.now.walked.now in
     let lower = c.in_ok-spread_one.ensures.lower in
     record {
       spreads = c.in_ok-spread_one.ensures.spreads;
-      target = meets_lower rows c.args.v c.loop-dart.heights c.spread_one.new.heights lower c.loop-dart.invariant.target;
+      target = meets_lower named c.args.v c.loop-dart.heights c.spread_one.new.heights lower c.loop-dart.invariant.target;
       in_range = c.loop-dart.invariant.in_range;
-      corner = λ some. corner_lower rows c.args.u c.loop-dart.heights c.spread_one.new.heights c.loop-dart.bound lower (c.loop-dart.invariant.corner some);
+      corner = λ some. corner_lower named c.args.u c.loop-dart.heights c.spread_one.new.heights c.loop-dart.bound lower (c.loop-dart.invariant.corner some);
     }
 
 pub returns : goal.returns
 returns g c =
-    let rows = g.D.Dual.shows c.args.graph.now.dual.now in
-    let lawful = g.met.D.Dual.lawful c.args.graph.now.dual.now in
+    let named = g.W.Walked.named c.args.graph.now.walked.now in
+    let lawful = g.met.W.Walked.lawful c.args.graph.now.walked.now in
+    let has = g.met.W.Walked.has_names c.args.graph.now.walked.now in
     let price = prices_of (g.F.Asks.answers c.args.graph.now.tariff.now) in
     let heights = c.loop-dart.heights in
     let bound = c.loop-dart.bound in
     let invariant = c.loop-dart.invariant in
     let costs = invariant.spreads.costs in
-    let small : length (darts rows) < 2 ^ 32 = omega (arith, c.len-darts.ensures, c.len-darts.type_inv) in
-    let settled = all_settled price rows c.args.v bound heights c.loop-dart.waiting small invariant.spreads c.in_default.ensures.others in
+    let small : named.size < 2 ^ 32 = omega (arith, c.size-darts.ensures, c.size-darts.type_inv) in
+    let settled = all_settled price named has c.args.v bound heights c.loop-dart.waiting small invariant.spreads c.in_default.ensures.others in
     elim (cases_eq bound unreached) [
-      | inl e ↦ for_all price rows lawful c.args.u c.args.v heights costs.capped (are_heights price rows lawful c.args.v unreached heights costs.capped invariant.target
-          (every_settled price rows c.args.v heights costs (λ k l less. subst (λ b. IsSettled price rows b heights k) e (settled k l (omega arith)))) (c.requires.right.promise c.requires.some) costs small)
-      | inr ne ↦ for_some price rows lawful c.args.u c.args.v heights bound invariant.in_range (known_below price rows lawful c.args.v bound heights invariant.in_range costs invariant.target settled) (invariant.corner ne)
+      | inl e ↦ for_all price named lawful has c.args.u c.args.v heights costs.capped (are_heights price named lawful has c.args.v unreached heights costs.capped invariant.target
+          (every_settled price named c.args.v heights costs (λ k l less. subst (λ b. IsSettled price named b heights k) e (settled k l (omega arith)))) (c.requires.right.promise c.requires.some) costs small)
+      | inr ne ↦ for_some price named lawful has c.args.u c.args.v heights bound invariant.in_range (known_below price named lawful has c.args.v bound heights invariant.in_range costs invariant.target settled) (invariant.corner ne)
     ]

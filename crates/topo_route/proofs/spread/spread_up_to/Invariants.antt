@@ -1,20 +1,20 @@
-use Rattle.std.proofs.Common.{◌≤◌, ◌≢◌, length}
-use Rattle.topo_core.specs.Picture.{darts}
+use Rattle.std.proofs.Common.{◌≤◌, ◌≢◌}
 use Rattle.topo_core.specs.Routes.{unreached}
 use Rattle.topo_price.specs.Prices.{prices_of}
 use Rattle.topo_route.specs.Descents.{HasCornerBelow}
-use Rattle.topo_route.specs.Plans.{MeetsTarget}
+use Rattle.topo_route.specs.Names.{height_of}
+use Rattle.topo_route.specs.Plans.{IsZeroAt}
 use Rattle.topo_route.specs.Settling.{Spreads, effort}
 use Rattle.topo_route.proofs.spread.spread_up_to.Given as goal
 
 abbrev pub invariant-loop-dart : goal.invariant-loop-dart
 invariant-loop-dart g l =
-    let rows = g.D.Dual.shows l.graph.dual.now in
+    let named = g.W.Walked.named l.graph.walked.now in
     record {
-      spreads : Spreads (prices_of (g.F.Asks.answers l.graph.tariff.now)) rows l.v l.bound l.heights l.waiting (length (darts rows));
-      target : MeetsTarget rows l.v l.heights;
+      spreads : Spreads (prices_of (g.F.Asks.answers l.graph.tariff.now)) named l.v l.bound l.heights l.waiting named.size;
+      target : IsZeroAt named.rows l.v (height_of named l.heights);
       in_range : l.bound ≤ unreached;
-      corner : l.bound ≢ unreached → HasCornerBelow rows l.u l.heights l.bound;
+      corner : l.bound ≢ unreached → HasCornerBelow named l.u l.heights l.bound;
     }
 
 abbrev pub decreases-loop-dart : goal.decreases-loop-dart

@@ -8,6 +8,7 @@ use Rattle.topo_core.specs.Systems.{has_dart}
 use Rattle.topo_price.specs.Prices.{prices_of}
 use Rattle.topo_route.specs.Numbers.{HasTightBefore, dart_of}
 use Rattle.topo_route.specs.Plans.{height_in}
+use Rattle.topo_route.proofs.Canonical.{lawful_shown}
 use Rattle.topo_route.proofs.Numbers.{dart_in}
 use Rattle.topo_route.proofs.Walking.{arrives_on, face_has, first_fails, from_item, takes_back, takes_on, walk_on}
 use Rattle.topo_route.proofs.walks.first_walk.Goals as goal
@@ -16,7 +17,7 @@ pub returns-then-has_tight_before : goal.returns-then-has_tight_before
 returns-then-has_tight_before g c takes =
     let rows = g.D.Dual.shows c.args.dual.now in
     let price = prices_of (g.F.Asks.answers c.args.tariff.now) in
-    let lawful = g.met.D.Dual.lawful c.args.dual.now in
+    let lawful = lawful_shown (g.met.D.Dual.numbered c.args.dual.now) (g.met.D.Walked.lawful c.args.dual.now) in
     let i = c.loop-dart.dart-index in
     let rest : drop i c.args.crossed.now ≡ c.dart-item.result ∷ drop (i + 1) c.args.crossed.now = from_item c.args.crossed.now i c.dart-item.result c.loop-dart-test.true c.dart-item.is in
     let Takes = λ (xs : List Dart). TakesFirstDarts price rows (height_in rows c.args.heights.now) (dart_of rows c.loop-dart.at) xs in
@@ -30,7 +31,7 @@ returns-then-has_tight_before g c takes =
 pub returns-in-None : goal.returns-in-None
 returns-in-None g c takes =
     let rows = g.D.Dual.shows c.args.dual.now in
-    let lawful = g.met.D.Dual.lawful c.args.dual.now in
+    let lawful = lawful_shown (g.met.D.Dual.numbered c.args.dual.now) (g.met.D.Walked.lawful c.args.dual.now) in
     let i = c.loop-dart.dart-index in
     let rest : drop i c.args.crossed.now ≡ c.dart-item.result ∷ drop (i + 1) c.args.crossed.now = from_item c.args.crossed.now i c.dart-item.result c.loop-dart-test.true c.dart-item.is in
     let to = c.loop-dart.invariant.walk.0 in
@@ -42,7 +43,7 @@ pub loop-dart-preserved : goal.loop-dart-preserved
 loop-dart-preserved g c =
     let rows = g.D.Dual.shows c.args.dual.now in
     let price = prices_of (g.F.Asks.answers c.args.tariff.now) in
-    let lawful = g.met.D.Dual.lawful c.args.dual.now in
+    let lawful = lawful_shown (g.met.D.Dual.numbered c.args.dual.now) (g.met.D.Walked.lawful c.args.dual.now) in
     let i = c.loop-dart.dart-index in
     let heights = c.args.heights.now in
     let xs = drop (i + 1) c.args.crossed.now in

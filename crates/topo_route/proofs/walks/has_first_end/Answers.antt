@@ -4,6 +4,7 @@ use Rattle.topo_core.specs.Cycles.{SameCycle}
 use Rattle.topo_core.specs.Picture.{system}
 use Rattle.topo_core.specs.Systems.{SameFace}
 use Rattle.topo_route.specs.Numbers.{dart_of, next_of}
+use Rattle.topo_route.proofs.Canonical.{lawful_shown}
 use Rattle.topo_route.proofs.Numbers.{face_of_numbers, number_of, numbers_of_face}
 use Rattle.topo_route.proofs.Tests.{before_some, before_past}
 use Rattle.topo_route.proofs.walks.has_first_end.Goals as goal
@@ -14,13 +15,13 @@ returns-then-same_face g c =
     let rows = g.D.Dual.shows c.args.dual.now in (
       λ w. absurd (false≢true w),
       λ first. absurd (first c.loop-position.position (dart_of rows c.in-Some.corner) c.loop-position-test.true c.in-Some.ensures.1
-          (face_of_numbers rows (g.met.D.Dual.lawful c.args.dual.now) c.args.last c.in-Some.corner c.requires c.in-Some.ensures.0 (c.same_face.ensures.0 c.if-same_face.true))),
+          (face_of_numbers rows (lawful_shown (g.met.D.Dual.numbered c.args.dual.now) (g.met.D.Walked.lawful c.args.dual.now)) c.args.last c.in-Some.corner c.requires c.in-Some.ensures.0 (c.same_face.ensures.0 c.if-same_face.true))),
     )
 
 pub loop-position-preserved : goal.loop-position-preserved
 loop-position-preserved g c =
     let rows = g.D.Dual.shows c.args.dual.now in
-    let lawful = g.met.D.Dual.lawful c.args.dual.now in
+    let lawful = lawful_shown (g.met.D.Dual.numbered c.args.dual.now) (g.met.D.Walked.lawful c.args.dual.now) in
     elim c.match-corner_at.branch [
       | in-Some+else-same_face w ↦
           before_some rows c.args.v (λ p d. SameFace (system rows) (dart_of rows c.args.last) d → ⊥) c.loop-position.position (dart_of rows w.in-Some.corner) w.in-Some.ensures.1

@@ -6,6 +6,7 @@ use Rattle.topo_core.specs.RouteLaws.{IsTight}
 use Rattle.topo_price.specs.Prices.{prices_of}
 use Rattle.topo_route.specs.Numbers.{dart_of, next_of}
 use Rattle.topo_route.specs.Plans.{height_in}
+use Rattle.topo_route.proofs.Canonical.{lawful_shown}
 use Rattle.topo_route.proofs.Numbers.{next_permutes}
 use Rattle.topo_route.proofs.Rounds.{round_all}
 use Rattle.topo_route.proofs.Walking.{none_before}
@@ -33,6 +34,6 @@ returns g c =
     let Free = λ (x : ℕ). x < c.args.number → IsTight price rows (height_in rows c.args.heights.now) (dart_of rows x) → ⊥ in (
       λ w. absurd (false≢true w),
       λ before.
-          absurd (round_all (next_of rows) Free c.args.at (length (darts rows)) (next_permutes rows (g.met.D.Dual.lawful c.args.dual.now)) c.requires.within
+          absurd (round_all (next_of rows) Free c.args.at (length (darts rows)) (next_permutes rows (lawful_shown (g.met.D.Dual.numbered c.args.dual.now) (g.met.D.Walked.lawful c.args.dual.now))) c.requires.within
           (λ j l. c.loop-steps.invariant.none j (omega arith)) before.dart before.face before.before before.tight),
     )

@@ -4,13 +4,14 @@ use Rattle.topo_core.specs.Rotations.{twin}
 use Rattle.topo_core.proofs.Certificates.{single_price}
 use Rattle.topo_price.specs.Prices.{prices_of}
 use Rattle.topo_route.specs.Numbers.{dart_of}
+use Rattle.topo_route.proofs.Canonical.{lawful_shown}
 use Rattle.topo_route.proofs.Walking.{tight_is, tight_drop}
 use Rattle.topo_route.proofs.walks.is_tight.Goals as goal
 
 pub returns-else-height-other : goal.returns-else-height-other
 returns-else-height-other g c =
     let rows = g.D.Dual.shows c.args.dual.now in
-    let lawful = g.met.D.Dual.lawful c.args.dual.now in
+    let lawful = lawful_shown (g.met.D.Dual.numbered c.args.dual.now) (g.met.D.Walked.lawful c.args.dual.now) in
     let price = prices_of (g.F.Asks.answers c.args.tariff.now) in
     let other : get_or c.args.heights.now c.across.result 0 ≡ get_or c.args.heights.now (twin c.args.dart) 0 = ap (λ k. get_or c.args.heights.now k 0) c.across.ensures.twin in (
       λ w. let same = eqb-true _ _ w in tight_is price rows lawful c.args.heights.now c.args.dart c.in-Some.price c.requires.within c.in-Some.ensures.price (omega arith),
@@ -21,7 +22,7 @@ returns-else-height-other g c =
 pub returns-then-height-other : goal.returns-then-height-other
 returns-then-height-other g c =
     let rows = g.D.Dual.shows c.args.dual.now in
-    let lawful = g.met.D.Dual.lawful c.args.dual.now in
+    let lawful = lawful_shown (g.met.D.Dual.numbered c.args.dual.now) (g.met.D.Walked.lawful c.args.dual.now) in
     let price = prices_of (g.F.Asks.answers c.args.tariff.now) in
     let other : get_or c.args.heights.now c.across.result 0 ≡ get_or c.args.heights.now (twin c.args.dart) 0 = ap (λ k. get_or c.args.heights.now k 0) c.across.ensures.twin in (
       λ w. absurd (false≢true w),

@@ -4,6 +4,7 @@ use Rattle.std.proofs.lemmas.List.{drop_all}
 use Rattle.topo_core.specs.declared.darts.Dart.{Dart}
 use Rattle.topo_price.specs.Prices.{prices_of}
 use Rattle.topo_route.specs.Numbers.{Walks, dart_of}
+use Rattle.topo_route.proofs.Canonical.{lawful_shown}
 use Rattle.topo_route.proofs.Walking.{from_item, no_step, step_back, step_forth, walks_home}
 use Rattle.topo_route.proofs.walks.walks.Goals as goal
 
@@ -15,7 +16,7 @@ returns-in-None g c =
     let rest : drop i c.args.crossed.now ≡ c.dart-item.result ∷ drop (i + 1) c.args.crossed.now = from_item c.args.crossed.now i c.dart-item.result c.loop-dart-test.true c.dart-item.is in
     let On = λ (xs : List Dart). Walks price rows (dart_of rows c.loop-dart.at) xs (dart_of rows c.args.to) c.loop-dart.left in (
       λ w. absurd (false≢true w),
-      λ walk. absurd (no_step price rows (g.met.D.Dual.lawful c.args.dual.now) c.loop-dart.at c.dart-item.result (drop (i + 1) c.args.crossed.now) (dart_of rows c.args.to) c.loop-dart.left
+      λ walk. absurd (no_step price rows (lawful_shown (g.met.D.Dual.numbered c.args.dual.now) (g.met.D.Walked.lawful c.args.dual.now)) c.loop-dart.at c.dart-item.result (drop (i + 1) c.args.crossed.now) (dart_of rows c.args.to) c.loop-dart.left
           c.in-None.ensures (subst On rest (c.loop-dart.invariant.forth walk))),
     )
 
@@ -26,7 +27,7 @@ loop-dart-preserved g c =
     let i = c.loop-dart.dart-index in
     let rest : drop i c.args.crossed.now ≡ c.dart-item.result ∷ drop (i + 1) c.args.crossed.now = from_item c.args.crossed.now i c.dart-item.result c.loop-dart-test.true c.dart-item.is in
     let On = λ (xs : List Dart). Walks price rows (dart_of rows c.loop-dart.at) xs (dart_of rows c.args.to) c.loop-dart.left in
-    let lawful = g.met.D.Dual.lawful c.args.dual.now in
+    let lawful = lawful_shown (g.met.D.Dual.numbered c.args.dual.now) (g.met.D.Walked.lawful c.args.dual.now) in
     record {
       within = c.in-Some.ensures.within;
       forth = λ walk. step_forth price rows lawful c.loop-dart.at c.dart-item.result (drop (i + 1) c.args.crossed.now) (dart_of rows c.args.to) c.loop-dart.left c.in-Some.next c.in-Some.rest
@@ -42,5 +43,5 @@ returns-then-left-eq0 g c =
     let i = c.loop-dart.dart-index in
     let none : drop i c.args.crossed.now ≡ [] = drop_all i c.args.crossed.now c.loop-dart-test.false in
     let Whole : Type 0 = Walks price rows (dart_of rows c.args.from) c.args.crossed.now (dart_of rows c.args.to) c.args.price in
-    walks_home price rows (g.met.D.Dual.lawful c.args.dual.now) c.loop-dart.at c.args.to c.loop-dart.left (drop i c.args.crossed.now) Whole c.same_face.result
+    walks_home price rows (lawful_shown (g.met.D.Dual.numbered c.args.dual.now) (g.met.D.Walked.lawful c.args.dual.now)) c.loop-dart.at c.args.to c.loop-dart.left (drop i c.args.crossed.now) Whole c.same_face.result
     c.loop-dart.invariant.within c.requires.to_within none c.if-left-eq0.true c.loop-dart.invariant.forth c.loop-dart.invariant.back c.same_face.ensures

@@ -2,7 +2,7 @@ use Rattle.std.proofs.Common.{arith}
 use Rattle.topo_frozen.specs.Recovering.{well_formed_again}
 use Rattle.topo_frozen.proofs.RowCounts.{degree_most}
 use Rattle.topo_frozen.proofs.Verdicts.{images_total}
-use Rattle.topo_frozen.proofs.frozen.FrozenDual.degree.Goals as goal
+use Rattle.topo_frozen.proofs.frozen.FrozenWalked.degree.Goals as goal
 
 pub overflow_cast-result : goal.overflow_cast-result
 overflow_cast-result c =

@@ -1,0 +1,13 @@
+use Rattle.std.proofs.Common.{◌∙◌}
+use Rattle.topo_route.proofs.Canonical.{dart_is_number, number_is}
+use Rattle.topo_route.proofs.faces.dart_at.Goals as goal
+
+pub dart-requires : goal.dart-requires
+dart-requires g c =
+    let dual = c.args.dual.now in
+    number_is (g.D.Walked.named dual) (g.D.Dual.shows dual) (g.met.D.Dual.numbered dual) (g.met.D.Walked.lawful dual) c.args.dart c.requires
+
+pub returns : goal.returns
+returns g c =
+    let dual = c.args.dual.now in
+    c.dart.ensures ∙ dart_is_number (g.D.Walked.named dual) (g.D.Dual.shows dual) (g.met.D.Dual.numbered dual) (g.met.D.Walked.lawful dual) c.args.dart c.requires
