@@ -82,8 +82,8 @@ RunsBy twin ahead behind a [] b = (twin a ≡ b) × (twin b ≡ a)
 RunsBy twin ahead behind a (x ∷ xs) b = (twin a ≡ behind x) × (twin (behind x) ≡ a) × RunsBy twin ahead behind (ahead x) xs b
 
 -- the crossings that are not among the first n of the path
-abbrev pub left_of : List ℕ → ℕ → List ℕ → List ℕ
-left_of path n xs = filter (λ x. not (has_id (take n path) x)) xs
+abbrev pub unpassed : List ℕ → ℕ → List ℕ → List ℕ
+unpassed path n xs = filter (λ x. not (has_id (take n path) x)) xs
 
 -- the first n crossings of e are passed: the segments of the picture without e run over the others alone
 pub record IsPassed (rows : Rows) (e n : ℕ) (name : Dart → ℕ) (links : List Link) : Type 0 where
@@ -94,7 +94,7 @@ pub record IsPassed (rows : Rows) (e n : ℕ) (name : Dart → ℕ) (links : Lis
       → (entry links (name (record { edge = e; seg = i; way = Forward }))).twin ≡ name (record { edge = e; seg = i; way = Back })
   pub segments : (d : Dart) → has_dart (darts (without rows e)) d ≡ true → d.way ≡ Forward
       → RunsBy (λ k. (entry links k).twin) (λ x. name (ahead rows d.edge x)) (λ x. name (behind rows d.edge x))
-      (name (lifted (without rows e) rows d)) (left_of (edge_at rows e).crossings n (crossings_between rows e d.edge d.seg)) (name (lifted (without rows e) rows (dart_twin d)))
+      (name (lifted (without rows e) rows d)) (unpassed (edge_at rows e).crossings n (crossings_between rows e d.edge d.seg)) (name (lifted (without rows e) rows (dart_twin d)))
 
 -- some names, under which the links show the rows, and d names the first dart of edge e
 pub record LeadsAlong (rows : Rows) (links : List Link) (e d : ℕ) : Type 0 where
