@@ -1,2 +1,3 @@
 pub mod Splicing
 pub mod Passing
+pub mod EndNames

@@ -1,13 +1,14 @@
 -- Along an edge that goes: at each of its crossings the other edge is joined past it.
-use Rattle.std.proofs.Common.{◌≡◌, ◌≢◌, ℕ, zero, suc, ◌+◌, ◌<◌, ◌≤◌, Bool, true, false, cond, not, ◌||◌, List, [], ◌∷◌, ◌++◌, length, take, refl, sym, ap, subst, ◌∙◌, arith, inl, inr, Some}
+use Rattle.std.proofs.Common.{◌≡◌, ◌≢◌, ℕ, zero, suc, ◌+◌, ◌<◌, ◌≤◌, Bool, true, false, cond, not, ◌||◌, List, [], ◌∷◌, ◌++◌, length, take, get_or, refl, sym, ap, subst, ◌∙◌, arith, inl, inr, Some}
 use Rattle.std.specs.Prelude.{◌==◌, ◌⊎◌, filter, find, is_some, map, slice_get}
 use Rattle.std.proofs.lemmas.Bool.{cases_Bool, eq-eqb, eqb-true, false≢true, or_cases}
 use Rattle.std.proofs.lemmas.List.Sums.{sum_by-cons}
-use Rattle.std.proofs.lemmas.Option.{slice_get_within}
+use Rattle.std.proofs.lemmas.Option.{get_or_from_slice_get, slice_get_within}
 use Rattle.topo_core.specs.declared.darts.Dart.{Dart}
 use Rattle.topo_core.specs.declared.darts.Way.{Way}
 use Rattle.topo_core.specs.declared.darts.Way.TheVariants.{Forward, Back}
 use Rattle.topo_core.specs.declared.rows.CrossRow.{CrossRow}
+use Rattle.topo_core.specs.declared.rows.EdgeRow.{EdgeRow}
 use Rattle.topo_core.specs.declared.rows.Rows.{Rows}
 use Rattle.topo_core.specs.Changes.{without}
 use Rattle.topo_core.specs.Darts.{dart_twin}
@@ -19,15 +20,16 @@ use Rattle.topo_core.specs.Picture.{ahead, behind, cross_row, darts, edge_at, ed
 use Rattle.topo_core.specs.Pictures.{back, forward}
 use Rattle.topo_core.specs.Systems.{has_dart, turn}
 use Rattle.topo_core.proofs.Counting.{one}
-use Rattle.topo_core.proofs.GonePaths.{gone_from}
+use Rattle.topo_core.proofs.DartLaws.{twin-twin}
 use Rattle.topo_core.proofs.Members.{left_true}
 use Rattle.topo_core.proofs.Numbering.{turn_stays, turns_apart, twin_in}
 use Rattle.topo_core.proofs.ShownPlaces.{lifted_edge}
-use Rattle.topo_core.proofs.SystemDarts.{get_there}
+use Rattle.topo_core.proofs.SystemDarts.{edge_at_row, get_there}
 use Rattle.topo_core.proofs.Weaving.{in_filter}
 use Rattle.topo_core.proofs.WithoutPlaces.{dart_of_segment, edge_once, edge_place, now, other_edge}
 use Rattle.topo_core.proofs.WithoutRows.{filter_in, occurrences-passing}
 use Rattle.topo_core.proofs.WithoutTurns.{GoesRound, hides_turns, two_orders}
+use Rattle.topo_frozen.specs.Ids.{IsPlaceOf}
 use Rattle.topo_frozen.proofs.PairTests.{find_item}
 use Rattle.topo_links.specs.declared.table.Link.{Link}
 use Rattle.topo_links.specs.Splicing.{AreLinksOf, EndsAtCrossing, entry, first_across, IsJoined, IsPassed, RunsBy, second_across, straight_on, unpassed}
@@ -36,7 +38,7 @@ use Rattle.topo_links.proofs.Splicing.{IsOff, IsSplice, kept, lead_back, LeadBac
 -- ---- Paths
 
 -- an id among the first n of a path stands at one of these places
-in_take : (path : List ℕ) (n y : ℕ) → has_id (take n path) y ≡ true → (j : ℕ) × (j < n) × (slice_get path j ≡ Some y)
+pub in_take : (path : List ℕ) (n y : ℕ) → has_id (take n path) y ≡ true → (j : ℕ) × (j < n) × (slice_get path j ≡ Some y)
 in_take path zero y h = absurd (false≢true h)
 in_take [] (suc n) y h = absurd (false≢true h)
 in_take (x ∷ path) (suc n) y h = elim (or_cases (x == y) (has_id (take n path) y) h) [
@@ -324,3 +326,56 @@ module _ (rows : Rows) (e : ℕ) (good : IsWellFormed rows) (known : is_some (ed
                 (off (back e i) (hides.edge_there i Back h) (λ same. not_e (sym (ap (λ (y : Dart). y.edge) same))) (λ same. not_e (sym (ap (λ (y : Dart). y.edge) same))));
             segments = λ f left leads. subst (Runs f) (sym (unpassed_next path n x k.at (between f))) (runs_past f left leads);
           }
+
+    -- ---- Before the first crossing
+
+    module _ (links : List Link) (shown : AreLinksOf rows name links) where
+      run : (c : ℕ) (d : Dart) (xs : List ℕ) (b : Dart) → Here d → Here b → ((y : ℕ) → IsIn y xs → Here (ahead rows c y) × Here (behind rows c y)) → RunsOver rows c d xs b
+          → RunsBy (twins links) (name_ahead c) (name_behind c) (name d) xs (name b)
+      run c d [] b here_d here_b all over = (shown.twins d here_d ∙ ap name over, shown.twins b here_b ∙ ap name (ap dart_twin (sym over) ∙ twin-twin d))
+      run c d (y ∷ ys) b here_d here_b all over =
+          let there = all y (inl refl) in (
+            shown.twins d here_d ∙ ap name over.0,
+            shown.twins (behind rows c y) there.1 ∙ ap name (ap dart_twin (sym over.0) ∙ twin-twin d),
+            run c (ahead rows c y) ys b there.0 here_b (λ z h. all z (inr h)) over.1,
+          )
+
+      pub none_passed : IsPassed rows e 0 name links
+      none_passed = record {
+        within = shown.within;
+        turns = shown.turns;
+        edges = shown.edges;
+        edge_twins = λ i h. shown.twins (forward e i) (hides.edge_there i Forward h);
+        segments = λ f left leads. subst (λ xs. RunsBy (twins links) (name_ahead f.edge) (name_behind f.edge) (name (lift f)) xs (name (lift (dart_twin f)))) (sym (unpassed_first path (between f)))
+        (run f.edge (lift f) (between f) (lift (dart_twin f)) (hides.lifts f left) (hides.lifts (dart_twin f) (twin_in after f left))
+        (λ y h.
+          let z = hides.between f y left h in
+          let there = hides.crossed_there f.edge z.0 z.2 in
+          subst (λ v. Here (ahead rows f.edge v) × Here (behind rows f.edge v)) z.1 (there.0, there.1))
+        (hides.segments f left leads));
+      }
+
+-- all of it at one step of the walk along the edge
+pub record IsStep (rows : Rows) (e n : ℕ) (name : Dart → ℕ) (links : List Link) (d : ℕ) : Type 0 where
+  pub passed : IsPassed rows e n name links
+  pub at : d ≡ name (forward e n)
+
+-- a step at one of its crossings
+module _ (rows : Rows) (e : ℕ) (good : IsWellFormed rows) (known : is_some (edge_row rows e) ≡ true) (name : Dart → ℕ) (apart : (c d : Dart) → Here rows e good known c → Here rows e good known d → name c ≡ name d → c ≡ d)
+    (n : ℕ) (links : List Link) (d : ℕ) (s : IsStep rows e n name links d) (inside : n < length (edge_at rows e).crossings) where
+  pub step_ends : EndsAtCrossing links d
+  step_ends = ends_at rows e good known name apart n (crossing_at rows e good known n inside) links s.passed d s.at
+
+  pub step_made : (joined : List Link) (next : ℕ) → IsJoined links (entry links (first_across links d)).twin (entry links (second_across links d)).twin joined → next ≡ straight_on links d → IsStep rows e (n + 1) name joined next
+  step_made joined next j is =
+      let k = crossing_at rows e good known n inside in
+      record {
+        passed = passed_more rows e good known name apart n k links s.passed d s.at joined j;
+        at = is ∙ goes_on rows e good known name apart n k links s.passed d s.at joined j;
+      }
+
+-- the path of the edge at a place
+pub path_read : (rows : Rows) (edges : List EdgeRow) (e place : ℕ) (d : EdgeRow) (read : List ℕ) → edges ≡ rows.edges → IsPlaceOf rows.edges (λ row. row.id) e place → read ≡ (get_or edges place d).crossings → read ≡ (edge_at rows e).crossings
+path_read rows edges e place d read same p is =
+    let row : get_or edges place d ≡ p.row = ap (λ (rs : List EdgeRow). get_or rs place d) same ∙ get_or_from_slice_get rows.edges place p.row d p.at in
+    is ∙ ap (λ (r : EdgeRow). r.crossings) (row ∙ sym (edge_at_row rows e p.row p.found))

@@ -3,7 +3,7 @@
 ghost use Rattle.std.specs.Prelude.{◌≡◌, ◌==◌, ◌<◌, ◌≤◌, ℕ, true, is_some, length};
 ghost use Rattle.topo_core.specs.declared.darts.Dart.{Dart};
 ghost use Rattle.topo_core.specs.Changes.{without};
-ghost use Rattle.topo_core.specs.Items.{has_id, occurrences};
+ghost use Rattle.topo_core.specs.Items.{IsIn, has_id, occurrences};
 ghost use Rattle.topo_core.specs.Lawful.{IsWellFormed, has_good_paths};
 ghost use Rattle.topo_core.specs.Picture.{edge_at, edge_row, end_dart, rotation};
 ghost use Rattle.topo_core.specs.Pictures.{forward};
@@ -71,7 +71,7 @@ fn turn_past(links: &mut [Link], dart: u32, before: u32)
 
 /// What stands before a number in a list, and before the first the last.
 fn entry_before(list: &[u32], x: u32) -> u32
-    requires once { (y : ℕ) → occurrences y list.now ≤ 1 }
+    requires once { (y : ℕ) → IsIn y list.now → occurrences y list.now ≤ 1 }
     requires there { has_id list.now x ≡ true }
     ensures there { has_id list.now result ≡ true }
     ensures follows { entry_after list.now result ≡ x }
