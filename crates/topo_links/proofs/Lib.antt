@@ -1,3 +1,4 @@
 pub mod Splicing
 pub mod Passing
 pub mod EndNames
+pub mod DeletedNames
