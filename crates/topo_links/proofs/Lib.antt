@@ -2,3 +2,4 @@ pub mod Splicing
 pub mod Passing
 pub mod EndNames
 pub mod DeletedNames
+pub mod Deleting

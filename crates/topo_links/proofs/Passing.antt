@@ -242,9 +242,9 @@ module _ (rows : Rows) (e : ℕ) (good : IsWellFormed rows) (known : is_some (ed
             lead_back (twins links) (name_ahead c) (name_behind c) (λ m. m < length links) x (name (lift d)) (unpassed path n (between d)) (name (lift (dart_twin d)))
             (passed.within (lift d) (hides.lifts d left)) (passed.within (lift (dart_twin d)) (hides.lifts (dart_twin d) left_back))
             (λ y h.
-              let z = met n d left y h in
-              let there = hides.crossed_there c z.0 z.2 in
-              subst (λ v. (name_ahead c v < length links) × (name_behind c v < length links)) z.1 (passed.within (ahead rows c z.0.id) there.0, passed.within (behind rows c z.0.id) there.1))
+            let z = met n d left y h in
+            let there = hides.crossed_there c z.0 z.2 in
+            subst (λ v. (name_ahead c v < length links) × (name_behind c v < length links)) z.1 (passed.within (ahead rows c z.0.id) there.0, passed.within (behind rows c z.0.id) there.1))
             (filter_in (λ y. not (has_id (take n path) y)) x (between d) (not_passed n k) lies)
             (passed.segments d left refl)
 
@@ -258,14 +258,18 @@ module _ (rows : Rows) (e : ℕ) (good : IsWellFormed rows) (known : is_some (ed
             let leads : (m v : ℕ) → m ≡ v → twins links v < length links → twins links m < length links = λ m v e h. subst (λ w. w < length links) (sym (ap (twins links) e)) h in
             elim (across d is).sides [
               | inl (first, second) ↦ record {
-                inside = start; twin = twin; straight = straight;
+                inside = start;
+                twin = twin;
+                straight = straight;
                 first = inside (first_across links d) (ahead rows c x) here_ahead first;
                 second = inside (second_across links d) (behind rows c x) here_behind second;
                 first_end = leads (first_across links d) (name_ahead c x) first back_there.first_is;
                 second_end = leads (second_across links d) (name_behind c x) second back_there.second_is;
               }
               | inr (first, second) ↦ record {
-                inside = start; twin = twin; straight = straight;
+                inside = start;
+                twin = twin;
+                straight = straight;
                 first = inside (first_across links d) (behind rows c x) here_behind first;
                 second = inside (second_across links d) (ahead rows c x) here_ahead second;
                 first_end = leads (first_across links d) (name_behind c x) first back_there.second_is;
@@ -309,9 +313,9 @@ module _ (rows : Rows) (e : ℕ) (good : IsWellFormed rows) (known : is_some (ed
                 (name (lift f)) (unpassed path n (between f)) (name (lift (dart_twin f)))
                 (off_lifted f left) (off_lifted (dart_twin f) (twin_in after f left))
                 (λ y h.
-                  let z = met n f left y h in
-                  let other : y ≢ x = λ same. not_other (one_other f.edge c z.0 k.row z.2 k.is (z.1 ∙ same)) in
-                  let clear = off_met f left y h other in (other, clear.0, clear.1))
+                let z = met n f left y h in
+                let other : y ≢ x = λ same. not_other (one_other f.edge c z.0 k.row z.2 k.is (z.1 ∙ same)) in
+                let clear = off_met f left y h other in (other, clear.0, clear.1))
                 (passed.segments f left leads)
           ]
 
@@ -347,12 +351,12 @@ module _ (rows : Rows) (e : ℕ) (good : IsWellFormed rows) (known : is_some (ed
         edges = shown.edges;
         edge_twins = λ i h. shown.twins (forward e i) (hides.edge_there i Forward h);
         segments = λ f left leads. subst (λ xs. RunsBy (twins links) (name_ahead f.edge) (name_behind f.edge) (name (lift f)) xs (name (lift (dart_twin f)))) (sym (unpassed_first path (between f)))
-        (run f.edge (lift f) (between f) (lift (dart_twin f)) (hides.lifts f left) (hides.lifts (dart_twin f) (twin_in after f left))
-        (λ y h.
-          let z = hides.between f y left h in
-          let there = hides.crossed_there f.edge z.0 z.2 in
-          subst (λ v. Here (ahead rows f.edge v) × Here (behind rows f.edge v)) z.1 (there.0, there.1))
-        (hides.segments f left leads));
+            (run f.edge (lift f) (between f) (lift (dart_twin f)) (hides.lifts f left) (hides.lifts (dart_twin f) (twin_in after f left))
+            (λ y h.
+            let z = hides.between f y left h in
+            let there = hides.crossed_there f.edge z.0 z.2 in
+            subst (λ v. Here (ahead rows f.edge v) × Here (behind rows f.edge v)) z.1 (there.0, there.1))
+            (hides.segments f left leads));
       }
 
 -- all of it at one step of the walk along the edge

@@ -124,13 +124,17 @@ module _ (t ahead behind : ℕ → ℕ) (P : ℕ → Type 0) where
   lead_back x from [] to p_from p_to all h runs = absurd h
   lead_back x from (y ∷ []) to p_from p_to all (inl same) (on, back, (on_last, back_last)) =
       subst (λ z. LeadBack t P (ahead z) (behind z)) (sym same) (record {
-        first = ap t on_last ∙ back_last; second = ap t back ∙ on;
-        first_is = subst P (sym on_last) p_to; second_is = subst P (sym back) p_from;
+        first = ap t on_last ∙ back_last;
+        second = ap t back ∙ on;
+        first_is = subst P (sym on_last) p_to;
+        second_is = subst P (sym back) p_from;
       })
   lead_back x from (y ∷ (z ∷ zs)) to p_from p_to all (inl same) (on, back, (on_next, back_next, rest)) =
       subst (λ z. LeadBack t P (ahead z) (behind z)) (sym same) (record {
-        first = ap t on_next ∙ back_next; second = ap t back ∙ on;
-        first_is = subst P (sym on_next) (all z (inr (inl refl))).1; second_is = subst P (sym back) p_from;
+        first = ap t on_next ∙ back_next;
+        second = ap t back ∙ on;
+        first_is = subst P (sym on_next) (all z (inr (inl refl))).1;
+        second_is = subst P (sym back) p_from;
       })
   lead_back x from (y ∷ ys) to p_from p_to all (inr h) (on, back, rest) = lead_back x (ahead y) ys to (all y (inl refl)).0 p_to (λ z k. all z (inr k)) h rest
 

@@ -77,7 +77,11 @@ fn entry_before(list: &[u32], x: u32) -> u32
     ensures follows { entry_after list.now result ≡ x }
 {
     for i in 0..list.len() {
-        let next = if i + 1 < list.len() { list[i + 1] } else { list[0] };
+        let next = if i + 1 < list.len() {
+            list[i + 1]
+        } else {
+            list[0]
+        };
         if next == x {
             return list[i];
         }

@@ -7,6 +7,6 @@
 //! is made again.
 #![tactic(auto)]
 
-pub mod table;
 mod deletion;
 mod staging;
+pub mod table;

@@ -26,7 +26,7 @@ loop-crossing-preserved c =
     let path = ap (λ (xs : List ℕ). length xs) (path_read c.args.rows.now c.as_slice.result.now c.args.edge c.args.place c.index-as_slice-place.result c.as_slice-crossings.result.now c.as_slice.ensures c.requires.at c.as_slice-crossings.ensures) in
     let test = c.loop-crossing-test.true in
     λ name shown first. step_made c.args.rows.now c.args.edge c.requires.well_formed (ap is_some c.requires.at.found) name shown.apart c.loop-crossing._crossing c.loop-crossing.links c.loop-crossing.dart
-      (c.loop-crossing.invariant name shown first) (omega arith) c.join_across-dart.new.links c.join_across-dart.result c.join_across-dart.ensures.joined c.join_across-dart.ensures.straight
+    (c.loop-crossing.invariant name shown first) (omega arith) c.join_across-dart.new.links c.join_across-dart.result c.join_across-dart.ensures.joined c.join_across-dart.ensures.straight
 
 pub returns : goal.returns
 returns c =

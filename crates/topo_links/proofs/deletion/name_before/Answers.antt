@@ -25,6 +25,6 @@ pub returns : goal.returns
 returns c =
     let read = rotation_read c.args.rows.now c.args.v c.as_slice-around.result.now c.index-as_slice-v.result c.as_slice.result.now c.requires.vertex c.as_slice-around.ensures c.index-as_slice-v.is c.as_slice.ensures in
     λ name named. before_end c.args.rows.now c.requires.well_formed c.args.v c.requires.vertex c.args.e c.entry_before.result c.end_name.result name
-      (ap (λ (xs : List ℕ). has_id xs c.entry_before.result) (sym read) ∙ c.entry_before.ensures.there)
-      (ap (λ (xs : List ℕ). entry_after xs c.entry_before.result) (sym read) ∙ c.entry_before.ensures.follows)
-      (c.end_name.ensures name named)
+    (ap (λ (xs : List ℕ). has_id xs c.entry_before.result) (sym read) ∙ c.entry_before.ensures.there)
+    (ap (λ (xs : List ℕ). entry_after xs c.entry_before.result) (sym read) ∙ c.entry_before.ensures.follows)
+    (c.end_name.ensures name named)
