@@ -23,7 +23,7 @@ use Rattle.topo_core.proofs.WithoutRows.{has_id_in}
 use Rattle.topo_frozen.specs.Ids.{IsPlaceOf}
 use Rattle.topo_links.specs.declared.table.Ends.{Ends}
 use Rattle.topo_links.specs.declared.table.Link.{Link}
-use Rattle.topo_links.specs.Splicing.{AreEndsOf, AreLinksOf, IsPassed, IsPassedBy, LeadsAlong}
+use Rattle.topo_links.specs.Splicing.{AreEndsOf, AreLinksOf, IsPassed, IsPassedBy, KeepsNames, LeadsAlong}
 use Rattle.topo_links.specs.Staging.{IsBefore}
 use Rattle.topo_links.specs.Tables.{ends_of, IsNaming, ShowsRows, Table}
 use Rattle.topo_links.proofs.DeletedNames.{shown_without}
@@ -44,28 +44,42 @@ many_ends rows name ends named = elim (cases_eq (length rows.edges) 0) [
 pub place_in : (rows : Rows) (edges : List EdgeRow) (e place : ℕ) → edges ≡ rows.edges → IsPlaceOf edges (λ row. row.id) e place → IsPlaceOf rows.edges (λ row. row.id) e place
 place_in rows edges e place same p = subst (λ (rs : List EdgeRow). IsPlaceOf rs (λ row. row.id) e place) same p
 
-module _ (rows : Rows) (e : ℕ) (good : IsWellFormed rows) (known : is_some (edge_row rows e) ≡ true) (place : ℕ) (p : IsPlaceOf rows.edges (λ row. row.id) e place)
-    (t : Table) (shows : ShowsRows rows t) (links : List Link) (ends : List Ends) (view : record { links = links; ends = ends } ≡ t) where
-  abbrev name : Dart → ℕ
-  name = shows.name
+-- ---- As it is seen
 
+pub table_is : (links seen_links : List Link) (ends seen_ends : List Ends) → links ≡ seen_links → ends ≡ seen_ends → (let t : Table = record { links = links; ends = ends } in t) ≡ record { links = seen_links; ends = seen_ends }
+table_is links seen_links ends seen_ends same same_ends =
+    ap (λ (ls : List Link). (let t : Table = record { links = ls; ends = ends } in t)) same
+    ∙ ap (λ (es : List Ends). (let t : Table = record { links = seen_links; ends = es } in t)) same_ends
+
+-- the table is seen as s, and after as u
+pub names_kept : (rows : Rows) (e : ℕ) (t s after u : Table) → t ≡ s → after ≡ u → KeepsNames rows t e after → KeepsNames rows s e u
+names_kept rows e t s after u same same_after keeps name naming =
+    subst (λ (v : Table). IsNaming (without rows e) v (λ d. name (lifted (without rows e) rows d))) same_after (keeps name (subst (λ (v : Table). IsNaming rows v name) (sym same) naming))
+
+pub shows_on : (rows : Rows) (e : ℕ) (t after : Table) → ShowsRows rows t → KeepsNames rows t e after → ShowsRows (without rows e) after
+shows_on rows e t after shows keeps = record { name = λ d. shows.name (lifted (without rows e) rows d); naming = keeps shows.name shows.naming }
+
+pub seen : (rows : Rows) (t s : Table) → t ≡ s → ShowsRows rows s → ShowsRows rows t
+seen rows t s same shows = subst (ShowsRows rows) (sym same) shows
+
+-- ---- The steps of a deletion
+
+module _ (rows : Rows) (e : ℕ) (good : IsWellFormed rows) (place : ℕ) (p : IsPlaceOf rows.edges (λ row. row.id) e place)
+    (name : Dart → ℕ) (links : List Link) (ends : List Ends) (naming : IsNaming rows (record { links = links; ends = ends }) name) where
   abbrev path : List ℕ
   path = (edge_at rows e).crossings
 
-  naming : IsNaming rows (record { links = links; ends = ends }) name
-  naming = subst (λ (s : Table). IsNaming rows s name) (sym view) shows.naming
+  known : is_some (edge_row rows e) ≡ true
+  known = ap is_some p.found
 
   pub are_links : AreLinksOf rows name links
   are_links = record { within = naming.within; apart = naming.apart; twins = naming.twins; turns = naming.turns; edges = naming.edges }
 
-  pub are_ends : AreEndsOf rows name ends
-  are_ends = naming.ends
-
   pub as_many : length rows.edges ≤ length ends
-  as_many = many_ends rows name ends are_ends
+  as_many = many_ends rows name ends naming.ends
 
   pub inside : place < length ends
-  inside = slice_get_within ends place (ends_of name p.row) (are_ends place p.row p.at)
+  inside = slice_get_within ends place (ends_of name p.row) (naming.ends place p.row p.at)
 
   -- ---- The row of the edge
 
@@ -106,34 +120,32 @@ module _ (rows : Rows) (e : ℕ) (good : IsWellFormed rows) (known : is_some (ed
 
   -- ---- The names at its ends
 
-  pub first_named : (n : Ends) → n ≡ get_or ends place n → n.a ≡ name (forward e 0)
-  first_named n is =
-      ap (λ (m : Ends). m.a) (is ∙ get_or_from_slice_get ends place (ends_of name p.row) n (are_ends place p.row p.at)) ∙ ap (λ f. name (forward f 0)) p.named
+  pub first_named : (none : Ends) → (get_or ends place none).a ≡ name (forward e 0)
+  first_named none = ap (λ (m : Ends). m.a) (get_or_from_slice_get ends place (ends_of name p.row) none (naming.ends place p.row p.at)) ∙ ap (λ f. name (forward f 0)) p.named
 
-  pub last_named : (n : Ends) → n ≡ get_or ends place n → n.b ≡ name (back e (length path))
-  last_named n is =
-      ap (λ (m : Ends). m.b) (is ∙ get_or_from_slice_get ends place (ends_of name p.row) n (are_ends place p.row p.at))
-      ∙ ap (λ f. name (back f (length p.row.crossings))) p.named ∙ ap (λ (r : EdgeRow). name (back e (length r.crossings))) (sym row_is)
+  pub last_named : (none : Ends) → (get_or ends place none).b ≡ name (back e (length path))
+  last_named none =
+      ap (λ (m : Ends). m.b) (get_or_from_slice_get ends place (ends_of name p.row) none (naming.ends place p.row p.at))
+      ∙ ap (λ f. name (back f (length p.row.crossings))) p.named
+      ∙ ap (λ (r : EdgeRow). name (back e (length r.crossings))) (sym row_is)
 
-  pub leads : (n : Ends) (read : List Link) → n ≡ get_or ends place n → read ≡ links → LeadsAlong rows read e n.a
-  leads n read is same = record { name = name; shown = subst (AreLinksOf rows name) (sym same) are_links; first = first_named n is }
+  pub leads : (none : Ends) → LeadsAlong rows links e (get_or ends place none).a
+  leads none = record { name = name; shown = are_links; first = first_named none }
 
   -- ---- The steps
 
-  module _ (n : Ends) (n_is : n ≡ get_or ends place n) (l1 : List Link) (passed : IsPassed rows e (length path) name l1) where
-    pub first_inside : n.a < length l1
-    first_inside = subst (λ m. m < length l1) (sym (first_named n n_is)) (passed.within (forward e 0) ((hides rows e good known).edge_there 0 Forward (omega arith)))
+  module _ (none : Ends) (l1 : List Link) (passed : IsPassed rows e (length path) name l1) where
+    pub first_inside : (get_or ends place none).a < length l1
+    first_inside = subst (λ m. m < length l1) (sym (first_named none)) (passed.within (forward e 0) ((hides rows e good known).edge_there 0 Forward (omega arith)))
 
-    pub last_inside : n.b < length l1
-    last_inside = subst (λ m. m < length l1) (sym (last_named n n_is)) (passed.within (back e (length path)) ((hides rows e good known).edge_there (length path) Back (omega arith)))
+    pub last_inside : (get_or ends place none).b < length l1
+    last_inside = subst (λ m. m < length l1) (sym (last_named none)) (passed.within (back e (length path)) ((hides rows e good known).edge_there (length path) Back (omega arith)))
 
     pub before_inside : (c : Dart) (m : ℕ) → IsBefore rows name c m → m < length l1
     before_inside c m before = subst (λ k. k < length l1) (sym before.named) (passed.within before.dart before.there)
 
-    pub shown : (before_a before_b : ℕ) (l2 l3 : List Link) → IsBefore rows name (forward e 0) before_a → IsBefore rows name (back e (length path)) before_b → IsPassedBy l1 n.a before_a l2 → IsPassedBy l2 n.b before_b l3
-        → ShowsRows (without rows e) (record { links = l3; ends = remove ends place })
-    shown before_a before_b l2 l3 is_a is_b by_a by_b = record {
-      name = λ d. name (lifted (without rows e) rows d);
-      naming = shown_without rows e good known name naming.apart before_a before_b is_a is_b l1 l2 l3 passed
-          (subst (λ m. IsPassedBy l1 m before_a l2) (first_named n n_is) by_a) (subst (λ m. IsPassedBy l2 m before_b l3) (last_named n n_is) by_b) place ends p are_ends;
-    }
+    pub named_after : (before_a before_b : ℕ) (l2 l3 : List Link) → IsBefore rows name (forward e 0) before_a → IsBefore rows name (back e (length path)) before_b → IsPassedBy l1 (get_or ends place none).a before_a l2 → IsPassedBy l2 (get_or ends place none).b before_b l3
+        → IsNaming (without rows e) (record { links = l3; ends = remove ends place }) (λ d. name (lifted (without rows e) rows d))
+    named_after before_a before_b l2 l3 is_a is_b by_a by_b =
+        shown_without rows e good known name naming.apart before_a before_b is_a is_b l1 l2 l3 passed
+        (subst (λ m. IsPassedBy l1 m before_a l2) (first_named none) by_a) (subst (λ m. IsPassedBy l2 m before_b l3) (last_named none) by_b) place ends p naming.ends

@@ -14,7 +14,7 @@ use Rattle.topo_core.specs.Picture.{ahead, behind, darts, edge_at, system}
 use Rattle.topo_core.specs.Systems.{has_dart, turn}
 use Rattle.topo_links.specs.declared.table.Link.{Link}
 use Rattle.topo_links.specs.declared.table.Ends.{Ends}
-use Rattle.topo_links.specs.Tables.{ends_of, no_link}
+use Rattle.topo_links.specs.Tables.{ends_of, IsNaming, no_link, Table}
 
 -- ---- Links
 
@@ -101,3 +101,7 @@ pub record LeadsAlong (rows : Rows) (links : List Link) (e d : ℕ) : Type 0 whe
   pub name : Dart → ℕ
   pub shown : AreLinksOf rows name links
   pub first : d ≡ name (record { edge = e; seg = 0; way = Forward })
+
+-- after is the table without edge e: the darts that are left have the names of those that stood there before
+abbrev pub KeepsNames : Rows → Table → ℕ → Table → Type 0
+KeepsNames rows t e after = (name : Dart → ℕ) → IsNaming rows t name → IsNaming (without rows e) after (λ d. name (lifted (without rows e) rows d))

@@ -1,6 +1,6 @@
 //! An edge goes: the edges that cross it are joined past it, and round its ends the darts turn past it.
 
-ghost use Rattle.std.specs.Prelude.{◌≡◌, ◌==◌, ◌<◌, ◌≤◌, ℕ, true, is_some, length};
+ghost use Rattle.std.specs.Prelude.{◌≡◌, ◌==◌, ◌<◌, ◌≤◌, ℕ, true, is_some, length, remove};
 ghost use Rattle.topo_core.specs.declared.darts.Dart.{Dart};
 ghost use Rattle.topo_core.specs.Changes.{without};
 ghost use Rattle.topo_core.specs.Items.{IsIn, has_id, occurrences};
@@ -9,7 +9,7 @@ ghost use Rattle.topo_core.specs.Picture.{edge_at, edge_row, end_dart, rotation}
 ghost use Rattle.topo_core.specs.Pictures.{forward};
 ghost use Rattle.topo_frozen.specs.Ids.{IsPlaceOf};
 ghost use Rattle.topo_frozen.specs.Placed.{entry_after};
-ghost use Rattle.topo_links.specs.Splicing.{AreEndsOf, AreLinksOf, EndsAtCrossing, IsJoined, IsPassed, IsPassedBy, LeadsAlong, entry, first_across, second_across, straight_on};
+ghost use Rattle.topo_links.specs.Splicing.{AreEndsOf, AreLinksOf, EndsAtCrossing, IsJoined, IsPassed, IsPassedBy, KeepsNames, LeadsAlong, entry, first_across, second_across, straight_on};
 ghost use Rattle.topo_links.specs.Staging.{IsBefore};
 ghost use Rattle.topo_links.specs.Tables.{ShowsRows};
 
@@ -117,23 +117,43 @@ fn name_before(ends: &[Ends], rows: &Rows, hints: &Hints, v: u32, e: u32) -> u32
     end_name(ends, rows, hints, v, entry_before(around, e))
 }
 
+/// Takes the edge at a place out of the links: those that cross it are joined past it, and the darts
+/// before its ends turn past it. The darts that are left keep their names.
+fn unlink(links: &mut [Link], ends: &[Ends], rows: &Rows, hints: &Hints, place: usize, edge: u32)
+    requires shows { ShowsRows rows.now (record { links = links.old; ends = ends.now }) }
+    requires well_formed { IsWellFormed rows.now }
+    requires at { IsPlaceOf rows.now.edges (λ row. row.id) edge place }
+    ensures { KeepsNames rows.now (record { links = links.old; ends = ends.now }) edge (record { links = links.new; ends = remove ends.now place }) }
+{
+    let row = &rows.edges.as_slice()[place];
+    let before_a = name_before(ends, rows, hints, row.a, edge);
+    let before_b = name_before(ends, rows, hints, row.b, edge);
+    let of_edge = ends[place];
+    join_along(links, rows, place, edge, of_edge.a);
+    turn_past(links, of_edge.a, before_a);
+    turn_past(links, of_edge.b, before_b);
+}
+
 impl Links {
     /// The table without an edge, whose rows are those before. It writes what stands at the ends of the
-    /// edge and along it, and takes no memory.
+    /// edge and along it, and takes no memory. The darts that are left keep their names: each has that of
+    /// the dart that started where it starts.
     pub fn delete(&mut self, rows: &Rows, hints: &Hints, edge: u32)
         requires shows { ShowsRows rows.now self.old }
         requires well_formed { IsWellFormed rows.now }
         requires there { is_some (edge_row rows.now edge) ≡ true }
         ensures shows { ShowsRows (without rows.now edge) self.new }
+        ensures names { KeepsNames rows.now self.old edge self.new }
     {
         let place = place_of_edge(rows.edges.as_slice(), hints, edge);
-        let row = &rows.edges.as_slice()[place];
-        let before_a = name_before(self.ends.as_slice(), rows, hints, row.a, edge);
-        let before_b = name_before(self.ends.as_slice(), rows, hints, row.b, edge);
-        let ends = self.ends.remove(place);
-        let links = self.links.as_mut_slice();
-        join_along(links, rows, place, edge, ends.a);
-        turn_past(links, ends.a, before_a);
-        turn_past(links, ends.b, before_b);
+        unlink(
+            self.links.as_mut_slice(),
+            self.ends.as_slice(),
+            rows,
+            hints,
+            place,
+            edge,
+        );
+        self.ends.remove(place);
     }
 }
