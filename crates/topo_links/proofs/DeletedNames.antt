@@ -1,8 +1,7 @@
 -- The names of what is left once an edge is gone.
-use Rattle.std.proofs.Common.{◌≡◌, ◌≢◌, ℕ, zero, suc, ◌+◌, ◌-◌, ◌<◌, ◌≤◌, Bool, true, false, cond, not, ◌||◌, List, [], ◌∷◌, ◌++◌, length, get_or, inl, inr, refl, sym, ap, subst, ◌∙◌, arith, Some}
-use Rattle.std.specs.Prelude.{◌==◌, ◌⊎◌, filter, find, is_some, map, slice_get, slice_index_or, remove}
-use Rattle.std.proofs.lemmas.Bool.{cases_Bool, cases_eq, eq-eqb, eqb-true, false≢true, or_left, or_right}
-use Rattle.std.proofs.lemmas.Option.{slice_get_within}
+use Rattle.std.proofs.Common.{◌≡◌, ◌≢◌, ℕ, zero, suc, ◌+◌, ◌-◌, ◌<◌, ◌≤◌, Bool, true, false, cond, not, List, [], ◌∷◌, length, inl, inr, refl, sym, ap, subst, ◌∙◌, arith, Some}
+use Rattle.std.specs.Prelude.{◌==◌, ◌⊎◌, filter, is_some, map, slice_get, slice_index_or, remove}
+use Rattle.std.proofs.lemmas.Bool.{cases_Bool, cases_eq, eq-eqb, eqb-true}
 use Rattle.topo_core.specs.declared.darts.Dart.{Dart}
 use Rattle.topo_core.specs.declared.darts.Way.{Way}
 use Rattle.topo_core.specs.declared.darts.Way.TheVariants.{Forward, Back}
@@ -12,30 +11,28 @@ use Rattle.topo_core.specs.Changes.{uncrossed_row, without}
 use Rattle.topo_core.specs.Darts.{dart_twin, reversed}
 use Rattle.topo_core.specs.Deletions.{crossings_between}
 use Rattle.topo_core.specs.Insertions.{lifted}
-use Rattle.topo_core.specs.Items.{has_id, IsIn, occurrences, rises_below}
+use Rattle.topo_core.specs.Items.{IsIn, rises_below}
 use Rattle.topo_core.specs.Lawful.{IsWellFormed}
-use Rattle.topo_core.specs.Picture.{ahead, behind, darts, edge_at, edge_row, end_dart, rotation, system, vertices}
+use Rattle.topo_core.specs.Picture.{ahead, behind, darts, edge_at, edge_row, system}
 use Rattle.topo_core.specs.Pictures.{back, forward}
 use Rattle.topo_core.specs.Systems.{has_dart, turn}
-use Rattle.topo_core.proofs.Counting.{ids_above, one}
+use Rattle.topo_core.proofs.Counting.{ids_above}
 use Rattle.topo_core.proofs.DartLaws.{twin-twin}
 use Rattle.topo_core.proofs.GonePaths.{gone_from}
-use Rattle.topo_core.proofs.Members.{in_map, in_range, left_true, right_true}
+use Rattle.topo_core.proofs.Members.{in_map, left_true, right_true}
 use Rattle.topo_core.proofs.Numbering.{turn_stays, turns_apart, twin_in}
-use Rattle.topo_core.proofs.ShownPlaces.{in_counted, lifted_edge}
-use Rattle.topo_core.proofs.Standing.{good_rotation}
-use Rattle.topo_core.proofs.SystemDarts.{edge_at_row, eqb_self, get_there, path_facts, row_id, row_in}
+use Rattle.topo_core.proofs.ShownPlaces.{lifted_edge}
+use Rattle.topo_core.proofs.SystemDarts.{edge_at_row, eqb_self}
 use Rattle.topo_core.proofs.WithoutPlaces.{now, segment_of_dart}
-use Rattle.topo_core.proofs.WithoutRows.{has_id_in}
 use Rattle.topo_core.proofs.WithoutTurns.{two_orders}
 use Rattle.topo_frozen.specs.Ids.{IsPlaceOf}
 use Rattle.topo_frozen.proofs.Lookups.{item_at}
 use Rattle.topo_frozen.proofs.PairTests.{find_item}
 use Rattle.topo_links.specs.declared.table.Ends.{Ends}
 use Rattle.topo_links.specs.declared.table.Link.{Link}
-use Rattle.topo_links.specs.Splicing.{AreEndsOf, AreLinksOf, entry, IsPassed, IsPassedBy, RunsBy, unpassed}
+use Rattle.topo_links.specs.Splicing.{AreEndsOf, entry, IsPassed, IsPassedBy, RunsBy}
 use Rattle.topo_links.specs.Staging.{IsBefore}
-use Rattle.topo_links.specs.Tables.{ends_of, first_dart, IsNaming, last_dart, ShowsRows, Table}
+use Rattle.topo_links.specs.Tables.{ends_of, first_dart, IsNaming, last_dart}
 use Rattle.topo_links.proofs.Passing.{crossing_at, CrossingAt, hides}
 use Rattle.topo_links.proofs.Splicing.{unpassed_none}
 

@@ -1,7 +1,7 @@
 -- An edge that is taken out of a table, step by step.
-use Rattle.std.proofs.Common.{◌≡◌, ◌≢◌, ℕ, zero, suc, ◌+◌, ◌-◌, ◌<◌, ◌≤◌, Bool, true, false, cond, ◌||◌, List, [], ◌∷◌, length, get_or, refl, sym, ap, subst, ◌∙◌, arith, inl, inr, Some}
-use Rattle.std.specs.Prelude.{◌==◌, find, is_some, remove, slice_get}
-use Rattle.std.proofs.lemmas.Bool.{cases_eq, eq-eqb, false≢true, or_left, or_right}
+use Rattle.std.proofs.Common.{◌≡◌, ℕ, ◌-◌, ◌<◌, ◌≤◌, Bool, true, false, cond, ◌||◌, List, length, get_or, sym, ap, subst, ◌∙◌, arith, inl, inr, Some}
+use Rattle.std.specs.Prelude.{◌==◌, is_some, remove, slice_get}
+use Rattle.std.proofs.lemmas.Bool.{cases_eq, or_left, or_right}
 use Rattle.std.proofs.lemmas.Option.{get_or_from_slice_get, slice_get_within}
 use Rattle.topo_core.specs.declared.darts.Dart.{Dart}
 use Rattle.topo_core.specs.declared.darts.Way.TheVariants.{Forward, Back}
@@ -11,9 +11,8 @@ use Rattle.topo_core.specs.Changes.{without}
 use Rattle.topo_core.specs.Insertions.{lifted}
 use Rattle.topo_core.specs.Items.{has_id, IsIn, occurrences}
 use Rattle.topo_core.specs.Lawful.{IsWellFormed}
-use Rattle.topo_core.specs.Picture.{darts, edge_at, edge_row, end_dart, rotation, vertices}
+use Rattle.topo_core.specs.Picture.{edge_at, edge_row, end_dart, rotation, vertices}
 use Rattle.topo_core.specs.Pictures.{back, forward}
-use Rattle.topo_core.specs.Systems.{has_dart}
 use Rattle.topo_core.proofs.Counting.{one}
 use Rattle.topo_core.proofs.Members.{in_range}
 use Rattle.topo_core.proofs.ShownPlaces.{in_counted}

@@ -1,9 +1,8 @@
 -- Names at the ends of edges.
-use Rattle.std.proofs.Common.{◌≡◌, ◌≢◌, ℕ, zero, suc, ◌+◌, ◌-◌, ◌<◌, ◌≤◌, Bool, true, false, cond, List, [], ◌∷◌, length, get_or, refl, sym, ap, subst, ◌∙◌, arith, inl, inr, Some}
-use Rattle.std.specs.Prelude.{◌==◌, find, is_some, map, slice_get, slice_index, slice_index_or}
-use Rattle.std.specs.List.{position_or_len}
+use Rattle.std.proofs.Common.{◌≡◌, ℕ, ◌+◌, ◌-◌, ◌<◌, ◌≤◌, Bool, true, false, cond, List, length, get_or, sym, ap, subst, ◌∙◌, arith, inl, inr}
+use Rattle.std.specs.Prelude.{◌==◌, find, is_some, slice_get, slice_index, slice_index_or}
 use Rattle.std.proofs.Math.Seq.{take-length}
-use Rattle.std.proofs.lemmas.Bool.{cases_Bool, cases_eq, eq-eqb, eqb-true, false≢true}
+use Rattle.std.proofs.lemmas.Bool.{cases_Bool, cases_eq, eq-eqb, eqb-true}
 use Rattle.std.proofs.lemmas.List.{get_or_default, get_or_past}
 use Rattle.std.proofs.lemmas.Option.{get_or_from_slice_get}
 use Rattle.topo_core.specs.declared.darts.Dart.{Dart}
@@ -12,10 +11,10 @@ use Rattle.topo_core.specs.declared.rows.EdgeRow.{EdgeRow}
 use Rattle.topo_core.specs.declared.rows.Rows.{Rows}
 use Rattle.topo_core.specs.Items.{has_id, IsIn, occurrences}
 use Rattle.topo_core.specs.Lawful.{IsWellFormed}
-use Rattle.topo_core.specs.Picture.{darts, edge_at, edge_row, end_dart, rotation, system, vertices}
+use Rattle.topo_core.specs.Picture.{darts, edge_at, edge_row, end_dart, rotation, vertices}
 use Rattle.topo_core.specs.Pictures.{back, forward}
-use Rattle.topo_core.specs.Systems.{has_dart, turn}
-use Rattle.topo_core.proofs.Counting.{at_most_one, eqb_less, eqb_more}
+use Rattle.topo_core.specs.Systems.{has_dart}
+use Rattle.topo_core.proofs.Counting.{at_most_one}
 use Rattle.topo_core.proofs.GonePaths.{item_place}
 use Rattle.topo_core.proofs.Members.{in_range}
 use Rattle.topo_core.proofs.Standing.{good_rotation}

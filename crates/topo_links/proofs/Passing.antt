@@ -1,11 +1,10 @@
 -- Along an edge that goes: at each of its crossings the other edge is joined past it.
-use Rattle.std.proofs.Common.{◌≡◌, ◌≢◌, ℕ, zero, suc, ◌+◌, ◌<◌, ◌≤◌, Bool, true, false, cond, not, ◌||◌, List, [], ◌∷◌, ◌++◌, length, take, get_or, refl, sym, ap, subst, ◌∙◌, arith, inl, inr, Some}
-use Rattle.std.specs.Prelude.{◌==◌, ◌⊎◌, filter, find, is_some, map, slice_get}
+use Rattle.std.proofs.Common.{◌≡◌, ◌≢◌, ℕ, zero, suc, ◌+◌, ◌<◌, ◌≤◌, Bool, true, false, cond, not, List, [], ◌∷◌, length, take, get_or, refl, sym, ap, subst, ◌∙◌, arith, inl, inr, Some}
+use Rattle.std.specs.Prelude.{◌==◌, ◌⊎◌, filter, is_some, map, slice_get}
 use Rattle.std.proofs.lemmas.Bool.{cases_Bool, eq-eqb, eqb-true, false≢true, or_cases}
 use Rattle.std.proofs.lemmas.List.Sums.{sum_by-cons}
 use Rattle.std.proofs.lemmas.Option.{get_or_from_slice_get, slice_get_within}
 use Rattle.topo_core.specs.declared.darts.Dart.{Dart}
-use Rattle.topo_core.specs.declared.darts.Way.{Way}
 use Rattle.topo_core.specs.declared.darts.Way.TheVariants.{Forward, Back}
 use Rattle.topo_core.specs.declared.rows.CrossRow.{CrossRow}
 use Rattle.topo_core.specs.declared.rows.EdgeRow.{EdgeRow}
@@ -16,19 +15,18 @@ use Rattle.topo_core.specs.Deletions.{crossings_between, gone_on, HidesTurns, Is
 use Rattle.topo_core.specs.Insertions.{lifted}
 use Rattle.topo_core.specs.Items.{has_id, IsIn, occurrences, rises_below}
 use Rattle.topo_core.specs.Lawful.{IsWellFormed}
-use Rattle.topo_core.specs.Picture.{ahead, behind, cross_row, darts, edge_at, edge_row, place_on, segment_count, system}
+use Rattle.topo_core.specs.Picture.{ahead, behind, cross_row, darts, edge_at, edge_row, system}
 use Rattle.topo_core.specs.Pictures.{back, forward}
 use Rattle.topo_core.specs.Systems.{has_dart, turn}
 use Rattle.topo_core.proofs.Counting.{one}
 use Rattle.topo_core.proofs.DartLaws.{twin-twin}
 use Rattle.topo_core.proofs.Members.{left_true}
-use Rattle.topo_core.proofs.Numbering.{turn_stays, turns_apart, twin_in}
-use Rattle.topo_core.proofs.ShownPlaces.{lifted_edge}
+use Rattle.topo_core.proofs.Numbering.{twin_in}
 use Rattle.topo_core.proofs.SystemDarts.{edge_at_row, get_there}
 use Rattle.topo_core.proofs.Weaving.{in_filter}
 use Rattle.topo_core.proofs.WithoutPlaces.{dart_of_segment, edge_once, edge_place, now, other_edge}
 use Rattle.topo_core.proofs.WithoutRows.{filter_in, occurrences-passing}
-use Rattle.topo_core.proofs.WithoutTurns.{GoesRound, hides_turns, two_orders}
+use Rattle.topo_core.proofs.WithoutTurns.{hides_turns, two_orders}
 use Rattle.topo_frozen.specs.Ids.{IsPlaceOf}
 use Rattle.topo_frozen.proofs.PairTests.{find_item}
 use Rattle.topo_links.specs.declared.table.Link.{Link}

@@ -1,6 +1,3 @@
-use Rattle.std.proofs.Common.{◌≡◌, ℕ}
-use Rattle.topo_core.specs.declared.rows.EdgeRow.{EdgeRow}
-use Rattle.topo_links.specs.declared.table.Ends.{Ends}
 use Rattle.topo_links.proofs.EndNames.{end_a, end_b}
 use Rattle.topo_links.proofs.deletion.end_name.Goals as goal
 

@@ -1,10 +1,8 @@
-use Rattle.std.proofs.Common.{◌≡◌, ◌<◌, ◌≤◌, ◌+◌, ℕ, List, arith, ap, length, subst, sym, ◌∙◌}
+use Rattle.std.proofs.Common.{◌≡◌, ℕ, List, arith, ap, length, subst}
 use Rattle.std.specs.Prelude.{is_some}
-use Rattle.topo_core.specs.declared.darts.Dart.{Dart}
-use Rattle.topo_core.specs.Picture.{edge_at, edge_row}
-use Rattle.topo_core.specs.Pictures.{forward}
-use Rattle.topo_links.specs.Splicing.{AreLinksOf, IsPassed}
-use Rattle.topo_links.proofs.Passing.{IsStep, none_passed, path_read, step_ends, step_made}
+use Rattle.topo_core.specs.Picture.{edge_at}
+use Rattle.topo_links.specs.Splicing.{IsPassed}
+use Rattle.topo_links.proofs.Passing.{none_passed, path_read, step_ends, step_made}
 use Rattle.topo_links.proofs.deletion.join_along.Goals as goal
 
 pub loop-crossing-init : goal.loop-crossing-init

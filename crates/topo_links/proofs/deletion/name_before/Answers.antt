@@ -1,6 +1,5 @@
-use Rattle.std.proofs.Common.{◌≡◌, ◌≤◌, ℕ, List, sym, subst, ap, ◌∙◌}
+use Rattle.std.proofs.Common.{◌≤◌, ℕ, List, sym, subst, ap, ◌∙◌}
 use Rattle.topo_core.specs.Items.{has_id, IsIn, occurrences}
-use Rattle.topo_core.specs.Picture.{rotation}
 use Rattle.topo_frozen.specs.Placed.{entry_after}
 use Rattle.topo_frozen.proofs.Rounds.{rotation_read}
 use Rattle.topo_links.proofs.EndNames.{before_end, entries_once, entry_known}

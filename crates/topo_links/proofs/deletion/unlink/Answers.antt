@@ -1,4 +1,4 @@
-use Rattle.std.proofs.Common.{◌≡◌, ◌<◌, ◌≤◌, ℕ, List, ap, length, subst, sym, ◌∙◌}
+use Rattle.std.proofs.Common.{◌<◌, length, subst, sym, ◌∙◌}
 use Rattle.std.specs.Prelude.{slice_index_or}
 use Rattle.topo_core.specs.Picture.{edge_at}
 use Rattle.topo_core.specs.Pictures.{back, forward}
@@ -63,6 +63,6 @@ returns c = λ name naming.
     let row = c.index-as_slice-place.is ∙ row_read c.args.rows.now c.args.edge c.requires.well_formed c.args.place c.requires.at name c.args.links.now c.args.ends.now naming c.as_slice.result.now c.index-as_slice-place.result c.as_slice.ensures in
     let passed = c.join_along.ensures.passed name (are_links c.args.rows.now c.args.edge c.requires.well_formed c.args.place c.requires.at name c.args.links.now c.args.ends.now naming) (first_named c.args.rows.now c.args.edge c.requires.well_formed c.args.place c.requires.at name c.args.links.now c.args.ends.now naming (record { a = 0; b = 0 })) in
     named_after c.args.rows.now c.args.edge c.requires.well_formed c.args.place c.requires.at name c.args.links.now c.args.ends.now naming (record { a = 0; b = 0 }) c.join_along.new.links passed c.name_before-before_a.result c.name_before-before_b.result c.turn_past.new.links c.turn_past-2.new.links
-      (before_first c.args.rows.now c.args.edge c.requires.well_formed c.args.place c.requires.at name c.args.links.now c.args.ends.now naming c.index-as_slice-place.result c.name_before-before_a.result row (c.name_before-before_a.ensures name naming.ends))
-      (before_last c.args.rows.now c.args.edge c.requires.well_formed c.args.place c.requires.at name c.args.links.now c.args.ends.now naming c.index-as_slice-place.result c.name_before-before_b.result row (c.name_before-before_b.ensures name naming.ends))
-      c.turn_past.ensures c.turn_past-2.ensures
+    (before_first c.args.rows.now c.args.edge c.requires.well_formed c.args.place c.requires.at name c.args.links.now c.args.ends.now naming c.index-as_slice-place.result c.name_before-before_a.result row (c.name_before-before_a.ensures name naming.ends))
+    (before_last c.args.rows.now c.args.edge c.requires.well_formed c.args.place c.requires.at name c.args.links.now c.args.ends.now naming c.index-as_slice-place.result c.name_before-before_b.result row (c.name_before-before_b.ensures name naming.ends))
+    c.turn_past.ensures c.turn_past-2.ensures

@@ -1,11 +1,8 @@
-use Rattle.std.proofs.Common.{◌≡◌, ◌<◌, ℕ, List, ap, length, subst, sym, ◌∙◌}
+use Rattle.std.proofs.Common.{◌≡◌, ◌<◌, List, ap, length, subst, sym, ◌∙◌}
 use Rattle.std.specs.Prelude.{remove}
 use Rattle.std.specs.Vec.{with_items}
 use Rattle.std.proofs.lemmas.List.{with_items_is}
-use Rattle.topo_core.specs.Changes.{without}
 use Rattle.topo_links.specs.declared.table.Ends.{Ends}
-use Rattle.topo_links.specs.declared.table.Link.{Link}
-use Rattle.topo_links.specs.Tables.{Table}
 use Rattle.topo_links.proofs.Deleting.{inside, names_kept, place_in, seen, shows_on, table_is}
 use Rattle.topo_links.proofs.table.Links.delete.Goals as goal
 
@@ -26,6 +23,6 @@ returns c =
     (record { links = c.unlink.new.links; ends = remove c.as_slice-2.result.now c.place_of_edge-place.result }) (record { links = (with_items c.self.inside.links c.unlink.new.links).items; ends = c.remove.new.self.items })
     (table_is c.as_mut_slice.result.now c.self.inside.links.items c.as_slice-2.result.now c.self.inside.ends.items c.as_mut_slice.ensures.value c.as_slice-2.ensures.value ∙ c.self.view_is)
     (table_is c.unlink.new.links (with_items c.self.inside.links c.unlink.new.links).items (remove c.as_slice-2.result.now c.place_of_edge-place.result) c.remove.new.self.items (sym written)
-      (ap (λ (xs : List Ends). remove xs c.place_of_edge-place.result) c.as_slice-2.ensures.value ∙ sym c.remove.ensures.items))
+    (ap (λ (xs : List Ends). remove xs c.place_of_edge-place.result) c.as_slice-2.ensures.value ∙ sym c.remove.ensures.items))
     c.unlink.ensures in
     record { shows = shows_on c.args.rows.now c.args.edge c.args.self.now _ c.requires.shows kept; names = kept }
