@@ -135,9 +135,10 @@ fn unlink(links: &mut [Link], ends: &[Ends], rows: &Rows, hints: &Hints, place: 
 }
 
 impl Links {
-    /// The table without an edge, whose rows are those before. It writes what stands at the ends of the
-    /// edge and along it, and takes no memory. The darts that are left keep their names: each has that of
-    /// the dart that started where it starts.
+    /// Takes an edge out; the rows are those before. It looks through the lists of the edge's two
+    /// vertices, goes along the edge once, and moves the ends of the later edges one place down. It takes
+    /// no memory. The darts that are left keep their names: each has that of the dart of its edge that
+    /// started where it starts, and the names of the others are given up.
     pub fn delete(&mut self, rows: &Rows, hints: &Hints, edge: u32)
         requires shows { ShowsRows rows.now self.old }
         requires well_formed { IsWellFormed rows.now }
