@@ -1,7 +1,12 @@
 pub mod Corners
+pub mod DeletedNames
+pub mod Deleting
+pub mod EndNames
 pub mod Found
 pub mod Grown
 pub mod GrownCorner
 pub mod Made
+pub mod Passing
+pub mod Splicing
 pub mod Straight
 pub mod Walking

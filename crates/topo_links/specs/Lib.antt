@@ -1,4 +1,5 @@
 pub mod Making
 pub mod Naming
+pub mod Splicing
 pub mod Staging
 pub mod Tables

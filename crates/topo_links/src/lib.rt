@@ -7,7 +7,9 @@
 //! is made again.
 #![tactic(auto)]
 
-pub mod table;
+mod deletion;
+pub mod linked;
 mod making;
 mod names;
-mod staging;
+pub mod staging;
+pub mod table;
