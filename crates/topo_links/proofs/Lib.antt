@@ -1,0 +1,4 @@
+pub mod NamedPlaces
+pub mod NumberedDarts
+pub mod InsertedPlaces
+pub mod InsertedLinks
