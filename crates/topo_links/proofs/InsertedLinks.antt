@@ -25,7 +25,7 @@ use Rattle.topo_links.specs.declared.staging.Staged.{Staged}
 use Rattle.topo_links.specs.Staging.{back_name, forward_name, IsBefore, IsSettled, IsStaged, round_name}
 use Rattle.topo_links.specs.Tables.{IsNaming, Table, link_at}
 use Rattle.topo_links.proofs.InsertedPlaces as places
-use Rattle.topo_links.proofs.InsertedPlaces.{Backward, New, Old, Onward, Place, back_before, back_last, forward_later, onward_edge, round_place}
+use Rattle.topo_links.proofs.InsertedPlaces.{Backward, IsFirst, IsLast, IsOld, IsRound, New, Old, Onward, Place, back_before, back_last, forward_later, onward_edge, round_place}
 use Rattle.topo_links.proofs.NamedPlaces.{IsPlaced}
 use Rattle.topo_links.proofs.NumberedDarts.{at_place, crossed_or_not}
 
@@ -54,6 +54,9 @@ module _ (p q : Rows) (u v : ℕ) (r : Route) (shows : ShowsTurns p p.next_edge 
 
   abbrev Placed : Dart → ℕ → Type 0
   Placed d n = IsPlaced There dart name d n
+
+  abbrev View : Place → Type 0
+  View = places.View p q u v r shows here t s staged
 
   abbrev new : ℕ → Way → Dart
   new = places.new p q u v r shows here t s staged
@@ -257,7 +260,97 @@ module _ (p q : Rows) (u v : ℕ) (r : Route) (shows : ShowsTurns p p.next_edge 
         (λ e. not_straight c s.crossings Back (omega arith) h staged.end last_turns straight (before_named c staged.end s.before_b h staged.before_end e)));
   }
 
+  -- round crossing i
+  onward_turn : (i : ℕ) → i < s.crossings → turn (system q) (onward q (id i) (crossed i)) ≡ new (i + 1) Forward
+  onward_turn i h = (shows.round_ahead (id i) (crossed i) (numbered_here i h)).0 ∙ places.ahead_is p q u v r shows here t s staged i h
+
+  ahead_turn : (i : ℕ) → i < s.crossings → turn (system q) (new (i + 1) Forward) ≡ backward q (id i) (crossed i)
+  ahead_turn i h = ap (turn (system q)) (sym (places.ahead_is p q u v r shows here t s staged i h)) ∙ (shows.round_ahead (id i) (crossed i) (numbered_here i h)).1
+
+  backward_turn : (i : ℕ) → i < s.crossings → turn (system q) (backward q (id i) (crossed i)) ≡ new i Back
+  backward_turn i h = (shows.round_behind (id i) (crossed i) (numbered_here i h)).0 ∙ places.behind_is p q u v r shows here t s staged i h
+
+  behind_turn : (i : ℕ) → i < s.crossings → turn (system q) (new i Back) ≡ onward q (id i) (crossed i)
+  behind_turn i h = ap (turn (system q)) (sym (places.behind_is p q u v r shows here t s staged i h)) ∙ (shows.round_behind (id i) (crossed i) (numbered_here i h)).1
+
   -- an old dart that turns to the new edge is before one of its ends
-  bent_turn : (c : Dart) → has_dart (darts p) c ≡ true → (o : Place) → There o → dart o ≡ turn (system q) (lifted p q c) → (dart o).edge ≡ f → turn (system q) (dart o) ≡ lifted p q (turn (system p) c) → places.View p q u v r shows here t s staged o
+  bent_start : (c : Dart) → has_dart (darts p) c ≡ true → new 0 Forward ≡ turn (system q) (lifted p q c) → turn (system q) (new 0 Forward) ≡ lifted p q (turn (system p) c) → Placed (turn (system q) (lifted p q c)) (link_at after (staged.name c)).next
+  bent_start c h is leads =
+      let corner : turn (system p) c ≡ staged.start = sym (shows.lifts_apart staged.start (turn (system p) c) start_was (turned_in c h) (sym first_turns ∙ leads)) in
+      record {
+        place = New 0 Forward;
+        there = omega arith;
+        is = is;
+        named = sym settled.turn_start ∙ ap (λ n. (link_at after n).next) (sym (named_before c staged.start s.before_a h staged.before_start corner));
+      }
+
+  bent_end : (c : Dart) → has_dart (darts p) c ≡ true → new s.crossings Back ≡ turn (system q) (lifted p q c) → turn (system q) (new s.crossings Back) ≡ lifted p q (turn (system p) c) → Placed (turn (system q) (lifted p q c)) (link_at after (staged.name c)).next
+  bent_end c h is leads =
+      let corner : turn (system p) c ≡ staged.end = sym (shows.lifts_apart staged.end (turn (system p) c) end_was (turned_in c h) (sym last_turns ∙ leads)) in
+      record {
+        place = New s.crossings Back;
+        there = omega arith;
+        is = is;
+        named = back_last s.first s.crossings ∙ sym settled.turn_end ∙ ap (λ n. (link_at after n).next) (sym (named_before c staged.end s.before_b h staged.before_end corner));
+      }
+
+  -- none of them turns to the new edge at a crossing
+  not_round : (c : Dart) → has_dart (darts p) c ≡ true → (i j : ℕ) → i < s.crossings → (dart (round_place i j)).edge ≡ f → turn (system q) (dart (round_place i j)) ≡ lifted p q c → ⊥
+  not_round c h i zero ih on_new leads = places.onward_other p q u v r shows here t s staged i ih on_new
+  not_round c h i (suc zero) ih on_new leads = (places.new_points p q u v r shows here t s staged i ih c h).1 (sym leads ∙ ahead_turn i ih)
+  not_round c h i (suc (suc zero)) ih on_new leads = places.backward_other p q u v r shows here t s staged i ih on_new
+  not_round c h i (suc (suc (suc j))) ih on_new leads = (places.new_points p q u v r shows here t s staged i ih c h).0 (sym leads ∙ behind_turn i ih)
+
+  bent_turn : (c : Dart) → has_dart (darts p) c ≡ true → (o : Place) → dart o ≡ turn (system q) (lifted p q c) → (dart o).edge ≡ f → turn (system q) (dart o) ≡ lifted p q (turn (system p) c) → View o
       → Placed (turn (system q) (lifted p q c)) (link_at after (staged.name c)).next
-  bent_turn c h o there is on_new leads view = ?
+  bent_turn c h o is on_new leads (IsOld d k e) = absurd (places.old_other p q u v r shows here t s staged d k (ap (λ o. (dart o).edge) (sym e) ∙ on_new))
+  bent_turn c h o is on_new leads (IsFirst e) = bent_start c h (ap dart (sym e) ∙ is) (ap (λ o. turn (system q) (dart o)) (sym e) ∙ leads)
+  bent_turn c h o is on_new leads (IsLast e) = bent_end c h (ap dart (sym e) ∙ is) (ap (λ o. turn (system q) (dart o)) (sym e) ∙ leads)
+  bent_turn c h o is on_new leads (IsRound i j ih jh e) = absurd (not_round (turn (system p) c) (turned_in c h) i j ih (ap (λ o. (dart o).edge) (sym e) ∙ on_new) (ap (λ o. turn (system q) (dart o)) (sym e) ∙ leads))
+
+  old_turn : (c : Dart) → has_dart (darts p) c ≡ true → Placed (turn (system q) (lifted p q c)) (link_at after (staged.name c)).next
+  old_turn c h = elim (shows.turns c h) [
+    | inl straight ↦ straight_turn c h straight
+    | inr bent ↦
+        let there = turn_stays q hq.paths hq.crossings hq.rotations (lifted p q c) (shows.lifts c h) in
+        let (o, o_there, is) = places.place_of p q u v r shows here t s staged (turn (system q) (lifted p q c)) there in
+        bent_turn c h o is (ap (λ (y : Dart). y.edge) is ∙ bent.0) (ap (turn (system q)) is ∙ bent.1) (places.view p q u v r shows here t s staged o o_there)
+  ]
+
+  -- each of the four round a crossing is followed by the next
+  round_turn : (i j l : ℕ) → i < s.crossings → j < 4 → l < 4 → (link_at t (round_name s.first i j)).next ≡ round_name s.first i l → turn (system q) (dart (round_place i j)) ≡ dart (round_place i l) → There (round_place i l)
+      → Placed (turn (system q) (dart (round_place i j))) (link_at after (name (round_place i j))).next
+  round_turn i j l ih jh lh next leads there = record {
+    place = round_place i l;
+    there = there;
+    is = sym leads;
+    named = places.round_named p q u v r shows here t s staged i l ih lh ∙ sym next ∙ sym (next_kept (round_name s.first i j) (omega arith)) ∙ ap (λ n. (link_at after n).next) (sym (places.round_named p q u v r shows here t s staged i j ih jh));
+  }
+
+  round_turns : (i j : ℕ) → i < s.crossings → j < 4 → Placed (turn (system q) (dart (round_place i j))) (link_at after (name (round_place i j))).next
+  round_turns i zero ih jh = round_turn i 0 1 ih jh (omega arith) (ap (λ l. l.next) (staged.onward i (crossed i) (crossed_at i ih))) (onward_turn i ih) (omega (arith, ih))
+  round_turns i (suc zero) ih jh = round_turn i 1 2 ih jh (omega arith) (ap (λ l. l.next) (staged.ahead i (crossed i) (crossed_at i ih))) (ahead_turn i ih) ih
+  round_turns i (suc (suc zero)) ih jh = round_turn i 2 3 ih jh (omega arith) (ap (λ l. l.next) (staged.backward i (crossed i) (crossed_at i ih))) (backward_turn i ih) (omega (arith, ih))
+  round_turns i (suc (suc (suc j))) ih jh = round_turn i 3 0 ih (omega arith) (omega arith) (ap (λ l. l.next) (staged.behind i (crossed i) (crossed_at i ih))) (behind_turn i ih) ih
+
+  turns_by : (o : Place) → View o → Placed (turn (system q) (dart o)) (link_at after (name o)).next
+  turns_by o (IsOld c h e) = subst (λ o. Placed (turn (system q) (dart o)) (link_at after (name o)).next) (sym e) (old_turn c h)
+  turns_by o (IsFirst e) = subst (λ o. Placed (turn (system q) (dart o)) (link_at after (name o)).next) (sym e) (record {
+    place = Old staged.start;
+    there = start_was;
+    is = sym first_turns;
+    named = sym (next_kept s.first (omega arith) ∙ ap (λ l. l.next) staged.first_link);
+  })
+  turns_by o (IsLast e) = subst (λ o. Placed (turn (system q) (dart o)) (link_at after (name o)).next) (sym e) (record {
+    place = Old staged.end;
+    there = end_was;
+    is = sym last_turns;
+    named = sym (ap (λ n. (link_at after n).next) (back_last s.first s.crossings) ∙ next_kept (s.first + 1) (omega arith) ∙ ap (λ l. l.next) staged.last_link);
+  })
+  turns_by o (IsRound i j ih jh e) = subst (λ o. Placed (turn (system q) (dart o)) (link_at after (name o)).next) (sym e) (round_turns i j ih jh)
+
+  pub turns : (o : Place) → There o → Placed (turn (system q) (dart o)) (link_at after (name o)).next
+  turns o h = turns_by o (places.view p q u v r shows here t s staged o h)
+
+  pub within : (o : Place) → There o → name o < length after.links
+  within o h = subst (λ n. name o < n) (sym settled.as_many) (places.within p q u v r shows here t s staged o h)

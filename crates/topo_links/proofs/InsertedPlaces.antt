@@ -155,19 +155,19 @@ module _ (p q : Rows) (u v : ℕ) (r : Route) (shows : ShowsTurns p p.next_edge 
   pub crossed_was : (i : ℕ) → i < s.crossings → has_dart (darts p) (crossed i) ≡ true
   crossed_was i h = at_place (λ d. has_dart (darts p) d ≡ true) r.crossed here i (crossed i) (crossed_at i h)
 
-  old_other : (c : Dart) → has_dart (darts p) c ≡ true → (lifted p q c).edge ≢ f
+  pub old_other : (c : Dart) → has_dart (darts p) c ≡ true → (lifted p q c).edge ≢ f
   old_other c h e = shows.old_edges c h (sym (lifted_edge p q c) ∙ e)
 
-  onward_other : (i : ℕ) → i < s.crossings → (onward q (id i) (crossed i)).edge ≢ f
+  pub onward_other : (i : ℕ) → i < s.crossings → (onward q (id i) (crossed i)).edge ≢ f
   onward_other i h e = shows.old_edges (crossed i) (crossed_was i h) (sym (onward_edge q (id i) (crossed i).edge (crossed i).way) ∙ e)
 
-  backward_other : (i : ℕ) → i < s.crossings → (backward q (id i) (crossed i)).edge ≢ f
+  pub backward_other : (i : ℕ) → i < s.crossings → (backward q (id i) (crossed i)).edge ≢ f
   backward_other i h e = shows.old_edges (crossed i) (crossed_was i h) (sym (onward_edge q (id i) (crossed i).edge (reversed (crossed i).way)) ∙ e)
 
   edge_of : (c d : Dart) → c ≡ d → c.edge ≡ d.edge
   edge_of c d e = ap (λ (y : Dart). y.edge) e
 
-  new_points : (i : ℕ) → i < s.crossings → (c : Dart) → has_dart (darts p) c ≡ true → (lifted p q c ≢ onward q (id i) (crossed i)) × (lifted p q c ≢ backward q (id i) (crossed i))
+  pub new_points : (i : ℕ) → i < s.crossings → (c : Dart) → has_dart (darts p) c ≡ true → (lifted p q c ≢ onward q (id i) (crossed i)) × (lifted p q c ≢ backward q (id i) (crossed i))
   new_points i h c k = shows.new_points (id i) (crossed i) c (numbered_here i h) k
 
   not_both : (i j : ℕ) → i < s.crossings → j < s.crossings → onward q (id i) (crossed i) ≢ backward q (id j) (crossed j)
