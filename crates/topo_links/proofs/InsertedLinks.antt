@@ -1,19 +1,19 @@
 -- What stands at the names of a picture that shows a new edge, once the table is told of it.
-use Rattle.std.proofs.Common.{◌≡◌, ◌≢◌, ℕ, zero, suc, ◌+◌, ◌*◌, ◌<◌, ◌≤◌, ◌==◌, Bool, true, false, ◌&&◌, length, refl, sym, ap, ap₂, subst, ◌∙◌, arith, inl, inr}
-use Rattle.std.specs.Prelude.{◌⊎◌, slice_get, Some}
+use Rattle.std.proofs.Common.{◌≡◌, ◌≢◌, ℕ, zero, suc, ◌+◌, ◌<◌, ◌≤◌, ◌==◌, Bool, true, false, ◌&&◌, length, refl, sym, ap, subst, ◌∙◌, arith, inl, inr}
+use Rattle.std.specs.Prelude.{slice_get, Some}
 use Rattle.std.specs.List.{AllByRecursion}
-use Rattle.std.proofs.lemmas.Bool.{cases_Bool, eqb-false, eqb-true, eq-eqb, false≢true}
+use Rattle.std.proofs.lemmas.Bool.{cases_Bool, eqb-false, eqb-true, false≢true}
 use Rattle.topo_core.specs.declared.darts.Dart.{Dart}
 use Rattle.topo_core.specs.declared.darts.Way.{Way}
 use Rattle.topo_core.specs.declared.darts.Way.TheVariants.{Forward, Back}
 use Rattle.topo_core.specs.declared.rows.Rows.{Rows}
 use Rattle.topo_core.specs.declared.routes.Route.{Route}
 use Rattle.topo_core.specs.Darts.{dart_twin, reversed}
-use Rattle.topo_core.specs.Insertions.{backward, FollowsBut, lifted, onward, same_segment, ShowsTurns}
+use Rattle.topo_core.specs.Insertions.{backward, lifted, onward, same_segment, ShowsTurns}
 use Rattle.topo_core.specs.Changes.{numbered}
 use Rattle.topo_core.specs.Items.{IsIn}
 use Rattle.topo_core.specs.Lawful.{IsWellFormed}
-use Rattle.topo_core.specs.Picture.{ahead, behind, corner, darts, system}
+use Rattle.topo_core.specs.Picture.{corner, darts, system}
 use Rattle.topo_core.specs.Systems.{has_dart, turn}
 use Rattle.topo_core.proofs.DartLaws.{twin-twin}
 use Rattle.topo_core.proofs.Numbering.{turn_stays, turns_apart, twin_in}
@@ -23,7 +23,7 @@ use Rattle.topo_core.proofs.SimpleRoutes.{same_or_twins}
 use Rattle.topo_core.proofs.SystemDarts.{eqb_self}
 use Rattle.topo_links.specs.declared.staging.Staged.{Staged}
 use Rattle.topo_links.specs.Staging.{back_name, forward_name, IsBefore, IsSettled, IsStaged, round_name}
-use Rattle.topo_links.specs.Tables.{IsNaming, Table, link_at}
+use Rattle.topo_links.specs.Tables.{Table, link_at}
 use Rattle.topo_links.proofs.InsertedPlaces as places
 use Rattle.topo_links.proofs.InsertedPlaces.{Backward, IsFirst, IsLast, IsOld, IsRound, New, Old, Onward, Place, back_before, back_last, forward_later, onward_edge, round_place}
 use Rattle.topo_links.proofs.NamedPlaces.{IsPlaced}

@@ -1,8 +1,8 @@
 -- The darts of a picture that shows a new edge by where they come from, and their names.
-use Rattle.std.proofs.Common.{◌≡◌, ◌≢◌, ℕ, zero, suc, ◌+◌, ◌-◌, ◌*◌, ◌<◌, ◌≤◌, ◌==◌, Bool, true, false, cond, length, get_or, refl, sym, ap, ap₂, subst, ◌∙◌, arith, inl, inr}
-use Rattle.std.specs.Prelude.{◌⊎◌, slice_get, slice_index_or, Some}
+use Rattle.std.proofs.Common.{◌≡◌, ◌≢◌, ℕ, zero, suc, ◌+◌, ◌-◌, ◌*◌, ◌<◌, ◌≤◌, ◌==◌, true, false, cond, length, refl, sym, ap, ap₂, subst, ◌∙◌, arith, inl, inr}
+use Rattle.std.specs.Prelude.{slice_get, slice_index_or, Some}
 use Rattle.std.specs.List.{AllByRecursion}
-use Rattle.std.proofs.lemmas.Bool.{cases_Bool, eqb-false, eqb-true, eq-eqb, false≢true, ne_eqb}
+use Rattle.std.proofs.lemmas.Bool.{cases_Bool, eqb-false, eqb-true, eq-eqb, ne_eqb}
 use Rattle.std.proofs.lemmas.Option.{get_or_from_slice_get, slice_get-get_or, slice_get_within}
 use Rattle.topo_core.specs.declared.darts.Dart.{Dart}
 use Rattle.topo_core.specs.declared.darts.Way.{Way}
@@ -10,16 +10,15 @@ use Rattle.topo_core.specs.declared.darts.Way.TheVariants.{Forward, Back}
 use Rattle.topo_core.specs.declared.rows.Rows.{Rows}
 use Rattle.topo_core.specs.declared.routes.Route.{Route}
 use Rattle.topo_core.specs.Changes.{numbered}
-use Rattle.topo_core.specs.Darts.{dart_twin, reversed}
+use Rattle.topo_core.specs.Darts.{reversed}
 use Rattle.topo_core.specs.Insertions.{backward, lifted, onward, onward_by, ShowsTurns}
 use Rattle.topo_core.specs.Items.{IsIn}
-use Rattle.topo_core.specs.Lawful.{IsWellFormed}
-use Rattle.topo_core.specs.Picture.{ahead, behind, darts, system}
-use Rattle.topo_core.specs.Systems.{has_dart, turn}
+use Rattle.topo_core.specs.Picture.{ahead, behind, darts}
+use Rattle.topo_core.specs.Systems.{has_dart}
 use Rattle.topo_core.proofs.ShownPlaces.{lifted_edge}
 use Rattle.topo_links.specs.declared.staging.Staged.{Staged}
 use Rattle.topo_links.specs.Staging.{back_name, forward_name, IsStaged, round_name}
-use Rattle.topo_links.specs.Tables.{IsNaming, Table, link_at}
+use Rattle.topo_links.specs.Tables.{Table}
 use Rattle.topo_links.proofs.NumberedDarts.{at_place, numbered_at, place_of_number}
 
 -- where a dart comes from: it is a dart from before, or one of the new edge, or it goes on or back from the crossing with this number

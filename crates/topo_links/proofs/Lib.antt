@@ -2,3 +2,4 @@ pub mod NamedPlaces
 pub mod NumberedDarts
 pub mod InsertedPlaces
 pub mod InsertedLinks
+pub mod Inserted

@@ -6,12 +6,10 @@ use Rattle.topo_core.specs.declared.darts.Dart.{Dart}
 use Rattle.topo_core.specs.declared.rows.EdgeRow.{EdgeRow}
 use Rattle.topo_core.specs.declared.rows.Rows.{Rows}
 use Rattle.topo_core.specs.Darts.{dart_twin}
-use Rattle.topo_core.specs.Lawful.{IsWellFormed}
 use Rattle.topo_core.specs.Picture.{darts, system}
 use Rattle.topo_core.specs.Systems.{has_dart, turn}
-use Rattle.topo_core.proofs.Numbering.{turn_stays, twin_in}
 use Rattle.topo_links.specs.declared.table.Ends.{Ends}
-use Rattle.topo_links.specs.Tables.{IsNaming, ShowsRows, Table, ends_of, first_dart, last_dart, link_at}
+use Rattle.topo_links.specs.Tables.{ShowsRows, Table, ends_of, first_dart, last_dart, link_at}
 
 module _ {P : Type 0} (There : P → Type 0) (dart : P → Dart) (name : P → ℕ) where
   -- the place that is there, with this dart and this name

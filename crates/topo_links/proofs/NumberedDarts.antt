@@ -1,6 +1,6 @@
 -- Items numbered from n on, by their places.
 use Rattle.std.proofs.Common.{◌≡◌, ℕ, zero, suc, ◌+◌, List, [], ◌∷◌, refl, sym, ap, subst, ◌∙◌, arith, inl, inr}
-use Rattle.std.specs.Prelude.{◌⊎◌, Bool, true, false, slice_get, Option, Some, None}
+use Rattle.std.specs.Prelude.{◌⊎◌, true, false, slice_get, Some, None}
 use Rattle.std.specs.List.{AllByRecursion, enumerate_from}
 use Rattle.std.proofs.lemmas.Bool.{cases_Bool}
 use Rattle.topo_core.specs.declared.darts.Dart.{Dart}
