@@ -3,3 +3,4 @@ pub mod NumberedDarts
 pub mod InsertedPlaces
 pub mod InsertedLinks
 pub mod Inserted
+pub mod Settling

@@ -1,6 +1,6 @@
 //! A new edge that stands ready in the table.
 
-ghost use Rattle.std.specs.Prelude.{◌≡◌, ◌≢◌, ℕ, ◌+◌, ◌*◌, ◌<◌, ◌≤◌, length, slice_index_or};
+ghost use Rattle.std.specs.Prelude.{◌≡◌, ◌≢◌, ℕ, ◌+◌, ◌*◌, ◌^◌, ◌<◌, ◌≤◌, List, length, slice_index_or};
 ghost use Rattle.topo_core.specs.declared.rows.Rows.{Rows};
 ghost use Rattle.topo_core.specs.declared.routes.Route.{Route};
 ghost use Rattle.topo_core.specs.Changes.{shown};
@@ -9,7 +9,7 @@ ghost use Rattle.topo_core.specs.Lawful.{IsWellFormed};
 ghost use Rattle.topo_links.specs.Staging.{AreMet, IsReady, IsSettled, IsStaged, with_next, with_twin};
 ghost use Rattle.topo_links.specs.Tables.{ShowsRows, no_link};
 
-use crate::table::{Link, Links};
+use crate::table::{Ends, Link, Links};
 
 /// A new edge whose links stand ready: the name of its first dart, how many crossings it has, and the
 /// names of the darts before its two ends.
@@ -53,11 +53,22 @@ fn meet_crossings(links: &mut [Link], staged: Staged)
 
 /// The darts before the ends of a new edge turn to it.
 fn turn_to_ends(links: &mut [Link], staged: Staged)
-    requires { IsReady links.old staged }
+    requires start { staged.before_a < length links.old }
+    requires end { staged.before_b < length links.old }
+    requires names { staged.first + 2 ≤ 2 ^ 32 }
     ensures { links.new ≡ with_next (with_next links.old staged.before_a staged.first) staged.before_b (staged.first + 1) }
 {
     turn_to(links, staged.before_a, staged.first);
     turn_to(links, staged.before_b, staged.first + 1);
+}
+
+/// The darts that a new edge meets are told of it.
+fn tell(links: &mut [Link], staged: Staged)
+    requires { IsReady links.old staged }
+    ensures { (ends : List Ends) → IsSettled (record { links = links.old; ends = ends }) staged (record { links = links.new; ends = ends }) }
+{
+    meet_crossings(links, staged);
+    turn_to_ends(links, staged);
 }
 
 impl Links {
@@ -68,7 +79,6 @@ impl Links {
         ensures settled { IsSettled self.old staged self.new }
         ensures shown { (rows : Rows) (u v kind : ℕ) (r : Route) → IsWellFormed rows → IsInsertable rows u v kind r → IsStaged rows u v r self.old staged → ShowsRows (shown rows u v kind r) self.new }
     {
-        turn_to_ends(&mut self.links, staged);
-        meet_crossings(&mut self.links, staged);
+        tell(&mut self.links, staged);
     }
 }
