@@ -29,7 +29,7 @@ use Rattle.topo_links.proofs.InsertedPlaces.{Backward, IsFirst, IsLast, IsOld, I
 use Rattle.topo_links.proofs.NamedPlaces.{IsPlaced}
 use Rattle.topo_links.proofs.NumberedDarts.{at_place, crossed_or_not}
 
-one_segment : (d : Dart) → same_segment d d ≡ true
+pub one_segment : (d : Dart) → same_segment d d ≡ true
 one_segment d = ap (λ (b : Bool). b && d.seg == d.seg) (eqb_self d.edge) ∙ eqb_self d.seg
 
 module _ (p q : Rows) (u v : ℕ) (r : Route) (shows : ShowsTurns p p.next_edge u v r q) (here : AllByRecursion (λ d. has_dart (darts p) d ≡ true) r.crossed) (t : Table) (s : Staged) (staged : IsStaged p u v r t s)

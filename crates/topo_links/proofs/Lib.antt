@@ -4,3 +4,4 @@ pub mod InsertedPlaces
 pub mod InsertedLinks
 pub mod Inserted
 pub mod Settling
+pub mod Readying
