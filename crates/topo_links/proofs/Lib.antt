@@ -1,7 +1,13 @@
+pub mod Corners
+pub mod Found
+pub mod Grown
+pub mod GrownCorner
+pub mod Inserted
+pub mod InsertedLinks
+pub mod InsertedPlaces
 pub mod NamedPlaces
 pub mod NumberedDarts
-pub mod InsertedPlaces
-pub mod InsertedLinks
-pub mod Inserted
-pub mod Settling
 pub mod Readying
+pub mod Settling
+pub mod Straight
+pub mod Walking

@@ -8,4 +8,5 @@
 #![tactic(auto)]
 
 pub mod table;
+mod names;
 mod staging;

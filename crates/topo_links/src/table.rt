@@ -33,3 +33,24 @@ impl Model for Links {
 
     ghost view = { λ t. record { links = t.links.items; ends = t.ends.items } };
 }
+
+impl Links {
+    ghost use Rattle.std.specs.Prelude.{◌≡◌, ◌<◌, Some, length, slice_get};
+    ghost use Rattle.topo_links.specs.Tables.{link_at};
+
+    /// What stands at a name.
+    pub(crate) fn link(&self, name: u32) -> Link
+        requires { name < length self.now.links }
+        ensures { result ≡ link_at self.now name }
+    {
+        self.links[name as usize]
+    }
+
+    /// The names at the ends of the edge at a place.
+    pub(crate) fn ends_at(&self, place: usize) -> Ends
+        requires { place < length self.now.ends }
+        ensures { slice_get self.now.ends place ≡ Some result }
+    {
+        self.ends[place]
+    }
+}
