@@ -5,9 +5,9 @@ pub mod GrownCorner
 pub mod Inserted
 pub mod InsertedLinks
 pub mod InsertedPlaces
+pub mod Meeting
 pub mod NamedPlaces
 pub mod NumberedDarts
 pub mod Readying
-pub mod Settling
 pub mod Straight
 pub mod Walking

@@ -1,6 +1,6 @@
 -- A new edge, before and after the table shows it: its darts get the names from `first` on, and what stands there leads on to the
 -- darts that it meets, which are told of it at last.
-use Rattle.std.specs.Prelude.{◌≡◌, ◌≢◌, ℕ, ◌+◌, ◌-◌, ◌*◌, ◌^◌, ◌<◌, ◌≤◌, ◌==◌, true, cond, List, length, slice_get, slice_index_or, slice_set, Some}
+use Rattle.std.specs.Prelude.{◌≡◌, ◌≢◌, ℕ, ◌+◌, ◌-◌, ◌*◌, ◌^◌, ◌<◌, ◌≤◌, ◌==◌, true, cond, List, [], ◌∷◌, ◌++◌, length, slice_get, slice_index_or, slice_set, Some}
 use Rattle.topo_core.specs.declared.darts.Dart.{Dart}
 use Rattle.topo_core.specs.declared.rows.Rows.{Rows}
 use Rattle.topo_core.specs.declared.routes.Route.{Route}
@@ -126,3 +126,32 @@ pub record AreMet (links : List Link) (s : Staged) (n : ℕ) (after : List Link)
   pub onward : (i : ℕ) → i < n → (slice_index_or after (met_onward links s i) no_link).twin ≡ round_name s.first i 0
   pub backward : (i : ℕ) → i < n → (slice_index_or after (met_backward links s i) no_link).twin ≡ round_name s.first i 2
   pub twins : (m : ℕ) → ((i : ℕ) → i < n → m ≢ met_onward links s i) → ((i : ℕ) → i < n → m ≢ met_backward links s i) → (slice_index_or after m no_link).twin ≡ (slice_index_or links m no_link).twin
+
+-- ---- Links put behind the others
+
+-- what stands at the darts of the new edge at its ends, which turn to these
+abbrev pub end_links : Staged → ℕ → ℕ → ℕ → List Link
+end_links s start end f =
+    record { twin = back_name s.first s.crossings 0; next = start; edge = f } ∷ record { twin = forward_name s.first s.crossings; next = end; edge = f } ∷ []
+
+-- what stands at the darts round crossing i, where the new edge f crosses d
+abbrev pub round_links : (Dart → ℕ) → ℕ → Staged → ℕ → Dart → List Link
+round_links name f s i d =
+    record { twin = name (dart_twin d); next = round_name s.first i 1; edge = d.edge }
+    ∷ record { twin = back_name s.first s.crossings (i + 1); next = round_name s.first i 2; edge = f }
+    ∷ record { twin = name d; next = round_name s.first i 3; edge = d.edge }
+    ∷ record { twin = forward_name s.first i; next = round_name s.first i 0; edge = f }
+    ∷ []
+
+-- and round the crossings from i on
+abbrev pub route_links : (Dart → ℕ) → ℕ → Staged → ℕ → List Dart → List Link
+route_links name f s i [] = []
+route_links name f s i (d ∷ ds) = round_links name f s i d ++ route_links name f s (i + 1) ds
+
+-- names for a new edge from u to v along the route
+pub record IsPlanned (rows : Rows) (u v : ℕ) (r : Route) (t : Table) (s : Staged) : Type 0 where
+  pub first : s.first ≡ length t.links
+  pub crossings : s.crossings ≡ length r.crossed
+  pub names : s.first + 2 + 4 * s.crossings < 2 ^ 32
+  pub start : (name : Dart → ℕ) (c : Dart) → IsNaming rows t name → corner rows u r.start ≡ Some c → IsBefore rows name c s.before_a
+  pub end : (name : Dart → ℕ) (c : Dart) → IsNaming rows t name → corner rows v r.end ≡ Some c → IsBefore rows name c s.before_b

@@ -9,4 +9,5 @@
 
 pub mod table;
 mod names;
+mod settling;
 mod staging;

@@ -1,15 +1,22 @@
 //! A new edge that stands ready in the table.
 
-ghost use Rattle.std.specs.Prelude.{◌≡◌, ◌≢◌, ℕ, ◌+◌, ◌*◌, ◌^◌, ◌<◌, ◌≤◌, List, length, slice_index_or};
-ghost use Rattle.topo_core.specs.declared.rows.Rows.{Rows};
-ghost use Rattle.topo_core.specs.declared.routes.Route.{Route};
-ghost use Rattle.topo_core.specs.Changes.{shown};
+ghost use Rattle.std.specs.Prelude.{◌≡◌, ◌↔◌, IsTrue, ℕ, true, ◌+◌, ◌*◌, ◌^◌, ◌<◌, ◌≤◌, ◌++◌, ◌∷◌, [], IfOk, OnErr, Some, length, slice_get, take};
+ghost use Rattle.std.specs.List.{AllByRecursion};
 ghost use Rattle.topo_core.specs.Insertions.{IsInsertable};
 ghost use Rattle.topo_core.specs.Lawful.{IsWellFormed};
-ghost use Rattle.topo_links.specs.Staging.{AreMet, IsReady, IsSettled, IsStaged, with_next, with_twin};
-ghost use Rattle.topo_links.specs.Tables.{ShowsRows, no_link};
+ghost use Rattle.topo_core.specs.Picture.{corner, darts, rotation};
+ghost use Rattle.topo_core.specs.Systems.{has_dart};
+ghost use Rattle.topo_core.specs.declared.darts.Dart.{Dart};
+ghost use Rattle.topo_links.specs.Staging.{IsPlanned, IsReady, IsStaged, back_name, end_links, forward_name, round_links, route_links};
+ghost use Rattle.topo_links.specs.Tables.{IsNaming, ShowsRows};
 
+use crate::names::{corner_name, name_before, name_of};
 use crate::table::{Ends, Link, Links};
+use std::alloc::AllocError;
+use topo_core::darts::Dart;
+use topo_core::routes::Route;
+use topo_core::rows::Rows;
+use topo_frozen::Hints;
 
 /// A new edge whose links stand ready: the name of its first dart, how many crossings it has, and the
 /// names of the darts before its two ends.
@@ -21,64 +28,99 @@ pub struct Staged {
     pub(crate) before_b: u32,
 }
 
-/// The dart that a link leads to over its segment leads back.
-fn meet(links: &mut [Link], name: u32)
-    requires within { name < length links.old }
-    requires met { (slice_index_or links.old name no_link).twin < length links.old }
-    ensures { links.new ≡ with_twin links.old (slice_index_or links.old name no_link).twin name }
+/// Whether there are names for the darts of a new edge with so many crossings, where so many are given.
+fn has_names(given: usize, crossings: usize) -> bool
+    ensures { IsTrue result ↔ given + 2 + 4 * crossings < 2 ^ 32 }
 {
-    let met = links[name as usize].twin as usize;
-    links[met].twin = name;
+    let most = u32::MAX as usize;
+    given <= most && crossings <= most && given + 2 + 4 * crossings <= most
 }
 
-/// A dart turns to the one with this name.
-fn turn_to(links: &mut [Link], before: u32, name: u32)
-    requires within { before < length links.old }
-    ensures { links.new ≡ with_next links.old before name }
+/// The name of the new edge's dart forward on a segment.
+fn forward_name(first: u32, segment: u32) -> u32
+    requires { first + 4 * segment < 2 ^ 32 }
+    ensures { result ≡ forward_name first segment }
 {
-    links[before as usize].next = name;
-}
-
-/// The darts on the segments that a new edge crosses lead to its crossings.
-fn meet_crossings(links: &mut [Link], staged: Staged)
-    requires { IsReady links.old staged }
-    ensures { AreMet links.old staged staged.crossings links.new }
-{
-    for i in 0..staged.crossings {
-        let onward = staged.first + 2 + 4 * i;
-        meet(links, onward);
-        meet(links, onward + 2);
+    if segment == 0 {
+        first
+    } else {
+        first + 4 * segment - 1
     }
 }
 
-/// The darts before the ends of a new edge turn to it.
-fn turn_to_ends(links: &mut [Link], staged: Staged)
-    requires start { staged.before_a < length links.old }
-    requires end { staged.before_b < length links.old }
-    requires names { staged.first + 2 ≤ 2 ^ 32 }
-    ensures { links.new ≡ with_next (with_next links.old staged.before_a staged.first) staged.before_b (staged.first + 1) }
+/// The name of the new edge's dart back on a segment, where it has so many crossings.
+fn back_name(first: u32, crossings: u32, segment: u32) -> u32
+    requires within { segment ≤ crossings }
+    requires names { first + 2 + 4 * crossings < 2 ^ 32 }
+    ensures { result ≡ back_name first crossings segment }
 {
-    turn_to(links, staged.before_a, staged.first);
-    turn_to(links, staged.before_b, staged.first + 1);
-}
-
-/// The darts that a new edge meets are told of it.
-fn tell(links: &mut [Link], staged: Staged)
-    requires { IsReady links.old staged }
-    ensures { (ends : List Ends) → IsSettled (record { links = links.old; ends = ends }) staged (record { links = links.new; ends = ends }) }
-{
-    meet_crossings(links, staged);
-    turn_to_ends(links, staged);
-}
-
-impl Links {
-    /// Shows the edge that stands ready: the darts before its ends turn to it, and those on the segments
-    /// that it crosses lead to its crossings.
-    pub fn settle(&mut self, staged: Staged)
-        requires ready { IsReady self.old.links staged }
-        ensures settled { IsSettled self.old staged self.new }
-        ensures shown { (rows : Rows) (u v kind : ℕ) (r : Route) → IsWellFormed rows → IsInsertable rows u v kind r → IsStaged rows u v r self.old staged → ShowsRows (shown rows u v kind r) self.new }
-    {
-        tell(&mut self.links, staged);
+    if segment == crossings {
+        first + 1
+    } else {
+        first + 5 + 4 * segment
     }
+}
+
+/// The names of a new edge's darts, and of those that it meets at its ends.
+fn plan(table: &Links, rows: &Rows, hints: &Hints, u: u32, v: u32, route: &Route) -> Result<Staged, AllocError>
+    requires good { IsWellFormed rows.now }
+    requires shows { ShowsRows rows.now table.now }
+    requires insertable { (kind : ℕ) × IsInsertable rows.now u v kind route.now }
+    ensures { IfOk result (IsPlanned rows.now u v route.now table.now) }
+{
+    let crossings = route.crossed.as_slice().len();
+    if !has_names(table.links.len(), crossings) {
+        return Err(AllocError);
+    }
+    Ok(Staged {
+        first: table.links.len() as u32,
+        crossings: crossings as u32,
+        before_a: name_before(table, rows, hints, u, route.start),
+        before_b: name_before(table, rows, hints, v, route.end),
+    })
+}
+
+/// What stands at the names of the new edge's darts at its ends, which turn to these.
+fn first_links(staged: Staged, start: u32, end: u32, edge: u32) -> [Link; 2]
+    requires { staged.first + 2 + 4 * staged.crossings < 2 ^ 32 }
+    ensures { result ≡ end_links staged start end edge }
+{
+    [
+        Link {
+            twin: back_name(staged.first, staged.crossings, 0),
+            next: start,
+            edge,
+        },
+        Link {
+            twin: forward_name(staged.first, staged.crossings),
+            next: end,
+            edge,
+        },
+    ]
+}
+
+/// Puts what stands at a crossing of the new edge behind the other links.
+fn push_crossing(table: &mut Links, rows: &Rows, hints: &Hints, staged: Staged, i: u32, dart: Dart) -> Result<(), AllocError>
+    requires good { IsWellFormed rows.now }
+    requires shows { ShowsRows rows.now table.old }
+    requires there { has_dart (darts rows.now) dart ≡ true }
+    requires within { i < staged.crossings }
+    requires names { staged.first + 2 + 4 * staged.crossings < 2 ^ 32 }
+    ensures ends { table.new.ends ≡ table.old.ends }
+    ensures kept { OnErr result (table.new.links ≡ table.old.links) }
+    ensures pushed { IfOk result (λ _. (name : Dart → ℕ) → IsNaming rows.now table.old name → table.new.links ≡ table.old.links ++ round_links name rows.now.next_edge staged i dart) }
+{
+    let name = name_of(table, rows, hints, dart);
+    let twin = table.link(name).twin;
+    let onward = staged.first + 2 + 4 * i;
+    let ahead = back_name(staged.first, staged.crossings, i + 1);
+    let behind = forward_name(staged.first, i);
+    let edge = dart.edge.number();
+    let new = rows.next_edge;
+    table.links.extend_from_slice(&[
+        Link { twin, next: onward + 1, edge },
+        Link { twin: ahead, next: onward + 2, edge: new },
+        Link { twin: name, next: onward + 3, edge },
+        Link { twin: behind, next: onward, edge: new },
+    ])
 }

@@ -1,5 +1,5 @@
 use Rattle.topo_links.specs.Staging.{AreMet}
-use Rattle.topo_links.proofs.staging.meet_crossings.Given as goal
+use Rattle.topo_links.proofs.settling.meet_crossings.Given as goal
 
 -- the crossings so far are met
 abbrev pub invariant-loop-i : goal.invariant-loop-i

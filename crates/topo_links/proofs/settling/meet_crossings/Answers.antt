@@ -1,6 +1,6 @@
 use Rattle.std.proofs.Common.{◌+◌, ◌*◌, arith}
-use Rattle.topo_links.proofs.Settling.{met_next, met_within, next_within}
-use Rattle.topo_links.proofs.staging.meet_crossings.Goals as goal
+use Rattle.topo_links.proofs.Meeting.{met_next, met_within, next_within}
+use Rattle.topo_links.proofs.settling.meet_crossings.Goals as goal
 
 pub meet-requires-clause-met : goal.meet-requires-clause-met
 meet-requires-clause-met c = met_within c.args.links.now c.args.staged c.requires c.loop-i.i (c.args.staged.first + 2 + 4 * c.loop-i.i) c.loop-i-test.true (omega arith) c.loop-i.links c.loop-i.invariant
