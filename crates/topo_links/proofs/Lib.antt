@@ -8,6 +8,8 @@ pub mod InsertedPlaces
 pub mod Meeting
 pub mod NamedPlaces
 pub mod NumberedDarts
+pub mod Pushed
 pub mod Readying
+pub mod StagedLinks
 pub mod Straight
 pub mod Walking

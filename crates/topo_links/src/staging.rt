@@ -1,6 +1,6 @@
 //! A new edge that stands ready in the table.
 
-ghost use Rattle.std.specs.Prelude.{◌≡◌, ◌↔◌, IsTrue, ℕ, true, ◌+◌, ◌*◌, ◌^◌, ◌<◌, ◌≤◌, ◌++◌, ◌∷◌, [], IfOk, OnErr, Some, length, slice_get, take};
+ghost use Rattle.std.specs.Prelude.{◌≡◌, ◌↔◌, IsTrue, ℕ, true, ◌+◌, ◌*◌, ◌^◌, ◌<◌, ◌≤◌, ◌++◌, ◌∷◌, [], IfOk, OnErr, OnOk, Some, length, slice_get, take};
 ghost use Rattle.std.specs.List.{AllByRecursion};
 ghost use Rattle.topo_core.specs.Insertions.{IsInsertable};
 ghost use Rattle.topo_core.specs.Lawful.{IsWellFormed};
@@ -99,6 +99,29 @@ fn first_links(staged: Staged, start: u32, end: u32, edge: u32) -> [Link; 2]
     ]
 }
 
+/// What stands at the names of the darts round a crossing of the new edge, where it crosses a dart.
+fn links_at(table: &Links, rows: &Rows, hints: &Hints, staged: Staged, i: u32, dart: Dart) -> [Link; 4]
+    requires good { IsWellFormed rows.now }
+    requires shows { ShowsRows rows.now table.now }
+    requires there { has_dart (darts rows.now) dart ≡ true }
+    requires within { i < staged.crossings }
+    requires names { staged.first + 2 + 4 * staged.crossings < 2 ^ 32 }
+    ensures { (name : Dart → ℕ) → IsNaming rows.now table.now name → result ≡ round_links name rows.now.next_edge staged i dart }
+{
+    let name = name_of(table, rows, hints, dart);
+    let met = table.link(name);
+    let onward = staged.first + 2 + 4 * i;
+    let ahead = back_name(staged.first, staged.crossings, i + 1);
+    let behind = forward_name(staged.first, i);
+    let new = rows.next_edge;
+    [
+        Link { twin: met.twin, next: onward + 1, edge: met.edge },
+        Link { twin: ahead, next: onward + 2, edge: new },
+        Link { twin: name, next: onward + 3, edge: met.edge },
+        Link { twin: behind, next: onward, edge: new },
+    ]
+}
+
 /// Puts what stands at a crossing of the new edge behind the other links.
 fn push_crossing(table: &mut Links, rows: &Rows, hints: &Hints, staged: Staged, i: u32, dart: Dart) -> Result<(), AllocError>
     requires good { IsWellFormed rows.now }
@@ -108,19 +131,77 @@ fn push_crossing(table: &mut Links, rows: &Rows, hints: &Hints, staged: Staged, 
     requires names { staged.first + 2 + 4 * staged.crossings < 2 ^ 32 }
     ensures ends { table.new.ends ≡ table.old.ends }
     ensures kept { OnErr result (table.new.links ≡ table.old.links) }
-    ensures pushed { IfOk result (λ _. (name : Dart → ℕ) → IsNaming rows.now table.old name → table.new.links ≡ table.old.links ++ round_links name rows.now.next_edge staged i dart) }
+    ensures pushed { (name : Dart → ℕ) → IsNaming rows.now table.old name → OnOk result (table.new.links ≡ table.old.links ++ round_links name rows.now.next_edge staged i dart) }
 {
-    let name = name_of(table, rows, hints, dart);
-    let twin = table.link(name).twin;
-    let onward = staged.first + 2 + 4 * i;
-    let ahead = back_name(staged.first, staged.crossings, i + 1);
-    let behind = forward_name(staged.first, i);
-    let edge = dart.edge.number();
-    let new = rows.next_edge;
-    table.links.extend_from_slice(&[
-        Link { twin, next: onward + 1, edge },
-        Link { twin: ahead, next: onward + 2, edge: new },
-        Link { twin: name, next: onward + 3, edge },
-        Link { twin: behind, next: onward, edge: new },
-    ])
+    let links = links_at(table, rows, hints, staged, i, dart);
+    table.links.extend_from_slice(&links)
+}
+
+/// Puts what stands at the crossings of the new edge behind the other links, or as much as there is
+/// memory for.
+fn push_crossings(table: &mut Links, rows: &Rows, hints: &Hints, staged: Staged, crossed: &[Dart]) -> Result<(), AllocError>
+    requires good { IsWellFormed rows.now }
+    requires shows { ShowsRows rows.now table.old }
+    requires there { AllByRecursion (λ d. has_dart (darts rows.now) d ≡ true) crossed.now }
+    requires crossings { staged.crossings ≡ length crossed.now }
+    requires names { staged.first + 2 + 4 * staged.crossings < 2 ^ 32 }
+    ensures ends { table.new.ends ≡ table.old.ends }
+    ensures shows { ShowsRows rows.now table.new }
+    ensures pushed { (name : Dart → ℕ) → IsNaming rows.now table.old name → OnOk result (table.new.links ≡ table.old.links ++ route_links name rows.now.next_edge staged 0 crossed.now) }
+{
+    for i in 0..crossed.len() {
+        push_crossing(table, rows, hints, staged, i as u32, crossed[i])?;
+    }
+    Ok(())
+}
+
+/// Puts what stands at the new edge's names behind the other links, or as much as there is memory for.
+fn push_links(table: &mut Links, rows: &Rows, hints: &Hints, staged: Staged, u: u32, v: u32, route: &Route) -> Result<(), AllocError>
+    requires good { IsWellFormed rows.now }
+    requires shows { ShowsRows rows.now table.old }
+    requires insertable { (kind : ℕ) × IsInsertable rows.now u v kind route.now }
+    requires planned { IsPlanned rows.now u v route.now table.old staged }
+    ensures ends { table.new.ends ≡ table.old.ends }
+    ensures shows { ShowsRows rows.now table.new }
+    ensures pushed { (name : Dart → ℕ) (start end : Dart) → IsNaming rows.now table.old name → corner rows.now u route.now.start ≡ Some start → corner rows.now v route.now.end ≡ Some end → OnOk result (table.new.links ≡ table.old.links ++ end_links staged (name start) (name end) rows.now.next_edge ++ route_links name rows.now.next_edge staged 0 route.now.crossed) }
+{
+    let start = corner_name(table, rows, hints, u, route.start);
+    let end = corner_name(table, rows, hints, v, route.end);
+    let first = first_links(staged, start, end, rows.next_edge);
+    table.links.extend_from_slice(&first)?;
+    push_crossings(table, rows, hints, staged, route.crossed.as_slice())
+}
+
+/// Puts the names at the ends of a new edge behind those of the other edges, of which there are so many.
+fn push_ends(table: &mut Links, edges: usize, ends: Ends) -> Result<(), AllocError>
+    requires { edges ≤ length table.old.ends }
+    ensures links { table.new.links ≡ table.old.links }
+    ensures kept { (p : ℕ) → p < edges → slice_get table.new.ends p ≡ slice_get table.old.ends p }
+    ensures pushed { OnOk result (slice_get table.new.ends edges ≡ Some ends) }
+{
+    table.ends.truncate(edges);
+    table.ends.push(ends)?;
+    Ok(())
+}
+
+impl Links {
+    /// Makes an edge between two vertices ready: what will stand at its names is put behind the table,
+    /// which shows the same picture as before. `AllocError` where there is no memory for it, or no name.
+    pub fn stage(&mut self, rows: &Rows, hints: &Hints, u: u32, v: u32, route: &Route) -> Result<Staged, AllocError>
+        requires good { IsWellFormed rows.now }
+        requires shows { ShowsRows rows.now self.old }
+        requires insertable { (kind : ℕ) × IsInsertable rows.now u v kind route.now }
+        ensures shows { ShowsRows rows.now self.new }
+        ensures staged { IfOk result (IsStaged rows.now u v route.now self.new) }
+        ensures ready { IfOk result (IsReady self.new.links) }
+    {
+        let staged = plan(self, rows, hints, u, v, route)?;
+        push_links(self, rows, hints, staged, u, v, route)?;
+        let ends = Ends {
+            a: staged.first,
+            b: staged.first + 1,
+        };
+        push_ends(self, rows.edges.as_slice().len(), ends)?;
+        Ok(staged)
+    }
 }
