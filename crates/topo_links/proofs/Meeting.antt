@@ -1,6 +1,6 @@
 -- Links written one by one: the darts that a new edge meets are told of it.
-use Rattle.std.proofs.Common.{◌≡◌, ◌≢◌, ℕ, ◌+◌, ◌*◌, ◌<◌, ◌≤◌, ◌==◌, Bool, true, false, List, length, get_or, refl, sym, ap, subst, ◌∙◌, arith, inl, inr}
-use Rattle.std.specs.Prelude.{◌⊎◌, slice_index_or}
+use Rattle.std.proofs.Common.{◌≡◌, ◌≢◌, ℕ, ◌+◌, ◌<◌, ◌≤◌, ◌==◌, List, length, refl, sym, ap, subst, ◌∙◌, arith, inl, inr}
+use Rattle.std.specs.Prelude.{slice_index_or}
 use Rattle.std.proofs.lemmas.List.{get_or-set_other, get_or-set_same, length-set}
 use Rattle.std.proofs.lemmas.Bool.{cases_Bool, eqb-false, eqb-true}
 use Rattle.topo_links.specs.declared.staging.Staged.{Staged}
@@ -24,8 +24,7 @@ twin_keeps : (links : List Link) (n x m : ℕ) → n < length links → ((at (wi
 twin_keeps links n x m h = elim (cases_Bool (m == n)) [
   | inl e ↦
       let same : m ≡ n = eqb-true m n e in
-      let here = get_or-set_same links n (record (at links n) { twin = x }) no_link h in
-      (
+      let here = get_or-set_same links n (record (at links n) { twin = x }) no_link h in (
         ap (λ k. (at (with_twin links n x) k).edge) same ∙ ap (λ (l : Link). l.edge) here ∙ ap (λ k. (at links k).edge) (sym same),
         ap (λ k. (at (with_twin links n x) k).next) same ∙ ap (λ (l : Link). l.next) here ∙ ap (λ k. (at links k).next) (sym same),
       )
@@ -135,8 +134,8 @@ pub met_next : (links : List Link) (s : Staged) → IsReady links s → (i x y :
 met_next links s ready i x y within x_is y_is now first second met first_is second_is =
     let one : first ≡ with_twin now (met_onward links s i) (round_name s.first i 0) = first_is ∙ ap (λ x. with_twin now (at now x).twin x) x_is ∙ ap (λ k. with_twin now k (round_name s.first i 0)) (near_is links s ready i within now met) in
     let two : second ≡ with_twin (with_twin now (met_onward links s i) (round_name s.first i 0)) (met_backward links s i) (round_name s.first i 2) =
-        second_is ∙ ap (λ y. with_twin first (at first y).twin y) y_is ∙ ap (λ list. with_twin list (at list (round_name s.first i 2)).twin (round_name s.first i 2)) one
-        ∙ ap (λ k. with_twin (with_twin now (met_onward links s i) (round_name s.first i 0)) k (round_name s.first i 2)) (far_is links s ready i within now met) in
+    second_is ∙ ap (λ y. with_twin first (at first y).twin y) y_is ∙ ap (λ list. with_twin list (at list (round_name s.first i 2)).twin (round_name s.first i 2)) one
+    ∙ ap (λ k. with_twin (with_twin now (met_onward links s i) (round_name s.first i 0)) k (round_name s.first i 2)) (far_is links s ready i within now met) in
     subst (λ list. AreMet links s (i + 1) list) (sym two) (met_more links s ready i within now met)
 
 -- the darts that are met lie in the table
@@ -148,7 +147,7 @@ pub next_within : (links : List Link) (s : Staged) → IsReady links s → (i x 
 next_within links s ready i x y within x_is y_is now first met is =
     let one : first ≡ with_twin now (met_onward links s i) (round_name s.first i 0) = is ∙ ap (λ x. with_twin now (at now x).twin x) x_is ∙ ap (λ k. with_twin now k (round_name s.first i 0)) (near_is links s ready i within now met) in
     subst (λ y. (at first y).twin < length first) (sym y_is) (subst (λ list. (at list (round_name s.first i 2)).twin < length list) (sym one)
-        (subst (λ n. n < length (with_twin now (met_onward links s i) (round_name s.first i 0))) (sym (far_is links s ready i within now met)) (far_there links s ready i within now met)))
+    (subst (λ n. n < length (with_twin now (met_onward links s i) (round_name s.first i 0))) (sym (far_is links s ready i within now met)) (far_there links s ready i within now met)))
 
 -- ---- The turns at the ends
 
@@ -162,8 +161,7 @@ next_keeps : (links : List Link) (n x m : ℕ) → n < length links → ((at (wi
 next_keeps links n x m h = elim (cases_Bool (m == n)) [
   | inl e ↦
       let same : m ≡ n = eqb-true m n e in
-      let here = get_or-set_same links n (record (at links n) { next = x }) no_link h in
-      (
+      let here = get_or-set_same links n (record (at links n) { next = x }) no_link h in (
         ap (λ k. (at (with_next links n x) k).edge) same ∙ ap (λ (l : Link). l.edge) here ∙ ap (λ k. (at links k).edge) (sym same),
         ap (λ k. (at (with_next links n x) k).twin) same ∙ ap (λ (l : Link). l.twin) here ∙ ap (λ k. (at links k).twin) (sym same),
       )

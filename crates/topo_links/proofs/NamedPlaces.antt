@@ -76,7 +76,7 @@ module _ {P : Type 0} (There : P → Type 0) (dart : P → Dart) (name : P → �
     ends_named i row at =
         let ends = places.ends i row at in
         ends.named ∙ ap₂ (λ (a b : ℕ). Some (let pair : Ends = record { a = a; b = b } in pair))
-            (sym (named (first_dart row) ends.first ends.first_there ends.first_is)) (sym (named (last_dart row) ends.last ends.last_there ends.last_is))
+        (sym (named (first_dart row) ends.first ends.first_there ends.first_is)) (sym (named (last_dart row) ends.last ends.last_there ends.last_is))
 
     -- so the table shows the rows
     pub shows_places : ShowsRows rows t

@@ -1,8 +1,7 @@
 -- Links put behind the others: the old names stay, and the new ones are as they should be.
-use Rattle.std.proofs.Common.{◌≡◌, ◌≢◌, ℕ, zero, suc, ◌+◌, ◌*◌, ◌<◌, ◌≤◌, Bool, true, false, List, [], ◌∷◌, ◌++◌, length, get_or, refl, sym, ap, ap₂, subst, ◌∙◌, arith, append_assoc, append-nil, take}
-use Rattle.std.specs.Prelude.{if◌then◌else◌, is_ok, OnOk, Result, Ok, Err, slice_get, slice_index_or, Some, None, Option}
+use Rattle.std.proofs.Common.{◌≡◌, ℕ, zero, suc, ◌+◌, ◌*◌, ◌<◌, ◌≤◌, true, List, [], ◌∷◌, ◌++◌, length, get_or, sym, ap, ap₂, ◌∙◌, arith, append_assoc, append-nil, take}
+use Rattle.std.specs.Prelude.{if◌then◌else◌, is_ok, OnOk, Result, Ok, Err, slice_get, slice_index_or, Some, None}
 use Rattle.topo_core.specs.declared.darts.Dart.{Dart}
-use Rattle.topo_core.specs.declared.rows.EdgeRow.{EdgeRow}
 use Rattle.topo_core.specs.declared.rows.Rows.{Rows}
 use Rattle.topo_core.specs.Darts.{dart_twin}
 use Rattle.topo_core.specs.Picture.{darts}
@@ -11,10 +10,10 @@ use Rattle.std.proofs.lemmas.List.{get_or-append-add, get_or_append_left, length
 use Rattle.std.proofs.Common.{length-append}
 use Rattle.std.proofs.lemmas.Option.{slice_get_within}
 use Rattle.topo_links.specs.declared.staging.Staged.{Staged}
-use Rattle.topo_links.specs.declared.table.Ends.{Ends}
 use Rattle.topo_links.specs.declared.table.Link.{Link}
-use Rattle.topo_links.specs.Staging.{back_name, end_links, forward_name, round_links, round_name, route_links}
-use Rattle.topo_links.specs.Tables.{IsNaming, link_at, no_link, ShowsRows, Table}
+use Rattle.topo_links.specs.Staging.{back_name, forward_name, round_links, round_name, route_links}
+use Rattle.topo_core.proofs.SystemDarts.{get_there}
+use Rattle.topo_links.specs.Tables.{ends_of, IsNaming, link_at, no_link, ShowsRows, Table}
 
 -- what is written where there is memory
 pub on_ok : {A E X : Type 0} (r : Result A E) (old more is now : List X) → now ≡ (if is_ok r then more else old) → more ≡ is → OnOk r (now ≡ is)
@@ -25,17 +24,17 @@ on_ok (Err a) old more is now e same = tt
 pub round_links_are : (rows : Rows) (t : Table) (name : Dart → ℕ) (d : Dart) (s : Staged) (i m ahead behind : ℕ) (met : Link) → IsNaming rows t name → has_dart (darts rows) d ≡ true → m ≡ name d → met ≡ link_at t m
     → ahead ≡ back_name s.first s.crossings (i + 1) → behind ≡ forward_name s.first i
     → ◌≡◌ {A = List Link} (record { twin = met.twin; next = s.first + 2 + 4 * i + 1; edge = met.edge }
-        ∷ record { twin = ahead; next = s.first + 2 + 4 * i + 2; edge = rows.next_edge }
-        ∷ record { twin = m; next = s.first + 2 + 4 * i + 3; edge = met.edge }
-        ∷ record { twin = behind; next = s.first + 2 + 4 * i; edge = rows.next_edge } ∷ []) (round_links name rows.next_edge s i d)
+    ∷ record { twin = ahead; next = s.first + 2 + 4 * i + 2; edge = rows.next_edge }
+    ∷ record { twin = m; next = s.first + 2 + 4 * i + 3; edge = met.edge }
+    ∷ record { twin = behind; next = s.first + 2 + 4 * i; edge = rows.next_edge } ∷ []) (round_links name rows.next_edge s i d)
 round_links_are rows t name d s i m ahead behind met naming there m_is met_is ahead_is behind_is =
     let twin_is : met.twin ≡ name (dart_twin d) = ap (λ (l : Link). l.twin) met_is ∙ ap (λ n. (link_at t n).twin) m_is ∙ naming.twins d there in
     let edge_is : met.edge ≡ d.edge = ap (λ (l : Link). l.edge) met_is ∙ ap (λ n. (link_at t n).edge) m_is ∙ naming.edges d there in
     let next_is : s.first + 2 + 4 * i ≡ round_name s.first i 0 = omega arith in
     λ j. record { twin = twin_is j; next = round_name s.first i 1; edge = edge_is j }
-        ∷ record { twin = ahead_is j; next = round_name s.first i 2; edge = rows.next_edge }
-        ∷ record { twin = m_is j; next = round_name s.first i 3; edge = edge_is j }
-        ∷ record { twin = behind_is j; next = next_is j; edge = rows.next_edge } ∷ []
+    ∷ record { twin = ahead_is j; next = round_name s.first i 2; edge = rows.next_edge }
+    ∷ record { twin = m_is j; next = round_name s.first i 3; edge = edge_is j }
+    ∷ record { twin = behind_is j; next = next_is j; edge = rows.next_edge } ∷ []
 
 -- ---- Names in a longer table
 
@@ -100,8 +99,31 @@ pushed_next rows t now after s f i d ds ends within is pushed next name naming =
     next name again ∙ ap (λ list. list ++ round_links name f s i d) (pushed name naming)
     ∙ append_assoc t.links before (round_links name f s i d)
     ∙ ap (λ list. t.links ++ list) (
-      ap (λ list. before ++ list) (sym (append-nil (round_links name f s i d)))
-      ∙ ap (λ n. before ++ (round_links name f s n d ++ [])) (sym many)
-      ∙ sym (route_links-append name f s 0 (take i ds) (d ∷ []))
-      ∙ ap (route_links name f s 0) (sym one)
+    ap (λ list. before ++ list) (sym (append-nil (round_links name f s i d)))
+    ∙ ap (λ n. before ++ (round_links name f s n d ++ [])) (sym many)
+    ∙ sym (route_links-append name f s 0 (take i ds) (d ∷ []))
+    ∙ ap (route_links name f s 0) (sym one)
     )
+
+-- ---- The ends of edges
+
+-- each edge has its ends
+pub ends_enough : (rows : Rows) (t : Table) → ShowsRows rows t → length rows.edges ≤ length t.ends
+ends_enough rows t shows = all_in rows.edges t.ends (λ p row at. slice_get_within t.ends p (ends_of shows.name row) (shows.naming.ends p row at)) where
+  all_in : {X Y : Type 0} (xs : List X) (ys : List Y) → ((p : ℕ) (x : X) → slice_get xs p ≡ Some x → p < length ys) → length xs ≤ length ys
+  all_in [] ys each = omega arith
+  all_in (x ∷ xs) ys each = let (y, at) = get_there (x ∷ xs) (length xs) (omega arith) in let less = each (length xs) y at in omega (arith, less)
+
+-- a table with the same links and the ends of these edges shows the same rows
+pub shows_kept : (rows : Rows) (t after : Table) → ShowsRows rows t → after.links ≡ t.links → ((p : ℕ) → p < length rows.edges → slice_get after.ends p ≡ slice_get t.ends p) → ShowsRows rows after
+shows_kept rows t after shows links kept =
+    record { name = shows.name; naming = naming_longer rows t after shows.name [] shows.naming (links ∙ sym (append-nil t.links)) kept }
+
+-- and one that goes on behind it too
+pub shows_behind : (rows : Rows) (t after : Table) (more : List Link) → ShowsRows rows t → after.links ≡ t.links ++ more → after.ends ≡ t.ends → ShowsRows rows after
+shows_behind rows t after more shows links ends =
+    record { name = shows.name; naming = naming_longer rows t after shows.name more shows.naming links (λ p h. ap (λ list. slice_get list p) ends) }
+
+pub on_ok_map : {A E : Type 0} (r : Result A E) (P Q : Type 0) → OnOk r P → (P → Q) → OnOk r Q
+on_ok_map (Ok a) P Q p f = f p
+on_ok_map (Err a) P Q p f = tt

@@ -1,7 +1,6 @@
 -- What stands ready can be settled: the darts that a new edge meets are apart.
-use Rattle.std.proofs.Common.{◌≡◌, ◌≢◌, ℕ, zero, suc, ◌+◌, ◌*◌, ◌^◌, ◌<◌, ◌≤◌, ◌==◌, Bool, true, false, List, [], ◌∷◌, length, refl, sym, ap, subst, ◌∙◌, arith, inl, inr}
-use Rattle.std.specs.Prelude.{◌⊎◌, map, slice_get, slice_index_or, nat_lt, Option, Some, None}
-use Rattle.std.specs.List.{AllByRecursion}
+use Rattle.std.proofs.Common.{◌≡◌, ◌≢◌, ℕ, zero, suc, ◌^◌, ◌<◌, ◌≤◌, ◌==◌, true, false, List, [], ◌∷◌, length, sym, ap, subst, ◌∙◌, arith, inl, inr}
+use Rattle.std.specs.Prelude.{map, slice_get, slice_index_or, nat_lt, Some, None}
 use Rattle.std.proofs.lemmas.Bool.{cases_Bool, eqb-false, eqb-true, false≢true}
 use Rattle.std.proofs.lemmas.List.Concat.{flat_map-append}
 use Rattle.std.proofs.lemmas.Option.{slice_get-get_or}
@@ -17,12 +16,12 @@ use Rattle.topo_core.specs.Systems.{darts_in, has_dart, turn}
 use Rattle.topo_core.proofs.Counting.{le_of_test, lt_of_test}
 use Rattle.topo_core.proofs.DartLaws.{twin-twin, twin_apart}
 use Rattle.topo_core.proofs.Members.{in_range}
-use Rattle.topo_core.proofs.Numbering.{distinct_system, has_at, turns_apart, twin_in}
+use Rattle.topo_core.proofs.Numbering.{distinct_system, has_at, twin_in}
 use Rattle.topo_core.proofs.Points.{points_apart}
 use Rattle.topo_core.proofs.Turning.{distinct_left, IsDistinct}
 use Rattle.topo_links.specs.declared.staging.Staged.{Staged}
-use Rattle.topo_links.specs.Staging.{IsBefore, IsReady, IsStaged, IsStagedGrowth, met_backward, met_onward, round_name}
-use Rattle.topo_links.specs.Tables.{IsNaming, Table, link_at}
+use Rattle.topo_links.specs.Staging.{IsReady, IsStaged, IsStagedGrowth, met_backward, met_onward}
+use Rattle.topo_links.specs.Tables.{Table}
 use Rattle.topo_links.proofs.InsertedLinks.{one_segment}
 use Rattle.topo_links.proofs.NumberedDarts.{at_place}
 
@@ -37,9 +36,9 @@ one_vertex rows good u v i j d u_in v_in at_u at_v =
     let parts : darts_in (system rows) ≡ _ = flat_map-append (λ around. around) (map (around_vertex rows) (vertices rows)) (map (around_crossing rows) rows.crossings) in
     let whole = subst IsDistinct parts (distinct_system rows good.paths good.crossings good.rotations) in
     points_apart (around_vertex rows) (vertices rows)
-        (distinct_left (darts_in (map (around_vertex rows) (vertices rows))) (darts_in (map (around_crossing rows) rows.crossings)) whole)
-        u v d (in_range 0 (length rows.rotations) u (omega arith) (omega (arith, u_in))) (in_range 0 (length rows.rotations) v (omega arith) (omega (arith, v_in)))
-        (has_at (around_vertex rows u) i d at_u) (has_at (around_vertex rows v) j d at_v)
+    (distinct_left (darts_in (map (around_vertex rows) (vertices rows))) (darts_in (map (around_crossing rows) rows.crossings)) whole)
+    u v d (in_range 0 (length rows.rotations) u (omega arith) (omega (arith, u_in))) (in_range 0 (length rows.rotations) v (omega arith) (omega (arith, v_in)))
+    (has_at (around_vertex rows u) i d at_u) (has_at (around_vertex rows v) j d at_v)
 
 -- ---- Crossed segments
 

@@ -1,6 +1,6 @@
 -- The links of a new edge stand ready once they are put behind the others.
-use Rattle.std.proofs.Common.{◌≡◌, ◌≢◌, ℕ, zero, suc, ◌+◌, ◌*◌, ◌^◌, ◌<◌, ◌≤◌, Bool, true, false, List, [], ◌∷◌, ◌++◌, length, get_or, refl, sym, ap, subst, ◌∙◌, arith, append_assoc, length-append}
-use Rattle.std.specs.Prelude.{map, slice_get, slice_index_or, Some, None, Option}
+use Rattle.std.proofs.Common.{◌≡◌, ℕ, ◌+◌, ◌*◌, ◌<◌, List, [], ◌∷◌, ◌++◌, length, get_or, sym, ap, subst, ◌∙◌, arith, append_assoc, length-append}
+use Rattle.std.specs.Prelude.{slice_get, slice_index_or, Some}
 use Rattle.std.proofs.lemmas.List.{get_or-append-add, get_or_append_left, length-map}
 use Rattle.topo_core.specs.declared.darts.Dart.{Dart}
 use Rattle.topo_core.specs.declared.rows.Rows.{Rows}
@@ -105,7 +105,7 @@ module _ (rows : Rows) (u v kind : ℕ) (r : Route) (good : IsWellFormed rows) (
 -- what was pushed stands ready
 pub staged_by : (rows : Rows) (u v kind : ℕ) (r : Route) → IsWellFormed rows → IsInsertable rows u v kind r → (t after : Table) (s : Staged) → ShowsRows rows t → IsPlanned rows u v r t s
     → ((name : Dart → ℕ) (start end : Dart) → IsNaming rows t name → corner rows u r.start ≡ Some start → corner rows v r.end ≡ Some end
-        → after.links ≡ t.links ++ end_links s (name start) (name end) rows.next_edge ++ route_links name rows.next_edge s 0 r.crossed)
+    → after.links ≡ t.links ++ end_links s (name start) (name end) rows.next_edge ++ route_links name rows.next_edge s 0 r.crossed)
     → ((p : ℕ) → p < length rows.edges → slice_get after.ends p ≡ slice_get t.ends p) → slice_get after.ends (length rows.edges) ≡ Some (record { a = s.first; b = s.first + 1 })
     → IsStaged rows u v r after s × IsReady after.links s
 staged_by rows u v kind r good ask t after s shows planned links kept pushed =

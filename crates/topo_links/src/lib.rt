@@ -7,7 +7,7 @@
 //! is made again.
 #![tactic(auto)]
 
-pub mod table;
 mod names;
 mod settling;
 mod staging;
+pub mod table;

@@ -62,7 +62,14 @@ fn back_name(first: u32, crossings: u32, segment: u32) -> u32
 }
 
 /// The names of a new edge's darts, and of those that it meets at its ends.
-fn plan(table: &Links, rows: &Rows, hints: &Hints, u: u32, v: u32, route: &Route) -> Result<Staged, AllocError>
+fn plan(
+    table: &Links,
+    rows: &Rows,
+    hints: &Hints,
+    u: u32,
+    v: u32,
+    route: &Route,
+) -> Result<Staged, AllocError>
     requires good { IsWellFormed rows.now }
     requires shows { ShowsRows rows.now table.now }
     requires insertable { (kind : ℕ) × IsInsertable rows.now u v kind route.now }
@@ -100,7 +107,14 @@ fn first_links(staged: Staged, start: u32, end: u32, edge: u32) -> [Link; 2]
 }
 
 /// What stands at the names of the darts round a crossing of the new edge, where it crosses a dart.
-fn links_at(table: &Links, rows: &Rows, hints: &Hints, staged: Staged, i: u32, dart: Dart) -> [Link; 4]
+fn links_at(
+    table: &Links,
+    rows: &Rows,
+    hints: &Hints,
+    staged: Staged,
+    i: u32,
+    dart: Dart,
+) -> [Link; 4]
     requires good { IsWellFormed rows.now }
     requires shows { ShowsRows rows.now table.now }
     requires there { has_dart (darts rows.now) dart ≡ true }
@@ -115,15 +129,38 @@ fn links_at(table: &Links, rows: &Rows, hints: &Hints, staged: Staged, i: u32, d
     let behind = forward_name(staged.first, i);
     let new = rows.next_edge;
     [
-        Link { twin: met.twin, next: onward + 1, edge: met.edge },
-        Link { twin: ahead, next: onward + 2, edge: new },
-        Link { twin: name, next: onward + 3, edge: met.edge },
-        Link { twin: behind, next: onward, edge: new },
+        Link {
+            twin: met.twin,
+            next: onward + 1,
+            edge: met.edge,
+        },
+        Link {
+            twin: ahead,
+            next: onward + 2,
+            edge: new,
+        },
+        Link {
+            twin: name,
+            next: onward + 3,
+            edge: met.edge,
+        },
+        Link {
+            twin: behind,
+            next: onward,
+            edge: new,
+        },
     ]
 }
 
 /// Puts what stands at a crossing of the new edge behind the other links.
-fn push_crossing(table: &mut Links, rows: &Rows, hints: &Hints, staged: Staged, i: u32, dart: Dart) -> Result<(), AllocError>
+fn push_crossing(
+    table: &mut Links,
+    rows: &Rows,
+    hints: &Hints,
+    staged: Staged,
+    i: u32,
+    dart: Dart,
+) -> Result<(), AllocError>
     requires good { IsWellFormed rows.now }
     requires shows { ShowsRows rows.now table.old }
     requires there { has_dart (darts rows.now) dart ≡ true }
@@ -139,7 +176,13 @@ fn push_crossing(table: &mut Links, rows: &Rows, hints: &Hints, staged: Staged, 
 
 /// Puts what stands at the crossings of the new edge behind the other links, or as much as there is
 /// memory for.
-fn push_crossings(table: &mut Links, rows: &Rows, hints: &Hints, staged: Staged, crossed: &[Dart]) -> Result<(), AllocError>
+fn push_crossings(
+    table: &mut Links,
+    rows: &Rows,
+    hints: &Hints,
+    staged: Staged,
+    crossed: &[Dart],
+) -> Result<(), AllocError>
     requires good { IsWellFormed rows.now }
     requires shows { ShowsRows rows.now table.old }
     requires there { AllByRecursion (λ d. has_dart (darts rows.now) d ≡ true) crossed.now }
@@ -156,7 +199,15 @@ fn push_crossings(table: &mut Links, rows: &Rows, hints: &Hints, staged: Staged,
 }
 
 /// Puts what stands at the new edge's names behind the other links, or as much as there is memory for.
-fn push_links(table: &mut Links, rows: &Rows, hints: &Hints, staged: Staged, u: u32, v: u32, route: &Route) -> Result<(), AllocError>
+fn push_links(
+    table: &mut Links,
+    rows: &Rows,
+    hints: &Hints,
+    staged: Staged,
+    u: u32,
+    v: u32,
+    route: &Route,
+) -> Result<(), AllocError>
     requires good { IsWellFormed rows.now }
     requires shows { ShowsRows rows.now table.old }
     requires insertable { (kind : ℕ) × IsInsertable rows.now u v kind route.now }
@@ -187,7 +238,14 @@ fn push_ends(table: &mut Links, edges: usize, ends: Ends) -> Result<(), AllocErr
 impl Links {
     /// Makes an edge between two vertices ready: what will stand at its names is put behind the table,
     /// which shows the same picture as before. `AllocError` where there is no memory for it, or no name.
-    pub fn stage(&mut self, rows: &Rows, hints: &Hints, u: u32, v: u32, route: &Route) -> Result<Staged, AllocError>
+    pub fn stage(
+        &mut self,
+        rows: &Rows,
+        hints: &Hints,
+        u: u32,
+        v: u32,
+        route: &Route,
+    ) -> Result<Staged, AllocError>
         requires good { IsWellFormed rows.now }
         requires shows { ShowsRows rows.now self.old }
         requires insertable { (kind : ℕ) × IsInsertable rows.now u v kind route.now }

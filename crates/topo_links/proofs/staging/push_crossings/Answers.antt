@@ -1,7 +1,5 @@
-use Rattle.std.proofs.Common.{◌≡◌, ◌∙◌, ap, sym}
+use Rattle.std.proofs.Common.{◌∙◌}
 use Rattle.std.specs.Prelude.{take}
-use Rattle.topo_core.specs.declared.darts.Dart.{Dart}
-use Rattle.topo_links.proofs.NumberedDarts.{at_place}
 use Rattle.topo_links.proofs.Pushed.{pushed_next, shows_longer}
 use Rattle.topo_links.proofs.staging.push_crossings.Goals as goal
 
@@ -12,7 +10,7 @@ push_crossing-requires-clause-shows c =
 pub returns-in_err-push_crossing-clause-shows : goal.returns-in_err-push_crossing-clause-shows
 returns-in_err-push_crossing-clause-shows c =
     shows_longer c.args.rows.now c.args.table.now c.push_crossing.new.table c.args.staged c.args.rows.now.next_edge (take c.loop-i.i c.args.crossed.now) c.requires.shows
-        (c.in_err-push_crossing.ensures.ends ∙ c.loop-i.invariant.0) (λ name naming. c.in_err-push_crossing.ensures.kept ∙ c.loop-i.invariant.1 name naming)
+    (c.in_err-push_crossing.ensures.ends ∙ c.loop-i.invariant.0) (λ name naming. c.in_err-push_crossing.ensures.kept ∙ c.loop-i.invariant.1 name naming)
 
 pub loop-i-preserved : goal.loop-i-preserved
 loop-i-preserved c = (
