@@ -5,8 +5,17 @@ pub mod EndNames
 pub mod Found
 pub mod Grown
 pub mod GrownCorner
+pub mod Inserted
+pub mod InsertedLinks
+pub mod InsertedPlaces
 pub mod Made
+pub mod Meeting
+pub mod NamedPlaces
+pub mod NumberedDarts
 pub mod Passing
+pub mod Pushed
+pub mod Readying
 pub mod Splicing
+pub mod StagedLinks
 pub mod Straight
 pub mod Walking

@@ -1,6 +1,6 @@
 -- A new edge, before and after the table shows it: its darts get the names from `first` on, and what stands there leads on to the
 -- darts that it meets, which are told of it at last.
-use Rattle.std.specs.Prelude.{◌≡◌, ◌≢◌, ℕ, ◌+◌, ◌-◌, ◌*◌, ◌<◌, ◌==◌, true, cond, length, slice_get, Some}
+use Rattle.std.specs.Prelude.{◌≡◌, ◌≢◌, ℕ, ◌+◌, ◌-◌, ◌*◌, ◌^◌, ◌<◌, ◌≤◌, ◌==◌, true, cond, List, [], ◌∷◌, ◌++◌, length, slice_get, slice_index_or, slice_set, Some}
 use Rattle.topo_core.specs.declared.darts.Dart.{Dart}
 use Rattle.topo_core.specs.declared.rows.Rows.{Rows}
 use Rattle.topo_core.specs.declared.routes.Route.{Route}
@@ -8,7 +8,8 @@ use Rattle.topo_core.specs.Darts.{dart_twin}
 use Rattle.topo_core.specs.Picture.{corner, darts, system}
 use Rattle.topo_core.specs.Systems.{has_dart, turn}
 use Rattle.topo_links.specs.declared.staging.Staged.{Staged}
-use Rattle.topo_links.specs.Tables.{IsNaming, Table, link_at}
+use Rattle.topo_links.specs.declared.table.Link.{Link}
+use Rattle.topo_links.specs.Tables.{IsNaming, Table, link_at, no_link}
 
 -- ---- The names of the new edge's darts
 
@@ -88,3 +89,69 @@ pub record IsSettled (t : Table) (s : Staged) (after : Table) : Type 0 where
   pub backward : (i : ℕ) → i < s.crossings → (link_at after (link_at t (round_name s.first i 2)).twin).twin ≡ round_name s.first i 2
   pub twins : (n : ℕ) → ((i : ℕ) → i < s.crossings → n ≢ (link_at t (round_name s.first i 0)).twin) → ((i : ℕ) → i < s.crossings → n ≢ (link_at t (round_name s.first i 2)).twin)
       → (link_at after n).twin ≡ (link_at t n).twin
+
+-- what its darts onward and backward at crossing i meet: the names of the two darts of the crossed segment
+abbrev pub met_onward : List Link → Staged → ℕ → ℕ
+met_onward links s i = (slice_index_or links (round_name s.first i 0) no_link).twin
+
+abbrev pub met_backward : List Link → Staged → ℕ → ℕ
+met_backward links s i = (slice_index_or links (round_name s.first i 2) no_link).twin
+
+-- the links of the new edge are there, and they meet other darts, each only once
+pub record IsReady (links : List Link) (s : Staged) : Type 0 where
+  pub room : s.first + 2 + 4 * s.crossings ≤ length links
+  pub are_names : length links ≤ 2 ^ 32
+  pub start : s.before_a < length links
+  pub end : s.before_b < length links
+  pub ends_apart : s.before_a ≢ s.before_b
+  pub onward_old : (i : ℕ) → i < s.crossings → met_onward links s i < s.first
+  pub backward_old : (i : ℕ) → i < s.crossings → met_backward links s i < s.first
+  pub onward_apart : (i j : ℕ) → i < s.crossings → j < s.crossings → met_onward links s i ≡ met_onward links s j → i ≡ j
+  pub backward_apart : (i j : ℕ) → i < s.crossings → j < s.crossings → met_backward links s i ≡ met_backward links s j → i ≡ j
+  pub not_both : (i j : ℕ) → i < s.crossings → j < s.crossings → met_onward links s i ≢ met_backward links s j
+
+-- ---- Links written one by one
+
+abbrev pub with_twin : List Link → ℕ → ℕ → List Link
+with_twin links n twin = slice_set links n (record (slice_index_or links n no_link) { twin = twin })
+
+abbrev pub with_next : List Link → ℕ → ℕ → List Link
+with_next links n next = slice_set links n (record (slice_index_or links n no_link) { next = next })
+
+-- the darts on the first n segments that the new edge crosses lead to its crossings, and else the links are as they were
+pub record AreMet (links : List Link) (s : Staged) (n : ℕ) (after : List Link) : Type 0 where
+  pub as_many : length after ≡ length links
+  pub edges : (m : ℕ) → (slice_index_or after m no_link).edge ≡ (slice_index_or links m no_link).edge
+  pub turns : (m : ℕ) → (slice_index_or after m no_link).next ≡ (slice_index_or links m no_link).next
+  pub onward : (i : ℕ) → i < n → (slice_index_or after (met_onward links s i) no_link).twin ≡ round_name s.first i 0
+  pub backward : (i : ℕ) → i < n → (slice_index_or after (met_backward links s i) no_link).twin ≡ round_name s.first i 2
+  pub twins : (m : ℕ) → ((i : ℕ) → i < n → m ≢ met_onward links s i) → ((i : ℕ) → i < n → m ≢ met_backward links s i) → (slice_index_or after m no_link).twin ≡ (slice_index_or links m no_link).twin
+
+-- ---- Links put behind the others
+
+-- what stands at the darts of the new edge at its ends, which turn to these
+abbrev pub end_links : Staged → ℕ → ℕ → ℕ → List Link
+end_links s start end f =
+    record { twin = back_name s.first s.crossings 0; next = start; edge = f } ∷ record { twin = forward_name s.first s.crossings; next = end; edge = f } ∷ []
+
+-- what stands at the darts round crossing i, where the new edge f crosses d
+abbrev pub round_links : (Dart → ℕ) → ℕ → Staged → ℕ → Dart → List Link
+round_links name f s i d =
+    record { twin = name (dart_twin d); next = round_name s.first i 1; edge = d.edge }
+    ∷ record { twin = back_name s.first s.crossings (i + 1); next = round_name s.first i 2; edge = f }
+    ∷ record { twin = name d; next = round_name s.first i 3; edge = d.edge }
+    ∷ record { twin = forward_name s.first i; next = round_name s.first i 0; edge = f }
+    ∷ []
+
+-- and round the crossings from i on
+abbrev pub route_links : (Dart → ℕ) → ℕ → Staged → ℕ → List Dart → List Link
+route_links name f s i [] = []
+route_links name f s i (d ∷ ds) = round_links name f s i d ++ route_links name f s (i + 1) ds
+
+-- names for a new edge from u to v along the route
+pub record IsPlanned (rows : Rows) (u v : ℕ) (r : Route) (t : Table) (s : Staged) : Type 0 where
+  pub first : s.first ≡ length t.links
+  pub crossings : s.crossings ≡ length r.crossed
+  pub names : s.first + 2 + 4 * s.crossings < 2 ^ 32
+  pub start : (name : Dart → ℕ) (c : Dart) → IsNaming rows t name → corner rows u r.start ≡ Some c → IsBefore rows name c s.before_a
+  pub end : (name : Dart → ℕ) (c : Dart) → IsNaming rows t name → corner rows v r.end ≡ Some c → IsBefore rows name c s.before_b

@@ -11,5 +11,6 @@ mod deletion;
 pub mod linked;
 mod making;
 mod names;
+mod settling;
 pub mod staging;
 pub mod table;
