@@ -3,6 +3,7 @@ pub mod DeletedNames
 pub mod Deleting
 pub mod EndNames
 pub mod Found
+pub mod FoundNames
 pub mod Grown
 pub mod GrownCorner
 pub mod Inserted

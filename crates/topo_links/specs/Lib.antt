@@ -1,5 +1,6 @@
 pub mod Making
 pub mod Naming
+pub mod Shown
 pub mod Splicing
 pub mod Staging
 pub mod Tables

@@ -8,6 +8,7 @@
 #![tactic(auto)]
 
 mod deletion;
+mod growth;
 pub mod linked;
 mod making;
 mod names;

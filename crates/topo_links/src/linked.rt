@@ -1,5 +1,12 @@
 //! A picture as a search walks on it.
 
+ghost use Rattle.std.specs.Prelude.{◌≡◌, ◌↔◌, IsTrue};
+ghost use Rattle.std.specs.declared.cmp.Ordering.TheVariants.{Less};
+ghost use Rattle.topo_core.specs.Darts.{dart_cmp};
+ghost use Rattle.topo_core.specs.Lawful.{Lawful};
+ghost use Rattle.topo_links.specs.Shown.{name_in};
+ghost use Rattle.topo_links.specs.Tables.{IsNaming, ShowsRows};
+
 use crate::names::{corner_name, dart_named};
 use crate::table::Links;
 use std::marker::Model;
@@ -17,21 +24,18 @@ pub struct LinkedRows<'a> {
     rows: &'a Rows,
     links: &'a Links,
     hints: &'a Hints,
-    ghost shows: { ShowsRows rows.now links.now },
-    ghost lawful: { Lawful rows.now },
+    ghost naming: { IsNaming rows.now links.now (name_in rows.now links.now) },
+    ghost lawful: { ∥ Lawful rows.now ∥₁ },
 }
 
-ghost use Rattle.topo_core.specs.Lawful.{Lawful};
-ghost use Rattle.topo_links.specs.Tables.{ShowsRows};
-
 impl<'a> Model for LinkedRows<'a> {
-    ghost use Rattle.std.specs.Prelude.{◌<◌, ◌^◌, length, Pair};
+    ghost use Rattle.std.specs.Prelude.{◌<◌, ◌^◌, length};
     ghost use Rattle.topo_core.specs.Picture.{darts};
-    ghost use Rattle.topo_links.specs.Linked.{ShownRows};
+    ghost use Rattle.topo_links.specs.Shown.{ShownRows};
 
     ghost Value = { ShownRows };
 
-    ghost view = { λ d. record { rows = d.rows.now; table = d.links.now; shows = d.shows; lawful = d.lawful } };
+    ghost view = { λ d. record { rows = d.rows.now; table = d.links.now; naming = d.naming; lawful = d.lawful } };
 
     ghost invariant = { λ d. (length (darts d.rows.now) < 2 ^ 32) × (length d.rows.now.rotations < 2 ^ 32) };
 }
@@ -53,13 +57,13 @@ impl<'a> LinkedRows<'a> {
 }
 
 impl Walked for LinkedRows<'_> {
-    ghost use Rattle.topo_links.specs.Linked.{named_rows};
-    ghost use Rattle.topo_links.proofs.Linked.{names_apart};
+    ghost use Rattle.topo_frozen.specs.Recovering.{lawful_again};
+    ghost use Rattle.topo_links.specs.Shown.{named_rows, names_apart};
 
     ghost named = { named_rows };
 
     fn size(&self) -> u32 {
-        self.links.len() as u32
+        self.links.size()
     }
 
     fn next(&self, dart: u32) -> u32 {
@@ -105,7 +109,7 @@ impl Walked for LinkedRows<'_> {
         }
     }
 
-    ghost lawful = { λ d. d.lawful };
+    ghost lawful = { λ d. lawful_again d.rows d.lawful };
 
     ghost has_names = { names_apart };
 }

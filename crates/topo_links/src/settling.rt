@@ -3,10 +3,11 @@
 ghost use Rattle.std.specs.Prelude.{◌≡◌, ◌≢◌, ℕ, ◌+◌, ◌*◌, ◌^◌, ◌<◌, ◌≤◌, List, length, slice_index_or};
 ghost use Rattle.topo_core.specs.declared.rows.Rows.{Rows};
 ghost use Rattle.topo_core.specs.declared.routes.Route.{Route};
-ghost use Rattle.topo_core.specs.Changes.{shown};
+ghost use Rattle.topo_core.specs.Changes.{grown, shown};
 ghost use Rattle.topo_core.specs.Insertions.{IsInsertable};
 ghost use Rattle.topo_core.specs.Lawful.{IsWellFormed};
-ghost use Rattle.topo_links.specs.Staging.{AreMet, IsReady, IsSettled, IsStaged, with_next, with_twin};
+ghost use Rattle.topo_core.specs.Picture.{rotation};
+ghost use Rattle.topo_links.specs.Staging.{AreMet, IsReady, IsSettled, IsStaged, IsStagedGrowth, with_next, with_twin};
 ghost use Rattle.topo_links.specs.Tables.{ShowsRows, no_link};
 
 use crate::staging::Staged;
@@ -68,6 +69,7 @@ impl Links {
     pub fn settle(&mut self, staged: Staged)
         requires ready { IsReady self.old.links staged }
         ensures settled { IsSettled self.old staged self.new }
+        ensures grown { (rows : Rows) (u p kind : ℕ) → IsWellFormed rows → u < length rows.rotations → p < length (rotation rows u) → kind < 64 → IsStagedGrowth rows u p self.old staged → ShowsRows (grown rows u p kind) self.new }
         ensures shown { (rows : Rows) (u v kind : ℕ) (r : Route) → IsWellFormed rows → IsInsertable rows u v kind r → IsStaged rows u v r self.old staged → ShowsRows (shown rows u v kind r) self.new }
     {
         tell(&mut self.links, staged);

@@ -29,7 +29,7 @@ pub struct Staged {
 }
 
 /// Whether there are names for the darts of a new edge with so many crossings, where so many are given.
-fn has_names(given: usize, crossings: usize) -> bool
+pub(crate) fn has_names(given: usize, crossings: usize) -> bool
     ensures { IsTrue result ↔ given + 2 + 4 * crossings < 2 ^ 32 }
 {
     let most = u32::MAX as usize;
@@ -88,7 +88,7 @@ fn plan(
 }
 
 /// What stands at the names of the new edge's darts at its ends, which turn to these.
-fn first_links(staged: Staged, start: u32, end: u32, edge: u32) -> [Link; 2]
+pub(crate) fn first_links(staged: Staged, start: u32, end: u32, edge: u32) -> [Link; 2]
     requires { staged.first + 2 + 4 * staged.crossings < 2 ^ 32 }
     ensures { result ≡ end_links staged start end edge }
 {
@@ -224,7 +224,7 @@ fn push_links(
 }
 
 /// Puts the names at the ends of a new edge behind those of the other edges, of which there are so many.
-fn push_ends(table: &mut Links, edges: usize, ends: Ends) -> Result<(), AllocError>
+pub(crate) fn push_ends(table: &mut Links, edges: usize, ends: Ends) -> Result<(), AllocError>
     requires { edges ≤ length table.old.ends }
     ensures links { table.new.links ≡ table.old.links }
     ensures kept { (p : ℕ) → p < edges → slice_get table.new.ends p ≡ slice_get table.old.ends p }

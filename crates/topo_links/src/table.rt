@@ -27,16 +27,26 @@ pub struct Links {
 }
 
 impl Model for Links {
+    ghost use Rattle.std.specs.Prelude.{◌<◌, ◌^◌, length};
     ghost use Rattle.topo_links.specs.Tables.{Table};
 
     ghost Value = { Table };
 
     ghost view = { λ t. record { links = t.links.items; ends = t.ends.items } };
+
+    ghost invariant = { λ t. length t.links.items < 2 ^ 32 };
 }
 
 impl Links {
     ghost use Rattle.std.specs.Prelude.{◌≡◌, ◌<◌, Some, length, slice_get};
     ghost use Rattle.topo_links.specs.Tables.{link_at};
+
+    /// A number that all names are below.
+    pub fn size(&self) -> u32
+        ensures { result ≡ length self.now.links }
+    {
+        self.links.len() as u32
+    }
 
     /// What stands at a name.
     pub(crate) fn link(&self, name: u32) -> Link
