@@ -6,6 +6,7 @@ pub mod Found
 pub mod FoundNames
 pub mod Grown
 pub mod GrownCorner
+pub mod GrownLinks
 pub mod Inserted
 pub mod InsertedLinks
 pub mod InsertedPlaces

@@ -32,10 +32,10 @@ impl Links {
         ensures staged { IfOk result (IsStagedGrowth rows.now u position self.new) }
         ensures ready { IfOk result (IsReady self.new.links) }
     {
-        if !has_names(self.links.len(), 0) {
+        let first = self.size();
+        if !has_names(first as usize, 0) {
             return Err(AllocError);
         }
-        let first = self.size();
         let staged = Staged {
             first,
             crossings: 0,

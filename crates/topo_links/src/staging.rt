@@ -166,7 +166,9 @@ fn push_crossing(
     requires there { has_dart (darts rows.now) dart ≡ true }
     requires within { i < staged.crossings }
     requires names { staged.first + 2 + 4 * staged.crossings < 2 ^ 32 }
+    requires behind { length table.old.links ≡ staged.first + 2 + 4 * i }
     ensures ends { table.new.ends ≡ table.old.ends }
+    ensures longer { OnOk result (length table.new.links ≡ staged.first + 2 + 4 * (i + 1)) }
     ensures kept { OnErr result (table.new.links ≡ table.old.links) }
     ensures pushed { (name : Dart → ℕ) → IsNaming rows.now table.old name → OnOk result (table.new.links ≡ table.old.links ++ round_links name rows.now.next_edge staged i dart) }
 {
@@ -188,6 +190,7 @@ fn push_crossings(
     requires there { AllByRecursion (λ d. has_dart (darts rows.now) d ≡ true) crossed.now }
     requires crossings { staged.crossings ≡ length crossed.now }
     requires names { staged.first + 2 + 4 * staged.crossings < 2 ^ 32 }
+    requires behind { length table.old.links ≡ staged.first + 2 }
     ensures ends { table.new.ends ≡ table.old.ends }
     ensures shows { ShowsRows rows.now table.new }
     ensures pushed { (name : Dart → ℕ) → IsNaming rows.now table.old name → OnOk result (table.new.links ≡ table.old.links ++ route_links name rows.now.next_edge staged 0 crossed.now) }

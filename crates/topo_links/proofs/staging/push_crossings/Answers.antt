@@ -17,4 +17,5 @@ loop-i-preserved c = (
   c.in_ok-push_crossing.ensures.ends ∙ c.loop-i.invariant.0,
   pushed_next c.args.rows.now c.args.table.now c.loop-i.table c.push_crossing.new.table c.args.staged c.args.rows.now.next_edge c.loop-i.i c.index-crossed-i.result c.args.crossed.now
       c.loop-i.invariant.0 c.loop-i-test.true c.index-crossed-i.is c.loop-i.invariant.1 c.in_ok-push_crossing.ensures.pushed,
+  c.in_ok-push_crossing.ensures.longer,
 )

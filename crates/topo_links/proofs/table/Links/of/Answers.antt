@@ -6,7 +6,7 @@ use Rattle.topo_core.proofs.Numbering.{images_length}
 use Rattle.topo_frozen.specs.Flats.{begins_from}
 use Rattle.topo_links.specs.Making.{AreEnds, links_from}
 use Rattle.topo_frozen.proofs.Verdicts.{darts_total}
-use Rattle.topo_links.proofs.Made.{made_shows}
+use Rattle.topo_links.proofs.Made.{all_links, made_shows}
 use Rattle.topo_links.proofs.table.Links.of.Goals as goal
 
 pub links_of-requires-clause-fits : goal.links_of-requires-clause-fits
@@ -31,3 +31,11 @@ returns c =
     (c.in_ok-links_of.ensures ∙ ap (λ turns. links_from turns 0 c.as_slice-edges.result.now) (c.as_slice-2.ensures.value ∙ c.in_ok-turns.ensures) ∙ ap (links_from (turn_images c.args.rows.now) 0) c.as_slice-edges.ensures)
     begins
     (subst (λ (es : List EdgeRow). AreEnds c.as_slice-3.result.now (length es) c.in_ok-ends_of.field-0.items) c.as_slice-edges.ensures c.in_ok-ends_of.ensures)
+
+pub invariant_of-result : goal.invariant_of-result
+invariant_of-result c =
+    let made = ap length c.in_ok-links_of.ensures in
+    let all = all_links c.as_slice-2.result.now 0 c.as_slice-edges.result.now in
+    let many = darts_total c.as_slice-edges.result.now in
+    let edges = ap (sum_by segment_count) c.as_slice-edges.ensures in
+    omega (arith, c.requires.few)

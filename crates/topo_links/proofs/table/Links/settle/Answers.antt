@@ -5,6 +5,7 @@ use Rattle.topo_links.specs.declared.table.Ends.{Ends}
 use Rattle.topo_links.specs.declared.table.Link.{Link}
 use Rattle.topo_links.specs.Staging.{IsSettled}
 use Rattle.topo_links.specs.Tables.{Table}
+use Rattle.topo_links.proofs.Grown.{grown_shows}
 use Rattle.topo_links.proofs.Inserted.{inserted}
 use Rattle.topo_links.proofs.table.Links.settle.Goals as goal
 
@@ -22,3 +23,7 @@ returns-clause-settled c =
 
 pub returns-clause-shown : goal.returns-clause-shown
 returns-clause-shown c rows u v kind r good ask staged = inserted rows u v kind r c.args.self.now (table (with_items c.self.inside.links c.tell.new.links).items c.self.inside.ends.items) c.args.staged good ask staged (returns-clause-settled c)
+
+pub returns-clause-grown : goal.returns-clause-grown
+returns-clause-grown c rows u p kind good u_in p_in known staged =
+    grown_shows rows u p kind good u_in p_in known c.args.self.now (table (with_items c.self.inside.links c.tell.new.links).items c.self.inside.ends.items) c.args.staged staged (returns-clause-settled c)
