@@ -10,6 +10,7 @@ pub mod GrownLinks
 pub mod Inserted
 pub mod InsertedLinks
 pub mod InsertedPlaces
+pub mod LinkedNames
 pub mod Made
 pub mod Meeting
 pub mod NamedPlaces

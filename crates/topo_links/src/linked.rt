@@ -7,13 +7,12 @@ ghost use Rattle.topo_core.specs.Lawful.{Lawful};
 ghost use Rattle.topo_links.specs.Shown.{name_in};
 ghost use Rattle.topo_links.specs.Tables.{IsNaming, ShowsRows};
 
-use crate::names::{corner_name, dart_named};
+use crate::names::{corner_named, dart_named, facts_named};
 use crate::table::Links;
 use std::marker::Model;
 use topo_core::darts::{Dart, Way};
 use topo_core::rows::{Facts, Rows};
 use topo_frozen::Hints;
-use topo_frozen::by_id::place_of_edge;
 use topo_route::walked::Walked;
 
 /// Lawful rows with the table that shows them: what a search walks on that hands out no heights. The
@@ -75,20 +74,11 @@ impl Walked for LinkedRows<'_> {
     }
 
     fn facts(&self, dart: u32) -> Facts {
-        let edges = self.rows.edges.as_slice();
-        let place = place_of_edge(edges, self.hints, self.links.link(dart).edge);
-        match Facts::from_row(&edges[place]) {
-            Some(facts) => facts,
-            None => unreachable!(),
-        }
+        facts_named(self.links, self.rows, self.hints, dart)
     }
 
     fn corner(&self, v: u32, position: u32) -> Option<u32> {
-        if (position as usize) < self.rows.degree(v) {
-            Some(corner_name(self.links, self.rows, self.hints, v, position))
-        } else {
-            None
-        }
+        corner_named(self.links, self.rows, self.hints, v, position)
     }
 
     fn degree(&self, v: u32) -> u32 {

@@ -1,9 +1,10 @@
 //! Darts and their names, each found from the other by a walk along the edge.
 
-ghost use Rattle.std.specs.Prelude.{◌≡◌, ◌<◌, ◌^◌, ℕ, true, is_some, length, Some};
+ghost use Rattle.std.specs.Prelude.{◌≡◌, ◌<◌, ◌^◌, ℕ, true, is_some, length, option_map, Some};
 ghost use Rattle.topo_core.specs.Lawful.{IsWellFormed};
 ghost use Rattle.topo_core.specs.Picture.{corner, darts, edge_at, edge_row, end_dart, rotation, segment_count};
 ghost use Rattle.topo_core.specs.Pictures.{forward};
+ghost use Rattle.topo_core.specs.Routes.{AreFactsOf};
 ghost use Rattle.topo_core.specs.Systems.{has_dart};
 ghost use Rattle.topo_core.specs.declared.darts.Dart.{Dart};
 ghost use Rattle.topo_links.specs.Naming.{IsNameOf, IsNamed, place_before};
@@ -13,7 +14,7 @@ ghost use Rattle.topo_links.specs.Tables.{IsNaming, ShowsRows};
 use crate::table::Links;
 use topo_core::darts::{Dart, Way};
 use topo_core::ids::EdgeId;
-use topo_core::rows::Rows;
+use topo_core::rows::{Facts, Rows};
 use topo_frozen::Hints;
 use topo_frozen::by_id::place_of_edge;
 
@@ -73,6 +74,19 @@ pub(crate) fn corner_name(table: &Links, rows: &Rows, hints: &Hints, v: u32, pos
     end_name(table, rows, hints, v, around[position as usize])
 }
 
+/// The name of the dart that names a corner; none where there is no such corner.
+pub(crate) fn corner_named(table: &Links, rows: &Rows, hints: &Hints, v: u32, position: u32) -> Option<u32>
+    requires good { IsWellFormed rows.now }
+    requires shows { ShowsRows rows.now table.now }
+    ensures { (name : Dart → ℕ) → IsNaming rows.now table.now name → result ≡ option_map name (corner rows.now v position) }
+{
+    if (position as usize) < rows.degree(v) {
+        Some(corner_name(table, rows, hints, v, position))
+    } else {
+        None
+    }
+}
+
 /// The place before another, round a list of this length.
 fn place_before(len: usize, place: usize) -> usize
     requires { place < len }
@@ -118,5 +132,19 @@ pub(crate) fn dart_named(table: &Links, rows: &Rows, hints: &Hints, name: u32) -
         }
         at = table.link(table.link(back).next).next;
         seg += 1;
+    }
+}
+
+/// The facts of the edge on which the dart of a name lies.
+pub(crate) fn facts_named(table: &Links, rows: &Rows, hints: &Hints, name: u32) -> Facts
+    requires good { IsWellFormed rows.now }
+    requires named { IsNamed rows.now table.now name }
+    ensures { (names : Dart → ℕ) (d : Dart) → IsNaming rows.now table.now names → has_dart (darts rows.now) d ≡ true → name ≡ names d → AreFactsOf (edge_at rows.now d.edge) result }
+{
+    let edges = rows.edges.as_slice();
+    let row = &edges[place_of_edge(edges, hints, table.link(name).edge)];
+    match Facts::from_row(row) {
+        Some(facts) => facts,
+        None => unreachable!(),
     }
 }
