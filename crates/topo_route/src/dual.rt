@@ -1,10 +1,10 @@
 //! The darts of a picture by their numbers.
 
-ghost use Rattle.std.specs.Prelude.{◌≡◌, ◌<◌, if◌then◌else◌, length, Some, None, slice_get, IsSomeAnd};
+ghost use Rattle.std.specs.Prelude.{◌≡◌, ◌<◌, ◌↔◌, IsTrue, if◌then◌else◌, length, Some, None, slice_get, IsSomeAnd};
 ghost use Rattle.topo_core.specs.Picture.{darts, index_of, start};
 ghost use Rattle.topo_core.specs.Systems.{has_dart};
 ghost use Rattle.topo_core.specs.declared.rows.Rows.{Rows};
-ghost use Rattle.topo_route.specs.Names.{canonical};
+ghost use Rattle.topo_route.specs.Names.{IsName, canonical};
 
 use crate::walked::Walked;
 use topo_core::darts::{Dart, Point};
@@ -27,4 +27,12 @@ pub trait Dual: Walked {
 
     /// The names are the numbers.
     ghost numbered: { (picture : Self) → Self.named picture ≡ canonical (shows picture) };
+}
+
+/// Whether this is the number of a dart.
+pub fn has_number<D: Dual>(dual: &D, number: u32) -> bool
+    ensures number { IsTrue result ↔ number < length (darts (D.shows dual.now)) }
+    ensures name { IsTrue result ↔ IsName (D.named dual.now) number }
+{
+    number < dual.size()
 }

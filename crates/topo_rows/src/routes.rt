@@ -19,9 +19,10 @@ use topo_price::asked::Asked;
 use topo_price::table::PriceTable;
 use topo_price::tariff::{Asks, Tariff};
 use topo_route::check::check;
-use topo_route::dual::Dual;
+use topo_route::dual::{Dual, has_number};
 use topo_route::plan::{Plan, PlanFault};
 use topo_route::search::search;
+use topo_route::walked::Walked;
 
 /// Whether both are vertices, and different ones.
 fn are_ends(frozen: &Frozen, u: u32, v: u32) -> bool
@@ -77,7 +78,8 @@ fn asked_of<F: Asks + Drop>(
 {
     let tariff = Tariff::new(ask);
     let mut asked = Asked::new(alloc);
-    assert!(rt; 2 < frozen.len());
+    assert!(rt; has_number(frozen, 0));
+    assert!(rt; has_number(frozen, 2));
     asked.ask(&tariff, &frozen.facts(0))?;
     asked.ask(&tariff, &frozen.facts(2))?;
     Ok(asked)
@@ -527,7 +529,12 @@ fn answers_are_kept_in_order(rt: HostRuntime) -> Result<(), Fail> {
 #[test]
 fn a_frozen_picture_answers(rt: HostRuntime) -> Result<(), Fail> {
     let frozen = frozen_of(&rt, rt.alloc(), &JOINED)?;
-    assert_eq!(rt; frozen.len(), 24);
+    assert_eq!(rt; frozen.size(), 24);
+    assert!(rt; has_number(&frozen, 4));
+    assert!(rt; has_number(&frozen, 5));
+    assert!(rt; has_number(&frozen, 20));
+    assert!(rt; has_number(&frozen, 23));
+    assert!(rt; !has_number(&frozen, 24));
     // edge 1 is crossed by edge 9: its four darts are 2 to 5, those of edge 9 are 20 to 23
     assert_eq!(rt; frozen.dart(4), dart(1, 1, Way::Forward));
     assert_eq!(rt; frozen.index(dart(1, 1, Way::Forward)), Some(4));
@@ -539,6 +546,8 @@ fn a_frozen_picture_answers(rt: HostRuntime) -> Result<(), Fail> {
     assert_eq!(rt; frozen.tail(20), Point::Vertex(VertexId::new(3)));
     // from edge 9 at the crossing the face on the left goes on along edge 1 towards its end 1
     assert_eq!(rt; frozen.next(20), 3);
+    assert!(rt; frozen.precedes(5, 20));
+    assert!(rt; !frozen.precedes(20, 5));
     assert_eq!(rt; frozen.degree(3), 4);
     assert_eq!(rt; frozen.degree(5), 0);
     assert_eq!(rt; frozen.corner(3, 2), Some(20));
