@@ -81,9 +81,3 @@ pub record AreListsOf (rows : Rows) (begins turns : List ℕ) : Type 0 where
   pub images : turns ≡ turn_images rows
   pub few_darts : length turns < 4294967296
   pub few_vertices : length rows.rotations < 4294967296
-
--- the same of rows whose turn is read off the rows themselves
-pub record AreBeginsOf (rows : Rows) (begins : List ℕ) : Type 0 where
-  pub edge_begins : begins ≡ begins_from 0 rows.edges
-  pub few_darts : length (darts rows) < 4294967296
-  pub few_vertices : length rows.rotations < 4294967296

@@ -253,6 +253,6 @@ pub(crate) fn turns_of(alloc: Global, rows: &Rows) -> Result<Vec<u32>, AllocErro
     ensures { IfOk result (λ images. images.items ≡ turn_images rows.now) }
 {
     let begins = begins_of(alloc, rows.edges.as_slice())?;
-    let hints = Hints::of(alloc, rows, begins.as_slice())?;
+    let hints = Hints::of(alloc, rows)?;
     turns_from(alloc, rows, begins.as_slice(), &hints)
 }

@@ -2,8 +2,8 @@
 
 ghost use Rattle.topo_core.specs.Lawful.{Lawful};
 
-use crate::flat::turns_from;
-use crate::hints::Hints;
+use crate::flat::{begins_of, turns_from};
+use crate::hints::{Hints, segment_places};
 use crate::numbers::{
     corner_number, dart_numbered, facts_numbered, next_along, number_of, place_under,
     tail_numbered, twin_of,
@@ -22,6 +22,7 @@ use topo_route::walked::Walked;
 pub struct Frozen {
     rows: Rows,
     begins: Vec<u32>,
+    segments: Vec<u32>,
     hints: Hints,
     turns: Vec<u32>,
     ghost lawful: { ∥ Lawful rows ∥₁ },
@@ -41,27 +42,23 @@ impl Frozen {
     ghost use Rattle.std.specs.Prelude.{◌≡◌, ◌*◌, ◌/◌, ◌<◌, ◌^◌, IfOk, length, slice_index, sum_by};
     ghost use Rattle.topo_core.specs.Lawful.{Lawful};
     ghost use Rattle.topo_core.specs.Picture.{darts, segment_count};
-    ghost use Rattle.topo_frozen.specs.Flats.{begins_from, places_from};
+    ghost use Rattle.topo_frozen.specs.Flats.{places_from};
 
-    /// The frozen picture with these rows, few enough for numbers of 32 bits, with the number of the first
-    /// dart of each edge and last the number of all darts, and with hints.
-    pub fn new(
-        alloc: Global,
-        rows: Rows,
-        begins: Vec<u32>,
-        hints: Hints,
-    ) -> Result<Self, AllocError>
+    /// The frozen picture with these rows, few enough for numbers of 32 bits, and with hints.
+    pub fn new(alloc: Global, rows: Rows, hints: Hints) -> Result<Self, AllocError>
         requires lawful { Lawful rows }
-        requires begins { begins.items ≡ begins_from 0 rows.edges }
         requires few { 2 * sum_by segment_count rows.edges < 2 ^ 32 }
         requires vertices { length rows.rotations < 2 ^ 32 }
         requires crossings { length rows.crossings < 2 ^ 32 }
         ensures { IfOk result (λ f. f.rows ≡ rows) }
     {
+        let begins = begins_of(alloc, rows.edges.as_slice())?;
+        let segments = segment_places(alloc, begins.as_slice())?;
         let turns = turns_from(alloc, &rows, begins.as_slice(), &hints)?;
         Ok(Frozen {
             rows,
             begins,
+            segments,
             hints,
             turns,
         })
@@ -80,7 +77,8 @@ impl Frozen {
         requires { dart < length (darts self.now.rows) }
         ensures { result ≡ slice_index (places_from 0 self.now.rows.edges) (dart / 2) }
     {
-        place_under(&self.rows, self.begins.as_slice(), &self.hints, dart)
+        let begins = self.begins.as_slice();
+        place_under(&self.rows, begins, self.segments.as_slice(), dart)
     }
 }
 

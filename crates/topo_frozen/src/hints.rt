@@ -11,40 +11,27 @@ const SPARSE: usize = 16;
 const FEW: usize = 16;
 
 /// Places that are tried before anything is searched for: for the ids of edges and of crossings the
-/// places of their rows, and for segments the places of their edges. They are speed alone. A place is
-/// taken only once what stands there is seen to be what was looked for, so no answer depends on them,
-/// and nothing is claimed of them.
+/// places of their rows. They are speed alone. A place is taken only once what stands there is seen to
+/// be what was looked for, so no answer depends on them, and nothing is claimed of them.
 #[derive(Drop)]
 pub struct Hints {
     edges: Vec<u32>,
     crossings: Vec<u32>,
-    segments: Vec<u32>,
 }
 
 impl Hints {
-    /// The places in these rows, the darts of whose edges begin as said.
-    pub fn of(alloc: Global, rows: &Rows, begins: &[u32]) -> Result<Self, AllocError> {
+    /// The places in these rows.
+    pub fn of(alloc: Global, rows: &Rows) -> Result<Self, AllocError> {
         let edges = places_by_id(alloc, rows.edges.as_slice(), rows.next_edge)?;
         let crossings = places_by_id(alloc, rows.crossings.as_slice(), rows.next_crossing)?;
-        let mut segments = vec![in alloc; 0; (dart_total(begins) / 2) as usize]?;
-        note_segments(&mut segments, begins);
-        Ok(Hints {
-            edges,
-            crossings,
-            segments,
-        })
+        Ok(Hints { edges, crossings })
     }
 
     /// The same.
     pub fn copy(&self, alloc: Global) -> Result<Self, AllocError> {
         let edges = Vec::from_slice(alloc, self.edges.as_slice())?;
         let crossings = Vec::from_slice(alloc, self.crossings.as_slice())?;
-        let segments = Vec::from_slice(alloc, self.segments.as_slice())?;
-        Ok(Hints {
-            edges,
-            crossings,
-            segments,
-        })
+        Ok(Hints { edges, crossings })
     }
 
     /// Where the edge with an id is expected.
@@ -57,72 +44,20 @@ impl Hints {
         expected(self.crossings.as_slice(), id)
     }
 
-    /// Where the edge of a segment is expected.
-    pub(crate) fn edge_under(&self, segment: u32) -> usize {
-        expected(self.segments.as_slice(), segment)
-    }
-
     /// Room for one edge more that makes so many crossings.
     pub fn reserve(&mut self, crossings: usize) -> Result<(), AllocError> {
         self.edges.reserve(1)?;
         self.crossings.reserve(crossings)?;
-        self.segments
-            .reserve(crossings.saturating_mul(2).saturating_add(1))?;
         Ok(())
     }
 
-    /// Follows one of so many crossings, put on the edge at a place, whose first segment is this one.
-    pub fn cross(&mut self, crossings: usize, place: usize, segment: u32) {
-        let at = segment as usize;
-        if crossings <= FEW && at <= self.segments.len() {
-            let _short = self.segments.insert(at, noted(place)).is_err();
-        }
-    }
-
-    /// Follows an edge put at the end, with so many crossings of its own, which are the last, when each of
-    /// them has been followed.
-    pub fn join(&mut self, rows: &Rows, begins: &[u32], crossings: usize) {
+    /// Follows an edge put at the end, with so many crossings of its own, which are the last.
+    pub fn join(&mut self, rows: &Rows, crossings: usize) {
         let edges = rows.edges.as_slice();
-        let place = edges.len().saturating_sub(1);
-        note_last(&mut self.edges, edges, place);
+        note_last(&mut self.edges, edges, edges.len().saturating_sub(1));
         let all = rows.crossings.as_slice();
         for at in all.len().saturating_sub(crossings)..all.len() {
             note_last(&mut self.crossings, all, at);
-        }
-        let last = if crossings <= FEW { place } else { 0 };
-        let segments = (dart_total(begins) / 2) as usize;
-        let _short = self.segments.resize(segments, noted(last)).is_err();
-        if crossings > FEW {
-            note_segments(&mut self.segments, begins);
-        }
-    }
-
-    /// Follows the segments of an edge that goes, as long as it stands: its own go, and at each of its
-    /// crossings two of the other edge become one.
-    pub fn part(&mut self, rows: &Rows, edge: u32) {
-        let place = self.edge(edge);
-        if let Some(row) = rows.edges.as_slice().get(place) {
-            let path = row.crossings.as_slice();
-            if row.id == edge && path.len() <= FEW {
-                for x in path {
-                    self.merge(rows, edge, *x);
-                }
-                let first = take_of(&mut self.segments, place, path.len().saturating_add(1));
-                lower_from(&mut self.segments, first);
-            }
-        }
-    }
-
-    /// Makes two segments one where an edge crosses another.
-    fn merge(&mut self, rows: &Rows, edge: u32, x: u32) {
-        if let Some(row) = rows.crossings.as_slice().get(self.crossing(x)) {
-            let other = if row.crossed == edge {
-                row.newcomer
-            } else {
-                row.crossed
-            };
-            let place = self.edge(other);
-            let _first = take_of(&mut self.segments, place, 1);
         }
     }
 
@@ -142,22 +77,16 @@ impl Hints {
         }
     }
 
-    /// Notes the segments anew where they were not followed, once an edge is gone with its crossings, and
-    /// forgets ids where few of them are left.
-    pub fn settle(&mut self, rows: &Rows, begins: &[u32]) {
+    /// Forgets ids where few of them are left, once an edge is gone with its crossings.
+    pub fn settle(&mut self, rows: &Rows) {
         forget_sparse(&mut self.edges, rows.edges.as_slice().len());
         forget_sparse(&mut self.crossings, rows.crossings.as_slice().len());
-        let segments = (dart_total(begins) / 2) as usize;
-        if self.segments.len() != segments {
-            self.segments.truncate(segments);
-            note_segments(&mut self.segments, begins);
-        }
     }
 }
 
 /// Where something with a number is expected: at the place that is noted, and else where nothing
 /// smaller is gone.
-fn expected(places: &[u32], number: u32) -> usize {
+pub(crate) fn expected(places: &[u32], number: u32) -> usize {
     match places.get(number as usize) {
         Some(place) => *place as usize,
         None => number as usize,
@@ -170,14 +99,6 @@ fn noted(place: usize) -> u32 {
         place as u32
     } else {
         u32::MAX
-    }
-}
-
-/// The number of all darts.
-fn dart_total(begins: &[u32]) -> u32 {
-    match begins.last() {
-        Some(last) => *last,
-        None => 0,
     }
 }
 
@@ -219,37 +140,26 @@ fn lower_from(places: &mut [u32], first: usize) {
     }
 }
 
-/// Where a place stands first among the segments, whose places rise, or would stand.
-fn first_of(segments: &[u32], place: usize) -> usize {
-    let mut low = 0;
-    let mut high = segments.len();
-    while low < high {
-        let middle = low + (high - low) / 2;
-        if (segments[middle] as usize) < place {
-            low = middle + 1;
-        } else {
-            high = middle;
-        }
-    }
-    low
-}
-
-/// Takes so many segments of the edge at a place out, and answers where they were.
-fn take_of(segments: &mut Vec<u32>, place: usize, count: usize) -> usize {
-    let first = first_of(segments, place);
-    let end = first.saturating_add(count);
-    if end <= segments.len() {
-        segments.copy_within(end.., first);
-        segments.truncate(segments.len() - count);
-    }
-    first
-}
-
 /// Lets go of the places of ids where most of the ids are gone.
 fn forget_sparse(places: &mut Vec<u32>, rows: usize) {
     if places.len() / SPARSE > rows {
         places.clear();
     }
+}
+
+/// The number of all darts.
+fn dart_total(begins: &[u32]) -> u32 {
+    match begins.last() {
+        Some(last) => *last,
+        None => 0,
+    }
+}
+
+/// The place of the edge of each segment, where the darts of the edges begin as said.
+pub(crate) fn segment_places(alloc: Global, begins: &[u32]) -> Result<Vec<u32>, AllocError> {
+    let mut segments = vec![in alloc; 0; (dart_total(begins) / 2) as usize]?;
+    note_segments(&mut segments, begins);
+    Ok(segments)
 }
 
 /// Notes for each segment the place of its edge: first 1 where an edge begins behind another, and then

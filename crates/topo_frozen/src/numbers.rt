@@ -8,13 +8,10 @@ ghost use Rattle.topo_core.specs.Rotations.{face_next, twin};
 ghost use Rattle.topo_core.specs.Routes.{AreFactsOf};
 ghost use Rattle.topo_core.specs.Systems.{has_dart};
 ghost use Rattle.topo_frozen.specs.Flats.{begins_from, places_from};
-ghost use Rattle.topo_frozen.specs.Placed.{IsPlaced, placed_dart};
 
 use crate::by_id::edge_place;
 use crate::flat::end_number;
-use crate::hints::Hints;
-use crate::placed::{PlacedDart, opposite, turned};
-use std::cell::Cell;
+use crate::hints::{Hints, expected};
 use topo_core::darts::{Dart, Point, Way};
 use topo_core::ids::{CrossId, EdgeId, VertexId};
 use topo_core::rows::{EdgeRow, Facts, Rows};
@@ -57,7 +54,7 @@ fn searched_under(rows: &Rows, begins: &[u32], number: u32) -> usize
 }
 
 /// Whether a dart lies on the edge at a place.
-pub(crate) fn is_under(rows: &Rows, begins: &[u32], place: usize, number: u32) -> bool
+fn is_under(rows: &Rows, begins: &[u32], place: usize, number: u32) -> bool
     requires begins { begins.now ≡ begins_from 0 rows.now.edges }
     requires within { number < length (darts rows.now) }
     ensures { result ≡ true → place ≡ slice_index (places_from 0 rows.now.edges) (number / 2) }
@@ -70,12 +67,12 @@ pub(crate) fn is_under(rows: &Rows, begins: &[u32], place: usize, number: u32) -
 }
 
 /// The place of the edge of a dart among the edges: where it is expected, if the dart lies there.
-pub(crate) fn place_under(rows: &Rows, begins: &[u32], hints: &Hints, number: u32) -> usize
+pub(crate) fn place_under(rows: &Rows, begins: &[u32], segments: &[u32], number: u32) -> usize
     requires begins { begins.now ≡ begins_from 0 rows.now.edges }
     requires within { number < length (darts rows.now) }
     ensures { result ≡ slice_index (places_from 0 rows.now.edges) (number / 2) }
 {
-    let place = hints.edge_under(number / 2);
+    let place = expected(segments, number / 2);
     if is_under(rows, begins, place, number) {
         return place;
     }
@@ -114,46 +111,6 @@ pub(crate) fn dart_numbered(rows: &Rows, begins: &[u32], place: usize, number: u
             seg,
             way: Way::Back,
         }
-    }
-}
-
-/// The dart of a number, by the place of its edge.
-fn placed_numbered(rows: &Rows, begins: &[u32], place: usize, number: u32) -> PlacedDart
-    requires paths { has_good_paths rows.now ≡ true }
-    requires begins { begins.now ≡ begins_from 0 rows.now.edges }
-    requires under { place ≡ slice_index (places_from 0 rows.now.edges) (number / 2) }
-    requires within { number < length (darts rows.now) }
-    ensures placed { IsPlaced rows.now result }
-    ensures dart { slice_get (darts rows.now) number ≡ Some (placed_dart rows.now result) }
-{
-    let dart = dart_numbered(rows, begins, place, number);
-    PlacedDart::new(place, dart.seg as usize, dart.way)
-}
-
-/// The number of the next dart along the face on the left, turned on the rows themselves. The place of
-/// its edge is noted.
-pub(crate) fn next_numbered(
-    rows: &Rows,
-    begins: &[u32],
-    hints: &Hints,
-    noted: &Cell<usize>,
-    place: usize,
-    number: u32,
-) -> u32
-    requires well_formed { IsWellFormed rows.now }
-    requires begins { begins.now ≡ begins_from 0 rows.now.edges }
-    requires under { place ≡ slice_index (places_from 0 rows.now.edges) (number / 2) }
-    requires within { number < length (darts rows.now) }
-    requires few { length (darts rows.now) < 2 ^ 32 }
-    ensures { result ≡ face_next (map_of (turn_images rows.now)) number }
-{
-    let here = placed_numbered(rows, begins, place, number);
-    let next = turned(rows, hints, opposite(here));
-    noted.set(next.place());
-    let first = begins[next.place()] + 2 * next.segment() as u32;
-    match next.way() {
-        Way::Forward => first,
-        Way::Back => first + 1,
     }
 }
 

@@ -1,5 +1,6 @@
 //! The table of half-edges.
 
+use std::alloc::{AllocError, Global};
 use std::marker::Model;
 
 /// What stands at the name of a dart: the name of its twin, the name of the next dart clockwise at its
@@ -38,8 +39,17 @@ impl Model for Links {
 }
 
 impl Links {
-    ghost use Rattle.std.specs.Prelude.{◌≡◌, ◌<◌, Some, length, slice_get};
+    ghost use Rattle.std.specs.Prelude.{◌≡◌, ◌<◌, IfOk, Some, length, slice_get};
     ghost use Rattle.topo_links.specs.Tables.{link_at};
+
+    /// The same table.
+    pub fn copy(&self, alloc: Global) -> Result<Self, AllocError>
+        ensures { IfOk result (λ t. t ≡ self.now) }
+    {
+        let links = Vec::from_slice(alloc, self.links.as_slice())?;
+        let ends = Vec::from_slice(alloc, self.ends.as_slice())?;
+        Ok(Links { links, ends })
+    }
 
     /// A number that all names are below.
     pub fn size(&self) -> u32

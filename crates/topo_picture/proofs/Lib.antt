@@ -6,8 +6,6 @@ pub mod Leaving
 pub mod CrossedPaths
 pub mod CrossedRows
 pub mod Inserting
-pub mod Raised
-pub mod CrossedBegins
 pub mod Totals
 pub mod InsertedNumbers
 pub mod InsertedPassage

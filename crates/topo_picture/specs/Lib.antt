@@ -1,7 +1,6 @@
 pub mod Cutting
 pub mod Deleting
 pub mod Inserting
-pub mod Raising
 pub mod Totals
 pub mod Laws
 pub mod Undoing

@@ -8,7 +8,6 @@
 //! they fail.
 #![tactic(auto)]
 
-mod begins;
 mod copies;
 pub mod counts;
 mod cuts;
@@ -16,6 +15,7 @@ mod deletion;
 mod growth;
 mod insertion;
 pub mod laws;
+mod linking;
 pub mod picture;
 
 pub use counts::Counts;

@@ -1,10 +1,10 @@
 //! A picture, with its limits.
 
-use crate::begins::{apply_numbered, begin_again, grow_numbered};
 use crate::copies::copy_rows;
 use crate::counts::Counts;
 use crate::cuts::first_cut;
 use crate::deletion::delete_rows;
+use crate::linking::{apply_linked, grow_linked};
 use std::alloc::{AllocError, Global};
 use std::marker::Model;
 use topo_core::calls::Refusal;
@@ -14,31 +14,31 @@ use topo_core::listed::Listed;
 use topo_core::routes::Route;
 use topo_core::rows::{EdgeRow, Rows};
 use topo_frozen::by_id::edge_place;
-use topo_frozen::flat::begins_of;
 use topo_frozen::load::{LoadFault, first_fault};
-use topo_frozen::{Frozen, Hints, RowDual};
+use topo_frozen::{Frozen, Hints};
+use topo_links::linked::LinkedRows;
+use topo_links::table::Links;
 use topo_route::plan::Plan;
 
-/// A connected embedding of a graph of genus zero, within limits. Beside its rows it keeps where the
-/// darts of each edge begin, and hints where to look first.
+/// A connected embedding of a graph of genus zero, within limits. Beside its rows it keeps the table of
+/// their half-edges, and hints where to look first.
 #[derive(Drop)]
 pub struct Picture {
     limits: Limits,
     rows: Rows,
-    begins: Vec<u32>,
+    links: Links,
     hints: Hints,
 }
 
 impl Model for Picture {
-    ghost use Rattle.std.specs.Prelude.{◌≡◌};
-    ghost use Rattle.topo_frozen.specs.Flats.{begins_from};
     ghost use Rattle.topo_frozen.specs.Shown.{Shown, IsPicture};
+    ghost use Rattle.topo_links.specs.Tables.{ShowsRows};
 
     ghost Value = { Shown };
 
     ghost view = { λ p. record { limits = p.limits; rows = p.rows } };
 
-    ghost invariant = { λ p. IsPicture p.limits p.rows × (p.begins.items ≡ begins_from 0 p.rows.edges) };
+    ghost invariant = { λ p. IsPicture p.limits p.rows × ShowsRows p.rows p.links };
 }
 
 impl Picture {
@@ -60,12 +60,12 @@ impl Picture {
         ensures limits { IfOk result (λ p. p.limits ≡ limits) }
     {
         let rows = seed_rows(alloc)?;
-        let begins = vec![in alloc; 0, 2]?;
-        let hints = Hints::of(alloc, &rows, begins.as_slice())?;
+        let hints = Hints::of(alloc, &rows)?;
+        let links = Links::of(alloc, &rows, &hints)?;
         Ok(Picture {
             limits,
             rows,
-            begins,
+            links,
             hints,
         })
     }
@@ -127,17 +127,16 @@ impl Picture {
         ensures { IfOk result (λ f. f.rows ≡ self.now.rows) }
     {
         let rows = copy_rows(alloc, &self.rows)?;
-        let begins = Vec::from_slice(alloc, self.begins.as_slice())?;
         let hints = self.hints.copy(alloc)?;
-        Frozen::new(alloc, rows, begins, hints)
+        Frozen::new(alloc, rows, hints)
     }
 
-    /// The dual graph of its rows, read off them as it is asked: soon made, for a search that asks of few
-    /// darts.
-    pub fn dual(&self) -> RowDual<'_>
+    /// Its rows with the table of their half-edges, for a search that hands out no heights. It takes no
+    /// time to make.
+    pub fn linked(&self) -> LinkedRows<'_>
         ensures { result.rows ≡ self.now.rows }
     {
-        RowDual::new(&self.rows, self.begins.as_slice(), &self.hints)
+        LinkedRows::new(&self.rows, &self.links, &self.hints)
     }
 
     /// An equal picture: the same rows and limits.
@@ -146,12 +145,12 @@ impl Picture {
         ensures lawful { IsPicture self.now.limits self.now.rows }
     {
         let rows = copy_rows(alloc, &self.rows)?;
-        let begins = Vec::from_slice(alloc, self.begins.as_slice())?;
+        let links = self.links.copy(alloc)?;
         let hints = self.hints.copy(alloc)?;
         Ok(Picture {
             limits: self.limits,
             rows,
-            begins,
+            links,
             hints,
         })
     }
@@ -198,10 +197,10 @@ impl Picture {
             None => {
                 let vertex = VertexId::new(self.rows.rotations.as_slice().len() as u32);
                 let edge = EdgeId::new(self.rows.next_edge);
-                match grow_numbered(
+                match grow_linked(
                     alloc,
                     &mut self.rows,
-                    &mut self.begins,
+                    &mut self.links,
                     &mut self.hints,
                     u,
                     position,
@@ -244,10 +243,10 @@ impl Picture {
             return Err(Refusal::Full);
         }
         let made = EdgeId::new(self.rows.next_edge);
-        match apply_numbered(
+        match apply_linked(
             alloc,
             &mut self.rows,
-            &mut self.begins,
+            &mut self.links,
             &mut self.hints,
             (u, v),
             kind,
@@ -308,10 +307,9 @@ impl Picture {
         match first_cut(&self.rows, &self.hints, edge) {
             Some(segment) => Err(Refusal::Cut(segment)),
             None => {
-                self.hints.part(&self.rows, edge);
+                self.links.delete(&self.rows, &self.hints, edge);
                 delete_rows(alloc, &mut self.rows, &mut self.hints, edge);
-                begin_again(&mut self.begins, self.rows.edges.as_slice());
-                self.hints.settle(&self.rows, self.begins.as_slice());
+                self.hints.settle(&self.rows);
                 Ok(())
             }
         }
@@ -332,12 +330,12 @@ fn new_picture(alloc: Global, limits: Limits, rows: &Rows) -> Result<Picture, Al
     ensures limits { IfOk result (λ p. p.limits ≡ limits) }
 {
     let copy = copy_rows(alloc, rows)?;
-    let begins = begins_of(alloc, copy.edges.as_slice())?;
-    let hints = Hints::of(alloc, &copy, begins.as_slice())?;
+    let hints = Hints::of(alloc, &copy)?;
+    let links = Links::of(alloc, &copy, &hints)?;
     Ok(Picture {
         limits,
         rows: copy,
-        begins,
+        links,
         hints,
     })
 }

@@ -1,9 +1,16 @@
-use Rattle.std.proofs.Common.{◌∙◌, ap}
+use Rattle.std.proofs.Common.{ap, arith, length}
+use Rattle.std.specs.Prelude.{sum_by}
 use Rattle.topo_core.specs.declared.rows.Rows.{Rows}
+use Rattle.topo_core.specs.Picture.{segment_count}
 use Rattle.topo_frozen.proofs.RowCounts.{picture_small}
-use Rattle.topo_picture.proofs.Raised.{few_in}
 use Rattle.topo_picture.proofs.picture.new_picture.Goals as goal
 
-pub begins_of-requires : goal.begins_of-requires
-begins_of-requires c =
-    few_in c.args.rows.now c.as_slice.result.now (c.as_slice.ensures ∙ ap (λ (rows : Rows). rows.edges) c.in_ok-copy.ensures) (picture_small c.args.limits c.args.rows.now c.requires).segments
+pub of-requires-2-clause-few : goal.of-requires-2-clause-few
+of-requires-2-clause-few c =
+    let small = (picture_small c.args.limits c.args.rows.now c.requires).segments in
+    let same = ap (λ (rows : Rows). sum_by segment_count rows.edges) c.in_ok-copy.ensures in omega arith
+
+pub of-requires-2-clause-crossings : goal.of-requires-2-clause-crossings
+of-requires-2-clause-crossings c =
+    let small = (picture_small c.args.limits c.args.rows.now c.requires).crossings in
+    let same = ap (λ (rows : Rows). length rows.crossings) c.in_ok-copy.ensures in omega arith

@@ -8,8 +8,8 @@ use Rattle.topo_core.specs.Changes.{shown}
 use Rattle.topo_core.specs.Insertions.{IsInsertable}
 use Rattle.topo_core.specs.Steps.{HasRoomFor, insert_refusal}
 use Rattle.topo_frozen.specs.Shown.{IsPicture, Shown}
+use Rattle.topo_frozen.proofs.RowCounts.{picture_small}
 use Rattle.topo_picture.proofs.Inserting.{after_insertion, insertable}
-use Rattle.topo_picture.proofs.Totals.{counted}
 use Rattle.topo_picture.proofs.picture.Picture.apply_route.Goals as goal
 
 -- what the caller sees of the picture, s, is what it is inside
@@ -31,24 +31,24 @@ module _ (limits : Limits) (rows : Rows) (s : Shown) (u v kind : ℕ) (r : Route
       let room : HasRoomFor limits rows r = omega (arith, was.crossings) in
       after_insertion limits rows u v kind r was may_inside simple_inside result new room ok err
 
-pub apply_numbered-requires-clause-insertable : goal.apply_numbered-requires-clause-insertable
-apply_numbered-requires-clause-insertable c =
+pub apply_linked-requires-clause-insertable : goal.apply_linked-requires-clause-insertable
+apply_linked-requires-clause-insertable c =
     insertable_inside c.self.inside.limits c.self.inside.rows c.args.self.now c.args.u c.args.v c.args.kind c.args.route.now c.self.invariant.0 c.self.view_is c.requires.admitted c.requires.simple
 
-pub apply_numbered-requires-clause-few : goal.apply_numbered-requires-clause-few
-apply_numbered-requires-clause-few c =
-    let total = counted c.self.inside.limits c.self.inside.rows c.self.invariant.0 in
-    let same = ap length c.as_slice-needed.ensures in
-    let most = c.self.inside.limits.crossings_in_range in omega (arith, total.segments, total.edges, total.crossings)
+pub apply_linked-requires-clause-few : goal.apply_linked-requires-clause-few
+apply_linked-requires-clause-few c = (picture_small c.self.inside.limits c.self.inside.rows c.self.invariant.0).segments
+
+pub apply_linked-requires-clause-crossings : goal.apply_linked-requires-clause-crossings
+apply_linked-requires-clause-crossings c = (picture_small c.self.inside.limits c.self.inside.rows c.self.invariant.0).crossings
 
 pub invariant_of-self : goal.invariant_of-self
 invariant_of-self c = (
   picture_after c.self.inside.limits c.self.inside.rows c.args.self.now c.args.u c.args.v c.args.kind c.args.route.now c.self.invariant.0 c.self.view_is c.requires.admitted c.requires.simple
-      c.apply_numbered.result c.apply_numbered.new.rows c.as_slice-needed.result.now c.as_slice-needed.ensures (omega arith) c.apply_numbered.ensures.ok c.apply_numbered.ensures.err,
-  c.apply_numbered.ensures.begins,
+      c.apply_linked.result c.apply_linked.new.rows c.as_slice-needed.result.now c.as_slice-needed.ensures (omega arith) c.apply_linked.ensures.ok c.apply_linked.ensures.err,
+  c.apply_linked.ensures.shows,
 )
 
 pub returns-clause-lawful : goal.returns-clause-lawful
 returns-clause-lawful c =
     picture_after c.self.inside.limits c.self.inside.rows c.args.self.now c.args.u c.args.v c.args.kind c.args.route.now c.self.invariant.0 c.self.view_is c.requires.admitted c.requires.simple
-    c.apply_numbered.result c.apply_numbered.new.rows c.as_slice-needed.result.now c.as_slice-needed.ensures (omega arith) c.apply_numbered.ensures.ok c.apply_numbered.ensures.err
+    c.apply_linked.result c.apply_linked.new.rows c.as_slice-needed.result.now c.as_slice-needed.ensures (omega arith) c.apply_linked.ensures.ok c.apply_linked.ensures.err

@@ -1,12 +1,11 @@
-use Rattle.std.proofs.Common.{◌≡◌, ap, ℕ, arith, true, inr, is_some, refl, sym, ◌∙◌}
+use Rattle.std.proofs.Common.{◌≡◌, ap, ℕ, arith, true, inr, is_some, refl, subst, sym, ◌∙◌}
 use Rattle.topo_core.specs.Changes.{IsCut, IsLocalCut}
 use Rattle.topo_core.specs.Picture.{edge_row}
 use Rattle.topo_picture.proofs.DeletedPicture.{cut_of_picture, deletion_of_picture, in_view, none_of, shown_no_cut, shown_there, undone_rows, whole_of_picture}
 use Rattle.topo_picture.specs.Undoing.{IsShownOn}
-use Rattle.topo_frozen.specs.Flats.{begins_from}
+use Rattle.topo_links.specs.Tables.{ShowsRows}
 use Rattle.topo_frozen.proofs.RowCounts.{picture_small}
 use Rattle.topo_frozen.proofs.Verdicts.{darts_total}
-use Rattle.topo_picture.proofs.Raised.{fewer_edges, few_in}
 use Rattle.topo_picture.proofs.picture.Picture.delete.Goals as goal
 
 pub first_cut-requires-clause-few : goal.first_cut-requires-clause-few
@@ -14,21 +13,11 @@ first_cut-requires-clause-few c =
     let total = darts_total c.self.inside.rows.edges in
     let few = (picture_small c.self.inside.limits c.self.inside.rows c.self.invariant.0).segments in omega arith
 
-pub begin_again-requires-clause-few : goal.begin_again-requires-clause-few
-begin_again-requires-clause-few c =
-    let there : is_some (edge_row c.self.inside.rows c.args.edge) ≡ true = sym c.has_edge.ensures ∙ c.if-not-has_edge.false in
-    let picture = deletion_of_picture c.self.inside.limits c.self.inside.rows c.args.edge c.self.invariant.0 there c.delete_rows.new.rows c.delete_rows.ensures c.in-None.ensures in
-    few_in c.delete_rows.new.rows c.as_slice.result.now c.as_slice.ensures (picture_small c.self.inside.limits c.delete_rows.new.rows picture).segments
-
-pub begin_again-requires-clause-room : goal.begin_again-requires-clause-room
-begin_again-requires-clause-room c =
-    fewer_edges c.self.inside.rows c.delete_rows.new.rows c.args.edge c.as_slice.result.now c.self.inside.begins.items c.delete_rows.ensures c.as_slice.ensures c.self.invariant.1
-
 pub invariant_of-self : goal.invariant_of-self
 invariant_of-self c =
     let there : is_some (edge_row c.self.inside.rows c.args.edge) ≡ true = sym c.has_edge.ensures ∙ c.if-not-has_edge.false in (
       deletion_of_picture c.self.inside.limits c.self.inside.rows c.args.edge c.self.invariant.0 there c.delete_rows.new.rows c.delete_rows.ensures c.in-None.ensures,
-      c.begin_again.ensures ∙ ap (begins_from 0) c.as_slice.ensures,
+      subst (λ rows. ShowsRows rows c.delete.new.self) (sym c.delete_rows.ensures) c.delete.ensures.shows,
     )
 
 pub returns-in-None-clause-lawful : goal.returns-in-None-clause-lawful

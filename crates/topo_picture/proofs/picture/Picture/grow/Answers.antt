@@ -1,20 +1,21 @@
-use Rattle.std.proofs.Common.{arith}
+use Rattle.topo_frozen.proofs.RowCounts.{picture_small}
 use Rattle.topo_picture.proofs.Growing.{after_growth}
-use Rattle.topo_picture.proofs.Totals.{counted}
 use Rattle.topo_picture.proofs.picture.Picture.grow.Goals as goal
 
-pub grow_numbered-requires-clause-few : goal.grow_numbered-requires-clause-few
-grow_numbered-requires-clause-few c =
-    let total = counted c.self.inside.limits c.self.inside.rows c.self.invariant.0 in omega (arith, total.segments, total.edges, total.crossings)
+pub grow_linked-requires-clause-few : goal.grow_linked-requires-clause-few
+grow_linked-requires-clause-few c = (picture_small c.self.inside.limits c.self.inside.rows c.self.invariant.0).segments
+
+pub grow_linked-requires-clause-crossings : goal.grow_linked-requires-clause-crossings
+grow_linked-requires-clause-crossings c = (picture_small c.self.inside.limits c.self.inside.rows c.self.invariant.0).crossings
 
 pub invariant_of-self : goal.invariant_of-self
 invariant_of-self c = (
-  after_growth c.grow_numbered.result c.self.inside.limits c.self.inside.rows c.grow_numbered.new.rows c.args.u c.args.position c.args.kind
-      c.grow_numbered.ensures.ok c.grow_numbered.ensures.err c.self.invariant.0 c.in-None.ensures,
-  c.grow_numbered.ensures.begins,
+  after_growth c.grow_linked.result c.self.inside.limits c.self.inside.rows c.grow_linked.new.rows c.args.u c.args.position c.args.kind
+      c.grow_linked.ensures.ok c.grow_linked.ensures.err c.self.invariant.0 c.in-None.ensures,
+  c.grow_linked.ensures.shows,
 )
 
-pub returns-after-grow_numbered-clause-lawful : goal.returns-after-grow_numbered-clause-lawful
-returns-after-grow_numbered-clause-lawful c =
-    after_growth c.grow_numbered.result c.self.inside.limits c.self.inside.rows c.grow_numbered.new.rows c.args.u c.args.position c.args.kind
-    c.grow_numbered.ensures.ok c.grow_numbered.ensures.err c.self.invariant.0 c.in-None.ensures
+pub returns-after-grow_linked-clause-lawful : goal.returns-after-grow_linked-clause-lawful
+returns-after-grow_linked-clause-lawful c =
+    after_growth c.grow_linked.result c.self.inside.limits c.self.inside.rows c.grow_linked.new.rows c.args.u c.args.position c.args.kind
+    c.grow_linked.ensures.ok c.grow_linked.ensures.err c.self.invariant.0 c.in-None.ensures

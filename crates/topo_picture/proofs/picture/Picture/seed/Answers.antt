@@ -1,12 +1,7 @@
-use Rattle.std.proofs.Common.{ap, sym, subst, ◌∙◌}
-use Rattle.topo_core.specs.declared.rows.Rows.{Rows}
-use Rattle.topo_frozen.specs.Flats.{begins_from}
+use Rattle.std.proofs.Common.{sym, subst}
 use Rattle.topo_frozen.specs.Shown.{IsPicture}
 use Rattle.topo_picture.proofs.Growing.{seed_is_picture}
 use Rattle.topo_picture.proofs.picture.Picture.seed.Goals as goal
 
 pub invariant_of-result : goal.invariant_of-result
-invariant_of-result c = (
-  subst (IsPicture c.args.limits) (sym c.in_ok-rows.ensures) (seed_is_picture c.args.limits),
-  c.in_ok-begins.ensures.items ∙ ap (λ (rows : Rows). begins_from 0 rows.edges) (sym c.in_ok-rows.ensures),
-)
+invariant_of-result c = (subst (IsPicture c.args.limits) (sym c.in_ok-rows.ensures) (seed_is_picture c.args.limits), c.in_ok-links.ensures)
