@@ -74,15 +74,15 @@ fn find_first<F: Asks>(
         (HasNoRoute (prices_of (F.answers tariff.now)) picture.now.rows u v)
         (λ r. IsFirst (prices_of (F.answers tariff.now)) picture.now.rows u v r.route r.price)) }
 {
-    let dual = picture.dual();
     if let Some(plan) = plan {
-        if let Ok(()) = check(&dual, tariff, u, v, plan) {
+        let frozen = picture.freeze(alloc)?;
+        if let Ok(()) = check(&frozen, tariff, u, v, plan) {
             let route = copy_route(alloc, &plan.route)?;
             let price = plan.price;
             return Ok(Some(PricedRoute { route, price }));
         }
     }
-    first_route(alloc, &dual, tariff, u, v, work)
+    first_route(alloc, &picture.linked(), tariff, u, v, work)
 }
 
 /// Inserts an edge from the first of the ends to the second along the first route, for which a plan may

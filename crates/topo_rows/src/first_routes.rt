@@ -40,8 +40,7 @@ fn routed<F: Asks + Drop>(
 {
     let (u, v) = ends;
     assert!(rt; are_ends(picture, u, v));
-    let dual = picture.dual();
-    first_route(alloc, &dual, &Tariff::new(ask), u, v, work)
+    first_route(alloc, &picture.linked(), &Tariff::new(ask), u, v, work)
 }
 
 /// The picture of a table.
@@ -155,9 +154,8 @@ fn agrees<F: Asks + Drop>(
     let (u, v) = ends;
     assert!(rt; are_ends(picture, u, v));
     let tariff = Tariff::new(ask);
-    let dual = picture.dual();
-    let found = first_route(alloc, &dual, &tariff, u, v, work)?;
-    let plan = search(alloc, &dual, &tariff, u, v)?;
+    let found = first_route(alloc, &picture.linked(), &tariff, u, v, work)?;
+    let plan = search(alloc, &picture.freeze(alloc)?, &tariff, u, v)?;
     Ok(is_same(&found, &plan))
 }
 
