@@ -144,11 +144,11 @@ module _ (rows : Rows) (u p kind : ℕ) (good : IsWellFormed rows) (u_in : u < l
       elim ((grown_turns rows u p kind good u_in p_in known).old_turns d (λ e. absurd (omega arith))) [
         | inl same ↦
             let other : staged.name d ≢ s.before_a = λ e.
-              let is : d ≡ staged.before_start.dart = staged.naming.apart d staged.before_start.dart h staged.before_start.there (e ∙ staged.before_start.named) in
-              let turns : turn (system grew) d ≡ turn (system grew) (forward f 0) = same ∙ ap (turn (system rows)) is ∙ staged.before_start.turns ∙ sym leads in
-              let one : d ≡ forward f 0 = turns_apart grew now.paths now.crossings now.rotations d (forward f 0) (in_grew d h) new_here turns in
-              let edges : d.edge ≡ f = ap (λ (c : Dart). c.edge) one in
-              absurd (omega arith) in
+            let is : d ≡ staged.before_start.dart = staged.naming.apart d staged.before_start.dart h staged.before_start.there (e ∙ staged.before_start.named) in
+            let turns : turn (system grew) d ≡ turn (system grew) (forward f 0) = same ∙ ap (turn (system rows)) is ∙ staged.before_start.turns ∙ sym leads in
+            let one : d ≡ forward f 0 = turns_apart grew now.paths now.crossings now.rotations d (forward f 0) (in_grew d h) new_here turns in
+            let edges : d.edge ≡ f = ap (λ (c : Dart). c.edge) one in
+            absurd (omega arith) in
             link_stays (staged.name d) other (λ e. new_above d h Back (e ∙ staged.alone))
             ∙ staged.naming.turns d h ∙ sym (named_old (turn (system rows) d) (turned_old d h)) ∙ ap named (sym same)
         | inr between ↦

@@ -79,7 +79,7 @@ module _ (rows : Rows) (u p kind : ℕ) (good : IsWellFormed rows) (u_in : u < l
       let before : List ℕ = i.head ∷ i.front in
       let now : rotation grew u ≡ before ++ f ∷ i.back = around_after ∙ i.now in
       let old : (x : ℕ) → IsIn x before → x ≢ f = λ x h e.
-        let less = known_below x ((good_rotation rows good.rotations u (in_range 0 (length rows.rotations) u (omega arith) (omega arith))).known x (subst (IsIn x) (sym i.was) (in_left x before i.back h))) in absurd (omega arith) in
+      let less = known_below x ((good_rotation rows good.rotations u (in_range 0 (length rows.rotations) u (omega arith) (omega arith))).known x (subst (IsIn x) (sym i.was) (in_left x before i.back h))) in absurd (omega arith) in
       let read : slice_index around p ≡ slice_index_or i.back 0 i.head = (let both : Some (slice_index around p) ≡ Some (slice_index_or i.back 0 i.head) = sym (slice_get-get_or around p 0 p_in) ∙ i.corner in cc) in
       ap (λ xs. entry_after xs f) now
       ∙ ap (λ k. slice_index_or (before ++ f ∷ i.back) (k + 1) i.head) (place_of_new f before i.back old)

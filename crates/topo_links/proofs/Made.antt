@@ -101,11 +101,11 @@ segment_made xs ys zs base e turns n m i same less first second rest =
     let left : m - i ≡ suc (m - (i + 1)) = omega arith in (
       many,
       ap (λ ls. ls ++ edge_links e turns (length zs) (m - (i + 1))) is
-      ∙ edge_more xs a b (edge_links e turns (length zs) (m - (i + 1)))
-      ∙ ap (λ k. xs ++ a ∷ b ∷ edge_links e turns k (m - (i + 1))) next
-      ∙ ap (λ k. xs ++ edge_links e turns n k) (sym left)
-      ∙ ap (λ k. xs ++ edge_links e turns k (m - i)) same
-      ∙ rest,
+          ∙ edge_more xs a b (edge_links e turns (length zs) (m - (i + 1)))
+          ∙ ap (λ k. xs ++ a ∷ b ∷ edge_links e turns k (m - (i + 1))) next
+          ∙ ap (λ k. xs ++ edge_links e turns n k) (sym left)
+          ∙ ap (λ k. xs ++ edge_links e turns k (m - i)) same
+          ∙ rest,
     )
 
 -- the links of one edge more
@@ -118,10 +118,10 @@ edge_made xs ys base turns edges row i dropped taken counted is rest =
     let more : length ys ≡ length xs + 2 * segment_count row = ap length is ∙ length-append xs (edge_links row.id turns (length xs) (segment_count row)) ∙ omega arith in (
       omega arith,
       ap (λ ls. ls ++ links_from turns (length ys) (drop (i + 1) edges)) is
-      ∙ append_assoc xs (edge_links row.id turns (length xs) (segment_count row)) (links_from turns (length ys) (drop (i + 1) edges))
-      ∙ ap (λ k. xs ++ (edge_links row.id turns (length xs) (segment_count row) ++ links_from turns k (drop (i + 1) edges))) more
-      ∙ ap (λ es. xs ++ links_from turns (length xs) es) (sym dropped)
-      ∙ rest,
+          ∙ append_assoc xs (edge_links row.id turns (length xs) (segment_count row)) (links_from turns (length ys) (drop (i + 1) edges))
+          ∙ ap (λ k. xs ++ (edge_links row.id turns (length xs) (segment_count row) ++ links_from turns k (drop (i + 1) edges))) more
+          ∙ ap (λ es. xs ++ links_from turns (length xs) es) (sym dropped)
+          ∙ rest,
     )
 
 -- each edge has darts before the next one begins

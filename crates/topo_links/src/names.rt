@@ -75,7 +75,13 @@ pub(crate) fn corner_name(table: &Links, rows: &Rows, hints: &Hints, v: u32, pos
 }
 
 /// The name of the dart that names a corner; none where there is no such corner.
-pub(crate) fn corner_named(table: &Links, rows: &Rows, hints: &Hints, v: u32, position: u32) -> Option<u32>
+pub(crate) fn corner_named(
+    table: &Links,
+    rows: &Rows,
+    hints: &Hints,
+    v: u32,
+    position: u32,
+) -> Option<u32>
     requires good { IsWellFormed rows.now }
     requires shows { ShowsRows rows.now table.now }
     ensures { (name : Dart → ℕ) → IsNaming rows.now table.now name → result ≡ option_map name (corner rows.now v position) }

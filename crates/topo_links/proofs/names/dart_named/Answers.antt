@@ -124,13 +124,14 @@ loop-at-preserved c =
     let not_forward : c.args.name ≢ n.name (forward e c.loop-at.seg) = λ same. c.if-at-name.false (c.loop-at.invariant.0 n.name n.naming ∙ sym same) in
     let not_back : c.args.name ≢ n.name (back e c.loop-at.seg) = λ same. c.if-back-name.false (ap (λ (l : Link). l.twin) c.link-back.ensures ∙ back_is c.args.rows.now c.requires.good c.args.table.now n.name n.naming e c.loop-at.seg known within c.loop-at.at (c.loop-at.invariant.0 n.name n.naming) ∙ sym same) in
     let far = further c.args.rows.now c.requires.good c.args.table.now n.name n.naming n.dart n.there c.args.name n.named e c.loop-at.seg edge low not_forward not_back in
-    let next_within = segment_here c.args.rows.now c.requires.good c.args.table.now n.name n.naming n.dart n.there c.args.name n.named e (c.loop-at.seg + 1) edge (omega arith) in
-    ((λ name naming.
-        ap (λ (l : Link). l.next) (c.link-at.ensures ∙ ap (λ (l : Link). link_at c.args.table.now l.next) (c.link.ensures ∙ ap (λ (l : Link). link_at c.args.table.now l.twin) c.link-back.ensures))
-        ∙ next_is c.args.rows.now c.requires.good c.args.table.now name naming e c.loop-at.seg known within c.loop-at.at (c.loop-at.invariant.0 name naming) next_within),
-    (λ name d naming h is.
-        let low_d = c.loop-at.invariant.1 name d naming h is in
-        let here_forward : c.args.name ≢ name (forward e c.loop-at.seg) = λ same. c.if-at-name.false (c.loop-at.invariant.0 name naming ∙ sym same) in
-        let here_back : c.args.name ≢ name (back e c.loop-at.seg) = λ same. c.if-back-name.false (ap (λ (l : Link). l.twin) c.link-back.ensures ∙ back_is c.args.rows.now c.requires.good c.args.table.now name naming e c.loop-at.seg known within c.loop-at.at (c.loop-at.invariant.0 name naming) ∙ sym same) in
-        let far_d = further c.args.rows.now c.requires.good c.args.table.now name naming d h c.args.name is e c.loop-at.seg edge low_d here_forward here_back in
-        omega arith))
+    let next_within = segment_here c.args.rows.now c.requires.good c.args.table.now n.name n.naming n.dart n.there c.args.name n.named e (c.loop-at.seg + 1) edge (omega arith) in (
+      (λ name naming.
+          ap (λ (l : Link). l.next) (c.link-at.ensures ∙ ap (λ (l : Link). link_at c.args.table.now l.next) (c.link.ensures ∙ ap (λ (l : Link). link_at c.args.table.now l.twin) c.link-back.ensures))
+          ∙ next_is c.args.rows.now c.requires.good c.args.table.now name naming e c.loop-at.seg known within c.loop-at.at (c.loop-at.invariant.0 name naming) next_within),
+      (λ name d naming h is.
+          let low_d = c.loop-at.invariant.1 name d naming h is in
+          let here_forward : c.args.name ≢ name (forward e c.loop-at.seg) = λ same. c.if-at-name.false (c.loop-at.invariant.0 name naming ∙ sym same) in
+          let here_back : c.args.name ≢ name (back e c.loop-at.seg) = λ same. c.if-back-name.false (ap (λ (l : Link). l.twin) c.link-back.ensures ∙ back_is c.args.rows.now c.requires.good c.args.table.now name naming e c.loop-at.seg known within c.loop-at.at (c.loop-at.invariant.0 name naming) ∙ sym same) in
+          let far_d = further c.args.rows.now c.requires.good c.args.table.now name naming d h c.args.name is e c.loop-at.seg edge low_d here_forward here_back in
+          omega arith),
+    )

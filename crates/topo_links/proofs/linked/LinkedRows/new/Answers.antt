@@ -1,4 +1,3 @@
-
 use Rattle.topo_links.proofs.FoundNames.{naming_found}
 use Rattle.topo_links.proofs.linked.LinkedRows.new.Goals as goal
 
