@@ -8,6 +8,7 @@ use crate::report::print_line;
 use crate::searches::{next_number, prices};
 use std::alloc::Global;
 use std::io;
+use std::mem;
 use std::sync::Arc;
 use std::time::{Clock, Duration, Instant};
 use topo_book::Book;
@@ -23,7 +24,8 @@ fn vertex_of(state: u64, vertices: u32) -> u32 {
     ((state >> 40) as u32).checked_rem(vertices).unwrap_or(0)
 }
 
-/// Times the frozen picture, and not its end.
+/// Times the frozen picture, and not its end. The one before stands until the next is made, so that the
+/// memory that it leaves is there and no fresh pages are asked of the system each time.
 fn time_freezes<R: Clock + Print + AllocGlobal>(
     rt: &R,
     picture: &Picture,
@@ -32,16 +34,17 @@ fn time_freezes<R: Clock + Print + AllocGlobal>(
     requires some { 0 < darts }
 {
     let mut taken = Duration::ZERO;
+    let mut kept = picture.freeze(rt.alloc())?;
     for _turn in 0..CALLS {
         let start = Instant::now(rt)?;
         let frozen = picture.freeze(rt.alloc())?;
         taken = taken.saturating_add(start.elapsed(rt)?);
-        drop(frozen);
+        drop(mem::replace(&mut kept, frozen));
     }
     print_line(rt, "freeze", darts, CALLS, taken)
 }
 
-/// Times the copy, and not its end.
+/// Times the copy in the same way.
 fn time_copies<R: Clock + Print + AllocGlobal>(
     rt: &R,
     picture: &Picture,
@@ -50,16 +53,17 @@ fn time_copies<R: Clock + Print + AllocGlobal>(
     requires some { 0 < darts }
 {
     let mut taken = Duration::ZERO;
+    let mut kept = picture.copy(rt.alloc())?;
     for _turn in 0..CALLS {
         let start = Instant::now(rt)?;
         let copy = picture.copy(rt.alloc())?;
         taken = taken.saturating_add(start.elapsed(rt)?);
-        drop(copy);
+        drop(mem::replace(&mut kept, copy));
     }
     print_line(rt, "copy", darts, CALLS, taken)
 }
 
-/// Times growths at random vertices.
+/// Times growths at random vertices, once lists have grown to take them.
 fn time_growths<R: Clock + Print + AllocGlobal, F: Asks>(
     rt: &R,
     book: &mut Book<F>,
@@ -69,6 +73,7 @@ fn time_growths<R: Clock + Print + AllocGlobal, F: Asks>(
 {
     let vertices = book.picture().counts().vertices;
     let mut state = 1;
+    book.grow(rt.alloc(), 0, 0, 0, 1)?;
     let start = Instant::now(rt)?;
     for _turn in 0..CALLS {
         state = next_number(state);
@@ -77,7 +82,8 @@ fn time_growths<R: Clock + Print + AllocGlobal, F: Asks>(
     print_line(rt, "grow", darts, CALLS, start.elapsed(rt)?)
 }
 
-/// Times insertions from random vertices to the next, each with its search.
+/// Times insertions from random vertices to the next, each with its search, once lists have grown to
+/// take them.
 fn time_insertions<R: Clock + Print + AllocGlobal, F: Asks>(
     rt: &R,
     book: &mut Book<F>,
@@ -87,6 +93,7 @@ fn time_insertions<R: Clock + Print + AllocGlobal, F: Asks>(
 {
     let vertices = book.picture().counts().vertices;
     let mut state = 2;
+    book.insert(rt.alloc(), 0, 0, 1, 1)?;
     let start = Instant::now(rt)?;
     for _turn in 0..CALLS {
         state = next_number(state);
