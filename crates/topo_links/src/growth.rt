@@ -1,6 +1,6 @@
 //! A new vertex on a new edge that stands ready in the table.
 
-ghost use Rattle.std.specs.Prelude.{◌<◌, IfOk, length};
+ghost use Rattle.std.specs.Prelude.{◌+◌, ◌<◌, ◌≤◌, IfOk, length};
 ghost use Rattle.topo_core.specs.Lawful.{IsWellFormed};
 ghost use Rattle.topo_core.specs.Picture.{rotation};
 ghost use Rattle.topo_links.specs.Staging.{IsReady, IsStagedGrowth};
@@ -29,6 +29,7 @@ impl Links {
         requires vertex { u < length rows.now.rotations }
         requires position { position < length (rotation rows.now u) }
         ensures shows { ShowsRows rows.now self.new }
+        ensures at_most { length self.new.links ≤ length self.old.links + 2 }
         ensures staged { IfOk result (IsStagedGrowth rows.now u position self.new) }
         ensures ready { IfOk result (IsReady self.new.links) }
     {

@@ -193,6 +193,7 @@ fn push_crossings(
     requires behind { length table.old.links ≡ staged.first + 2 }
     ensures ends { table.new.ends ≡ table.old.ends }
     ensures shows { ShowsRows rows.now table.new }
+    ensures at_most { length table.new.links ≤ length table.old.links + 4 * length crossed.now }
     ensures pushed { (name : Dart → ℕ) → IsNaming rows.now table.old name → OnOk result (table.new.links ≡ table.old.links ++ route_links name rows.now.next_edge staged 0 crossed.now) }
 {
     for i in 0..crossed.len() {
@@ -217,6 +218,7 @@ fn push_links(
     requires planned { IsPlanned rows.now u v route.now table.old staged }
     ensures ends { table.new.ends ≡ table.old.ends }
     ensures shows { ShowsRows rows.now table.new }
+    ensures at_most { length table.new.links ≤ length table.old.links + 2 + 4 * length route.now.crossed }
     ensures pushed { (name : Dart → ℕ) (start end : Dart) → IsNaming rows.now table.old name → corner rows.now u route.now.start ≡ Some start → corner rows.now v route.now.end ≡ Some end → OnOk result (table.new.links ≡ table.old.links ++ end_links staged (name start) (name end) rows.now.next_edge ++ route_links name rows.now.next_edge staged 0 route.now.crossed) }
 {
     let start = corner_name(table, rows, hints, u, route.start);
@@ -253,6 +255,7 @@ impl Links {
         requires shows { ShowsRows rows.now self.old }
         requires insertable { (kind : ℕ) × IsInsertable rows.now u v kind route.now }
         ensures shows { ShowsRows rows.now self.new }
+        ensures at_most { length self.new.links ≤ length self.old.links + 2 + 4 * length route.now.crossed }
         ensures staged { IfOk result (IsStaged rows.now u v route.now self.new) }
         ensures ready { IfOk result (IsReady self.new.links) }
     {
