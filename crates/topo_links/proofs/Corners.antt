@@ -1,5 +1,5 @@
 -- Corners of vertices: their darts, and the darts before them.
-use Rattle.std.proofs.Common.{◌≡◌, ◌≢◌, ◌≤◌, ◌+◌, ◌-◌, ◌<◌, ◌||◌, ap, arith, Bool, cond, eqb, false, get_or, inl, inr, length, List, refl, Some, subst, sym, true, ℕ, [], ◌∙◌}
+use Rattle.std.proofs.Common.{◌≡◌, ◌≢◌, ◌≤◌, ◌+◌, ◌-◌, ◌<◌, ◌||◌, ap, arith, Bool, cond, false, inl, inr, length, List, refl, Some, sym, true, ℕ, [], ◌∙◌}
 use Rattle.std.specs.Prelude.{is_some, slice_get, slice_index, slice_index_or, ◌==◌}
 use Rattle.std.specs.List.{position_or_len}
 use Rattle.std.proofs.lemmas.Bool.{cases_Bool, eq-eqb, eqb-true, false≢true, ne_eqb}
@@ -8,11 +8,10 @@ use Rattle.std.proofs.lemmas.Option.{slice_get-get_or}
 use Rattle.topo_core.specs.declared.darts.Dart.{Dart}
 use Rattle.topo_core.specs.declared.rows.EdgeRow.{EdgeRow}
 use Rattle.topo_core.specs.declared.rows.Rows.{Rows}
-use Rattle.topo_core.specs.Items.{has_id, occurrences}
+use Rattle.topo_core.specs.Items.{occurrences}
 use Rattle.topo_core.specs.Lawful.{IsWellFormed}
-use Rattle.topo_core.specs.Picture.{corner, edge_at, edge_row, end_dart, rotation, system}
+use Rattle.topo_core.specs.Picture.{corner, edge_row, end_dart, rotation}
 use Rattle.topo_core.specs.Pictures.{back, forward}
-use Rattle.topo_core.specs.Systems.{turn}
 use Rattle.topo_core.proofs.Counting.{one, place_test, weigh_no}
 use Rattle.topo_core.proofs.Members.{in_range}
 use Rattle.topo_core.proofs.RouteDarts.{corner_in}

@@ -1,6 +1,6 @@
 -- The dart of a name, while a walk along its edge looks for it.
-use Rattle.std.proofs.Common.{◌≡◌, ◌≢◌, ◌≤◌, ◌+◌, ◌*◌, ◌^◌, ◌<◌, ap, arith, inl, inr, length, refl, Some, subst, sym, true, ℕ, ◌∙◌}
-use Rattle.std.specs.Prelude.{is_some, map, slice_get, slice_index, ◌==◌}
+use Rattle.std.proofs.Common.{◌≡◌, ◌≢◌, ◌≤◌, ◌<◌, ap, arith, inl, inr, length, refl, subst, sym, true, ℕ, ◌∙◌}
+use Rattle.std.specs.Prelude.{is_some, map, ◌==◌}
 use Rattle.std.specs.List.{position_or_len}
 use Rattle.std.proofs.lemmas.Bool.{cases_eq}
 use Rattle.topo_core.specs.declared.darts.Dart.{Dart}

@@ -1,5 +1,5 @@
 -- The names that walks along the edges find are names that the table shows the rows by.
-use Rattle.std.proofs.Common.{◌≡◌, ◌+◌, ◌<◌, ap, arith, length, refl, Some, subst, sym, suc, true, zero, ℕ, ◌∙◌}
+use Rattle.std.proofs.Common.{◌≡◌, ◌+◌, ◌<◌, ap, arith, length, Some, subst, sym, suc, true, zero, ℕ, ◌∙◌}
 use Rattle.std.specs.Prelude.{is_some, slice_get, ◌==◌}
 use Rattle.std.specs.List.{position_or_len}
 use Rattle.std.proofs.lemmas.Option.{get_or_from_slice_get}
@@ -11,7 +11,7 @@ use Rattle.topo_core.specs.declared.rows.Rows.{Rows}
 use Rattle.topo_core.specs.Darts.{dart_twin}
 use Rattle.topo_core.specs.Lawful.{IsWellFormed}
 use Rattle.topo_core.specs.Picture.{darts, edge_at, edge_row, segment_count, system}
-use Rattle.topo_core.specs.Pictures.{back, forward}
+use Rattle.topo_core.specs.Pictures.{forward}
 use Rattle.topo_core.specs.Systems.{has_dart, turn}
 use Rattle.topo_core.proofs.Numbering.{turn_stays, twin_in}
 use Rattle.topo_core.proofs.SystemDarts.{edge_at_row, row_id, some_of}
@@ -20,7 +20,7 @@ use Rattle.topo_frozen.proofs.Lookups.{row_found}
 use Rattle.topo_frozen.proofs.Noting.{place_among}
 use Rattle.topo_links.specs.declared.table.Ends.{Ends}
 use Rattle.topo_links.specs.Shown.{first_name, name_in, walked, walked_by}
-use Rattle.topo_links.specs.Tables.{ends_of, first_dart, IsNaming, last_dart, link_at, ShowsRows, Table}
+use Rattle.topo_links.specs.Tables.{ends_of, first_dart, IsNaming, last_dart, link_at, Table}
 use Rattle.topo_links.proofs.Straight.{edge_there, on_edge, segment_there}
 use Rattle.topo_links.proofs.Walking.{back_is, next_is}
 

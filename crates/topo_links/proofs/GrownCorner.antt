@@ -1,8 +1,8 @@
 -- How the darts of a grown picture turn round the corner that it grew from.
-use Rattle.std.proofs.Common.{◌≡◌, ◌≢◌, ◌+◌, ◌<◌, ◌≤◌, ◌||◌, Bool, true, false, cond, not, List, [], ◌∷◌, ◌++◌, length, eqb, get_or, refl, sym, ap, subst, ◌∙◌, arith, suc, ℕ, inl, inr}
-use Rattle.std.specs.Prelude.{◌⊎◌, ◌==◌, find, is_some, map, None, slice_get, slice_index, slice_index_or, Some}
+use Rattle.std.proofs.Common.{◌≡◌, ◌≢◌, ◌+◌, ◌<◌, Bool, true, cond, not, List, [], ◌∷◌, ◌++◌, length, refl, sym, ap, subst, ◌∙◌, arith, ℕ, inl, inr}
+use Rattle.std.specs.Prelude.{◌==◌, find, is_some, map, None, slice_index, slice_index_or, Some}
 use Rattle.std.specs.List.{list_all, position_or_len}
-use Rattle.std.proofs.lemmas.Bool.{cases_Bool, eq-eqb, eqb-true, ne_eqb}
+use Rattle.std.proofs.lemmas.Bool.{eq-eqb, ne_eqb}
 use Rattle.std.proofs.lemmas.List.{get_or_append_left, get_or-append-add, get_or-set_same, length-set}
 use Rattle.std.proofs.lemmas.Option.{slice_get-get_or}
 use Rattle.topo_core.specs.declared.darts.Dart.{Dart}
@@ -11,9 +11,9 @@ use Rattle.topo_core.specs.declared.rows.Rows.{Rows}
 use Rattle.topo_core.specs.Changes.{grown, put_in, with_end}
 use Rattle.topo_core.specs.Items.{has_id, IsIn}
 use Rattle.topo_core.specs.Lawful.{has_good_path, IsWellFormed}
-use Rattle.topo_core.specs.Picture.{corner, darts, edge_at, edge_row, end_dart, rotation, system}
+use Rattle.topo_core.specs.Picture.{corner, edge_at, edge_row, end_dart, rotation, system}
 use Rattle.topo_core.specs.Pictures.{back, forward}
-use Rattle.topo_core.specs.Systems.{has_dart, turn}
+use Rattle.topo_core.specs.Systems.{turn}
 use Rattle.topo_core.proofs.Growing.{crossings_after_growth, found_more, is_put_in, IsGrownTurn, IsPutIn, below_limit, more_vertices, paths_after_growth, rotations_after_growth, turns_after_growth}
 use Rattle.topo_core.proofs.Members.{in_left, in_map, in_range, in_right, left_true}
 use Rattle.topo_core.proofs.Standing.{good_rotation}

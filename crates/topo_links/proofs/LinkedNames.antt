@@ -1,10 +1,8 @@
 -- What a search asks of rows with their table, by the names that walks along the edges find.
-use Rattle.std.proofs.Common.{◌≡◌, ◌<◌, ap, length, refl, subst, sym, true, ℕ, ◌∙◌}
+use Rattle.std.proofs.Common.{◌≡◌, ◌<◌, ap, length, subst, sym, ℕ, ◌∙◌}
 use Rattle.topo_core.specs.declared.darts.Dart.{Dart}
 use Rattle.topo_core.specs.Darts.{dart_twin}
 use Rattle.topo_core.specs.Lawful.{IsWellFormed}
-use Rattle.topo_core.specs.Picture.{darts, system}
-use Rattle.topo_core.specs.Systems.{has_dart}
 use Rattle.topo_core.proofs.Numbering.{twin_in}
 use Rattle.topo_frozen.specs.Recovering.{well_formed_again}
 use Rattle.topo_route.specs.Names.{dart_named, IsName, next_name, twin_name}

@@ -1,16 +1,16 @@
 -- The table that is made of rows shows them by their canonical numbers.
-use Rattle.std.proofs.Common.{◌≡◌, ◌≢◌, ◌+◌, ◌*◌, ◌-◌, ◌%◌, ◌<◌, ◌≤◌, append_assoc, Bool, cond, drop, take, List, [], ◌∷◌, ◌++◌, length, refl, sym, ap, subst, ◌∙◌, arith, zero, suc, true, ℕ, inl, inr}
-use Rattle.std.specs.Prelude.{flat_map, slice_get, slice_index, slice_index_or, Some, sum_by, ◌==◌}
+use Rattle.std.proofs.Common.{◌≡◌, ◌+◌, ◌*◌, ◌-◌, ◌%◌, ◌<◌, ◌≤◌, append_assoc, Bool, cond, drop, take, List, [], ◌∷◌, ◌++◌, length, refl, sym, ap, subst, ◌∙◌, arith, zero, suc, true, ℕ, inl, inr}
+use Rattle.std.specs.Prelude.{flat_map, slice_get, slice_index, Some, sum_by}
 use Rattle.std.specs.List.{range_with_len}
 use Rattle.std.proofs.lemmas.Bool.{cases_lt, eq-eqb, ne_eqb}
-use Rattle.std.proofs.lemmas.List.{get_or-append-add, get_or_append_left, length-append}
+use Rattle.std.proofs.lemmas.List.{length-append}
 use Rattle.std.proofs.lemmas.List.Sums.{sum_by_push}
 use Rattle.std.proofs.lemmas.Option.{get_or_from_slice_get}
 use Rattle.topo_core.specs.declared.darts.Dart.{Dart}
 use Rattle.topo_core.specs.declared.darts.Way.TheVariants.{Forward, Back}
 use Rattle.topo_core.specs.declared.rows.EdgeRow.{EdgeRow}
 use Rattle.topo_core.specs.declared.rows.Rows.{Rows}
-use Rattle.topo_core.specs.Darts.{both_ways, dart_twin}
+use Rattle.topo_core.specs.Darts.{both_ways}
 use Rattle.topo_core.specs.Lawful.{IsWellFormed}
 use Rattle.topo_core.specs.Picture.{darts, darts_of, index_of, segment_count, turn_images}
 use Rattle.topo_core.specs.Rotations.{twin}
@@ -23,7 +23,7 @@ use Rattle.topo_frozen.proofs.Rounds.{got_within}
 use Rattle.topo_links.specs.declared.table.Ends.{Ends}
 use Rattle.topo_links.specs.declared.table.Link.{Link}
 use Rattle.topo_links.specs.Making.{AreEnds, edge_links, links_from}
-use Rattle.topo_links.specs.Tables.{ends_of, IsNaming, link_at, no_link, ShowsRows, Table}
+use Rattle.topo_links.specs.Tables.{IsNaming, link_at, no_link, ShowsRows, Table}
 
 -- ---- What stands at a number
 

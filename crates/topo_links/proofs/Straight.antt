@@ -1,6 +1,6 @@
 -- Along an edge: the darts of its segments are there, and from one segment to the next lead the twin and two turns.
-use Rattle.std.proofs.Common.{◌≡◌, ◌+◌, ◌<◌, ◌||◌, ap, arith, Bool, cond, eqb, false, inl, inr, length, refl, Some, subst, sym, true, ℕ, ◌∙◌}
-use Rattle.std.specs.Prelude.{is_some, map, slice_get, slice_index}
+use Rattle.std.proofs.Common.{◌≡◌, ◌+◌, ◌<◌, ◌||◌, ap, arith, eqb, false, inl, inr, length, refl, Some, subst, sym, true, ℕ, ◌∙◌}
+use Rattle.std.specs.Prelude.{is_some, slice_get, slice_index}
 use Rattle.std.proofs.lemmas.Bool.{cases_Bool, eqb-true}
 use Rattle.topo_core.specs.declared.darts.Dart.{Dart}
 use Rattle.topo_core.specs.declared.darts.Sign.{Sign}
@@ -19,7 +19,7 @@ use Rattle.topo_core.specs.Systems.{has_dart, turn}
 use Rattle.topo_core.proofs.Members.{found, or_second}
 use Rattle.topo_core.proofs.Standing.{listed_test, of_rows_is_dart}
 use Rattle.topo_core.proofs.SystemDarts.{edge_at_row, some_of}
-use Rattle.topo_frozen.specs.Placed.{passing, placed_dart, PlacedDart, way_after}
+use Rattle.topo_frozen.specs.Placed.{passing, PlacedDart, way_after}
 use Rattle.topo_frozen.proofs.AroundPoints.{crosses_at, edge_named, goes_back, goes_on, Stands, turn_of_crossed, turn_of_newcomer}
 use Rattle.topo_frozen.proofs.Lookups.{dart_there}
 

@@ -1,5 +1,5 @@
 -- What a table of half-edges holds along an edge, under names that it shows the rows by.
-use Rattle.std.proofs.Common.{◌≡◌, ◌+◌, ◌<◌, ap, arith, length, List, refl, Some, subst, sym, true, ℕ, ◌∙◌}
+use Rattle.std.proofs.Common.{◌≡◌, ◌+◌, ◌<◌, ap, arith, length, List, Some, subst, sym, true, ℕ, ◌∙◌}
 use Rattle.std.specs.Prelude.{find, is_some, map, slice_get, ◌==◌}
 use Rattle.std.specs.List.{position_or_len}
 use Rattle.topo_core.specs.declared.darts.Dart.{Dart}

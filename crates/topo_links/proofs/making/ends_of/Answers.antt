@@ -1,4 +1,4 @@
-use Rattle.std.proofs.Common.{◌≡◌, ◌≤◌, ◌+◌, ◌-◌, ◌∙◌, ap, arith, length, refl, subst, sym}
+use Rattle.std.proofs.Common.{◌≤◌, ◌+◌, ◌-◌, ap, arith, length, refl, subst, sym}
 use Rattle.std.specs.Prelude.{slice_index}
 use Rattle.topo_frozen.proofs.Begins.{begins_length}
 use Rattle.topo_links.proofs.Made.{ends_made, some_before}

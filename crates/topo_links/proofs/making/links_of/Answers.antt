@@ -2,9 +2,7 @@ use Rattle.std.proofs.Common.{◌≡◌, ◌+◌, ◌∙◌, ap, arith, drop, sy
 use Rattle.std.proofs.lemmas.List.{take_more}
 use Rattle.std.proofs.Math.Seq.{drop-cons}
 use Rattle.topo_core.specs.declared.rows.EdgeRow.{EdgeRow}
-use Rattle.std.specs.Prelude.{◌++◌, [], ◌∷◌, length}
-use Rattle.topo_core.specs.Picture.{segment_count}
-use Rattle.topo_links.specs.Making.{edge_links}
+use Rattle.std.specs.Prelude.{◌++◌, [], ◌∷◌}
 use Rattle.std.proofs.Math.ListN.{take}
 use Rattle.topo_links.proofs.Made.{edge_made}
 use Rattle.topo_links.proofs.making.links_of.Goals as goal

@@ -1,4 +1,4 @@
-use Rattle.std.proofs.Common.{◌≡◌, ◌∙◌, ap, arith, length}
+use Rattle.std.proofs.Common.{ap, arith, length}
 use Rattle.topo_core.specs.Picture.{segment_count}
 use Rattle.topo_links.proofs.Made.{segment_made}
 use Rattle.topo_links.proofs.making.push_edge.Goals as goal

@@ -1,4 +1,4 @@
-use Rattle.std.proofs.Common.{◌≡◌, ◌∙◌, ap, sym}
+use Rattle.std.proofs.Common.{◌∙◌, ap}
 use Rattle.std.specs.Prelude.{is_some, slice_index}
 use Rattle.topo_core.specs.Picture.{edge_row, end_dart}
 use Rattle.topo_links.proofs.Corners.{around_read, corner_known, entry_known}

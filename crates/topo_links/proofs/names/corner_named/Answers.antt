@@ -1,8 +1,8 @@
-use Rattle.std.proofs.Common.{◌≡◌, ◌∙◌, ◌≤◌, ap, arith, length, None, Some, subst, sym}
-use Rattle.std.specs.Prelude.{map, option_map, slice_get}
+use Rattle.std.proofs.Common.{◌∙◌, ap, arith, Some, sym}
+use Rattle.std.specs.Prelude.{option_map}
 use Rattle.std.proofs.lemmas.List.{length-map}
 use Rattle.std.proofs.lemmas.Option.{slice_get_past}
-use Rattle.topo_core.specs.Picture.{around_vertex, corner, end_dart, rotation}
+use Rattle.topo_core.specs.Picture.{around_vertex, end_dart, rotation}
 use Rattle.topo_links.proofs.StagedLinks.{corner_there}
 use Rattle.topo_links.proofs.names.corner_named.Goals as goal
 

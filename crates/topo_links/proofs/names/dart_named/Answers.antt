@@ -1,8 +1,7 @@
-use Rattle.std.proofs.Common.{◌≡◌, ◌≢◌, ◌≤◌, ◌+◌, ◌-◌, ◌^◌, ◌<◌, ◌∙◌, ap, arith, length, refl, subst, sym, true, ℕ}
+use Rattle.std.proofs.Common.{◌≢◌, ◌+◌, ◌<◌, ◌∙◌, ap, arith, length, subst, sym}
 use Rattle.std.specs.Prelude.{find, is_some, ◌==◌}
-use Rattle.topo_core.specs.declared.darts.Dart.{Dart}
 use Rattle.topo_core.specs.declared.darts.Way.TheVariants.{Forward, Back}
-use Rattle.topo_core.specs.Picture.{edge_at, edge_row, segment_count}
+use Rattle.topo_core.specs.Picture.{edge_row}
 use Rattle.topo_core.specs.Pictures.{back, forward}
 use Rattle.topo_links.specs.Tables.{link_at}
 use Rattle.topo_links.specs.declared.table.Link.{Link}

@@ -1,5 +1,4 @@
-use Rattle.std.proofs.Common.{◌+◌, ◌<◌, ◌∙◌, ap, arith, length, subst, sym}
-use Rattle.topo_core.specs.Picture.{edge_at, segment_count}
+use Rattle.std.proofs.Common.{◌<◌, ◌∙◌, ap, arith, length, subst, sym}
 use Rattle.topo_core.specs.Pictures.{forward}
 use Rattle.topo_links.specs.Tables.{link_at}
 use Rattle.topo_links.specs.declared.table.Link.{Link}

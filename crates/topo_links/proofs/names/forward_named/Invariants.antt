@@ -1,4 +1,3 @@
-use Rattle.std.specs.Prelude.{◌≤◌}
 use Rattle.topo_core.specs.Pictures.{forward}
 use Rattle.topo_links.specs.Naming.{IsNameOf}
 use Rattle.topo_links.proofs.names.forward_named.Given as goal

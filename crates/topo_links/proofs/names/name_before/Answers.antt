@@ -1,4 +1,4 @@
-use Rattle.std.proofs.Common.{◌≡◌, ◌∙◌, ap, length}
+use Rattle.std.proofs.Common.{◌∙◌, ap, length}
 use Rattle.std.specs.Prelude.{is_some, slice_index}
 use Rattle.topo_core.specs.Picture.{edge_row, end_dart, rotation}
 use Rattle.topo_links.specs.Naming.{place_before}

@@ -1,7 +1,5 @@
-use Rattle.std.proofs.Common.{◌≡◌, ◌<◌, ◌∙◌, ap, subst, sym}
+use Rattle.std.proofs.Common.{◌<◌, ◌∙◌, ap, subst, sym}
 use Rattle.std.specs.Prelude.{is_some}
-use Rattle.topo_core.specs.declared.darts.Dart.{Dart}
-use Rattle.topo_core.specs.declared.darts.Way.TheVariants.{Back, Forward}
 use Rattle.topo_core.specs.Picture.{edge_at, edge_row, segment_count}
 use Rattle.topo_core.specs.Pictures.{forward}
 use Rattle.topo_links.specs.declared.table.Link.{Link}

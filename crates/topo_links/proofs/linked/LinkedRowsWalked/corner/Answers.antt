@@ -1,10 +1,7 @@
-use Rattle.std.proofs.Common.{◌≡◌, ap, subst, sym}
+use Rattle.std.proofs.Common.{◌≡◌, subst}
 use Rattle.std.specs.Prelude.{option_map}
 use Rattle.topo_core.specs.Picture.{corner}
-use Rattle.topo_route.specs.Names.{IsName, dart_named, next_name, twin_name}
-use Rattle.topo_links.specs.Shown.{name_in, named_rows, ShownRows}
-use Rattle.topo_links.specs.declared.table.Link.{Link}
-use Rattle.topo_links.specs.Tables.{link_at}
+use Rattle.topo_links.specs.Shown.{name_in, ShownRows}
 use Rattle.topo_links.proofs.LinkedNames.{shows, well_formed}
 use Rattle.topo_links.proofs.linked.LinkedRowsWalked.corner.Goals as goal
 

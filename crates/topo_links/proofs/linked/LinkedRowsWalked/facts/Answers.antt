@@ -1,10 +1,8 @@
 use Rattle.std.proofs.Common.{subst, sym}
 use Rattle.topo_core.specs.Picture.{edge_at}
 use Rattle.topo_core.specs.Routes.{AreFactsOf}
-use Rattle.topo_route.specs.Names.{IsName, dart_named, next_name, twin_name}
+use Rattle.topo_route.specs.Names.{IsName, dart_named}
 use Rattle.topo_links.specs.Shown.{name_in, named_rows, ShownRows}
-use Rattle.topo_links.specs.declared.table.Link.{Link}
-use Rattle.topo_links.specs.Tables.{link_at}
 use Rattle.topo_links.proofs.LinkedNames.{is_named, well_formed}
 use Rattle.topo_links.proofs.linked.LinkedRowsWalked.facts.Goals as goal
 

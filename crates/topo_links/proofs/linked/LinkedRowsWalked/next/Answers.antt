@@ -1,6 +1,6 @@
-use Rattle.std.proofs.Common.{◌≡◌, ◌<◌, ◌∙◌, ap, length, subst, sym}
-use Rattle.topo_route.specs.Names.{IsName, dart_named, next_name, twin_name}
-use Rattle.topo_links.specs.Shown.{name_in, named_rows, ShownRows}
+use Rattle.std.proofs.Common.{◌<◌, ◌∙◌, ap, length, subst, sym}
+use Rattle.topo_route.specs.Names.{IsName, next_name}
+use Rattle.topo_links.specs.Shown.{named_rows, ShownRows}
 use Rattle.topo_links.specs.declared.table.Link.{Link}
 use Rattle.topo_links.specs.Tables.{link_at}
 use Rattle.topo_links.proofs.LinkedNames.{next_of, twin_inside}

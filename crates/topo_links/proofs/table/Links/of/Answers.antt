@@ -1,4 +1,4 @@
-use Rattle.std.proofs.Common.{◌≡◌, ◌∙◌, ap, arith, length, List, subst}
+use Rattle.std.proofs.Common.{◌∙◌, ap, arith, length, List, subst}
 use Rattle.std.specs.Prelude.{sum_by}
 use Rattle.topo_core.specs.declared.rows.EdgeRow.{EdgeRow}
 use Rattle.topo_core.specs.Picture.{segment_count, turn_images}

@@ -1,10 +1,7 @@
-use Rattle.std.proofs.Common.{◌≡◌, ◌∙◌, ◌≤◌, ◌+◌, ◌<◌, ◌++◌, ◌∷◌, [], length, ap, arith, List, refl, sym, subst}
+use Rattle.std.proofs.Common.{◌≡◌, ◌∙◌, ◌+◌, ◌<◌, ◌++◌, length, ap, arith, refl, sym, subst}
 use Rattle.std.specs.Prelude.{slice_get}
-use Rattle.std.proofs.lemmas.List.{length-append}
-use Rattle.topo_links.specs.declared.table.Ends.{Ends}
-use Rattle.topo_links.specs.declared.table.Link.{Link}
-use Rattle.topo_links.specs.Staging.{end_links, IsReady, IsStagedGrowth}
-use Rattle.topo_links.specs.Tables.{ShowsRows, Table}
+use Rattle.topo_links.specs.Staging.{IsStagedGrowth}
+use Rattle.topo_links.specs.Tables.{Table}
 use Rattle.topo_links.proofs.GrownLinks.{staged_growth}
 use Rattle.topo_links.proofs.Pushed.{ends_enough, shows_behind, shows_kept}
 use Rattle.topo_links.proofs.Readying.{growth_ready}
