@@ -7,12 +7,13 @@ use Rattle.std.specs.declared.cmp.Ordering.TheVariants.{Less, Equal, Greater}
 use Rattle.std.proofs.lemmas.Bool.{cases_Bool, cases_eq, cases_lt, false≢true}
 use Rattle.std.proofs.lemmas.Bool.Decides.{nat_tests}
 use Rattle.topo_core.specs.declared.darts.Dart.{Dart}
+use Rattle.topo_core.specs.declared.darts.Way.{Way}
 use Rattle.topo_core.specs.declared.darts.Way.TheVariants.{Forward, Back}
 use Rattle.topo_core.specs.declared.rows.EdgeRow.{EdgeRow}
 use Rattle.topo_core.specs.declared.rows.Rows.{Rows}
 use Rattle.topo_core.specs.Darts.{both_ways, dart_cmp, same_dart, way_cmp}
 use Rattle.topo_core.specs.Items.{IsIn, rises_below}
-use Rattle.topo_core.specs.Lawful.{Lawful, has_good_path, has_good_paths}
+use Rattle.topo_core.specs.Lawful.{has_good_path, has_good_paths}
 use Rattle.topo_core.specs.Picture.{darts, darts_of, index_of, segment_count}
 use Rattle.topo_core.specs.Systems.{has_dart}
 use Rattle.topo_core.proofs.Counting.{ids_above}
@@ -175,15 +176,15 @@ pub number_order : (rows : Rows) → has_good_paths rows ≡ true → (c d : Dar
     → index_of rows c < index_of rows d → (dart_cmp c d ≡ Less) × (dart_cmp d c ≡ Greater)
 number_order rows paths = place_order (darts rows) (all_rise rows.next_edge rows.edges (left_true (rises_below rows.next_edge (map (λ row. row.id) rows.edges)) (list_all (has_good_path rows) rows.edges) paths))
 
-module _ (rows : Rows) (lawful : Lawful rows) (c d : Dart) (c_in : has_dart (darts rows) c ≡ true) (d_in : has_dart (darts rows) d ≡ true) where
+module _ (rows : Rows) (paths : has_good_paths rows ≡ true) (c d : Dart) (c_in : has_dart (darts rows) c ≡ true) (d_in : has_dart (darts rows) d ≡ true) where
   -- no later number is that of no later dart
   pub not_later : index_of rows c ≤ index_of rows d → dart_cmp c d ≢ Greater
   not_later low greater = elim (cases_eq (index_of rows c) (index_of rows d)) [
     | inl e ↦
-        let one : c ≡ d = index_apart rows lawful.embedding.well_formed.paths c d c_in d_in e in
+        let one : c ≡ d = index_apart rows paths c d c_in d_in e in
         let bad : Equal ≡ Greater = sym (dart_cmp_self c) ∙ ap (dart_cmp c) one ∙ greater in cc
     | inr ne ↦
-        let order = number_order rows lawful.embedding.well_formed.paths c d c_in d_in (omega arith) in
+        let order = number_order rows paths c d c_in d_in (omega arith) in
         let bad : Less ≡ Greater = sym order.0 ∙ greater in cc
   ]
 
@@ -191,12 +192,95 @@ module _ (rows : Rows) (lawful : Lawful rows) (c d : Dart) (c_in : has_dart (dar
   pub order_number : dart_cmp c d ≡ Less → index_of rows c < index_of rows d
   order_number less = elim (cases_eq (index_of rows c) (index_of rows d)) [
     | inl e ↦
-        let one : c ≡ d = index_apart rows lawful.embedding.well_formed.paths c d c_in d_in e in
+        let one : c ≡ d = index_apart rows paths c d c_in d_in e in
         let bad : Equal ≡ Less = sym (dart_cmp_self c) ∙ ap (dart_cmp c) one ∙ less in cc
     | inr ne ↦ elim (cases_lt (index_of rows c) (index_of rows d)) [
       | inl below ↦ below
       | inr above ↦
-          let order = number_order rows lawful.embedding.well_formed.paths d c d_in c_in (omega arith) in
+          let order = number_order rows paths d c d_in c_in (omega arith) in
           let bad : Greater ≡ Less = sym order.1 ∙ less in cc
     ]
   ]
+
+-- ---- The order of all darts
+
+-- what it takes to come before d
+abbrev Below : Dart → Dart → Type 0
+Below c d = (c.edge < d.edge) ⊎ ((c.edge ≡ d.edge) × ((c.seg < d.seg) ⊎ ((c.seg ≡ d.seg) × (way_cmp c.way d.way ≡ Less))))
+
+below_less : (c d : Dart) → Below c d → dart_cmp c d ≡ Less
+below_less c d (inl h) = (by_edge c d h).0
+below_less c d (inr (e, inl h)) = (by_seg c d e h).0
+below_less c d (inr (e, inr (s, w))) =
+    ap (λ x. ordering_then x (ordering_then (nat_cmp c.seg d.seg) (way_cmp c.way d.way))) (equal_of c.edge d.edge e)
+    ∙ ap (λ x. ordering_then x (way_cmp c.way d.way)) (equal_of c.seg d.seg s) ∙ w
+
+compared : (v w : Way) → (way_cmp v w ≡ Less) ⊎ ((v ≡ w) ⊎ (way_cmp w v ≡ Less))
+compared Forward Forward = inr (inl refl)
+compared Forward Back = inl refl
+compared Back Forward = inr (inr refl)
+compared Back Back = inr (inl refl)
+
+-- of two darts one is below the other, or they are one
+pub one_below : (c d : Dart) → Below c d ⊎ ((c ≡ d) ⊎ Below d c)
+one_below c d = elim (cases_eq c.edge d.edge) [
+  | inr apart ↦ elim (cases_lt c.edge d.edge) [ inl less ↦ inl (inl less) | inr more ↦ inr (inr (inl (omega arith))) ]
+  | inl edges ↦ elim (cases_eq c.seg d.seg) [
+    | inr apart ↦ elim (cases_lt c.seg d.seg) [ inl less ↦ inl (inr (edges, inl less)) | inr more ↦ inr (inr (inr (sym edges, inl (omega arith)))) ]
+    | inl segs ↦ elim (compared c.way d.way) [
+      | inl less ↦ inl (inr (edges, inr (segs, less)))
+      | inr (inl ways) ↦ inr (inl (λ i. record { edge = edges i; seg = segs i; way = ways i }))
+      | inr (inr more) ↦ inr (inr (inr (sym edges, inr (sym segs, more))))
+    ]
+  ]
+]
+
+-- of two darts one comes before the other, or they are one
+pub order_total : (c d : Dart) → (dart_cmp c d ≡ Less) ⊎ ((c ≡ d) ⊎ (dart_cmp d c ≡ Less))
+order_total c d = elim (one_below c d) [
+  | inl less ↦ inl (below_less c d less)
+  | inr (inl same) ↦ inr (inl same)
+  | inr (inr more) ↦ inr (inr (below_less d c more))
+]
+
+not_both : (c d : Dart) → Below d c → dart_cmp c d ≡ Less → ⊥
+not_both c d (inl h) less = let bad : Greater ≡ Less = sym (by_edge d c h).1 ∙ less in cc
+not_both c d (inr (e, inl h)) less = let bad : Greater ≡ Less = sym (by_seg d c e h).1 ∙ less in cc
+not_both c d (inr (e, inr (s, w))) less =
+    let at_ways : dart_cmp c d ≡ way_cmp c.way d.way =
+    ap (λ x. ordering_then x (ordering_then (nat_cmp c.seg d.seg) (way_cmp c.way d.way))) (equal_of c.edge d.edge (sym e))
+    ∙ ap (λ x. ordering_then x (way_cmp c.way d.way)) (equal_of c.seg d.seg (sym s)) in
+    ways_apart c.way d.way w (sym at_ways ∙ less) where
+      ways_apart : (v w : Way) → way_cmp w v ≡ Less → way_cmp v w ≡ Less → ⊥
+      ways_apart Forward Forward h k = cc
+      ways_apart Forward Back h k = cc
+      ways_apart Back Forward h k = cc
+      ways_apart Back Back h k = cc
+
+less_below : (c d : Dart) → dart_cmp c d ≡ Less → Below c d
+less_below c d less = elim (one_below c d) [
+  | inl below ↦ below
+  | inr (inl same) ↦ let bad : Equal ≡ Less = sym (dart_cmp_self c) ∙ ap (dart_cmp c) same ∙ less in cc
+  | inr (inr more) ↦ absurd (not_both c d more less)
+]
+
+below_through : (c d e : Dart) → Below c d → Below d e → Below c e
+below_through c d e (inl h) (inl k) = inl (omega arith)
+below_through c d e (inl h) (inr (k, rest)) = inl (omega arith)
+below_through c d e (inr (h, rest)) (inl k) = inl (omega arith)
+below_through c d e (inr (h, inl s)) (inr (k, inl t)) = inr (omega arith, inl (omega arith))
+below_through c d e (inr (h, inl s)) (inr (k, inr (t, w))) = inr (omega arith, inl (omega arith))
+below_through c d e (inr (h, inr (s, w))) (inr (k, inl t)) = inr (omega arith, inl (omega arith))
+below_through c d e (inr (h, inr (s, w))) (inr (k, inr (t, x))) = inr (omega arith, inr (omega arith, ways_through c.way d.way e.way w x)) where
+  ways_through : (u v w : Way) → way_cmp u v ≡ Less → way_cmp v w ≡ Less → way_cmp u w ≡ Less
+  ways_through Forward Back w h k = by_last w h k where
+    by_last : (w : Way) → way_cmp Forward Back ≡ Less → way_cmp Back w ≡ Less → way_cmp Forward w ≡ Less
+    by_last Forward h k = cc
+    by_last Back h k = refl
+  ways_through Forward Forward w h k = cc
+  ways_through Back Forward w h k = cc
+  ways_through Back Back w h k = cc
+
+-- what comes before a dart comes before all behind it
+pub order_through : (c d e : Dart) → dart_cmp c d ≡ Less → dart_cmp d e ≡ Less → dart_cmp c e ≡ Less
+order_through c d e h k = below_less c e (below_through c d e (less_below c d h) (less_below d e k))
