@@ -5,7 +5,8 @@ use crate::searches::next_number;
 use std::alloc::{AllocError, Global};
 use std::io;
 use std::time::{Clock, Duration, Instant};
-use topo_cli::{replay_io, run_io};
+use topo_check::replay_io;
+use topo_run::run_io;
 use topo_script::picture_text;
 
 /// The vertices on each side of the grid that the script starts from.

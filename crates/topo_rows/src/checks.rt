@@ -8,7 +8,8 @@ use crate::streams::{FailingWriter, SlowReader};
 use std::alloc::Global;
 use std::process::Abort;
 use std::test::Fail;
-use topo_cli::{RunFault, check_io};
+use topo_check::check_io;
+use topo_settings::RunFault;
 
 /// What a check prints on these bytes: the line, or the fault.
 fn printed(alloc: Global, picture: &[u8]) -> Result<String, Fail> {

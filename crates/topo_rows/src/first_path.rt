@@ -4,13 +4,15 @@ use crate::streams::{FailingWriter, NeverReader, SlowReader};
 use std::alloc::Global;
 use std::process::Abort;
 use std::test::Fail;
-use topo_cli::verbs::verb;
-use topo_cli::{RunFault, Verb, run_io};
 use topo_core::calls::Refusal;
 use topo_core::ids::{EdgeId, VertexId};
 use topo_core::limits::Limits;
 use topo_picture::Picture;
+use topo_run::run_io;
 use topo_script::picture_text;
+use topo_settings::RunFault;
+use topo_words::Verb;
+use topo_words::verbs::verb;
 
 const FIRST: &str = "{\"version\":1,\"workers\":[[[\"grow\",1,0,0],[\"grow\",1,1,7]]]}";
 

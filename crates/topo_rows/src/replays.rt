@@ -5,7 +5,8 @@ use crate::streams::{FailingWriter, SlowReader};
 use std::alloc::Global;
 use std::process::Abort;
 use std::test::Fail;
-use topo_cli::{RunFault, replay_io};
+use topo_check::replay_io;
+use topo_settings::RunFault;
 
 /// What a replay prints on these bytes: the line, or the fault.
 pub(crate) fn printed(alloc: Global, report: &[u8]) -> Result<String, Fail> {
