@@ -10,6 +10,7 @@
 
 pub mod calls;
 pub mod darts;
+mod equality;
 pub mod evidence;
 pub mod ids;
 pub mod laws;
