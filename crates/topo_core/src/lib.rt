@@ -20,5 +20,3 @@ pub mod route_laws;
 pub mod routes;
 pub mod rows;
 pub mod step_laws;
-#[cfg(test)]
-mod tests;
