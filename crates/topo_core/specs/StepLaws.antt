@@ -1,5 +1,5 @@
 -- The laws of steps and replays: each is proved as the contract of a function without a body.
-use Rattle.std.specs.Prelude.{◌≡◌, ℕ, List, [], ◌∷◌, ◌++◌}
+use Rattle.std.specs.Prelude.{◌≡◌, ℕ, if◌then◌else◌, List, [], ◌∷◌, ◌++◌}
 use Rattle.topo_core.specs.declared.rows.Rows.{Rows}
 use Rattle.topo_core.specs.declared.limits.Limits.{Limits}
 use Rattle.topo_core.specs.declared.routes.Route.{Route}
@@ -8,7 +8,7 @@ use Rattle.topo_core.specs.declared.calls.Entry.{Entry}
 use Rattle.topo_core.specs.declared.calls.Reply.{Reply}
 use Rattle.topo_core.specs.Routes.{IsFirst, Pricing}
 use Rattle.topo_core.specs.Steps.{Step}
-use Rattle.topo_core.specs.History.{Replays, versions}
+use Rattle.topo_core.specs.History.{Replays, is_accepted, versions}
 
 -- the first of the least routes is one, and so is its cost
 abbrev pub FirstIsOne : Pricing → Type 0
@@ -27,3 +27,7 @@ ReplaysGoOn price = (limits : Limits) (entries : List Entry) (p q next : Rows) (
 -- the accepted entries of a history lead to the same picture
 abbrev pub VersionsReplay : Pricing → Type 0
 VersionsReplay price = (limits : Limits) (entries : List Entry) (p q : Rows) → Replays price limits p entries q → Replays price limits p (versions entries) q
+
+-- the versions of a history with one entry more are those before, and the entry where it was accepted
+abbrev pub VersionsGoOn : Type 0
+VersionsGoOn = (entries : List Entry) (entry : Entry) → versions (entries ++ entry ∷ []) ≡ (if is_accepted entry.reply then versions entries ++ entry ∷ [] else versions entries)

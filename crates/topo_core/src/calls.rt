@@ -1,9 +1,10 @@
 //! What is asked of a picture, and what is answered.
 
-ghost use Rattle.std.specs.Prelude.{◌≡◌};
+ghost use Rattle.std.specs.Prelude.{◌≡◌, IfOk};
 
 use crate::ids::{EdgeId, VertexId};
 use crate::routes::Inserted;
+use std::alloc::{AllocError, Global};
 
 /// A change that is asked for, with the numbers as they were handed in.
 #[derive(Clone, Copy, Debug, PartialEq, Eq)]
@@ -77,10 +78,40 @@ pub enum Reply {
     Refused(Refusal),
 }
 
+impl Reply {
+    /// An equal reply. Only the route of an insertion takes memory.
+    pub fn copy(&self, alloc: Global) -> Result<Self, AllocError>
+        ensures { IfOk result (λ reply. reply ≡ self.now) }
+    {
+        match self {
+            Reply::Grown { vertex, edge } => Ok(Reply::Grown {
+                vertex: *vertex,
+                edge: *edge,
+            }),
+            Reply::Inserted(made) => Ok(Reply::Inserted(made.copy(alloc)?)),
+            Reply::Deleted(edge) => Ok(Reply::Deleted(*edge)),
+            Reply::Refused(why) => Ok(Reply::Refused(*why)),
+        }
+    }
+}
+
 /// A call with who made it and the answer, as a history keeps it.
 #[derive(Drop, Debug)]
 pub struct Entry {
     pub caller: u32,
     pub call: Call,
     pub reply: Reply,
+}
+
+impl Entry {
+    /// An equal entry.
+    pub fn copy(&self, alloc: Global) -> Result<Self, AllocError>
+        ensures { IfOk result (λ entry. entry ≡ self.now) }
+    {
+        Ok(Entry {
+            caller: self.caller,
+            call: self.call,
+            reply: self.reply.copy(alloc)?,
+        })
+    }
 }

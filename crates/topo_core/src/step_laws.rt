@@ -1,6 +1,6 @@
 //! Laws of steps and replays. The functions do nothing: their contracts are the laws.
 
-ghost use Rattle.topo_core.specs.StepLaws.{FirstIsOne, ReplaysGoOn, StepsAreDetermined, VersionsReplay};
+ghost use Rattle.topo_core.specs.StepLaws.{FirstIsOne, ReplaysGoOn, StepsAreDetermined, VersionsGoOn, VersionsReplay};
 
 use crate::prices::Prices;
 
@@ -22,4 +22,9 @@ pub fn replays_go_on<P: Prices>()
 /// A refused call changes nothing, so the accepted entries alone lead to the same picture.
 pub fn versions_replay<P: Prices>()
     ensures { VersionsReplay P.price }
+{}
+
+/// A history with one entry more has the versions that it had, and the entry where it was accepted.
+pub fn versions_go_on()
+    ensures { VersionsGoOn }
 {}

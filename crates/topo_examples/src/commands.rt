@@ -2,7 +2,8 @@
 
 use std::alloc::{AllocError, Global};
 use std::fmt::Display;
-use topo_cli::{check_io, replay_io, run_io};
+use topo_check::{check_io, replay_io};
+use topo_run::run_io;
 use topo_script::{ScriptFault, picture_text, read_report, read_rows, read_script, report};
 
 /// What is done with the bytes of a row.

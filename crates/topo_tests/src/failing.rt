@@ -4,8 +4,10 @@ use crate::pictures::JOINED;
 use crate::streams::{EndlessReader, FailingWriter, NeverReader, SlowReader};
 use std::alloc::Global;
 use std::test::Fail;
-use topo_cli::{RunFault, check_io, replay_io, run_io};
+use topo_check::{check_io, replay_io};
+use topo_run::run_io;
 use topo_script::ScriptFault;
+use topo_settings::RunFault;
 
 /// The greatest number of bytes that a script may have.
 const LONGEST: usize = 1_048_576;

@@ -5,11 +5,11 @@ use std::fmt::Display;
 use std::process::Abort;
 use std::test::Fail;
 use topo_book::ReplayFault;
-use topo_cli::RunFault;
 use topo_frozen::LoadFault;
 use topo_price::table::PriceFault;
 use topo_route::plan::PlanFault;
 use topo_script::ScriptFault;
+use topo_settings::RunFault;
 
 /// Each fault of a table prints the text beside it.
 fn check_table<F: Display>(
@@ -43,12 +43,17 @@ fn faults_of_commands(rt: HostRuntime) -> Result<(), Fail> {
         (RunFault::Script(ScriptFault::Memory), "8 Memory"),
         (RunFault::ReadFault, "55 ReadFault"),
         (RunFault::WriteFault, "56 WriteFault"),
-        (
-            RunFault::Replay(ReplayFault::WrongReply(17)),
-            "60 WrongReply 17",
-        ),
-        (RunFault::Replay(ReplayFault::Memory), "8 Memory"),
+        (RunFault::WrongReply(17), "60 WrongReply 17"),
         (RunFault::WrongPicture, "61 WrongPicture"),
+    ];
+    check_table(&rt, rt.alloc(), table.as_slice())
+}
+
+#[test]
+fn faults_of_replays(rt: HostRuntime) -> Result<(), Fail> {
+    let table = [
+        (ReplayFault::WrongReply(17), "60 WrongReply 17"),
+        (ReplayFault::Memory, "8 Memory"),
     ];
     check_table(&rt, rt.alloc(), table.as_slice())
 }

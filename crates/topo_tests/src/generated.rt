@@ -10,7 +10,7 @@ use std::alloc::Global;
 use std::process::Abort;
 use std::test::Fail;
 use topo_book::{Book, replay};
-use topo_cli::replay_io;
+use topo_check::replay_io;
 use topo_core::calls::{Call, Entry, Refusal, Reply};
 use topo_core::listed::Listed;
 use topo_core::rows::{Facts, Rows};

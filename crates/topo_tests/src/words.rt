@@ -1,8 +1,8 @@
 //! The words of a command line.
 
 use std::test::Fail;
-use topo_cli::Verb;
-use topo_cli::verbs::verb;
+use topo_words::Verb;
+use topo_words::verbs::verb;
 
 #[test]
 fn words(rt: HostRuntime) -> Result<(), Fail> {
