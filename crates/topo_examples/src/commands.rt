@@ -3,6 +3,7 @@
 use std::alloc::{AllocError, Global};
 use std::fmt::Display;
 use topo_check::{check_io, replay_io};
+use topo_core::rows::Rows;
 use topo_run::run_io;
 use topo_script::{ScriptFault, picture_text, read_report, read_rows, read_script, report};
 
@@ -52,8 +53,8 @@ impl Command {
             Command::Run => run(alloc, bytes),
             Command::Replay => replay(alloc, bytes),
             Command::Check => check(alloc, bytes),
-            Command::CheckStart => check_part(alloc, bytes, true),
-            Command::CheckEnd => check_part(alloc, bytes, false),
+            Command::CheckStart => check_start(alloc, bytes),
+            Command::CheckEnd => check_end(alloc, bytes),
             Command::ReadScript => read(alloc, read_script(alloc, bytes)),
             Command::ReadReport => read(alloc, read_report(alloc, bytes)),
             Command::RewriteReport => rewrite_report(alloc, bytes),
@@ -77,7 +78,7 @@ fn told<E: Display + Drop>(
             } else {
                 "after a text: "
             };
-            Ok(format!(in alloc; "{before}{fault}\n")?.into_bytes())
+            line_of(format!(in alloc; "{before}{fault}")?)
         }
     }
 }
@@ -103,38 +104,45 @@ fn check(alloc: Global, bytes: &[u8]) -> Result<Vec<u8>, AllocError> {
     told(alloc, ended, written)
 }
 
-/// Checks the picture at the start of a report, or else that at its end.
-fn check_part(alloc: Global, bytes: &[u8], at_start: bool) -> Result<Vec<u8>, AllocError> {
+fn check_start(alloc: Global, bytes: &[u8]) -> Result<Vec<u8>, AllocError> {
     match read_report(alloc, bytes) {
-        Ok(made) => {
-            let rows = if at_start { &made.start } else { &made.picture };
-            let text = picture_text(alloc, rows)?;
-            check(alloc, text.as_bytes())
-        }
-        Err(fault) => Ok(format!(in alloc; "{fault}\n")?.into_bytes()),
+        Ok(made) => check_rows(alloc, &made.start),
+        Err(fault) => line_of(format!(in alloc; "{fault}")?),
     }
+}
+
+fn check_end(alloc: Global, bytes: &[u8]) -> Result<Vec<u8>, AllocError> {
+    match read_report(alloc, bytes) {
+        Ok(made) => check_rows(alloc, &made.picture),
+        Err(fault) => line_of(format!(in alloc; "{fault}")?),
+    }
+}
+
+/// Checks the text of a picture.
+fn check_rows(alloc: Global, rows: &Rows) -> Result<Vec<u8>, AllocError> {
+    let text = picture_text(alloc, rows)?;
+    check(alloc, text.as_bytes())
 }
 
 /// What is told of a form that was only read.
 fn read<T: Drop>(alloc: Global, read: Result<T, ScriptFault>) -> Result<Vec<u8>, AllocError> {
-    let line = match read {
-        Ok(_) => String::from_str(alloc, "read\n")?,
-        Err(fault) => format!(in alloc; "{fault}\n")?,
-    };
-    Ok(line.into_bytes())
+    match read {
+        Ok(_) => line_of(String::from_str(alloc, "read")?),
+        Err(fault) => line_of(format!(in alloc; "{fault}")?),
+    }
 }
 
 fn rewrite_report(alloc: Global, bytes: &[u8]) -> Result<Vec<u8>, AllocError> {
     match read_report(alloc, bytes) {
         Ok(made) => line_of(report(alloc, &made)?),
-        Err(fault) => Ok(format!(in alloc; "{fault}\n")?.into_bytes()),
+        Err(fault) => line_of(format!(in alloc; "{fault}")?),
     }
 }
 
 fn rewrite_picture(alloc: Global, bytes: &[u8]) -> Result<Vec<u8>, AllocError> {
     match read_rows(alloc, bytes) {
         Ok(rows) => line_of(picture_text(alloc, &rows)?),
-        Err(fault) => Ok(format!(in alloc; "{fault}\n")?.into_bytes()),
+        Err(fault) => line_of(format!(in alloc; "{fault}")?),
     }
 }
 

@@ -39,8 +39,9 @@ pub(crate) fn made<F: Asks>(
 }
 
 #[test]
-fn a_picture_without_room_judges_the_kind_first(rt: HostRuntime) -> Result<(), Fail> {
+fn a_full_picture_judges_vertex_and_kind_first(rt: HostRuntime) -> Result<(), Fail> {
     let mut picture = picture_within(rt.alloc(), SEED, (2, 1, 0))?;
+    assert!(rt; picture.grow(rt.alloc(), 2, 9, 64) == Err(Refusal::NoVertex));
     assert!(rt; picture.grow(rt.alloc(), 0, 0, 64) == Err(Refusal::BadKind));
     assert!(rt; picture.grow(rt.alloc(), 0, 0, 0) == Err(Refusal::Full));
     Ok(())

@@ -3,12 +3,12 @@
 ghost use Rattle.std.specs.Prelude.{◌<◌};
 ghost use Rattle.topo_price.specs.Prices.{IsPromise};
 
-use topo_price::asked::Asked;
-use topo_price::table::{PriceFault, PriceTable};
-use topo_price::tariff::{Asks, Tariff};
 use std::alloc::{AllocError, Global};
 use std::test::Fail;
 use topo_core::rows::Facts;
+use topo_price::asked::Asked;
+use topo_price::table::{PriceFault, PriceTable};
+use topo_price::tariff::{Asks, Tariff};
 
 fn facts(id: u32, kind: u8) -> Facts
     requires { kind < 64 }

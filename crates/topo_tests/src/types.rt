@@ -1,12 +1,12 @@
 //! The plain types: each call once, with values worked out by hand.
 
+use std::alloc::{AllocError, Global};
+use std::test::Fail;
 use topo_core::calls::Refusal;
 use topo_core::ids::{CrossId, EdgeId, VertexId};
 use topo_core::limits::{Limits, LimitsFault};
 use topo_core::listed::Listed;
 use topo_core::rows::{EdgeRow, Facts, Rows};
-use std::alloc::{AllocError, Global};
-use std::test::Fail;
 
 fn edge_row(alloc: Global, id: u32, kind: u32) -> EdgeRow {
     EdgeRow {
