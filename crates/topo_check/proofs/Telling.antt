@@ -1,13 +1,13 @@
 -- What is told of bytes is told of what was read and written.
-use Rattle.std.proofs.Common.{◌≡◌, ℕ, List, Option, Ok, subst}
+use Rattle.std.proofs.Common.{◌≡◌, ℕ, List, Option, subst}
 use Rattle.std.specs.Io.KnownBytes.{Appends, Keeps}
 use Rattle.topo_settings.specs.declared.fault.RunFault.{RunFault}
 use Rattle.topo_settings.specs.declared.fault.RunFault.TheVariants.{Memory, Script, BadLimits, Price, Load, WrongReply, WrongPicture, ReadFault, WriteFault}
-use Rattle.topo_settings.specs.Reading.{IsOfReading, IsRead}
+use Rattle.topo_settings.specs.Reading.{IsRead}
 use Rattle.topo_settings.specs.Writing.{AppendsPart, IsOfWriting}
-use Rattle.topo_settings.proofs.Faults.{by_reading, by_writing}
+use Rattle.topo_settings.proofs.Faults.{by_writing}
 use Rattle.topo_check.specs.Checks.{CheckFailsBy, IsChecked, IsLawfulInput, IsSizeOfBytes, IsUnlawful}
-use Rattle.topo_check.specs.Replays.{IsReplayed, IsUntrueReport, ReplayFailsBy, ReportsUntruly, TellsCalls, TellsUntrue}
+use Rattle.topo_check.specs.Replays.{IsUntrueReport, ReplayFailsBy, ReportsUntruly, TellsUntrue}
 
 module _ (old_left new_left old_held new_held : Option (List ℕ)) where
   appends_so : (text line : List ℕ) → text ≡ line → Appends old_held new_held text → Appends old_held new_held line
@@ -16,23 +16,8 @@ module _ (old_left new_left old_held new_held : Option (List ℕ)) where
   part_so : (text line : List ℕ) → text ≡ line → AppendsPart old_held new_held text → AppendsPart old_held new_held line
   part_so text line same h = subst (λ (bs : List ℕ). AppendsPart old_held new_held bs) same h
 
-  -- nothing is judged where reading fails
-  pub replay_unread : (fault : RunFault) → IsOfReading fault → Keeps old_held new_held → ReplayFailsBy fault old_left new_left old_held new_held
-  replay_unread fault is kept = by_reading (λ f. ReplayFailsBy f old_left new_left old_held new_held) fault is kept kept
-
-  pub check_unread : (fault : RunFault) → IsOfReading fault → Keeps old_held new_held → CheckFailsBy fault old_left new_left old_held new_held
-  check_unread fault is kept = by_reading (λ f. CheckFailsBy f old_left new_left old_held new_held) fault is kept kept
-
   module _ (bytes : List ℕ) (read : IsRead 268435456 old_left new_left bytes) where
     -- ---- A replay
-
-    pub replayed : (line text : List ℕ) → TellsCalls bytes line → text ≡ line → Appends old_held new_held text → IsReplayed old_left new_left old_held new_held
-    replayed line text told same written = record {
-      report = told.report;
-      reported = record { input = bytes; read = read; spelled = told.spelled };
-      legal = told.legal;
-      written = appends_so line _ told.told (appends_so text line same written);
-    }
 
     untrue : (fault : RunFault) → IsUntrueReport bytes fault → ReportsUntruly old_left new_left fault
     untrue fault is = record { report = is.report; reported = record { input = bytes; read = read; spelled = is.spelled }; untrue = is.untrue }
@@ -47,14 +32,6 @@ module _ (old_left new_left old_held new_held : Option (List ℕ)) where
     replay_fails WrongPicture is kept = (untrue WrongPicture is, kept)
     replay_fails ReadFault is kept = absurd is
     replay_fails WriteFault is kept = absurd is
-
-    pub replay_unwritten : (fault : RunFault) (line text : List ℕ) → TellsCalls bytes line → text ≡ line → AppendsPart old_held new_held text → IsOfWriting fault → ReplayFailsBy fault old_left new_left old_held new_held
-    replay_unwritten fault line text told same written is = by_writing (λ f. ReplayFailsBy f old_left new_left old_held new_held) fault is (record {
-      report = told.report;
-      reported = record { input = bytes; read = read; spelled = told.spelled };
-      legal = told.legal;
-      written = part_so line _ told.told (part_so text line same written);
-    })
 
     -- ---- A check
 

@@ -73,17 +73,16 @@ calls_at : (commands : List Command) (history : List Entry) → map (λ entry. e
 calls_at commands history calls callers zero h = ap (map (λ (entry : Entry). entry.call)) (entries_of-all history callers) ∙ calls
 calls_at commands history calls callers (suc c) h = absurd (omega arith)
 
--- a history that begins with the first entry, and has the commands of the one list
-pub run_of_list : (price : Pricing) (limits : Limits) (p q : Rows) (lists : List (List Command)) (list commands : List Command) (before history : List Entry) → length lists ≡ 1
-    → list ≡ get_or lists 0 list → commands ≡ list → before ≡ [] → Enters before commands history → Replays price limits p history q → IsRun price limits p lists history q
-run_of_list price limits p q [] list commands before history one at same none led replayed = absurd (omega arith)
-run_of_list price limits p q (first ∷ []) list commands before history one at same none led replayed =
-    let all : history ≡ led.more = led.appended ∙ ap (λ (es : List Entry). es ++ led.more) none in
-    let callers = subst (λ (es : List Entry). AllByRecursion (λ entry. entry.caller ≡ 0) es) (sym all) led.callers in
-    let calls : map (λ entry. entry.call) history ≡ map call_of first = ap (map (λ (entry : Entry). entry.call)) all ∙ led.calls ∙ ap (map call_of) (same ∙ at) in
+-- a history that has the commands of the one list, and begins with the first
+pub run_of_list : (price : Pricing) (limits : Limits) (p q : Rows) (lists : List (List Command)) (list commands : List Command) (history : List Entry) → length lists ≡ 1
+    → list ≡ get_or lists 0 list → commands ≡ list → Enters [] commands history → Replays price limits p history q → IsRun price limits p lists history q
+run_of_list price limits p q [] list commands history one at same led replayed = absurd (omega arith)
+run_of_list price limits p q (first ∷ []) list commands history one at same led replayed =
+    let callers = subst (λ (es : List Entry). AllByRecursion (λ entry. entry.caller ≡ 0) es) (sym led.appended) led.callers in
+    let calls : map (λ entry. entry.call) history ≡ map call_of first = ap (map (λ (entry : Entry). entry.call)) led.appended ∙ led.calls ∙ ap (map call_of) (same ∙ at) in
     record {
       replayed = replayed;
       calls = calls_at first history calls callers;
       callers = caller_is history callers;
     }
-run_of_list price limits p q (first ∷ more ∷ lists) list commands before history one at same none led replayed = absurd (omega arith)
+run_of_list price limits p q (first ∷ more ∷ lists) list commands history one at same led replayed = absurd (omega arith)

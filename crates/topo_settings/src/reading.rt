@@ -14,11 +14,7 @@ const CHUNK: usize = 8192;
 /// Reads until the end, or until there is one byte more than the limit. There are at most twice as
 /// many calls of `read` as the limit, and two; an interrupted call is one of them. ReadFault comes where
 /// a call fails otherwise or there are too few of them, Memory where a growth of memory was refused.
-pub fn read_bytes<R: Read>(
-    alloc: Global,
-    limit: u32,
-    reader: &mut R,
-) -> Result<Vec<u8>, RunFault>
+pub fn read_bytes<R: Read>(alloc: Global, limit: u32, reader: &mut R) -> Result<Vec<u8>, RunFault>
     ensures read { IfOk result (λ bytes. IsRead limit (R.remaining reader.old) (R.remaining reader.new) bytes.items) }
     ensures err { IfErr result IsOfReading }
 {

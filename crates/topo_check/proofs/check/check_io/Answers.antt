@@ -1,43 +1,23 @@
-use Rattle.std.proofs.Common.{List, rules, subst, ◌∙◌, ℕ}
-use Rattle.std.specs.Io.KnownBytes.{Appends}
-use Rattle.topo_core.specs.declared.rows.Rows.{Rows}
-use Rattle.topo_picture.specs.Totals.{AreCountsOf}
+use Rattle.std.proofs.Common.{List, rules, subst, ℕ, IfErr, string_bytes}
+use Rattle.std.proofs.KnownBytes.{Keeps-refl}
+use Rattle.topo_check.specs.Checks.{IsSizeOfBytes, IsUnlawful}
+use Rattle.topo_settings.proofs.Faults.{err_by, ok_by}
+use Rattle.topo_settings.proofs.Pricing.{err_so}
+use Rattle.topo_check.proofs.Telling.{check_fails, check_unwritten, checked}
 use Rattle.topo_check.proofs.check.check_io.Goals as goal
 
-pub returns-in-Err-load-clause-fault : goal.returns-in-Err-load-clause-fault
-returns-in-Err-load-clause-fault g c = (
-  record {
-    rows = c.in-Ok.rows;
-    spelled = record { input = c.in_ok-bytes.bytes.items; read = c.in_ok-bytes.ensures.read; spelled = search rules };
-    limits = c.greatest_limits.result;
-    greatest = c.greatest_limits.ensures;
-    first = c.in-Err-load.ensures.refused;
-  },
-  search rules,
-)
+pub returns-in_err-line-clause-fault : goal.returns-in_err-line-clause-fault
+returns-in_err-line-clause-fault g c =
+    let told : IfErr c.from_residual-in_err-line.result (IsUnlawful c.in_ok-bytes.bytes.items) = search rules in
+    err_so c.from_residual-in_err-line.result _ _ (λ fault is. check_fails _ _ _ _ c.in_ok-bytes.bytes.items c.in_ok-bytes.ensures.read fault is (Keeps-refl _)) told
 
-pub returns-in-Ok-write_text-clause-done : goal.returns-in-Ok-write_text-clause-done
-returns-in-Ok-write_text-clause-done g c = record {
-  rows = c.in-Ok.rows;
-  input = record {
-    spelled = record { input = c.in_ok-bytes.bytes.items; read = c.in_ok-bytes.ensures.read; spelled = search rules };
-    limits = c.greatest_limits.result;
-    greatest = c.greatest_limits.ensures;
-    lawful = c.in-Ok-load.ensures.lawful;
-  };
-  counts = c.counts.result;
-  counted = subst (λ (rows : Rows). AreCountsOf rows c.counts.result) c.in-Ok-load.ensures.rows c.counts.ensures;
-  written =
-      subst (λ (bs : List ℕ). Appends (g.W.Write.contents c.args.writer.now) (g.W.Write.contents c.write_text.new.writer) bs) (c.as_str.ensures.value ∙ c.in-Ok-size_line.ensures) c.in-Ok-write_text.ensures;
-}
+pub returns-clause-done : goal.returns-clause-done
+returns-clause-done g c =
+    let told = subst (λ (bs : List ℕ). IsSizeOfBytes bs (string_bytes c.in_ok-line.line)) c.as_slice.ensures.value c.in_ok-line.ensures.line in
+    ok_by c.write_text.result _ _ (λ written. checked _ _ _ _ c.in_ok-bytes.bytes.items c.in_ok-bytes.ensures.read _ _ told c.as_str.ensures.value written) c.write_text.ensures.all
 
 pub returns-clause-fault : goal.returns-clause-fault
-returns-clause-fault g c = (
-  c.in-Ok.rows,
-  record {
-    spelled = record { input = c.in_ok-bytes.bytes.items; read = c.in_ok-bytes.ensures.read; spelled = search rules };
-    limits = c.greatest_limits.result;
-    greatest = c.greatest_limits.ensures;
-    lawful = c.in-Ok-load.ensures.lawful;
-  },
-)
+returns-clause-fault g c =
+    let told = subst (λ (bs : List ℕ). IsSizeOfBytes bs (string_bytes c.in_ok-line.line)) c.as_slice.ensures.value c.in_ok-line.ensures.line in
+    err_by c.write_text.result _ _ _ (λ fault part is. check_unwritten _ _ _ _ c.in_ok-bytes.bytes.items c.in_ok-bytes.ensures.read fault _ _ told c.as_str.ensures.value part is) c.write_text.ensures.part
+    c.write_text.ensures.err
