@@ -21,5 +21,3 @@ pub mod route_laws;
 pub mod routes;
 pub mod rows;
 pub mod step_laws;
-#[cfg(test)]
-mod tests;
