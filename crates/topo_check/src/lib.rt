@@ -8,7 +8,6 @@
 #![tactic(auto)]
 
 pub mod check;
-mod comparing;
 pub mod replay;
 
 pub use check::check_io;

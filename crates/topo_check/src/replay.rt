@@ -7,7 +7,6 @@ ghost use Rattle.topo_price.specs.Prices.{IsPromise, first_bad, prices_of};
 ghost use Rattle.topo_check.specs.Replays.{IsReplayed, IsTrueReport, IsUntrue, ReplayFailsBy, TellsCalls, TellsUntrue, calls_line};
 ghost use Rattle.topo_settings.specs.Settings.{priced, price_table};
 
-use crate::comparing::same_rows;
 use std::alloc::{AllocError, Global};
 use std::io::{Read, Write};
 use topo_book::{ReplayFault, replay};
@@ -79,7 +78,7 @@ fn judge(alloc: Global, report: &Report) -> Result<(), RunFault>
         Err(ReplayFault::WrongReply(place)) => return Err(RunFault::WrongReply(place)),
         Err(ReplayFault::Memory) => return Err(RunFault::Memory),
     };
-    if same_rows(&rows, &report.picture) {
+    if rows.equals(&report.picture) {
         Ok(())
     } else {
         Err(RunFault::WrongPicture)

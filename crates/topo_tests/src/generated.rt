@@ -5,7 +5,7 @@ ghost use Rattle.topo_price.specs.Prices.{IsPromise};
 use crate::calls::{book_of, made};
 use crate::pictures::SEED;
 use crate::searches::table_of;
-use crate::seen_rows::{falls_apart, is_loaded_again, same_rows};
+use crate::seen_rows::{falls_apart, is_loaded_again};
 use std::alloc::Global;
 use std::process::Abort;
 use std::test::Fail;
@@ -74,7 +74,7 @@ fn is_taken_back(alloc: Global, picture: &Picture, edge: u32, before: Rows) -> R
     let mut copy = picture.copy(alloc)?;
     let deleted = copy.delete(alloc, edge).is_ok();
     let left = copy.rows(alloc)?;
-    Ok(deleted && same_rows(&left, &wanted))
+    Ok(deleted && left.equals(&wanted))
 }
 
 /// Whether the picture is what the reply says, where that is seen without knowing the routes. A cut is
@@ -95,7 +95,7 @@ fn is_meant(
         Reply::Inserted(made) => is_taken_back(alloc, picture, made.id.number(), before),
         Reply::Refused(_) => {
             let now = picture.rows(alloc)?;
-            Ok(same_rows(&now, &before))
+            Ok(now.equals(&before))
         }
         _ => Ok(true),
     }
@@ -183,7 +183,7 @@ fn run<F: Asks + Drop>(
     let again = replay(alloc, book.start(), book.history(), book.tariff())?;
     let rows = book.picture().rows(alloc)?;
     let replayed = again.rows(alloc)?;
-    assert!(rt; same_rows(&replayed, &rows));
+    assert!(rt; replayed.equals(&rows));
     assert_eq!(rt; again.counts().vertices, 40);
     for sort in 0..6 {
         let had = count_of(book.history(), sort);

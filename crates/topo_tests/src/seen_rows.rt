@@ -1,5 +1,5 @@
-//! What is seen of rows without knowing the routes: whether two are the same, whether a picture can be loaded
-//! again, and whether it falls apart without an edge, found by loading what is left.
+//! What is seen of rows without knowing the routes: whether a picture can be loaded again, and whether it falls
+//! apart without an edge, found by loading what is left.
 
 use std::alloc::{AllocError, Global};
 use std::test::Fail;
@@ -9,37 +9,12 @@ use topo_core::rows::{CrossRow, EdgeRow, Rows};
 use topo_frozen::LoadFault;
 use topo_picture::Picture;
 
-/// Whether two lists of rotations are equal.
-fn same_rotations(a: &[Listed<u32>], b: &[Listed<u32>]) -> bool {
-    a.len() == b.len() && a.iter().zip(b).all(|(x, y)| x.as_slice() == y.as_slice())
-}
-
-/// Whether two edges are equal, with their paths.
-fn same_edge(a: &EdgeRow, b: &EdgeRow) -> bool {
-    let same_path = a.crossings.as_slice() == b.crossings.as_slice();
-    same_path && a.id == b.id && a.a == b.a && a.b == b.b && a.kind == b.kind
-}
-
-/// Whether two lists of edges are equal.
-fn same_edges(a: &[EdgeRow], b: &[EdgeRow]) -> bool {
-    a.len() == b.len() && a.iter().zip(b).all(|(x, y)| same_edge(x, y))
-}
-
-/// Whether two pictures have the same rows.
-pub(crate) fn same_rows(a: &Rows, b: &Rows) -> bool {
-    same_rotations(a.rotations.as_slice(), b.rotations.as_slice())
-        && same_edges(a.edges.as_slice(), b.edges.as_slice())
-        && a.crossings.as_slice() == b.crossings.as_slice()
-        && a.next_edge == b.next_edge
-        && a.next_crossing == b.next_crossing
-}
-
 /// Whether a picture's rows are loaded under its limits and given back.
 pub(crate) fn is_loaded_again(alloc: Global, picture: &Picture) -> Result<bool, Fail> {
     let rows = picture.rows(alloc)?;
     let again = Picture::load(alloc, picture.limits(), &rows)?;
     let back = again.rows(alloc)?;
-    Ok(same_rows(&rows, &back))
+    Ok(rows.equals(&back))
 }
 
 /// The ids of a list that are not among the others.
