@@ -13,8 +13,6 @@ mod replaying;
 mod replicas;
 mod replies;
 mod steps;
-#[cfg(test)]
-mod tests;
 
 pub use book::Book;
 pub use next::Next;
