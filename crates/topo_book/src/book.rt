@@ -112,7 +112,7 @@ impl<F: Asks> Book<F> {
         ensures lawful { IsPicture self.now.picture.limits self.now.picture.rows }
         ensures same_limits { self.now.picture.limits ≡ self.now.start.limits }
     {
-        &self.picture
+        self.shared_picture()
     }
 
     /// The same picture, of which a reader may take a share: it stays as it is for as long as the share
@@ -266,7 +266,7 @@ impl<F: Asks> Book<F> {
         requires { IsReplica (prices_of (F.answers self.now.tariff)) self.now.start self.now.history from picture.old }
         ensures { IsReplica (prices_of (F.answers self.now.tariff)) self.now.start self.now.history result picture.new }
     {
-        let history = self.history.as_slice();
+        let history = self.history();
         for index in from..history.len() {
             if advance(alloc, picture, &self.tariff, &history[index]).is_err() {
                 return index;
@@ -339,10 +339,9 @@ impl<F: Asks> Book<F> {
     {
         let mut twin = self.take_twin(alloc)?;
         if advance_alone(alloc, &mut twin, &self.tariff, &entry).is_err() {
-            let entries = self.history.len();
             self.replicas.keep(Replica {
                 picture: twin,
-                entries,
+                entries: self.history.len(),
             });
             return Err(AllocError);
         }

@@ -19,11 +19,11 @@ advance-requires-clause-due g c =
     let s = c.args.self.now in
     let entry = c.index-history-index.result in
     let picture = c.loop-index.picture in
-    let history : c.as_slice-history.result.now ≡ s.history = c.as_slice-history.ensures.value ∙ ap (λ (b : BookState _). b.history) c.self.view_is in
+    let history : c.history-history.result.now ≡ s.history = c.history-history.ensures.entries in
     let tariff : c.deref.result.now ≡ s.tariff = c.deref.ensures ∙ ap (λ (b : BookState _). b.tariff) c.self.view_is in
     let book = subst (λ (b : BookState _). IsBook (prices_of (g.F.Asks.answers b.tariff)) b.start b.history b.picture) c.self.view_is c.self.invariant.book in
     let there = subst (λ (h : List Entry). slice_get h c.loop-index.index ≡ Some entry) history
-    (slice_get_read c.as_slice-history.result.now (length c.as_slice-history.result.now) c.loop-index.index entry refl c.loop-index-test.true c.index-history-index.is) in
+    (slice_get_read c.history-history.result.now (length c.history-history.result.now) c.loop-index.index entry refl c.loop-index-test.true c.index-history-index.is) in
     subst (λ t. IsDue (prices_of (g.F.Asks.answers t)) picture.limits picture.rows entry.call entry.reply) (sym tariff)
     (due_at (prices_of (g.F.Asks.answers s.tariff)) s.start s.history s.picture book c.loop-index.index entry picture c.loop-index.invariant there)
 
@@ -32,10 +32,10 @@ loop-index-preserved g c =
     let s = c.args.self.now in
     let entry = c.index-history-index.result in
     let picture = c.loop-index.picture in
-    let history : c.as_slice-history.result.now ≡ s.history = c.as_slice-history.ensures.value ∙ ap (λ (b : BookState _). b.history) c.self.view_is in
+    let history : c.history-history.result.now ≡ s.history = c.history-history.ensures.entries in
     let tariff : c.deref.result.now ≡ s.tariff = c.deref.ensures ∙ ap (λ (b : BookState _). b.tariff) c.self.view_is in
     let there = subst (λ (h : List Entry). slice_get h c.loop-index.index ≡ Some entry) history
-    (slice_get_read c.as_slice-history.result.now (length c.as_slice-history.result.now) c.loop-index.index entry refl c.loop-index-test.true c.index-history-index.is) in
+    (slice_get_read c.history-history.result.now (length c.history-history.result.now) c.loop-index.index entry refl c.loop-index-test.true c.index-history-index.is) in
     let long = ap (λ (h : List Entry). length h) history in
     let done = on_ok c.advance.result (sym c.is_err.ensures.value ∙ c.if-is_err.false) c.advance.ensures.step in
     let step = subst (λ t. Step (prices_of (g.F.Asks.answers t)) picture.limits picture.rows entry.call entry.reply c.advance.new.picture.rows) tariff done in

@@ -16,6 +16,6 @@ invariant_of-self g c =
     let stays = on_err c.advance_alone.result (sym c.is_err.ensures.value ∙ c.if-is_err.true) c.advance_alone.ensures.unchanged in
     let same : arc_value f.picture ≡ arc_value c.advance_alone.new.picture = ap (λ (b : BookState _). b.picture) c.self.view_is ∙ sym c.in_ok-twin.ensures.equal ∙ sym stays in
     let all = whole price f.start f.history.items (arc_value f.picture) c.self.invariant.book in
-    let long : length f.history.items ≡ c.len-entries.result = omega (arith, f.history.ok) in
-    let stands = subst (λ (p : Shown). IsReplica price f.start f.history.items c.len-entries.result p) same (subst (λ k. IsReplica price f.start f.history.items k (arc_value f.picture)) long all) in
-    rw c.keep.ensures (book_kept c.self.invariant (nat_lt (length f.replicas) MOST) (record { picture = c.advance_alone.new.picture; entries = c.len-entries.result }) stands)
+    let long : length f.history.items ≡ c.len.result = omega (arith, f.history.ok) in
+    let stands = subst (λ (p : Shown). IsReplica price f.start f.history.items c.len.result p) same (subst (λ k. IsReplica price f.start f.history.items k (arc_value f.picture)) long all) in
+    rw c.keep.ensures (book_kept c.self.invariant (nat_lt (length f.replicas) MOST) (record { picture = c.advance_alone.new.picture; entries = c.len.result }) stands)
