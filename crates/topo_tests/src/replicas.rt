@@ -5,16 +5,16 @@ ghost use Rattle.topo_price.specs.Prices.{IsPromise};
 
 use crate::calls::made;
 use crate::generated::{Numbers, next_call};
-use crate::pictures::{SEED, picture_within};
-use crate::searches::table_of;
 use std::alloc::Global;
 use std::process::Abort;
 use std::sync::Arc;
 use std::test::Fail;
 use topo_book::Book;
 use topo_core::calls::Call;
+use topo_core::limits::Limits;
 use topo_core::rows::{Facts, Rows};
 use topo_picture::Picture;
+use topo_price::table::PriceTable;
 use topo_price::tariff::{Asks, Tariff};
 
 /// A version that a reader holds, with the rows that it showed when it was taken.
@@ -79,7 +79,10 @@ fn make_of_both<F: Asks>(
     } else {
         enter(alloc, second, held, call)?
     };
-    assert!(rt; told.as_str() == wanted.as_str(), "{call:?}: {told}, not {wanted}");
+    assert!(rt;
+        told.as_str() == wanted.as_str(),
+        "{call:?}: {told}, not {wanted}"
+    );
     let rows = first.picture().rows(alloc)?;
     assert!(rt; second.picture().rows(alloc)?.equals(&rows), "{call:?}");
     Ok(())
@@ -102,7 +105,14 @@ fn run<F: Asks>(
         let vertices = first.picture().counts().vertices;
         let call = next_call(&mut numbers, vertices, now.next_edge);
         let in_place = turn % 5 == 4;
-        make_of_both(rt, alloc, (&mut *first, &mut *second), &mut held, call, in_place)?;
+        make_of_both(
+            rt,
+            alloc,
+            (&mut *first, &mut *second),
+            &mut held,
+            call,
+            in_place,
+        )?;
         assert!(rt; are_as_they_were(alloc, held.as_slice())?, "{call:?}");
         while held.len() > most {
             drop(held.remove(0));
@@ -124,19 +134,22 @@ fn run_from_seed<F: Asks + Drop>(
     requires callable { F.can_ask ask }
     requires promise { IsPromise (F.answers ask) }
 {
-    let limits = (40, 1_000, 2_000);
+    let limits = Limits::new(40, 1_000, 2_000)?;
     let tariff = Arc::new(alloc, Tariff::new(ask))?;
-    let start = picture_within(alloc, SEED, limits)?;
+    let start = Picture::seed(alloc, limits)?;
     let mut first = Book::new(alloc, start, Arc::try_clone(&tariff)?)?;
-    let start = picture_within(alloc, SEED, limits)?;
+    let start = Picture::seed(alloc, limits)?;
     let mut second = Book::new(alloc, start, tariff)?;
     run(rt, alloc, (&mut first, &mut second), most, 150)
 }
 
 #[test]
 fn versions_stay_as_they_were(rt: HostRuntime) -> Result<(), Fail> {
-    let entries = [(1, Some(5)), (2, Some(2)), (3, None)];
-    let table = table_of(&rt, Some(1), &entries);
+    let mut prices = [Some(1); 64];
+    prices[1] = Some(5);
+    prices[2] = Some(2);
+    prices[3] = None;
+    let table = PriceTable::new(prices).expect(&rt, "a table");
     for most in [0, 1, 10, 100] {
         let ask = |facts: &Facts| table.price(facts.kind);
         run_from_seed(&rt, rt.alloc(), most, ask)?;
