@@ -2,7 +2,8 @@
 
 The line is the report, or `{"fault":[NUMBER,NAME,VALUE]}` for a script that the program refused, or
 `{"failed":TEXT}` where the program itself failed. So every line that is read has an answer, as a step of a pipe wants it. An
-empty line is a script too, and is refused. The status is 0 where every script had a report, else 1.
+empty line is a script too, and is refused. The status is 0 where every script had a report, 1 where one had none, and 2
+where there is no program.
 """
 
 from __future__ import annotations
@@ -22,8 +23,6 @@ def answer(program: Program, script: str) -> str:
         return program.run(script).rstrip("\n")
     except Fault as fault:
         return compact({"fault": [part for part in (fault.number, fault.name, fault.value) if part is not None]})
-    except ProgramNotFound:
-        raise
     except PlanarError as failure:
         return compact({"failed": str(failure)})
 
@@ -33,6 +32,10 @@ def main(words: Optional[List[str]] = None, source: Optional[TextIO] = None, tar
     parser = argparse.ArgumentParser(prog="python3 -m fezdrok", description="Run scripts, one a line; one line of answer for each.")
     parser.add_argument("--program", help="the path of planar; without it FEZDROK_PLANAR, the repository's script, or PATH")
     program = Program(parser.parse_args(words).program)
+    try:
+        program.path
+    except ProgramNotFound as missing:
+        parser.error(str(missing))
     status = 0
     for line in source or sys.stdin:
         text = answer(program, line)

@@ -7,6 +7,7 @@ import subprocess
 import sys
 import unittest
 from pathlib import Path
+from unittest import mock
 
 from fezdrok import Planarizer
 from fezdrok.__main__ import main
@@ -26,12 +27,19 @@ class Lines(unittest.TestCase):
         status, lines = self.answers("{}\n", "--program", fake(self, "exit 70"))
         self.assertEqual((status, [list(json.loads(line)) for line in lines]), (1, [["failed"]]))
 
+    def test_no_program(self):
+        with mock.patch("sys.stderr", io.StringIO()) as stream, self.assertRaises(SystemExit) as caught:
+            self.answers("", "--program", "/nowhere/planar")
+        self.assertEqual(caught.exception.code, 2)
+        self.assertIn("/nowhere/planar", stream.getvalue())
+
     @needs_program
     def test_reports_in_order(self):
         report = Planarizer().run()
-        first = (EXAMPLES / "first_run.json").read_text()
-        status, lines = self.answers(first + "\n" + Planarizer().script_text() + "\n")
-        self.assertEqual(lines, [first and (EXAMPLES / "first_run.report.json").read_text().rstrip("\n"), '{"fault":[50,"NotJson"]}', report.to_text()])
+        first = (EXAMPLES / "first_run.json").read_text().strip()
+        status, lines = self.answers(first + "\n\n" + Planarizer().script_text() + "\n")
+        expected = (EXAMPLES / "first_run.report.json").read_text().strip()
+        self.assertEqual(lines, [expected, '{"fault":[50,"NotJson"]}', report.to_text()])
         self.assertEqual(status, 1)
 
     @needs_program
