@@ -112,6 +112,7 @@ def planarize(
     price: Pricing = None,
     forbidden: Optional[Iterable[GraphEdge]] = None,
     *,
+    begin: str = "tree",
     order: Order = "given",
     tries: int = 1,
     rounds: int = 0,
@@ -121,13 +122,14 @@ def planarize(
 ) -> Planarization:
     """A picture of a networkx graph, which must be connected and have an edge and no loop (else ValueError).
 
-    The first edge is the seed's, a breadth-first tree is grown from it, and every other edge is inserted along a
-    cheapest route, those that are cheap to cross last.
+    The first edge is the start, a breadth-first tree is grown from it, and every other edge is inserted along a
+    cheapest route, those that are cheap to cross last. With `begin="planar"` the start is as much of the graph as
+    networkx can draw without crossings when it takes the edges in order; a planar graph then has none.
 
     `price` says what crossing an edge costs, from 1 to 1000: the name of an edge attribute, a mapping from edges, or a
     function of both nodes and the data; without it, and for edges that it does not name, 1. A price of None, and an
-    edge of `forbidden`, is never crossed. These edges are then drawn first, without crossings (ValueError where they
-    cannot be), and the tree grows from them. At most 64 prices may differ (else ValueError).
+    edge of `forbidden`, has no crossing. Such edges are the start, with edges that join them, as networkx draws them
+    without crossings (ValueError where it cannot). At most 64 prices may differ (else ValueError).
 
     `order` is the order of the edges: `given`, `random`, or a list of edges that come first and in this order,
     whatever they cost. With `tries` above 1 that many orders are tried, all but the first at random by `seed`, and
@@ -144,7 +146,7 @@ def planarize(
     found: List[Planarization] = []
     for attempt in range(tries):
         how = order if attempt == 0 else "random"
-        prepared = _prepare(source, how, f"{seed}/{attempt}", limits, program)
+        prepared = _prepare(source, begin, how, f"{seed}/{attempt}", limits, program)
         found.append(reinsert(prepared.run(), rounds, limits, program))
     best = min(found, key=lambda result: result.score)
     return replace(best, tries=tuple(result.crossings for result in found))
@@ -155,20 +157,20 @@ def prepare(
     price: Pricing = None,
     forbidden: Optional[Iterable[GraphEdge]] = None,
     *,
+    begin: str = "tree",
     order: Order = "given",
     seed: int = 0,
     limits: Optional[Limits] = None,
     program: Optional[PathLike] = None,
 ) -> Prepared:
     """The one run that `planarize` with the same words makes, to write its script and to read its report elsewhere."""
-    return _prepare(read_graph(graph, price, forbidden), order, f"{seed}/0", limits, program)
+    return _prepare(read_graph(graph, price, forbidden), begin, order, f"{seed}/0", limits, program)
 
 
-def _prepare(source: PricedGraph, order: Order, seed: str, limits: Optional[Limits], program: Optional[PathLike]) -> Prepared:
+def _prepare(source: PricedGraph, begin: str, order: Order, seed: str, limits: Optional[Limits], program: Optional[PathLike]) -> Prepared:
     """The run that draws the edges in this order."""
     named, rest = _ordered(source, order, seed)
-    begin = _begin_embedded if None in source.prices else _begin_tree
-    start = begin(source, [*named, *rest])
+    start = _begin(source, begin, [*named, *rest])
     done = {*start.drawn, *start.grown}
     left = [place for place in [*named, *_dearest_first(source, rest)] if place not in done]
     left.sort(key=lambda place: source.price(place) is not None)
@@ -214,6 +216,15 @@ class _Beginning:
     grown: Dict[int, Node]
 
 
+def _begin(source: PricedGraph, begin: str, places: Sequence[int]) -> _Beginning:
+    """The beginning that is asked for."""
+    if begin not in ("tree", "planar"):
+        raise ValueError(f"the beginning {begin!r} is not known: it is 'tree' or 'planar'")
+    if begin == "planar" or None in source.prices:
+        return _begin_embedded(source, places, begin == "planar")
+    return _begin_tree(source, places)
+
+
 def _begin_tree(source: PricedGraph, places: Sequence[int]) -> _Beginning:
     """The first edge, and a breadth-first tree that is grown from it."""
     root = source.edges[places[0]][0]
@@ -232,19 +243,38 @@ def _begin_tree(source: PricedGraph, places: Sequence[int]) -> _Beginning:
     return _Beginning(picture, tuple(nodes), (first,), grown)
 
 
-def _begin_embedded(source: PricedGraph, places: Sequence[int]) -> _Beginning:
-    """The edges that must not be crossed and edges that join them to one tree-like whole, drawn without crossings."""
+def _begin_embedded(source: PricedGraph, places: Sequence[int], is_full: bool) -> _Beginning:
+    """The edges that must not be crossed and edges that connect them, drawn by networkx without crossings; if
+    `is_full`, then also every other edge that can be added in turn."""
     import networkx
 
     chosen = _joined(source, places)
     plain = networkx.Graph()
     plain.add_edges_from(tuple(pair) for pair in chosen)
-    is_planar, embedding = networkx.check_planarity(plain)
-    if not is_planar:
+    if not networkx.check_planarity(plain)[0]:
         raise ValueError("the edges that must not be crossed cannot be drawn without crossings")
+    if is_full:
+        for place in _dearest_first(source, places):
+            chosen.setdefault(frozenset(source.edges[place][:2]), place)
+        _add_planar(plain, [tuple(pair) for pair in chosen if not plain.has_edge(*pair)])
+    embedding = networkx.check_planarity(plain)[1]
     rotations = {node: list(embedding.neighbors_cw_order(node)) for node in embedding}
     picture, pairs = picture_of(rotations, lambda u, v: source.kinds[chosen[frozenset((u, v))]])
     return _Beginning(picture, tuple(rotations), tuple(chosen[frozenset(pair)] for pair in pairs), {})
+
+
+def _add_planar(plain: Any, pairs: List[Tuple[Node, Node]]) -> None:
+    """Adds to a planar networkx graph each of these edges in turn, if it stays planar with it."""
+    import networkx
+
+    plain.add_edges_from(pairs)
+    if not pairs or networkx.check_planarity(plain)[0]:
+        return
+    plain.remove_edges_from(pairs)
+    if len(pairs) > 1:
+        half = len(pairs) // 2
+        _add_planar(plain, pairs[:half])
+        _add_planar(plain, pairs[half:])
 
 
 def _joined(source: PricedGraph, places: Sequence[int]) -> Dict[frozenset, int]:

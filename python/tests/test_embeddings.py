@@ -103,9 +103,11 @@ class Back(unittest.TestCase):
 
     @needs_program
     def test_there_and_back(self):
-        result = planarize(nx.grid_2d_graph(3, 4))
+        """Crossings become vertices."""
+        result = planarize(nx.complete_graph(6))
         again = from_networkx_embedding(to_networkx_embedding(result))
-        self.assertEqual(again.counts, result.picture.counts)
+        counts = result.picture.counts
+        self.assertEqual(again.counts, (counts.vertices + counts.crossings, 0, counts.segments, counts.segments, counts.faces))
 
     def test_kinds(self):
         picture = from_networkx_embedding(self.embedding(nx.path_graph(3)), kind=lambda u, v: u + v)

@@ -101,8 +101,9 @@ class Refusals(unittest.TestCase):
     def test_options(self):
         with self.assertRaisesRegex(ValueError, "tries"):
             planarize(nx.path_graph(3), tries=0)
-        with self.assertRaisesRegex(ValueError, "not known"):
-            planarize(nx.path_graph(3), order="best")
+        for options in ({"order": "best"}, {"begin": "best"}):
+            with self.assertRaisesRegex(ValueError, "not known"):
+                planarize(nx.path_graph(3), **options)
 
     def test_forbidden_edges_that_cross(self):
         graph = nx.complete_graph(5)
@@ -184,6 +185,26 @@ class Planarizations(Judged):
         again = planarize(graph, tries=6, seed=3)
         self.assertEqual((again.picture, again.tries), (result.picture, result.tries))
 
+    def test_a_planar_beginning(self):
+        """A planar graph has no crossing then, and others have no fewer than they must."""
+        for name, (graph, number) in named_graphs().items():
+            with self.subTest(name):
+                result = planarize(graph, begin="planar")
+                self.judge(result)
+                if number == 0:
+                    self.assertEqual(result.crossings, 0)
+                self.assertGreaterEqual(result.crossings, number)
+        graph = nx.MultiGraph(list(nx.complete_graph(5).edges) * 2)
+        self.judge(planarize(graph, begin="planar", forbidden=[(0, 1)], order="random", price=lambda u, v, data: 1 + u))
+
+    def test_a_planar_beginning_is_as_large_as_one_edge_after_another_makes_it(self):
+        graph = nx.complete_graph(7)
+        prepared = prepare(graph, begin="planar", order="random", seed=4)
+        edges = [prepared.source.edges[place] for place in prepared.drawn]
+        self.assertTrue(nx.check_planarity(nx.Graph(edges))[0])
+        for place in prepared.asked:
+            self.assertFalse(nx.check_planarity(nx.Graph([*edges, prepared.source.edges[place]]))[0])
+
     def test_rounds_save_crossings_and_replay(self):
         before = planarize(nx.complete_graph(8))
         after = reinsert(before, 5)
@@ -249,9 +270,10 @@ class Planarizations(Judged):
         self.assertEqual(caught.exception.reply.name, "Full")
 
     def test_a_script_that_is_run_elsewhere(self):
-        prepared = prepare(nx.petersen_graph())
+        graph = nx.petersen_graph()
+        prepared = prepare(graph)
         text = prepared.planarizer.program.run(prepared.script_text())
-        self.assertEqual(prepared.result(Report.from_text(text)), planarize(nx.petersen_graph()))
+        self.assertEqual(prepared.result(Report.from_text(text)), planarize(graph))
 
     def test_the_program_counts_the_same(self):
         result = planarize(nx.complete_graph(6))
