@@ -6,7 +6,7 @@ planarization alone.
 
 from __future__ import annotations
 
-from typing import TYPE_CHECKING, Any, Dict, List, Mapping, Optional, Tuple
+from typing import TYPE_CHECKING, Any, Dict, Iterable, List, Mapping, Optional, Tuple
 
 from .embeddings import Dummy, to_networkx_embedding
 from .graphs import GraphEdge
@@ -25,7 +25,7 @@ def positions(result: "Planarization", embedding: Optional["networkx.PlanarEmbed
     import networkx
 
     embedding = to_networkx_embedding(result) if embedding is None else embedding
-    return {node: tuple(place) for node, place in networkx.combinatorial_embedding_to_pos(embedding).items()}
+    return {node: (x, y) for node, (x, y) in networkx.combinatorial_embedding_to_pos(embedding).items()}
 
 
 def chain(result: "Planarization", embedding: "networkx.PlanarEmbedding", edge_id: int) -> List[Any]:
@@ -43,7 +43,7 @@ def chain(result: "Planarization", embedding: "networkx.PlanarEmbedding", edge_i
 
 def _bend_between(embedding: "networkx.PlanarEmbedding", start: Any, end: Any, edge: GraphEdge) -> Dummy:
     """The point that was put into this edge's segment between two nodes."""
-    bends = (node for node in embedding[start] if embedding.nodes[node].get("bend") == edge)
+    bends: Iterable[Dummy] = (node for node in embedding[start] if embedding.nodes[node].get("bend") == edge)
     return next(node for node in bends if embedding.has_edge(node, end))
 
 

@@ -6,7 +6,7 @@ networkx is imported where it is used, so the rest of the package does not want 
 from __future__ import annotations
 
 from dataclasses import dataclass
-from typing import TYPE_CHECKING, Any, Callable, Dict, List, Mapping, Sequence, Tuple
+from typing import TYPE_CHECKING, Any, Callable, Dict, FrozenSet, List, Mapping, Sequence, Tuple
 
 from .graphs import Node
 from .pictures import Dart, Edge, Picture, Point
@@ -117,7 +117,7 @@ def from_networkx_embedding(embedding: "networkx.PlanarEmbedding", kind: Callabl
 def picture_of(rotations: Mapping[Node, Sequence[Node]], kind: Callable[[Any, Any], int]) -> Tuple[Picture, List[Tuple[Node, Node]]]:
     """The picture with these neighbours, clockwise, and its edges by their ids."""
     vertex = {node: number for number, node in enumerate(rotations)}
-    ids: Dict[frozenset, int] = {}
+    ids: Dict[FrozenSet[Node], int] = {}
     edges: List[Tuple[Node, Node]] = []
     for node, around in rotations.items():
         fresh = [(node, other) for other in around if frozenset((node, other)) not in ids]

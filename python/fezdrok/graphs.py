@@ -92,10 +92,13 @@ def _price_function(price: Pricing, directed: bool) -> Callable[[GraphEdge, Dict
     if price is None:
         return lambda edge, data: 1
     if isinstance(price, str):
-        return lambda edge, data: data.get(price, 1)
+        attribute = price
+        return lambda edge, data: data.get(attribute, 1)
     if isinstance(price, Mapping):
-        return lambda edge, data: next((price[name] for name in _names(edge, directed) if name in price), 1)
-    return lambda edge, data: price(edge[0], edge[1], data)
+        table = price
+        return lambda edge, data: next((table[name] for name in _names(edge, directed) if name in table), 1)
+    function = price
+    return lambda edge, data: function(edge[0], edge[1], data)
 
 
 def _names(edge: GraphEdge, directed: bool) -> List[GraphEdge]:

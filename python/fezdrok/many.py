@@ -7,7 +7,7 @@ import sys
 import time
 from concurrent.futures import FIRST_COMPLETED, Future, ProcessPoolExecutor, wait
 from concurrent.futures.process import BrokenProcessPool
-from typing import Any, Callable, Dict, Iterable, Iterator, List, Optional, TextIO, Tuple, Union
+from typing import Any, Callable, Dict, Iterable, Iterator, List, Optional, Sized, TextIO, Tuple, Union
 
 from .pictures import Picture
 from .planarization import Planarization, planarize
@@ -35,7 +35,7 @@ def planarize_many(graphs: Iterable[Any], processes: Optional[int] = None, progr
     program = Planarizer(program=options.get("program"))
     program.check(Picture.seed())
     options["program"] = program.program.path
-    total = len(graphs) if hasattr(graphs, "__len__") else None
+    total = len(graphs) if isinstance(graphs, Sized) else None
     tell = _teller(progress)
     outcomes: Dict[int, Outcome] = {}
     lost: List[Job] = []
@@ -71,7 +71,7 @@ def _pooled(jobs: Iterable[Job], workers: int, options: Dict[str, Any]) -> Itera
     job = next(source, None)
     while job is not None:
         with ProcessPoolExecutor(workers) as pool:
-            waiting: Dict[Future, Job] = {}
+            waiting: Dict["Future[Outcome]", Job] = {}
             is_whole = True
             while waiting or (is_whole and job is not None):
                 while is_whole and job is not None and len(waiting) < 4 * workers:
@@ -93,10 +93,12 @@ def _submit(pool: ProcessPoolExecutor, job: Job, options: Dict[str, Any]) -> "Fu
         return done
 
 
-def _outcome(done: Future) -> Outcome:
+def _outcome(done: "Future[Outcome]") -> Outcome:
     """What a future came to: a graph or an answer that cannot be pickled has that exception as its outcome."""
-    fault = done.exception()
-    return done.result() if fault is None else fault
+    try:
+        return done.result()
+    except Exception as fault:
+        return fault
 
 
 # ---- Progress

@@ -9,7 +9,7 @@ from __future__ import annotations
 import json
 from dataclasses import dataclass
 from functools import cached_property
-from typing import Any, Dict, Iterator, List, NamedTuple, Tuple
+from typing import Any, Dict, Iterator, List, NamedTuple, Set, Tuple
 
 
 def compact(value: Any) -> str:
@@ -254,7 +254,7 @@ class Picture:
     def faces(self) -> Tuple[Tuple[Dart, ...], ...]:
         """All faces, each from its first dart on, in the order of their first darts."""
         faces: List[Tuple[Dart, ...]] = []
-        seen: set = set()
+        seen: Set[Dart] = set()
         for dart in self.darts:
             if dart not in seen:
                 faces.append(self.face(dart))

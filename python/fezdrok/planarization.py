@@ -5,7 +5,7 @@ from __future__ import annotations
 import random
 from dataclasses import dataclass, field, replace
 from functools import cached_property
-from typing import Any, Dict, Iterable, List, Optional, Sequence, Tuple, Union
+from typing import Any, Dict, FrozenSet, Iterable, List, Optional, Sequence, Tuple, Union
 
 from .embeddings import picture_of
 from .faults import NotPlanarized
@@ -13,7 +13,7 @@ from .graphs import GraphEdge, Node, Price, PricedGraph, Pricing, incidence, pla
 from .pictures import Edge, Picture
 from .planarizer import Planarizer
 from .program import PathLike
-from .reports import Limits, Refused, Report
+from .reports import Inserted, Limits, Refused, Report
 
 #: `given` (the order of the graph's edges), `random`, or edges in the order in which they are to come.
 Order = Union[str, Sequence[GraphEdge]]
@@ -263,7 +263,7 @@ def _begin_embedded(source: PricedGraph, places: Sequence[int], is_full: bool) -
     return _Beginning(picture, tuple(rotations), tuple(chosen[frozenset(pair)] for pair in pairs), {})
 
 
-def _add_planar(plain: Any, pairs: List[Tuple[Node, Node]]) -> None:
+def _add_planar(plain: Any, pairs: List[Tuple[Node, ...]]) -> None:
     """Adds to a planar networkx graph each of these edges in turn, if it stays planar with it."""
     import networkx
 
@@ -277,7 +277,7 @@ def _add_planar(plain: Any, pairs: List[Tuple[Node, Node]]) -> None:
         _add_planar(plain, pairs[half:])
 
 
-def _joined(source: PricedGraph, places: Sequence[int]) -> Dict[frozenset, int]:
+def _joined(source: PricedGraph, places: Sequence[int]) -> Dict[FrozenSet[Node], int]:
     """One edge for each pair of nodes that an edge without a price joins, and edges that connect what they leave
     apart, in this order: for each pair the place of its edge."""
     parts = {node: node for node in source.nodes}
@@ -287,7 +287,7 @@ def _joined(source: PricedGraph, places: Sequence[int]) -> Dict[frozenset, int]:
             parts[node] = node = parts[parts[node]]
         return node
 
-    chosen: Dict[frozenset, int] = {}
+    chosen: Dict[FrozenSet[Node], int] = {}
     for place in sorted(places, key=lambda place: source.price(place) is not None):
         u, v = source.edges[place][:2]
         if source.price(place) is None or part(u) != part(v):
@@ -324,7 +324,8 @@ def _round(result: Planarization, limits: Optional[Limits], program: Optional[Pa
     if report is None or report.refused:
         return None
     edge_of = dict(result.edge_of)
-    for row, reply in zip(rows, report.replies[1::2]):
+    inserted = [reply for reply in report.replies if isinstance(reply, Inserted)]
+    for row, reply in zip(rows, inserted):
         edge_of[reply.edge] = edge_of.pop(row.id)
     return replace(result, picture=report.picture, edge_of=edge_of, reports=(*result.reports, report))
 

@@ -4,7 +4,7 @@ from __future__ import annotations
 
 import json
 from dataclasses import dataclass
-from typing import Any, Dict, List, Optional, Sequence, Tuple, Union
+from typing import Any, Callable, Dict, List, Optional, Sequence, Tuple, Union
 
 from .pictures import Dart, Picture, compact
 
@@ -74,7 +74,7 @@ class Delete:
 
 Call = Union[Grow, Insert, Planned, Delete]
 
-_CALLS = {"grow": Grow, "insert": Insert, "planned": Planned, "delete": Delete}
+_CALLS: Dict[str, Callable[..., Call]] = {"grow": Grow, "insert": Insert, "planned": Planned, "delete": Delete}
 
 
 def call_from_json(value: List[Any]) -> Call:
