@@ -10,13 +10,13 @@ import argparse
 import sys
 import time
 from pathlib import Path
-from typing import Any, Iterator, NamedTuple, Optional, Tuple
+from typing import Any, Dict, Iterable, Iterator, NamedTuple, Optional
 
 sys.path.insert(0, str(Path(__file__).resolve().parent))
 
 import networkx as nx  # noqa: E402
 
-from fezdrok import Planarization, planarize  # noqa: E402
+from fezdrok import planarize  # noqa: E402
 
 
 class Case(NamedTuple):
@@ -62,24 +62,31 @@ def cases() -> Iterator[Case]:
         yield Case(f"random {degree}-regular", nx.random_regular_graph(degree, n, seed=1), None)
 
 
-def timed(graph: Any, **options: Any) -> Tuple[Planarization, float]:
-    """A planarization and the seconds that it took."""
+def attempts(tries: int, rounds: int, seed: int) -> Dict[str, Dict[str, Any]]:
+    """The columns: how each graph is planarized, by the heading that says so."""
+    orders: Dict[str, Any] = {"tries": tries, "seed": seed}
+    return {
+        "one order": {},
+        f"{tries} orders": orders,
+        f"{tries} orders, {rounds} rounds": {**orders, "rounds": rounds},
+        f"planar start, {tries} orders, {rounds} rounds": {**orders, "rounds": rounds, "begin": "planar"},
+    }
+
+
+def cell(case: Case, options: Dict[str, Any]) -> str:
+    """The crossings found with these options, and the seconds that it took; an error where there are fewer than there
+    can be."""
     begun = time.perf_counter()
-    result = planarize(graph, **options)
-    return result, time.perf_counter() - begun
+    crossings = planarize(case.graph, **options).crossings
+    seconds = time.perf_counter() - begun
+    if case.number is not None and crossings < case.number:
+        raise AssertionError(f"{case.name}: {crossings} crossings are fewer than the crossing number {case.number}")
+    return f"{crossings} ({seconds:.2f} s)"
 
 
-def row(case: Case, tries: int, rounds: int, seed: int) -> str:
-    """The line of a graph; an error where fewer crossings were found than are possible."""
-    once, first_time = timed(case.graph)
-    best, all_time = timed(case.graph, tries=tries, seed=seed)
-    mended, mended_time = timed(case.graph, tries=tries, rounds=rounds, seed=seed)
-    if case.number is not None and min(once.crossings, best.crossings, mended.crossings) < case.number:
-        raise AssertionError(f"{case.name}: fewer crossings than the crossing number {case.number}")
-    number = "" if case.number is None else str(case.number)
-    sizes = f"{len(case.graph)} | {case.graph.number_of_edges()} | {number}"
-    found = f"{once.crossings} | {best.crossings} | {mended.crossings}"
-    return f"| {case.name} | {sizes} | {found} | {first_time:.3f} | {all_time:.2f} | {mended_time:.2f} |"
+def row(cells: Iterable[Any]) -> str:
+    """A line of the table."""
+    return "| " + " | ".join(str(each) for each in cells) + " |"
 
 
 def main() -> None:
@@ -89,10 +96,14 @@ def main() -> None:
     parser.add_argument("--rounds", type=int, default=5, help="how many rounds of taking out and inserting again")
     parser.add_argument("--seed", type=int, default=0, help="what the random orders follow from")
     words = parser.parse_args()
-    print("| graph | nodes | edges | crossing number | one order | best of orders | with rounds | s, one | s, orders | s, rounds |")
-    print("|---|---|---|---|---|---|---|---|---|---|")
+    columns = attempts(words.tries, words.rounds, words.seed)
+    headings = ["graph", "nodes", "edges", "crossing number", *columns]
+    print(row(headings))
+    print(row("---" for _ in headings))
     for case in cases():
-        print(row(case, words.tries, words.rounds, words.seed), flush=True)
+        known = "not known" if case.number is None else case.number
+        sizes = [case.name, len(case.graph), case.graph.number_of_edges(), known]
+        print(row([*sizes, *(cell(case, options) for options in columns.values())]), flush=True)
 
 
 if __name__ == "__main__":
