@@ -59,7 +59,7 @@ class Runs(unittest.TestCase):
 
     def test_a_price_that_forbids(self):
         start = Picture.from_json(json.loads((EXAMPLES / "bipyramid.json").read_text()))
-        planarizer = Planarizer(start=start, prices=[None])
+        planarizer = Planarizer(start=start, prices=[1, None, None, None])
         planarizer.insert(3, 4)
         self.assertEqual(planarizer.run().replies, (Refused(9, "NoRoute"),))
 
