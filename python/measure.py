@@ -81,7 +81,8 @@ def cell(case: Case, options: Dict[str, Any]) -> str:
     seconds = time.perf_counter() - begun
     if case.number is not None and crossings < case.number:
         raise AssertionError(f"{case.name}: {crossings} crossings are fewer than the crossing number {case.number}")
-    return f"{crossings} ({seconds:.2f} s)"
+    spent = f"{1000 * seconds:.0f} ms" if seconds < 1 else f"{seconds:.1f} s"
+    return f"{crossings} ({spent})"
 
 
 def row(cells: Iterable[Any]) -> str:

@@ -7,7 +7,7 @@ from __future__ import annotations
 
 from dataclasses import dataclass
 from operator import index
-from typing import Any, Callable, Dict, Hashable, Iterable, List, Mapping, Optional, Sequence, Set, Tuple, Union
+from typing import Any, Callable, Dict, Hashable, Iterable, Iterator, List, Mapping, Optional, Sequence, Set, Tuple, Union
 
 Node = Hashable
 #: An edge of a graph as its `edges` gives it: two nodes, and in a multigraph a key.
@@ -85,6 +85,35 @@ def reach(edges: Sequence[GraphEdge], root: Node) -> Set[Node]:
         reached |= fresh
         waiting.extend(fresh)
     return reached
+
+
+def bridges(edges: Sequence[GraphEdge]) -> Set[int]:
+    """The places of the edges without which a connected graph falls apart.
+
+    A walk in depth numbers the nodes as it meets them. An edge down to a new node is a bridge where no edge leads
+    from that node or from below it to a node with the number of the edge's upper end, or less.
+    """
+    at = incidence(edges, range(len(edges)))
+    root = edges[0][0]
+    number = {root: 0}
+    lowest = {root: 0}
+    found: Set[int] = set()
+    walk: List[Tuple[int, Node, Iterator[Tuple[int, Node]]]] = [(-1, root, iter(at[root]))]
+    while walk:
+        place, node, left = walk[-1]
+        following, other = next(left, (-1, node))
+        if following == -1:
+            walk.pop()
+            upper = walk[-1][1] if walk else node
+            lowest[upper] = min(lowest[upper], lowest[node])
+            if walk and lowest[node] > number[upper]:
+                found.add(place)
+        elif other not in number:
+            number[other] = lowest[other] = len(number)
+            walk.append((following, other, iter(at[other])))
+        elif following != place:
+            lowest[node] = min(lowest[node], number[other])
+    return found
 
 
 def _price_function(price: Pricing, directed: bool) -> Callable[[GraphEdge, Dict[str, Any]], Price]:

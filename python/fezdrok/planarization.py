@@ -9,7 +9,7 @@ from typing import Any, Dict, FrozenSet, Iterable, List, Optional, Sequence, Tup
 
 from .embeddings import picture_of
 from .faults import NotPlanarized
-from .graphs import GraphEdge, Node, Price, PricedGraph, Pricing, incidence, places_of, rank, reach, read_graph
+from .graphs import GraphEdge, Node, Price, PricedGraph, Pricing, bridges, incidence, places_of, rank, read_graph
 from .pictures import Edge, Picture
 from .planarizer import Planarizer
 from .program import PathLike
@@ -334,10 +334,6 @@ def _movable(result: Planarization) -> List[Edge]:
     """The crossed edges that have a price and without which the graph is connected, the most crossed first."""
     rows = [row for row in result.picture.edges if row.crossings and result.prices[row.kind] is not None]
     rows.sort(key=lambda row: -len(row.crossings))
-    return [row for row in rows if not _is_bridge(result, row.id)]
-
-
-def _is_bridge(result: Planarization, edge_id: int) -> bool:
-    """Whether the graph falls apart without this edge."""
-    others = [edge for number, edge in result.edge_of.items() if number != edge_id]
-    return not others or len(reach(others, others[0][0])) < len(result.node_of)
+    ids = list(result.edge_of)
+    held = {ids[place] for place in bridges([result.edge_of[edge_id] for edge_id in ids])}
+    return [row for row in rows if row.id not in held]

@@ -5,7 +5,7 @@ import unittest
 from collections import Counter
 
 from fezdrok import Counts, Limits, NotPlanarized, Planarizer, Report, planarize, prepare, reinsert, to_networkx_embedding
-from fezdrok.graphs import read_graph
+from fezdrok.graphs import bridges, read_graph
 
 from .support import crossings_of, euler, graph_pairs, needs_networkx, needs_program, pairs_of, traced
 
@@ -130,6 +130,15 @@ class Kinds(unittest.TestCase):
         graph = nx.MultiGraph([(0, 1), (0, 1), (1, 2)])
         self.assertEqual(read_graph(graph, forbidden=[(1, 0, 1)]).kinds, (1, 0, 1))
         self.assertEqual(read_graph(graph, forbidden=[(1, 0)]).kinds, (0, 0, 1))
+
+    def test_bridges(self):
+        for seed in range(30):
+            graph = nx.random_labeled_tree(14, seed=seed) if hasattr(nx, "random_labeled_tree") else nx.random_tree(14, seed=seed)
+            graph.add_edges_from(random.Random(seed).sample(sorted(nx.non_edges(graph)), seed % 7))
+            edges = list(graph.edges)
+            with self.subTest(seed):
+                self.assertEqual({edges[place] for place in bridges(edges)}, {edge for edge in edges if edge in set(nx.bridges(graph)) or edge[::-1] in set(nx.bridges(graph))})
+        self.assertEqual(bridges([(0, 1), (1, 0), (1, 2)]), {2})
 
     def test_cheap_edges_are_inserted_last(self):
         graph = nx.cycle_graph(5)
