@@ -12,8 +12,6 @@ mod next;
 mod replaying;
 mod replies;
 mod steps;
-#[cfg(test)]
-mod tests;
 
 pub use book::Book;
 pub use next::Next;

@@ -21,8 +21,6 @@ mod build;
 pub mod embedding;
 pub mod half;
 mod segments;
-#[cfg(test)]
-mod tests;
 
 pub use embedding::Embedding;
 pub use half::Half;
