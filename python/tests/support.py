@@ -13,7 +13,7 @@ from typing import Any, Dict, List, Tuple
 from fezdrok import ProgramNotFound, find_program
 
 ROOT = Path(__file__).resolve().parent.parent.parent
-EXAMPLES = ROOT / "examples"
+EXAMPLES = ROOT / "crates" / "topo_examples" / "data"
 
 needs_networkx = unittest.skipUnless(find_spec("networkx"), "left out: networkx is not there")
 needs_matplotlib = unittest.skipUnless(find_spec("networkx") and find_spec("matplotlib"), "left out: networkx or matplotlib is not there")
@@ -41,14 +41,19 @@ def fake(test: unittest.TestCase, body: str) -> str:
     return os.fspath(path)
 
 
-def example_scripts() -> List[Path]:
-    """The scripts of examples/, each of which has a report beside it."""
-    return [path for path in sorted(EXAMPLES.glob("*.json")) if path.with_suffix(".report.json").exists()]
+def report_files() -> List[Path]:
+    """All reports among the examples, also one that is only for readers and that no script leads to."""
+    return sorted(EXAMPLES.glob("*.report.json"))
 
 
 def example_reports() -> List[Path]:
-    """The reports of examples/."""
-    return sorted(EXAMPLES.glob("*.report.json"))
+    """The reports of the example scripts."""
+    return [path for path in report_files() if path.name != "each_field.report.json"]
+
+
+def example_scripts() -> List[Path]:
+    """The scripts among the examples."""
+    return [path.with_name(path.name.replace(".report", "")) for path in example_reports()]
 
 
 # ---- Counts made from a networkx embedding alone

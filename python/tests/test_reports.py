@@ -5,7 +5,7 @@ import unittest
 
 from fezdrok import Dart, Deleted, Grow, Grown, Inserted, Limits, Picture, Refused, Report
 
-from .support import EXAMPLES, example_reports
+from .support import EXAMPLES, example_reports, report_files
 
 
 def read(name: str) -> Report:
@@ -14,8 +14,8 @@ def read(name: str) -> Report:
 
 class Reports(unittest.TestCase):
     def test_every_example_is_written_as_it_was(self):
-        self.assertGreater(len(example_reports()), 20)
-        for path in example_reports():
+        self.assertGreater(len(report_files()), 20)
+        for path in report_files():
             with self.subTest(path.name):
                 self.assertEqual(Report.from_text(path.read_text()).to_text() + "\n", path.read_text())
 
