@@ -10,6 +10,7 @@
 mod book;
 mod next;
 mod replaying;
+mod replicas;
 mod replies;
 mod steps;
 

@@ -23,13 +23,13 @@ const PRICES: [Option<u32>; 4] = [Some(1), Some(5), Some(2), None];
 
 /// The numbers of a linear congruence modulo 2^32.
 #[derive(Drop)]
-struct Numbers {
-    state: u32,
+pub(crate) struct Numbers {
+    pub state: u32,
 }
 
 impl Numbers {
     /// A number below a bound, and 0 where that is 0.
-    fn below(&mut self, bound: u32) -> u32 {
+    pub(crate) fn below(&mut self, bound: u32) -> u32 {
         self.state = self
             .state
             .wrapping_mul(1_664_525)
@@ -39,7 +39,7 @@ impl Numbers {
 }
 
 /// A growth, an edge between vertices whose numbers are near, or a deletion.
-fn next_call(numbers: &mut Numbers, vertices: u32, edges: u32) -> Call {
+pub(crate) fn next_call(numbers: &mut Numbers, vertices: u32, edges: u32) -> Call {
     let kind = numbers.below(4);
     let u = numbers.below(vertices);
     let near = numbers.below(5);
