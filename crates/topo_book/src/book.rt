@@ -20,7 +20,7 @@ pub struct Book<F: Asks> {
     tariff: Arc<Tariff<F>>,
     start: Picture,
     history: Vec<Entry>,
-    picture: Picture,
+    picture: Arc<Picture>,
     work: Workspace,
 }
 
@@ -36,11 +36,11 @@ impl<F: Asks> Model for Book<F> {
       tariff = arc_value b.tariff;
       start = b.start;
       history = b.history.items;
-      picture = b.picture;
+      picture = arc_value b.picture;
       spare = vec_capacity b.history - vec_len b.history;
     } };
 
-    ghost invariant = { λ b. IsBook (prices_of (F.answers (arc_value b.tariff))) b.start b.history.items b.picture };
+    ghost invariant = { λ b. IsBook (prices_of (F.answers (arc_value b.tariff))) b.start b.history.items (arc_value b.picture) };
 }
 
 impl<F: Asks> Book<F> {
@@ -63,7 +63,7 @@ impl<F: Asks> Book<F> {
         ensures history { IfOk result (λ b. b.history ≡ []) }
         ensures picture { IfOk result (λ b. b.picture ≡ start) }
     {
-        let picture = start.copy(alloc)?;
+        let picture = Arc::new(alloc, start.copy(alloc)?)?;
         let work = Workspace::new(alloc)?;
         Ok(Book {
             tariff,
@@ -100,6 +100,17 @@ impl<F: Asks> Book<F> {
     /// The picture now, the replay of the history.
     pub fn picture(&self) -> &Picture
         ensures picture { result.now ≡ self.now.picture }
+        ensures replay { Replays (prices_of (F.answers self.now.tariff)) self.now.start.limits self.now.start.rows self.now.history self.now.picture.rows }
+        ensures lawful { IsPicture self.now.picture.limits self.now.picture.rows }
+        ensures same_limits { self.now.picture.limits ≡ self.now.start.limits }
+    {
+        &self.picture
+    }
+
+    /// The same picture, of which a reader may take a share: it stays as it is for as long as the share
+    /// is held, and calls go on with another.
+    pub fn shared_picture(&self) -> &Arc<Picture>
+        ensures picture { arc_value result.now ≡ self.now.picture }
         ensures replay { Replays (prices_of (F.answers self.now.tariff)) self.now.start.limits self.now.start.rows self.now.history self.now.picture.rows }
         ensures lawful { IsPicture self.now.picture.limits self.now.picture.rows }
         ensures same_limits { self.now.picture.limits ≡ self.now.start.limits }
@@ -276,20 +287,37 @@ impl<F: Asks> Book<F> {
         ensures unchanged { OnErr result (IsUnchanged self.old self.new) }
         ensures same_book { IsSameBook self.old self.new }
     {
+        let Some(picture) = Arc::get_mut(&mut self.picture) else {
+            return self.carry_out_aside(alloc, caller, call, plan);
+        };
         self.history.reserve(1)?;
-        let answer = take_step(
-            alloc,
-            &mut self.picture,
-            &self.tariff,
-            call,
-            plan,
-            &mut self.work,
-        )?;
+        let answer = take_step(alloc, picture, &self.tariff, call, plan, &mut self.work)?;
         self.history.push_reserved(Entry {
             caller,
             call,
             reply: answer.entered,
         });
         Ok(answer.told)
+    }
+
+    /// As `carry_out`, where readers share the picture now: the call is made ready on another, and then
+    /// entered.
+    fn carry_out_aside(
+        &mut self,
+        alloc: Global,
+        caller: u32,
+        call: Call,
+        plan: Option<&Plan>,
+    ) -> Result<Reply, AllocError>
+        ensures step { IfOk result (λ reply. Step (prices_of (F.answers self.old.tariff)) self.old.picture.limits self.old.picture.rows call reply self.new.picture.rows) }
+        ensures entered { IfOk result (λ reply. self.new.history ≡ self.old.history ++ record { caller = caller; call = call; reply = reply } ∷ []) }
+        ensures no_memory { IfOk result (λ reply. reply ≢ Refused Memory) }
+        ensures unchanged { OnErr result (IsUnchanged self.old self.new) }
+        ensures same_book { IsSameBook self.old self.new }
+    {
+        let next = self.make_ready(alloc, caller, call, plan)?;
+        let reply = next.entry().reply.copy(alloc)?;
+        self.commit(next);
+        Ok(reply)
     }
 }

@@ -1,5 +1,6 @@
 //! A call that was made ready to be entered.
 
+ghost use Rattle.std.specs.Arc.{arc_value};
 ghost use Rattle.std.specs.Prelude.{◌≡◌, ◌≢◌, if◌then◌else◌, IfOk, Some, None};
 ghost use Rattle.topo_core.specs.History.{is_accepted};
 ghost use Rattle.topo_core.specs.Steps.{Step};
@@ -12,6 +13,7 @@ ghost use Rattle.topo_book.specs.Books.{picture_after};
 use crate::steps::take_step;
 use std::alloc::{AllocError, Global};
 use std::marker::Model;
+use std::sync::Arc;
 use topo_core::calls::{Call, Entry, Reply};
 use topo_picture::Picture;
 use topo_price::tariff::{Asks, Tariff};
@@ -22,24 +24,25 @@ use topo_route::workspace::Workspace;
 #[derive(Drop)]
 pub struct Next {
     entry: Entry,
-    picture: Option<Picture>,
+    picture: Option<Arc<Picture>>,
 }
 
 impl Model for Next {
-    ghost use Rattle.std.specs.Prelude.{◌≡◌, is_some, IfSome};
+    ghost use Rattle.std.specs.Prelude.{◌≡◌, is_some, IfSome, option_map};
+    ghost use Rattle.std.specs.Arc.{arc_value};
     ghost use Rattle.topo_core.specs.History.{is_accepted};
     ghost use Rattle.topo_frozen.specs.Shown.{IsPicture};
     ghost use Rattle.topo_book.specs.Books.{NextState, IsNext};
 
     ghost Value = { NextState };
 
-    ghost view = { λ n. record { entry = n.entry; picture = n.picture } };
+    ghost view = { λ n. record { entry = n.entry; picture = option_map arc_value n.picture } };
 
-    ghost invariant = { λ n. IsNext n.entry n.picture };
+    ghost invariant = { λ n. IsNext n.entry (option_map arc_value n.picture) };
 }
 
 impl Next {
-    ghost use Rattle.std.specs.Prelude.{◌≡◌, ◌≢◌, is_some, option_copied, IfSome};
+    ghost use Rattle.std.specs.Prelude.{◌≡◌, ◌≢◌, is_some, option_copied, option_map, IfSome};
     ghost use Rattle.topo_core.specs.History.{is_accepted};
     ghost use Rattle.topo_core.specs.declared.calls.Refusal.TheVariants.{Memory};
     ghost use Rattle.topo_core.specs.declared.calls.Reply.TheVariants.{Refused};
@@ -60,13 +63,26 @@ impl Next {
         ensures accepted { is_some result ≡ is_accepted self.now.entry.reply }
         ensures lawful { IfSome result (λ p. IsPicture p.now.limits p.now.rows) }
     {
+        match &self.picture {
+            Some(picture) => Some(picture),
+            None => None,
+        }
+    }
+
+    /// The same picture, of which a reader may take a share: it stays as it is for as long as the
+    /// share is held, whatever is entered later.
+    pub fn shared(&self) -> Option<&Arc<Picture>>
+        ensures picture { option_map arc_value (option_copied result) ≡ self.now.picture }
+        ensures accepted { is_some result ≡ is_accepted self.now.entry.reply }
+        ensures lawful { IfSome result (λ p. IsPicture (arc_value p.now).limits (arc_value p.now).rows) }
+    {
         self.picture.as_ref()
     }
 
     /// Both.
-    pub(crate) fn into_parts(self) -> (Entry, Option<Picture>)
+    pub(crate) fn into_parts(self) -> (Entry, Option<Arc<Picture>>)
         ensures entry { result.0 ≡ self.entry }
-        ensures picture { result.1 ≡ self.picture }
+        ensures picture { option_map arc_value result.1 ≡ self.picture }
         ensures next { IsNext self.entry self.picture }
     {
         let Next { entry, picture } = self;
@@ -96,15 +112,15 @@ pub(crate) fn make_next<F: Asks>(
         call,
         reply: answer.entered,
     };
-    Ok(ready(entry, after))
+    Ok(ready(entry, Arc::new(alloc, after)?))
 }
 
 /// The entry with the picture after it, which is let go where the reply is a refusal.
-fn ready(entry: Entry, after: Picture) -> Next
-    requires lawful { IsPicture after.limits after.rows }
+fn ready(entry: Entry, after: Arc<Picture>) -> Next
+    requires lawful { IsPicture (arc_value after).limits (arc_value after).rows }
     requires no_memory { entry.reply ≢ Refused Memory }
     ensures entry { result.entry ≡ entry }
-    ensures picture { result.picture ≡ (if is_accepted entry.reply then Some after else None) }
+    ensures picture { result.picture ≡ (if is_accepted entry.reply then Some (arc_value after) else None) }
 {
     match entry.reply {
         Reply::Refused(_) => Next {
