@@ -1,5 +1,5 @@
 -- Steps of the version store keep its rule.
-use Rattle.std.proofs.Common.{zero, suc, ◌≡◌, ◌≢◌, ℕ, List, [], ◌∷◌, ◌++◌, fold, set, refl, sym, ap, ◌∙◌, subst, ⊎_elim, append_assoc}
+use Rattle.std.proofs.Common.{zero, suc, ◌≡◌, ◌≢◌, ℕ, List, [], ◌∷◌, ◌++◌, fold, refl, sym, ap, ◌∙◌, subst, ⊎_elim, append_assoc}
 use Rattle.std.specs.Prelude.{Result, Ok, Err, MatchResult, OnOk}
 use Rattle.std.proofs.lemmas.List.{append-nil}
 use mathlib.Core.Option.{some, some-injective, some-ne-none}

@@ -25,9 +25,9 @@ impl Logged for Brand {
 
 impl<F> Naming<F> for Brand {
     ghost use Rattle.std.specs.Prelude.{None};
-    ghost use Rattle.topo_core.specs.Pictures.{seed};
+    ghost use Rattle.topo_versions.specs.Names.{smallest};
 
-    ghost start = { record { limits = record { vertices = 2; edges = 1; crossings = 0 }; rows = seed } };
+    ghost start = { smallest };
 
     ghost closure = { None };
 }

@@ -136,8 +136,11 @@ impl<F: Asks + Drop, K: Naming<F>> Glass<F, K> for StoreReader<F, K> {
         ensures later { IsPrefix (view self.old.place).entries (view self.new.place).entries }
         ensures met { result ≡ true → (view self.new.place).entries ≡ current.now.entries }
     {
-        let (number, met) =
-            replace_with(self, *count, |reader, count| meets(reader, count, current));
+        let (number, met) = replace_with(
+            self,
+            *count,
+            |reader, count| meets(reader, count, current),
+        );
         *count = number;
         met
     }

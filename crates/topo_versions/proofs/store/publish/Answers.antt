@@ -1,6 +1,4 @@
-use Rattle.std.proofs.Common.{rules, ◌≡◌, List, drop, sym, ◌∙◌, ap, subst}
-
-use Rattle.topo_versions.specs.Versions.{VersionState}
+use Rattle.std.proofs.Common.{◌≡◌, ap}
 use Rattle.topo_versions.proofs.Seen.{sees, pending_last, ok_of}
 use Rattle.topo_versions.proofs.store.publish.Goals as goal
 
