@@ -1,6 +1,6 @@
 -- What a worker has done of its list.
 use Rattle.std.specs.Global.{Vec}
-use Rattle.std.specs.Prelude.{◌≡◌, ◌<◌, ◌≤◌, ℕ, List, ◌++◌, length, map, take}
+use Rattle.std.specs.Prelude.{◌≡◌, ◌<◌, ◌≤◌, ◌==◌, ℕ, List, ◌++◌, if◌then◌else◌, length, map, take}
 use Rattle.topo_core.specs.declared.calls.Call.{Call}
 use Rattle.topo_core.specs.declared.calls.Command.{Command}
 use Rattle.topo_core.specs.History.{IsPrefix, call_of}
@@ -32,3 +32,11 @@ HasEnded old new list (OutOfMemory index) = (index < length list) × HasDone old
 -- the commands of a list
 abbrev pub commands : Vec Command → List Command
 commands list = list.items
+
+-- how many receipts a pass has
+abbrev pub receipts_of : PassState → ℕ
+receipts_of pass = length pass.receipts
+
+-- how the work on a list of so many commands ended, by the receipts gained
+abbrev pub end_by : ℕ → ℕ → WorkerEnd
+end_by gained commands = if gained == commands then Done else OutOfMemory gained

@@ -1,6 +1,6 @@
 //! What the end of a service tests.
 
-ghost use Rattle.std.specs.Prelude.{◌≡◌, ◌+◌, ◌<◌, ◌≤◌, ◌∷◌, ◌++◌, ℕ, List, length, true, false, All, vec_len, IfNone, IfSome};
+ghost use Rattle.std.specs.Prelude.{◌≡◌, ◌+◌, ◌<◌, ◌≤◌, ◌∷◌, ◌++◌, [], ℕ, List, length, true, false, All, vec_len, IfNone, IfSome};
 ghost use Rattle.topo_core.specs.declared.calls.Entry.{Entry};
 ghost use Rattle.topo_core.specs.History.{IsPrefix, versions};
 ghost use Rattle.topo_service.specs.Faults.{HasDifference, IsEndFault};

@@ -77,7 +77,9 @@ fn make_ready<F: Asks>(
 fn show<F: Asks, K: Naming<F>, W: Shelf<F, K>, R: Wait>(
     rt: &R,
     alloc: Global,
-    (head, front, writer): (&Head<K>, &mut Front<K>, &mut W),
+    head: &Head<K>,
+    front: &mut Front<K>,
+    writer: &mut W,
     entry: &Entry,
     picture: &Arc<Picture>,
 ) -> Result<(), AllocError>
@@ -141,8 +143,15 @@ impl<F: Asks, K: Naming<F>, W: Shelf<F, K>> Desk<F, K, W> {
         let next = make_ready(&mut self.book, alloc, caller, call, plan)?;
         let answer = Answer::of(alloc, &next.entry().reply)?;
         if let Some(picture) = next.shared() {
-            let parts = (&self.head, &mut self.front, &mut self.writer);
-            show::<F, K, W, R>(rt, alloc, parts, next.entry(), picture)?;
+            show::<F, K, W, R>(
+                rt,
+                alloc,
+                &self.head,
+                &mut self.front,
+                &mut self.writer,
+                next.entry(),
+                picture,
+            )?;
         }
         self.book.commit(next);
         self.calls.add(mine, 1);

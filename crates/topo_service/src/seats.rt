@@ -1,9 +1,9 @@
 //! The parts of the ledger that were not given out.
 ghost use Rattle.std.specs.Prelude.{◌≡◌, ◌+◌, ◌<◌};
 
-use topo_versions::Logged;
 use std::marker::Model;
 use std::sync::ledger::Share;
+use topo_versions::Logged;
 
 /// Contracts see how many parts were given out.
 #[derive(Drop)]
@@ -23,6 +23,7 @@ impl<K: Logged> Model for Seats<K> {
 }
 
 impl<K: Logged> Seats<K> {
+    /// None was given out.
     pub fn new(rest: Share<K>) -> Seats<K>
         requires { (rest.parts ≡ 16) × (rest.amount ≡ 0) }
         ensures { result ≡ 0 }
@@ -30,12 +31,14 @@ impl<K: Logged> Seats<K> {
         Seats { rest, given: 0 }
     }
 
+    /// How many were given out.
     pub fn given(&self) -> u32
         ensures { result ≡ self.now }
     {
         self.given
     }
 
+    /// One part.
     pub fn take(&mut self) -> Share<K>
         requires { self.old < 16 }
         ensures { (result.parts ≡ 1) × (result.amount ≡ 0) × (self.new ≡ self.old + 1) }
@@ -44,6 +47,7 @@ impl<K: Logged> Seats<K> {
         self.rest.split_off(1, 0)
     }
 
+    /// All that is left.
     pub fn into_rest(self) -> Share<K>
         ensures { (result.parts + self ≡ 16) × (result.amount ≡ 0) }
     {

@@ -1,8 +1,8 @@
 //! Lists of commands, each with a pass in a thread of its own.
 
-ghost use Rattle.std.specs.Prelude.{◌≡◌, ◌≢◌, ◌<◌, ◌≤◌, ◌++◌, ◌∷◌, ℕ, [], length, map, IfOk, OnErr, slice_index_or};
+ghost use Rattle.std.specs.Prelude.{◌≡◌, ◌<◌, ◌≤◌, ◌-◌, ◌++◌, ◌∷◌, ℕ, [], length, map, IfOk, OnErr, slice_index_or, vec_capacity};
 ghost use Rattle.topo_core.specs.History.{IsPrefix, call_of};
-ghost use Rattle.topo_service.specs.Commands.{HasDone, HasEnded, HasMade, commands};
+ghost use Rattle.topo_service.specs.Commands.{HasEnded, HasMade, commands, end_by, receipts_of};
 ghost use Rattle.topo_service.specs.Passes.{PassState, receipt_of};
 
 use crate::pass::PassOver;
@@ -95,12 +95,46 @@ fn work<F: Asks, K: Naming<F>, W: Shelf<F, K>, G: Glass<F, K>, R: Wait, T: Gate>
     }
 }
 
+/// Runs each list with the pass at its place, in a thread of its own.
+fn run_each<
+    F: Asks + Drop + Send + Sync,
+    K: Naming<F> + Send + Sync,
+    W: Shelf<F, K> + Send,
+    G: Glass<F, K> + Send,
+    R: Threads + Wait + Sync,
+    T: Gate,
+>(
+    rt: &R,
+    alloc: Global,
+    service: &ServiceOver<F, K, W>,
+    passes: &mut [PassOver<F, K, G>],
+    lists: &[Vec<Command>],
+    gate: &T,
+)
+    requires { length passes.old ≡ length lists.now }
+    ensures { (i : ℕ) (p : PassState) → i < length lists.now → HasMade (slice_index_or passes.old i p) (slice_index_or passes.new i p) (slice_index_or (map commands lists.now) i []) }
+{
+    if passes.is_empty() {
+        return;
+    }
+    let threads = passes.len();
+    thread::for_each_mut(
+        rt,
+        passes,
+        threads,
+        &|i, pass: &mut PassOver<F, K, G>|
+            requires { i < length lists.now }
+            ensures { HasMade pass.entry.now pass.exit.now (slice_index_or (map commands lists.entry.now) i []) }
+        { work(rt, alloc, service, pass, i, lists[i].as_slice(), gate) },
+    );
+}
+
 /// How many receipts each pass has.
 fn receipt_counts<F: Asks, K: Naming<F>, G: Glass<F, K>>(
     alloc: Global,
     passes: &[PassOver<F, K, G>],
 ) -> Result<Vec<usize>, AllocError>
-    ensures { IfOk result (λ counts. counts.items ≡ map (λ p. length p.receipts) passes.now) }
+    ensures { IfOk result (λ counts. counts.items ≡ map receipts_of passes.now) }
 {
     let mut counts = Vec::with_capacity(alloc, passes.len())?;
     for pass in passes {
@@ -112,11 +146,33 @@ fn receipt_counts<F: Asks, K: Naming<F>, G: Glass<F, K>>(
 /// How the work on a list of this length ended, by the receipts before and after.
 fn end_of(before: usize, after: usize, commands: usize) -> WorkerEnd
     requires { before ≤ after }
+    ensures { result ≡ end_by (after - before) commands }
 {
     if after - before == commands {
         WorkerEnd::Done
     } else {
         WorkerEnd::OutOfMemory(after - before)
+    }
+}
+
+/// Tells how the work on each list ended.
+fn tell_ends<F: Asks, K: Naming<F>, G: Glass<F, K>>(
+    ends: &mut Vec<WorkerEnd>,
+    before: &[usize],
+    passes: &[PassOver<F, K, G>],
+    lists: &[Vec<Command>],
+)
+    requires empty { ends.old.items ≡ [] }
+    requires room { length passes.now ≤ vec_capacity ends.old }
+    requires befores { length before.now ≡ length passes.now }
+    requires as_many { length passes.now ≡ length lists.now }
+    requires risen { (i : ℕ) (p : PassState) → i < length passes.now → slice_index_or before.now i 0 ≤ receipts_of (slice_index_or passes.now i p) }
+    ensures one_each { length ends.new.items ≡ length lists.now }
+    ensures told { (i : ℕ) (p : PassState) (e : WorkerEnd) → i < length passes.now
+        → slice_index_or ends.new.items i e ≡ end_by (receipts_of (slice_index_or passes.now i p) - slice_index_or before.now i 0) (length (slice_index_or (map commands lists.now) i [])) }
+{
+    for i in 0..passes.len() {
+        ends.push_reserved(end_of(before[i], passes[i].receipts().len(), lists[i].len()));
     }
 }
 
