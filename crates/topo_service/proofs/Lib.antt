@@ -1,3 +1,4 @@
 pub mod Matching
 pub mod Numbers
+pub mod Versions
 pub mod Wholeness

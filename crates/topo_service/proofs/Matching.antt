@@ -1,12 +1,14 @@
 -- Receipts and the entries of their caller.
-use Rattle.std.proofs.Common.{◌≡◌, ℕ, zero, suc, ◌+◌, ◌<◌, ◌≤◌, ◌==◌, Bool, true, false, List, [], ◌∷◌, ◌++◌, length, take, get_or, map, Option, Some, None, refl, ap, sym, ◌∙◌, subst, arith, append_assoc, length-append}
+use Rattle.std.proofs.Common.{◌≡◌, ℕ, zero, suc, ◌+◌, ◌<◌, ◌≤◌, ◌==◌, Bool, true, false, List, [], ◌∷◌, ◌++◌, length, take, drop, get_or, map, inl, inr, Option, Some, None, refl, ap, sym, ◌∙◌, subst, arith, append_assoc, length-append}
 use Rattle.std.specs.Prelude.{slice_get, option_map}
 use Rattle.std.proofs.lemmas.List.{append-nil, take_more, map-append, length-take-le}
 use Rattle.std.proofs.lemmas.List.Elements.{filter-append}
 use Rattle.std.proofs.lemmas.Option.{slice_get-map, slice_get_past}
 use Rattle.topo_core.specs.declared.calls.Entry.{Entry}
+use Rattle.topo_core.specs.Items.{IsIn}
 use Rattle.topo_core.specs.History.{Agrees, entries_of}
 use Rattle.topo_service.specs.declared.pass.Receipt.{Receipt}
+use Rattle.topo_service.specs.Passes.{receipt_of}
 use Rattle.topo_service.specs.Receipts.{AllAgree, AreFirst, AreFound, Differs, receipt_in, receipts_due}
 
 -- ---- Places in lists
@@ -19,6 +21,22 @@ at_first (y ∷ xs) ys (suc k) x there = at_first xs ys k x there
 at_seam : {A : Type 0} (xs : List A) (y : A) (ys : List A) → slice_get (xs ++ y ∷ ys) (length xs) ≡ Some y
 at_seam [] y ys = refl
 at_seam (x ∷ xs) y ys = at_seam xs y ys
+
+pub item_at : {A : Type 0} (xs : List A) (k : ℕ) → k < length xs → (x : A) × (slice_get xs k ≡ Some x)
+item_at [] k lt = absurd (omega (arith, lt))
+item_at (x ∷ xs) zero lt = (x, refl)
+item_at (x ∷ xs) (suc k) lt = item_at xs k (omega (arith, lt))
+
+pub in_at : {A : Type 0} (xs : List A) (k : ℕ) (d : A) → k < length xs → IsIn (get_or xs k d) xs
+in_at [] k d lt = absurd (omega (arith, lt))
+in_at (x ∷ xs) zero d lt = inl refl
+in_at (x ∷ xs) (suc k) d lt = inr (in_at xs k d (omega (arith, lt)))
+
+-- a list is what stands before an item, the item, and the rest
+pub parted : {A : Type 0} (xs : List A) (k : ℕ) (d : A) → k < length xs → xs ≡ take k xs ++ get_or xs k d ∷ drop (suc k) xs
+parted [] k d lt = absurd (omega (arith, lt))
+parted (x ∷ xs) zero d lt = refl
+parted (x ∷ xs) (suc k) d lt = ap (λ l. x ∷ l) (parted xs k d (omega (arith, lt)))
 
 -- ---- What is due
 
@@ -40,7 +58,7 @@ due_at None r same = cc
 agreed : (history : List Entry) (n k : ℕ) (r : Receipt) → Agrees history n k r.call r.reply → slice_get (receipts_due n history) k ≡ Some r
 agreed history n k r agrees =
     let e = agrees.entry in
-    let same : receipt_in e ≡ r = cc (agrees.same_call, agrees.same_reply) in
+    let same : receipt_in e ≡ r = ap (λ call. receipt_of call e.reply) agrees.same_call ∙ ap (receipt_of r.call) agrees.same_reply in
     slice_get-map receipt_in (entries_of n history) k ∙ ap (option_map receipt_in) agrees.there ∙ ap Some same
 
 -- the first of the receipts that are due agree

@@ -1,10 +1,10 @@
 //! What the end of a service tests.
 
-ghost use Rattle.std.specs.Prelude.{◌≡◌, ◌+◌, ◌<◌, ◌≤◌, ◌∷◌, ◌++◌, [], ℕ, List, length, true, false, All, vec_len, IfNone, IfSome};
+ghost use Rattle.std.specs.Prelude.{◌≡◌, ◌↔◌, IsTrue, ◌+◌, ◌<◌, ◌≤◌, ◌∷◌, ◌++◌, [], ℕ, List, length, true, false, All, vec_len, IfNone, IfSome};
 ghost use Rattle.topo_core.specs.declared.calls.Entry.{Entry};
 ghost use Rattle.topo_core.specs.History.{IsPrefix, versions};
 ghost use Rattle.topo_service.specs.Faults.{HasDifference, IsEndFault};
-ghost use Rattle.topo_service.specs.Receipts.{AreFirst, AreFound, Differs, HasNumber, receipt_count};
+ghost use Rattle.topo_service.specs.Receipts.{AreFirst, AreFound, Differs, HasNumber, receipt_count, receipt_in};
 
 use crate::desk::Desk;
 use crate::faults::EndFault;
@@ -48,6 +48,13 @@ fn first_missing<F: Asks, K: Naming<F>, G: Glass<F, K>>(
     None
 }
 
+/// Whether a receipt is of this entry.
+fn is_of(receipt: &Receipt, entry: &Entry) -> bool
+    ensures { IsTrue result ↔ (receipt.now ≡ receipt_in entry.now) }
+{
+    receipt.call == entry.call && same_reply(&receipt.reply, &entry.reply)
+}
+
 /// How many receipts are found after one entry more; none where the entry is the caller's, and the next
 /// receipt is not this entry.
 fn found_after(number: u32, receipts: &[Receipt], entry: &Entry, k: usize) -> Option<usize>
@@ -61,7 +68,7 @@ fn found_after(number: u32, receipts: &[Receipt], entry: &Entry, k: usize) -> Op
     if k >= receipts.len() {
         return Some(k);
     }
-    if receipts[k].call == entry.call && same_reply(&receipts[k].reply, &entry.reply) {
+    if is_of(&receipts[k], entry) {
         return Some(k + 1);
     }
     None

@@ -1,8 +1,7 @@
 //! What lies under the lock.
 
-ghost use Rattle.std.specs.Prelude.{◌≡◌, ◌≢◌, ◌+◌, ◌<◌, ◌^◌, ◌∷◌, ◌++◌, [], length, is_ok, if◌then◌else◌, IfOk, OnOk, OnErr, Some};
-ghost use Rattle.std.specs.Arc.{arc_value};
-ghost use Rattle.topo_core.specs.History.{IsPrefix, IsVersion, Replays, versions};
+ghost use Rattle.std.specs.Prelude.{◌≡◌, ◌≢◌, ◌+◌, ◌<◌, ◌^◌, ◌∷◌, ◌++◌, [], length, is_ok, if◌then◌else◌, IfOk, IfSome, OnOk, OnErr, Some};
+ghost use Rattle.topo_core.specs.History.{IsPrefix, IsVersion, Replays, is_accepted, versions};
 ghost use Rattle.topo_core.specs.Steps.{Step};
 ghost use Rattle.topo_core.specs.declared.calls.Refusal.TheVariants.{Memory};
 ghost use Rattle.topo_core.specs.declared.calls.Reply.TheVariants.{Refused};
@@ -20,7 +19,6 @@ use std::sync::ledger::{Book as Tally, Share};
 use std::sync::{Arc, Wait};
 use topo_book::{Book, Next};
 use topo_core::calls::{Call, Entry};
-use topo_picture::Picture;
 use topo_price::tariff::Asks;
 use topo_route::plan::Plan;
 use topo_versions::{Front, Glass, Head, Lends, Naming, Shelf, Version};
@@ -51,7 +49,7 @@ impl<F: Asks, K: Naming<F>, W: Shelf<F, K>> Model for Desk<F, K, W> {
         × (d.front ≡ versions d.book.history) × (W.published d.writer ≡ versions d.book.history) };
 }
 
-/// Makes a call ready, with its plan where it has one.
+/// Makes a call ready, with its plan where it has one. The rest is what is true of every book.
 fn make_ready<F: Asks>(
     book: &mut Book<F>,
     alloc: Global,
@@ -64,7 +62,12 @@ fn make_ready<F: Asks>(
     ensures ready { IfOk result (CanFollow (prices_of (F.answers book.new.tariff)) book.new) }
     ensures unchanged { IsUnchanged book.old book.new }
     ensures same_book { IsSameBook book.old book.new }
+    ensures legal { Replays (prices_of (F.answers book.old.tariff)) book.old.start.limits book.old.start.rows book.old.history book.old.picture.rows }
+    ensures same_limits { book.old.picture.limits ≡ book.old.start.limits }
+    ensures room { length book.old.history + 1 < 2 ^ 64 }
 {
+    let _more = book.history().len() + 1;
+    book.picture();
     match (call, plan) {
         (Call::Insert { u, v, kind }, Some(plan)) => {
             book.prepare_planned(alloc, caller, u, v, kind, plan)
@@ -73,23 +76,28 @@ fn make_ready<F: Asks>(
     }
 }
 
-/// Publishes the version after an entry. After want of memory nothing has changed.
+/// Publishes the version after a call that was made ready, where it is accepted. After want of memory
+/// nothing has changed.
 fn show<F: Asks, K: Naming<F>, W: Shelf<F, K>, R: Wait>(
     rt: &R,
     alloc: Global,
     head: &Head<K>,
     front: &mut Front<K>,
     writer: &mut W,
-    entry: &Entry,
-    picture: &Arc<Picture>,
+    next: &Next,
 ) -> Result<(), AllocError>
     requires room { length front.old + 1 < 2 ^ 64 }
     requires whole { W.published writer.old ≡ front.old }
-    requires follows { IsVersionFrom (prices_named F.answers K.closure) K.start (front.old ++ entry.now ∷ []) (arc_value picture.now) }
-    ensures ok { OnOk result ((front.new ≡ front.old ++ entry.now ∷ []) × (W.published writer.new ≡ front.old ++ entry.now ∷ [])) }
+    requires follows { IfSome next.now.picture (λ picture. IsVersionFrom (prices_named F.answers K.closure) K.start (front.old ++ next.now.entry ∷ []) picture) }
+    ensures front { OnOk result (front.new ≡ (if is_accepted next.now.entry.reply then front.old ++ next.now.entry ∷ [] else front.old)) }
+    ensures published { OnOk result (W.published writer.new ≡ front.new) }
     ensures err { OnErr result ((front.new ≡ front.old) × (W.published writer.new ≡ W.published writer.old)) }
 {
+    let Some(picture) = next.shared() else {
+        return Ok(());
+    };
     let share = Arc::try_clone(picture)?;
+    let entry = next.entry();
     let version = Version::<F, K>::after(alloc, front.again(), entry.copy(alloc)?, share)?;
     writer.publish(rt, &version)?;
     if !front.add(head, entry) {
@@ -142,17 +150,14 @@ impl<F: Asks, K: Naming<F>, W: Shelf<F, K>> Desk<F, K, W> {
     {
         let next = make_ready(&mut self.book, alloc, caller, call, plan)?;
         let answer = Answer::of(alloc, &next.entry().reply)?;
-        if let Some(picture) = next.shared() {
-            show::<F, K, W, R>(
-                rt,
-                alloc,
-                &self.head,
-                &mut self.front,
-                &mut self.writer,
-                next.entry(),
-                picture,
-            )?;
-        }
+        show::<F, K, W, R>(
+            rt,
+            alloc,
+            &self.head,
+            &mut self.front,
+            &mut self.writer,
+            &next,
+        )?;
         self.book.commit(next);
         self.calls.add(mine, 1);
         Ok(answer)
