@@ -4,13 +4,9 @@ use Rattle.std.proofs.lemmas.List.{append-nil}
 use Rattle.std.proofs.lemmas.List.Elements.{filter-append}
 use Rattle.topo_core.specs.declared.rows.Rows.{Rows}
 use Rattle.topo_core.specs.declared.limits.Limits.{Limits}
-use Rattle.topo_core.specs.declared.calls.Call.{Call}
-use Rattle.topo_core.specs.declared.calls.Call.TheVariants.{Grow, Insert, Delete}
 use Rattle.topo_core.specs.declared.calls.Entry.{Entry}
-use Rattle.topo_core.specs.declared.calls.Reply.{Reply}
-use Rattle.topo_core.specs.declared.calls.Reply.TheVariants.{Grown, Inserted as Put, Deleted, Refused}
 use Rattle.topo_core.specs.Routes.{Pricing}
-use Rattle.topo_core.specs.Steps.{IsRefused, Step}
+use Rattle.topo_core.specs.Steps.{Step}
 use Rattle.topo_core.specs.History.{IsVersion, Replays, is_accepted, versions}
 use Rattle.topo_core.proofs.Replaying.{replays_on, versions_replay}
 use Rattle.topo_book.specs.Books.{BookState, CanFollow, IsSameBook, IsUnchanged, NextState, picture_after}
@@ -36,6 +32,11 @@ versions_go_on es e = filter-append (λ (x : Entry). is_accepted x.reply) es (e 
   by_reply true on = rw on refl
   by_reply false off = rw off (append-nil (versions es))
 
+pub versions_on : (es : List Entry) (e : Entry) → is_accepted e.reply ≡ true → versions (es ++ e ∷ []) ≡ versions es ++ e ∷ []
+versions_on es e on = versions_go_on es e ∙ by_test on where
+  by_test : is_accepted e.reply ≡ true → (if is_accepted e.reply then versions es ++ e ∷ [] else versions es) ≡ versions es ++ e ∷ []
+  by_test on = rw on refl
+
 -- versions are at most as many as entries
 pub versions_length : (es : List Entry) → length (versions es) ≤ length es
 versions_length [] = omega arith
@@ -44,30 +45,18 @@ versions_length (e ∷ es) = by_reply (is_accepted e.reply) refl (versions_lengt
   by_reply true on rest = rw on (omega (arith, rest))
   by_reply false off rest = rw off (omega (arith, rest))
 
--- a refused call is due in the picture that it leaves
-pub refused_step : (price : Pricing) (limits : Limits) (call : Call) (reply : Reply) (p q : Rows) → is_accepted reply ≡ false → Step price limits p call reply q → Step price limits q call reply q
-refused_step price limits (Grow u position kind) (Refused why) p q off step = (subst (λ (r : Rows). IsRefused price limits r (Grow u position kind) why) (sym step.1) step.0, refl)
-refused_step price limits (Insert u v kind) (Refused why) p q off step = (subst (λ (r : Rows). IsRefused price limits r (Insert u v kind) why) (sym step.1) step.0, refl)
-refused_step price limits (Delete e) (Refused why) p q off step = (subst (λ (r : Rows). IsRefused price limits r (Delete e) why) (sym step.1) step.0, refl)
-refused_step price limits call (Grown vertex edge) p q off step = cc
-refused_step price limits call (Put made) p q off step = cc
-refused_step price limits call (Deleted edge) p q off step = cc
-
 -- a replay with one accepted entry more is a version, one step on
 version_on : (price : Pricing) (start : Shown) (history : List Entry) (picture next : Shown) (entry : Entry) → Replays price start.limits start.rows history picture.rows
     → is_accepted entry.reply ≡ true → Step price start.limits picture.rows entry.call entry.reply next.rows → next.limits ≡ start.limits → IsPicture next.limits next.rows
     → IsVersionFrom price start (versions history ++ entry ∷ []) next
 version_on price start history picture next entry way on step same good = record {
   replayed = record {
-    accepted = versions_go_on (versions history) entry ∙ by_test on ∙ ap (λ l. l ++ entry ∷ []) (versions_again history);
+    accepted = versions_on (versions history) entry on ∙ ap (λ l. l ++ entry ∷ []) (versions_again history);
     replayed = replays_on price start.limits (versions history) start.rows picture.rows next.rows entry (versions_replay price start.limits history start.rows picture.rows way) step;
   };
   same_limits = same;
   lawful = good;
 }
-  where
-    by_test : is_accepted entry.reply ≡ true → (if is_accepted entry.reply then versions (versions history) ++ entry ∷ [] else versions (versions history)) ≡ versions (versions history) ++ entry ∷ []
-    by_test on = rw on refl
 
 module _ {F : Type 0} (answers : F → Asking) (closure : Option F) (start : Shown) (old new : BookState F) (next : NextState) (named : closure ≡ Some old.tariff) (from : old.start ≡ start)
     (unchanged : IsUnchanged old new) (same_book : IsSameBook old new) (limits : old.picture.limits ≡ old.start.limits) (ready : CanFollow (prices_of (answers new.tariff)) new next) where
