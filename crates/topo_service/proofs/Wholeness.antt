@@ -1,6 +1,6 @@
 -- Receipts that are as many as the entries are all of them.
-use Rattle.std.proofs.Common.{◌≡◌, ℕ, zero, suc, ◌+◌, ◌<◌, ◌≤◌, ◌==◌, Bool, true, false, List, [], ◌∷◌, ◌++◌, ◌⊎◌, inl, inr, ⊎_elim, length, map, refl, ap, sym, ◌∙◌, subst, arith, length-append, length-map, All}
-use Rattle.std.proofs.lemmas.List.{append-nil}
+use Rattle.std.proofs.Common.{◌≡◌, ℕ, zero, suc, ◌+◌, ◌<◌, ◌≤◌, ◌==◌, Bool, true, false, List, [], ◌∷◌, ◌++◌, ◌⊎◌, inl, inr, ⊎_elim, length, map, refl, ap, sym, ◌∙◌, subst, arith, length-append, All}
+use Rattle.std.proofs.lemmas.List.{append-nil, length-map}
 use Rattle.std.proofs.lemmas.List.Sums.{sum_by-cons}
 use Rattle.std.proofs.lemmas.List.Elements.{All-head, All-tail, All-cons}
 use Rattle.std.proofs.lemmas.Bool.Decides.{nat_tests}
@@ -42,15 +42,15 @@ keeps n m apart (e ∷ es) = by_caller (e.caller == n) refl (e.caller == m) refl
 -- an entry is of the caller or of another
 of_either : (n : ℕ) (es : List Entry) (x : Entry) → IsIn x es → (x.caller ≡ n) ⊎ IsIn x (others n es)
 of_either n [] x there = absurd there
-of_either n (e ∷ es) x there = by_caller (e.caller == n) refl there where
+of_either n (e ∷ es) x (inl same) = here (e.caller == n) refl where
+  here : (b : Bool) → (e.caller == n) ≡ b → (x.caller ≡ n) ⊎ IsIn x (others n (e ∷ es))
+  here true own = inl (ap (λ y. y.caller) same ∙ grind (arith, nat_tests, own))
+  here false other = rw other (inr (inl same))
+of_either n (e ∷ es) x (inr there) = later (e.caller == n) (of_either n es x there) where
   later : (b : Bool) → (x.caller ≡ n) ⊎ IsIn x (others n es) → (x.caller ≡ n) ⊎ IsIn x (put_unless b e (others n es))
   later true h = h
   later false (inl own) = inl own
   later false (inr h) = inr (inr h)
-  by_caller : (b : Bool) → (e.caller == n) ≡ b → (x ≡ e) ⊎ IsIn x es → (x.caller ≡ n) ⊎ IsIn x (put_unless (e.caller == n) e (others n es))
-  by_caller b is (inr h) = later (e.caller == n) (of_either n es x h)
-  by_caller true own (inl same) = inl (ap (λ y. y.caller) same ∙ grind (arith, nat_tests, own))
-  by_caller false other (inl same) = rw other (inr (inl same))
 
 -- no pass has more receipts than its caller has entries
 abbrev Fits : List Entry → List PassState → Type 0
@@ -67,8 +67,8 @@ fits_others n es [] away fits = tt
 fits_others n es (p ∷ ps) away fits = (rw (keeps n p.number (λ e. away (inl e)) es) fits.0, fits_others n es ps (λ h. away (inr h)) fits.1)
 
 fills_back : (n : ℕ) (es : List Entry) (ps : List PassState) → (HasNumber n ps → ⊥) → Fills (others n es) ps → Fills es ps
-fills_back n es [] away fills = tt
-fills_back n es (p ∷ ps) away fills = (fills.0 ∙ ap length (keeps n p.number (λ e. away (inl e)) es), fills_back n es ps (λ h. away (inr h)) fills.1)
+fills_back n es [] away filled = tt
+fills_back n es (p ∷ ps) away filled = (filled.0 ∙ ap length (keeps n p.number (λ e. away (inl e)) es), fills_back n es ps (λ h. away (inr h)) filled.1)
 
 count_cons : (p : PassState) (ps : List PassState) → receipt_count (p ∷ ps) ≡ length p.receipts + receipt_count ps
 count_cons p ps = sum_by-cons (λ (pass : PassState). length pass.receipts) p ps
@@ -124,11 +124,11 @@ first_is_all history n rs (more , is) len =
       nothing_more (r ∷ more) is none = absurd (omega (arith, none))
 
 all_own : (history : List Entry) (ps : List PassState) → AreAllFirst history ps → Fills history ps → All (λ (p : PassState). receipts_due p.number history ≡ p.receipts) ps
-all_own history [] firsts fills k d lt = absurd (omega (arith, lt))
-all_own history (p ∷ ps) firsts fills =
+all_own history [] firsts filled = λ k d lt. absurd (omega (arith, lt))
+all_own history (p ∷ ps) firsts filled =
     let P : PassState → Type 0 = λ q. AreFirst history q.number q.receipts in
-    All-cons (λ (q : PassState). receipts_due q.number history ≡ q.receipts) p ps (first_is_all history p.number p.receipts (All-head P p ps firsts) fills.0)
-    (all_own history ps (All-tail P p ps firsts) fills.1)
+    All-cons (λ (q : PassState). receipts_due q.number history ≡ q.receipts) p ps (first_is_all history p.number p.receipts (All-head P p ps firsts) filled.0)
+    (all_own history ps (All-tail P p ps firsts) filled.1)
 
 -- receipts that are the first of those due, of passes with different numbers, and as many as the entries, are the whole history
 pub whole : (history : List Entry) (ps : List PassState) → Apart ps → AreAllFirst history ps → length history ≡ receipt_count ps → AreWhole history ps
