@@ -2,3 +2,4 @@ pub mod Matching
 pub mod Numbers
 pub mod Versions
 pub mod Wholeness
+pub mod Working
