@@ -9,7 +9,7 @@ use Rattle.slab.specs.Slab.{Slab, get, slab_len, with_value, ContainsKey, Update
 use Rattle.topo_core.specs.declared.darts.Way.{Way}
 use Rattle.topo_core.specs.declared.darts.Way.TheVariants.{Forward, Back}
 use Rattle.topo_map.specs.Halves.{half_number}
-use Rattle.topo_map.specs.HalfInverse.{number_key}
+use Rattle.topo_map.proofs.HalfNumbers.{number_key}
 use Rattle.topo_map.specs.Rotation.{Turns, turned, turn_in, live_in}
 use Rattle.topo_map.specs.Segments.{shown, written, holds, next_in, before_in, nexts, befores, Rewires}
 use Rattle.topo_map.specs.declared.segments.Segment.{Segment}
@@ -55,8 +55,8 @@ side-at key Back at t e = cond-false _ _ _ (back-test key at e)
 pub key-at : (key : ℕ) (way : Way) (at : ℕ) → half_number key way ≡ at → at / 2 ≡ key
 key-at key way at e = ap (λ (n : ℕ). n / 2) (sym e) ∙ number_key key way
 
-pub contains : (s : Slab Segment) (key : ℕ) (way : Way) (at : ℕ) → half_number key way ≡ at → holds s at ≡ true → ContainsKey s key
-contains s key way at e h = subst (λ (k : ℕ). is_some (get s k) ≡ true) (key-at key way at e) (sym (live_at nexts s at) ∙ h)
+pub contains : (s : Slab Segment) (key at : ℕ) → key ≡ at / 2 → holds s at ≡ true → ContainsKey s key
+contains s key at e h = subst (λ (k : ℕ). is_some (get s k) ≡ true) (sym e) (sym (live_at nexts s at) ∙ h)
 
 slot-at : (pick : Segment → Turns) (s : Slab Segment) (a key : ℕ) (seg : Segment) → a / 2 ≡ key → get s key ≡ Some seg → turn_in (shown pick s) a ≡ turned a (Some (pick seg))
 slot-at pick s a key seg e g = turn_at pick s a ∙ ap (λ (k : ℕ). turned a (option_map pick (get s k))) e ∙ ap (λ (o : Option Segment). turned a (option_map pick o)) g

@@ -1,8 +1,8 @@
 //! The embedding of a graph: segments between points, with the clockwise order of the halves round
 //! each point.
 //!
-//! A half is a segment with a direction, and contracts know it by a number: `2 * key` and
-//! `2 * key + 1` are the two of the segment at a key of a slab. An `Embedding` is seen as a
+//! A half is a segment with a direction, and is kept as one number: `2 * key` and `2 * key + 1` are
+//! the two of the segment at a key of a slab. An `Embedding` is seen as a
 //! `Rotation`: which numbers are live halves (`is_live`), how they turn (`turn`), and for how many
 //! more segments there is room. A slot with no segment is a segment by itself in that view, whose
 //! halves turn to themselves: so the turn is one permutation of all numbers below `half_limit`, an

@@ -31,10 +31,11 @@ pub(crate) struct Segment {
 impl Segment {
     // Each half a point by itself.
     fn isolated(key: u32) -> Self
+        requires { key < 2147483648 }
         ensures { result ≡ isolated_segment key }
     {
-        let forward = Half::new(key, Way::Forward);
-        let back = Half::new(key, Way::Back);
+        let forward = Half::forward(key);
+        let back = forward.twin();
         Segment {
             forward: Links {
                 next: forward,
@@ -52,7 +53,7 @@ impl Segment {
 pub(crate) fn contains(segments: &Slab<Segment>, half: Half) -> bool
     ensures { result ≡ holds segments.now half }
 {
-    segments.contains(half.key as usize)
+    segments.contains(half.key())
 }
 
 /// The next half clockwise.
@@ -60,8 +61,8 @@ pub(crate) fn next(segments: &Slab<Segment>, at: Half) -> Half
     requires { holds segments.now at ≡ true }
     ensures { result ≡ next_in segments.now at }
 {
-    let segment = &segments[at.key as usize];
-    match at.way {
+    let segment = &segments[at.key()];
+    match at.way() {
         Way::Forward => segment.forward.next,
         Way::Back => segment.back.next,
     }
@@ -72,8 +73,8 @@ pub(crate) fn previous(segments: &Slab<Segment>, at: Half) -> Half
     requires { holds segments.now at ≡ true }
     ensures { result ≡ before_in segments.now at }
 {
-    let segment = &segments[at.key as usize];
-    match at.way {
+    let segment = &segments[at.key()];
+    match at.way() {
         Way::Forward => segment.forward.previous,
         Way::Back => segment.back.previous,
     }
@@ -83,8 +84,8 @@ fn set_next(segments: &mut Slab<Segment>, at: Half, to: Half)
     requires { holds segments.old at ≡ true }
     ensures { Rewires segments.old segments.new (written (next_in segments.old) at to) (before_in segments.old) }
 {
-    let segment = &mut segments[at.key as usize];
-    match at.way {
+    let segment = &mut segments[at.key()];
+    match at.way() {
         Way::Forward => segment.forward.next = to,
         Way::Back => segment.back.next = to,
     }
@@ -94,8 +95,8 @@ fn set_previous(segments: &mut Slab<Segment>, at: Half, to: Half)
     requires { holds segments.old at ≡ true }
     ensures { Rewires segments.old segments.new (next_in segments.old) (written (before_in segments.old) at to) }
 {
-    let segment = &mut segments[at.key as usize];
-    match at.way {
+    let segment = &mut segments[at.key()];
+    match at.way() {
         Way::Forward => segment.forward.previous = to,
         Way::Back => segment.back.previous = to,
     }
@@ -146,7 +147,7 @@ pub(crate) fn insert_isolated(segments: &mut Slab<Segment>) -> Half
 {
     let key = segments.insert_reserved(Segment::isolated(0));
     segments[key] = Segment::isolated(key as u32);
-    Half::new(key as u32, Way::Forward)
+    Half::forward(key as u32)
 }
 
 /// The segment of `x`, each half of which is a point by itself, is gone.
@@ -157,7 +158,7 @@ pub(crate) fn remove_isolated(segments: &mut Slab<Segment>, x: Half)
     requires twin_alone { next_in segments.old (twin x) ≡ twin x }
     ensures { IsRemoved segments.old segments.new x }
 {
-    segments.remove(x.key as usize);
+    segments.remove(x.key());
 }
 
 /// How many segments fit with no memory taken. A slab that is so large that a key might not fit its
