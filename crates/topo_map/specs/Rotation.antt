@@ -1,7 +1,7 @@
 -- What a contract sees of an embedding: which halves are live, how they turn, and the room for more segments.
 -- A half is a number: 2 * key and 2 * key + 1 are the two of the segment at a key.
 use Rattle.std.specs.Prelude.{◌≡◌, ◌≢◌, ℕ, ◌+◌, ◌*◌, ◌/◌, ◌%◌, ◌<◌, ◌≤◌, ◌==◌, Bool, true, cond, List, length, Option, Some, None, is_some, slice_index_or}
-use Rattle.topo_core.specs.Cycles.{after, map_of, cycles_of}
+use Rattle.topo_core.specs.Cycles.{SameCycle, after, map_of, cycles_of}
 use Rattle.topo_core.specs.Rotations.{twin, face_next, faces_of, IsConnected}
 use Rattle.topo_perm.specs.Joins.{IsConnectedAmong, AddsSegment}
 use Rattle.topo_perm.specs.Renumbering.{RenumbersTurn}
@@ -67,29 +67,46 @@ HangsTogether r = IsConnectedAmong (is_live r) (turn r) half_limit
 
 -- ---- What an edit adds or takes
 
--- the segment of x is new and takes one place of the room, and there are so many points and faces more
-pub record Grows (old new : Rotation) (x more_points more_faces : ℕ) : Type 0 where
+-- the segment of x is new and takes one place of the room
+pub record Grows (old new : Rotation) (x : ℕ) : Type 0 where
   pub within : x < half_limit
   pub live : AddsSegment (is_live old) (is_live new) half_limit x
   pub stays : (a : ℕ) → is_live old a ≡ true → is_live new a ≡ true
-  pub points_more : points new ≡ points old + more_points
   pub segments_more : segments new ≡ segments old + 1
-  pub faces_more : faces new ≡ faces old + more_faces
   pub room_less : new.room + 1 ≡ old.room
   pub embedding : IsEmbedding new
-  pub connected : HangsTogether old → HangsTogether new
 
--- the segment of x is gone and leaves its place to another, and there are so many points and faces fewer
-pub record Shrinks (old new : Rotation) (x fewer_points fewer_faces : ℕ) : Type 0 where
+-- the segment of x is gone and leaves its place to another
+pub record Shrinks (old new : Rotation) (x : ℕ) : Type 0 where
   pub live : AddsSegment (is_live new) (is_live old) half_limit x
   pub stays : (a : ℕ) → a ≢ x → a ≢ twin x → is_live old a ≡ true → is_live new a ≡ true
-  pub points_fewer : points new + fewer_points ≡ points old
   pub segments_fewer : segments new + 1 ≡ segments old
-  pub faces_fewer : faces new + fewer_faces ≡ faces old
   pub room_kept : old.room ≤ new.room
   pub room_more : 0 < old.room → new.room ≡ old.room + 1
   pub embedding : IsEmbedding new
+
+-- so many points and faces more, and what hangs together still does
+pub record CountsMore (old new : Rotation) (more_points more_faces : ℕ) : Type 0 where
+  pub points_more : points new ≡ points old + more_points
+  pub faces_more : faces new ≡ faces old + more_faces
   pub connected : HangsTogether old → HangsTogether new
+
+-- and so many fewer
+pub record CountsFewer (old new : Rotation) (fewer_points fewer_faces : ℕ) : Type 0 where
+  pub points_fewer : points new + fewer_points ≡ points old
+  pub faces_fewer : faces new + fewer_faces ≡ faces old
+  pub connected : HangsTogether old → HangsTogether new
+
+-- ---- Where an edit counts as it does
+
+-- both corners lie in one face, which the new segment parts
+abbrev pub IsOneFace : Rotation → ℕ → ℕ → Type 0
+IsOneFace r c d = SameCycle (face_next (turn r)) c d
+
+-- different faces lie on the two sides of the segment of h, and it is not a loop alone at its point
+pub record PartsFaces (r : Rotation) (h : ℕ) : Type 0 where
+  pub two_faces : ¬ IsOneFace r h (twin h)
+  pub not_alone : turn r h ≡ twin h → turn r (twin h) ≢ h
 
 -- k steps, and no fewer, lead round the point of a
 pub record IsDegree (r : Rotation) (a k : ℕ) : Type 0 where

@@ -4,7 +4,7 @@ ghost use Rattle.std.specs.Prelude.{◌≡◌, ◌≢◌, ◌↔◌, ◌%◌, []
 ghost use Rattle.topo_core.specs.Cycles.{IsPermutationList, SameCycle};
 ghost use Rattle.topo_core.specs.Edits.{IsChord, IsHang, IsSmooth, IsSplit, IsUnchord};
 ghost use Rattle.topo_core.specs.Rotations.{face_next, twin};
-ghost use Rattle.topo_map.specs.Rotation.{Grows, IsDegree, IsEmbedding, IsMadeFrom, Shrinks, half_limit, is_live, turn};
+ghost use Rattle.topo_map.specs.Rotation.{CountsFewer, CountsMore, Grows, IsDegree, IsEmbedding, IsMadeFrom, IsOneFace, PartsFaces, Shrinks, half_limit, is_live, turn};
 
 use crate::build::{isolated_halves, join_turns};
 use crate::half::Half;
@@ -80,13 +80,14 @@ impl Embedding {
         segments::reserve(&mut self.segments, more)
     }
 
-    /// The same halves with the same turn, in memory of its own.
+    /// The same halves with the same turn, in memory of its own, with no less room.
     pub fn copy(&self) -> Result<Self, AllocError>
-        ensures { IfOk result (λ copy. copy.slots ≡ self.now.slots) }
+        ensures slots { IfOk result (λ copy. copy.slots ≡ self.now.slots) }
+        ensures room { IfOk result (λ copy. self.now.room ≤ copy.room) }
     {
-        Ok(Embedding {
-            segments: self.segments.clone()?,
-        })
+        let mut segments = self.segments.clone()?;
+        segments::reserve(&mut segments, self.room())?;
+        Ok(Embedding { segments })
     }
 
     /// What always holds, for a caller that sees the halves and their turn alone. It does nothing.
@@ -173,22 +174,24 @@ impl Embedding {
         requires live { is_live self.old c ≡ true }
         requires room { 0 < self.old.room }
         ensures edit { IsHang (turn self.old) (turn self.new) half_limit c result }
-        ensures grows { Grows self.old self.new result 1 0 }
+        ensures grows { Grows self.old self.new result }
+        ensures counts { CountsMore self.old self.new 1 0 }
     {
         let x = insert_isolated(&mut self.segments);
         put_before(&mut self.segments, x, c);
         x
     }
 
-    /// A new segment from the corner before `c` to the corner before `d`, which lie in one face; they
-    /// may be one corner, and the segment is then a loop. Answers its half that starts at `c`.
+    /// A new segment from the corner before `c` to the corner before `d`; they may be one corner, and
+    /// the segment is then a loop. Where they lie in one face, it parts that face in two. Answers its
+    /// half that starts at `c`.
     pub fn chord(&mut self, c: Half, d: Half) -> Half
         requires live { is_live self.old c ≡ true }
         requires live_end { is_live self.old d ≡ true }
-        requires one_face { SameCycle (face_next (turn self.old)) c d }
         requires room { 0 < self.old.room }
         ensures edit { IsChord (turn self.old) (turn self.new) half_limit c d result }
-        ensures grows { Grows self.old self.new result 0 1 }
+        ensures grows { Grows self.old self.new result }
+        ensures counts { IsOneFace self.old c d → CountsMore self.old self.new 0 1 }
     {
         let start = insert_isolated(&mut self.segments);
         put_before(&mut self.segments, start, c);
@@ -202,7 +205,8 @@ impl Embedding {
         requires live { is_live self.old h ≡ true }
         requires room { 0 < self.old.room }
         ensures edit { IsSplit (turn self.old) (turn self.new) half_limit h result }
-        ensures grows { Grows self.old self.new result 1 0 }
+        ensures grows { Grows self.old self.new result }
+        ensures counts { CountsMore self.old self.new 1 0 }
     {
         let end = h.twin();
         let x = insert_isolated(&mut self.segments);
@@ -212,14 +216,12 @@ impl Embedding {
         x
     }
 
-    /// The segment of `h` goes, and the two faces beside it become one. It must not be a loop alone
-    /// at its point.
+    /// The segment of `h` goes. Where two faces lie beside it, they become one.
     pub fn unchord(&mut self, h: Half)
-        requires live { is_live self.old h ≡ true }
-        requires two_faces { ¬ SameCycle (face_next (turn self.old)) h (twin h) }
-        requires not_alone { turn self.old h ≡ twin h → turn self.old (twin h) ≢ h }
+        requires { is_live self.old h ≡ true }
         ensures edit { IsUnchord (turn self.old) (turn self.new) half_limit h }
-        ensures shrinks { Shrinks self.old self.new h 0 1 }
+        ensures shrinks { Shrinks self.old self.new h }
+        ensures counts { PartsFaces self.old h → CountsFewer self.old self.new 0 1 }
     {
         take_out(&mut self.segments, h);
         take_out(&mut self.segments, h.twin());
@@ -233,7 +235,8 @@ impl Embedding {
         requires not_alone { turn self.old x ≢ x }
         requires two_segments { turn self.old x ≢ twin x }
         ensures edit { IsSmooth (turn self.old) (turn self.new) half_limit x }
-        ensures shrinks { Shrinks self.old self.new x 1 0 }
+        ensures shrinks { Shrinks self.old self.new x }
+        ensures counts { CountsFewer self.old self.new 1 0 }
     {
         let other = next(&self.segments, x);
         let end = x.twin();

@@ -1,7 +1,8 @@
 //! Segments in a slab, each with the halves after and before its two. Both directions are kept, so
 //! that a half is put in or taken out in a constant number of steps.
 
-ghost use Rattle.std.specs.Prelude.{◌≡◌, ◌≢◌, ◌<◌, ◌≤◌, true, OnOk, IsOk};
+ghost use Rattle.std.specs.Prelude.{◌≡◌, ◌≢◌, ◌+◌, ◌<◌, ◌≤◌, true, OnOk, IsOk};
+ghost use Rattle.slab.specs.Slab.{slab_len};
 ghost use Rattle.topo_core.specs.Rotations.{twin};
 ghost use Rattle.topo_map.specs.Segments.{IsInserted, IsKept, IsRemoved, IsTurned, Rewires, before_in, holds, isolated_segment, next_in, put, room_of, without, written};
 
@@ -174,16 +175,20 @@ pub(crate) fn room(segments: &Slab<Segment>) -> usize
     }
 }
 
-/// Makes room for so many more segments.
+/// Makes room for so many more segments. What would pass the bound is refused before anything grows.
 pub(crate) fn reserve(segments: &mut Slab<Segment>, more: usize) -> Result<(), AllocError>
     ensures slots { segments.new.slots ≡ segments.old.slots }
     ensures room { OnOk result (more ≤ room_of segments.new) }
     ensures never_less { OnOk result (room_of segments.old ≤ room_of segments.new) }
     ensures succeeds { more ≤ room_of segments.old → IsOk result }
     ensures had_room { more ≤ room_of segments.old → segments.new ≡ segments.old }
+    ensures bounded { 2147483648 < slab_len segments.old + more → segments.new ≡ segments.old }
 {
     if more <= room(segments) {
         return Ok(());
+    }
+    if MOST_SEGMENTS.saturating_sub(segments.len()) < more {
+        return Err(AllocError);
     }
     segments.reserve(more)?;
     if segments.capacity() <= MOST_SEGMENTS {

@@ -1,8 +1,6 @@
-use Rattle.std.proofs.Common.{ap, ◌∙◌, sym, subst}
-use Rattle.topo_core.specs.Rotations.{face_next}
-use Rattle.topo_core.specs.Cycles.{SameCycle}
+use Rattle.std.proofs.Common.{ap, ◌∙◌, subst}
 use Rattle.topo_core.specs.Edits.{IsChord}
-use Rattle.topo_map.specs.Rotation.{Rotation, Grows, half_limit, turn, is_live}
+use Rattle.topo_map.specs.Rotation.{CountsMore, IsOneFace, Rotation, Grows, half_limit, turn, is_live}
 use Rattle.topo_map.specs.Segments.{view_of}
 use Rattle.topo_map.proofs.Steps.{IsChorded, alone, chord_end_alone, chorded}
 use Rattle.topo_map.proofs.embedding.Embedding.chord.Goals as goal
@@ -21,14 +19,16 @@ done c = chorded c.self.inside.segments c.insert_isolated-start.new.segments c.p
     (record { sound = c.self.invariant; inserted = c.insert_isolated-start.ensures })
     (ap (λ (r : Rotation). is_live r c.args.c) c.self.view_is ∙ c.requires.live)
     (ap (λ (r : Rotation). is_live r c.args.d) c.self.view_is ∙ c.requires.live_end)
-    (subst (λ (r : Rotation). SameCycle (face_next (turn r)) c.args.c c.args.d) (sym c.self.view_is) c.requires.one_face)
     c.twin.ensures c.put_before.ensures c.put_before-2.ensures
 
 pub invariant_of-self : goal.invariant_of-self
 invariant_of-self c = (done c).added.sound
 
 pub returns-clause-edit : goal.returns-clause-edit
-returns-clause-edit c = subst (λ (r : Rotation). IsChord (turn r) (turn (view_of c.put_before-2.new.segments)) half_limit c.args.c c.args.d c.insert_isolated-start.result) c.self.view_is (done c).allowed.edit
+returns-clause-edit c = subst (λ (r : Rotation). IsChord (turn r) (turn (view_of c.put_before-2.new.segments)) half_limit c.args.c c.args.d c.insert_isolated-start.result) c.self.view_is (done c).drawn.edit
 
 pub returns-clause-grows : goal.returns-clause-grows
-returns-clause-grows c = subst (λ (r : Rotation). Grows r (view_of c.put_before-2.new.segments) c.insert_isolated-start.result 0 1) c.self.view_is (done c).added.grows
+returns-clause-grows c = subst (λ (r : Rotation). Grows r (view_of c.put_before-2.new.segments) c.insert_isolated-start.result) c.self.view_is (done c).added.grows
+
+pub returns-clause-counts : goal.returns-clause-counts
+returns-clause-counts c = subst (λ (r : Rotation). IsOneFace r c.args.c c.args.d → CountsMore r (view_of c.put_before-2.new.segments) 0 1) c.self.view_is (done c).counts

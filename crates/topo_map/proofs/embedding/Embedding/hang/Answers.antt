@@ -1,6 +1,6 @@
 use Rattle.std.proofs.Common.{ap, ◌∙◌, subst}
 use Rattle.topo_core.specs.Edits.{IsHang}
-use Rattle.topo_map.specs.Rotation.{Rotation, Grows, half_limit, turn, is_live}
+use Rattle.topo_map.specs.Rotation.{CountsMore, Rotation, Grows, half_limit, turn, is_live}
 use Rattle.topo_map.specs.Segments.{view_of}
 use Rattle.topo_map.proofs.Steps.{IsHung, alone, hung}
 use Rattle.topo_map.proofs.embedding.Embedding.hang.Goals as goal
@@ -21,4 +21,7 @@ pub returns-clause-edit : goal.returns-clause-edit
 returns-clause-edit c = subst (λ (r : Rotation). IsHang (turn r) (turn (view_of c.put_before.new.segments)) half_limit c.args.c c.insert_isolated-x.result) c.self.view_is (done c).allowed.edit
 
 pub returns-clause-grows : goal.returns-clause-grows
-returns-clause-grows c = subst (λ (r : Rotation). Grows r (view_of c.put_before.new.segments) c.insert_isolated-x.result 1 0) c.self.view_is (done c).added.grows
+returns-clause-grows c = subst (λ (r : Rotation). Grows r (view_of c.put_before.new.segments) c.insert_isolated-x.result) c.self.view_is (done c).added.grows
+
+pub returns-clause-counts : goal.returns-clause-counts
+returns-clause-counts c = subst (λ (r : Rotation). CountsMore r (view_of c.put_before.new.segments) 1 0) c.self.view_is (done c).counts

@@ -1,7 +1,7 @@
 use Rattle.std.proofs.Common.{refl, ◌≡◌, ◌≢◌, ap, ◌∙◌, sym, subst, Bool, ℕ}
 use Rattle.topo_core.specs.Rotations.{twin}
 use Rattle.topo_core.specs.Edits.{IsSmooth}
-use Rattle.topo_map.specs.Rotation.{Rotation, Shrinks, half_limit, turn, is_live}
+use Rattle.topo_map.specs.Rotation.{CountsFewer, Rotation, Shrinks, half_limit, turn, is_live}
 use Rattle.topo_map.specs.Segments.{next_in, view_of}
 use Rattle.topo_map.proofs.Kept.{live_next}
 use Rattle.topo_map.proofs.Steps.{IsSmoothed, smoothed_out, live_twin, turned_live}
@@ -34,4 +34,7 @@ pub returns-clause-edit : goal.returns-clause-edit
 returns-clause-edit c = subst (λ (r : Rotation). IsSmooth (turn r) (turn (view_of c.remove_isolated.new.segments)) half_limit c.args.x) c.self.view_is (done c).allowed.edit
 
 pub returns-clause-shrinks : goal.returns-clause-shrinks
-returns-clause-shrinks c = subst (λ (r : Rotation). Shrinks r (view_of c.remove_isolated.new.segments) c.args.x 1 0) c.self.view_is (done c).taken.shrinks
+returns-clause-shrinks c = subst (λ (r : Rotation). Shrinks r (view_of c.remove_isolated.new.segments) c.args.x) c.self.view_is (done c).taken.shrinks
+
+pub returns-clause-counts : goal.returns-clause-counts
+returns-clause-counts c = subst (λ (r : Rotation). CountsFewer r (view_of c.remove_isolated.new.segments) 1 0) c.self.view_is (done c).counts

@@ -1,6 +1,6 @@
 use Rattle.std.proofs.Common.{ap, ◌∙◌, sym, subst, Bool, ℕ}
 use Rattle.topo_core.specs.Edits.{IsSplit}
-use Rattle.topo_map.specs.Rotation.{Rotation, Grows, half_limit, turn, is_live}
+use Rattle.topo_map.specs.Rotation.{CountsMore, Rotation, Grows, half_limit, turn, is_live}
 use Rattle.topo_map.specs.Segments.{next_in, view_of}
 use Rattle.topo_map.proofs.Steps.{IsSplitUp, twin_alone, split_alone, splitted, still_live, live_twin}
 use Rattle.topo_map.proofs.embedding.Embedding.split.Goals as goal
@@ -48,4 +48,7 @@ pub returns-clause-edit : goal.returns-clause-edit
 returns-clause-edit c = subst (λ (r : Rotation). IsSplit (turn r) (turn (view_of c.put_before-2.new.segments)) half_limit c.args.h c.insert_isolated-x.result) c.self.view_is (done c).allowed.edit
 
 pub returns-clause-grows : goal.returns-clause-grows
-returns-clause-grows c = subst (λ (r : Rotation). Grows r (view_of c.put_before-2.new.segments) c.insert_isolated-x.result 1 0) c.self.view_is (done c).added.grows
+returns-clause-grows c = subst (λ (r : Rotation). Grows r (view_of c.put_before-2.new.segments) c.insert_isolated-x.result) c.self.view_is (done c).added.grows
+
+pub returns-clause-counts : goal.returns-clause-counts
+returns-clause-counts c = subst (λ (r : Rotation). CountsMore r (view_of c.put_before-2.new.segments) 1 0) c.self.view_is (done c).counts
