@@ -1,5 +1,5 @@
 -- The slab along each edit: from an embedding to an embedding.
-use Rattle.std.proofs.Common.{◌≡◌, ◌≢◌, ℕ, ◌+◌, ◌-◌, ◌%◌, ◌<◌, ◌≤◌, Bool, true, cond, nat_le, is_some, inl, inr, refl, sym, ◌∙◌, ap, subst, arith}
+use Rattle.std.proofs.Common.{◌≡◌, ◌≢◌, ℕ, ◌+◌, ◌-◌, ◌*◌, ◌%◌, ◌<◌, ◌≤◌, Bool, true, cond, nat_le, min, is_some, inl, inr, refl, sym, ◌∙◌, ap, subst, arith}
 use Rattle.std.proofs.lemmas.Bool.{cases_Bool}
 use Rattle.slab.specs.Slab.{Slab, get, slab_len}
 use Rattle.topo_core.specs.Rotations.{twin}
@@ -10,8 +10,8 @@ use Rattle.topo_perm.proofs.Faces.{twin-twin, twin-other}
 use Rattle.topo_perm.proofs.Splitting.{without-self, without-onward, without-elsewhere}
 use Rattle.topo_perm.proofs.EditCounts.{put-elsewhere}
 use Rattle.topo_perm.proofs.SlabEdits.{segments_grow}
-use Rattle.topo_map.specs.Rotation.{half_limit, CountsFewer, CountsMore, IsOneFace, IsWhole, Grows, PartsFaces, Shrinks}
-use Rattle.topo_map.specs.Segments.{put, without, holds, next_in, before_in, nexts, room_of, view_of, IsKept, IsTurned, IsInserted, IsRemoved}
+use Rattle.topo_map.specs.Rotation.{half_limit, AddsLabel, CountsFewer, CountsMore, IsOneFace, IsWhole, KeepsLabels, Grows, PartsFaces, Shrinks}
+use Rattle.topo_map.specs.Segments.{put, without, holds, next_in, before_in, nexts, label_in, limit_of, room_of, view_of, IsKept, IsTurned, IsInserted, IsRemoved}
 use Rattle.topo_map.specs.declared.segments.Segment.{Segment}
 use Rattle.topo_map.proofs.Slots.{live_at}
 use Rattle.topo_map.proofs.Kept.{free_turn, live_next}
@@ -86,13 +86,24 @@ still_live s s1 x c st h =
 -- ---- Steps in a row
 
 pub then_turned : (s s1 s2 : Slab Segment) (f g : ℕ → ℕ) → IsTurned s s1 f → IsTurned s1 s2 g → IsTurned s s2 g
-then_turned s s1 s2 f g t u = record { next = u.next; live = u.live ∙ t.live; len = u.len ∙ t.len; capacity = u.capacity ∙ t.capacity; kept = u.kept }
+then_turned s s1 s2 f g t u = record { next = u.next; live = u.live ∙ t.live; edges = u.edges ∙ t.edges; len = u.len ∙ t.len; capacity = u.capacity ∙ t.capacity; kept = u.kept }
 
 pub turned_live : (s s1 : Slab Segment) (f : ℕ → ℕ) (a b : ℕ) → IsTurned s s1 f → a ≡ b → holds s b ≡ true → holds s1 a ≡ true
 turned_live s s1 f a b t e h = ap (λ (l : ℕ → Bool). l a) t.live ∙ ap (holds s) e ∙ h
 
 same_room : (s s1 : Slab Segment) (f : ℕ → ℕ) → IsTurned s s1 f → room_of s1 ≡ room_of s
 same_room s s1 f t = ap (λ (n : ℕ). cond (nat_le n 2147483648) (n - slab_len s1) 0) t.capacity ∙ ap (λ (n : ℕ). cond (nat_le s.capacity 2147483648) (s.capacity - n) 0) t.len
+
+same_limit : (s s1 : Slab Segment) (f : ℕ → ℕ) → IsTurned s s1 f → limit_of s1 ≡ limit_of s
+same_limit s s1 f t = ap (λ (n : ℕ). 2 * min n 2147483648) t.capacity
+
+-- ---- Labels
+
+pub label_added : (s s1 s' : Slab Segment) (x label : ℕ) → label_in s' ≡ label_in s1 → AddsLabel (holds s) (label_in s) (label_in s1) x label → AddsLabel (holds s) (label_in s) (label_in s') x label
+label_added s s1 s' x label e a = subst (λ (f : ℕ → ℕ). AddsLabel (holds s) (label_in s) f x label) (sym e) a
+
+pub labels_kept : (s s1 s' : Slab Segment) → label_in s1 ≡ label_in s → KeepsLabels (holds s') (label_in s1) (label_in s') → KeepsLabels (holds s') (label_in s) (label_in s')
+labels_kept s s1 s' e k = subst (λ (f : ℕ → ℕ). KeepsLabels (holds s') f (label_in s')) e k
 
 -- ---- The ends
 
@@ -119,6 +130,8 @@ added s s1 s' x g st t = record {
     segments_more = segments_grow (holds s) (holds s') (next_in s) (next_in s') half_limit x
         (record { before = (whole s st.sound).slab; after = (whole s' t.kept).slab; within = st.inserted.within; adds = live_added s s1 s' x g st t });
     room_less = ap (λ (n : ℕ). n + 1) (same_room s1 s' g t) ∙ st.inserted.room;
+    same_limit = same_limit s1 s' g t ∙ st.inserted.limit;
+    below = subst (λ (n : ℕ). x < n) (sym (same_limit s1 s' g t)) st.inserted.below;
     embedding = whole s' t.kept;
   };
   sound = t.kept;
@@ -142,6 +155,7 @@ taken s s1 s' x g k within t r =
         segments_fewer = sym (segments_grow (holds s') (holds s) (next_in s') (next_in s) half_limit x
             (record { before = (whole s' r.kept).slab; after = (whole s k).slab; within = within; adds = live_taken s s1 s' x g t r }));
         room_kept = subst (λ (n : ℕ). n ≤ room_of s') e kept;
+        same_limit = r.limit ∙ same_limit s s1 g t;
         room_more = λ h. r.freed (subst (λ (n : ℕ). 0 < n) (sym e) h) ∙ ap (λ (n : ℕ). n + 1) e;
         embedding = whole s' r.kept;
       };

@@ -7,25 +7,34 @@ use Rattle.topo_perm.specs.Joins.{IsConnectedAmong, AddsSegment}
 use Rattle.topo_perm.specs.Renumbering.{RenumbersTurn}
 use Rattle.topo_perm.specs.Live.{IsSlab, live_cycle_count, live_segments}
 
--- the halves that follow the two of a segment, clockwise at their points
-pub record Turns : Type 0 where
+-- a segment: the halves that follow its two, clockwise at their points, and the label of its edge
+pub record Slot : Type 0 where
   pub forward : ℕ
   pub back : ℕ
+  pub edge : ℕ
 
--- at each key the turns of a segment or nothing, and how many segments can be added with no memory taken
+-- at each key a segment or nothing, what lies above all halves that there is place for, and how many segments can be added with no memory taken
 pub record Rotation : Type 0 where
-  pub slots : List (Option Turns)
+  pub slots : List (Option Slot)
+  pub limit : ℕ
   pub room : ℕ
 
 -- the half that follows a; at a slot with no segment a itself
-abbrev pub turned : ℕ → Option Turns → ℕ
+abbrev pub turned : ℕ → Option Slot → ℕ
 turned a None = a
 turned a (Some t) = cond (a % 2 == 0) t.forward t.back
 
-unfoldable pub turn_in : List (Option Turns) → ℕ → ℕ
+unfoldable pub turn_in : List (Option Slot) → ℕ → ℕ
 turn_in slots a = turned a (slice_index_or slots (a / 2) None)
 
-unfoldable pub live_in : List (Option Turns) → ℕ → Bool
+abbrev pub labelled : Option Slot → ℕ
+labelled None = 0
+labelled (Some t) = t.edge
+
+unfoldable pub edge_in : List (Option Slot) → ℕ → ℕ
+edge_in slots a = labelled (slice_index_or slots (a / 2) None)
+
+unfoldable pub live_in : List (Option Slot) → ℕ → Bool
 live_in slots a = is_some (slice_index_or slots (a / 2) None)
 
 -- the next half clockwise
@@ -35,6 +44,10 @@ turn r = turn_in r.slots
 -- whether a number is a half of a segment
 abbrev pub is_live : Rotation → ℕ → Bool
 is_live r = live_in r.slots
+
+-- the label of the edge that a half is on
+abbrev pub edge_of : Rotation → ℕ → ℕ
+edge_of r = edge_in r.slots
 
 -- above all halves. It is a name and no numeral, since counts run up to it
 unfoldable pub half_limit : ℕ
@@ -74,6 +87,8 @@ pub record Grows (old new : Rotation) (x : ℕ) : Type 0 where
   pub stays : (a : ℕ) → is_live old a ≡ true → is_live new a ≡ true
   pub segments_more : segments new ≡ segments old + 1
   pub room_less : new.room + 1 ≡ old.room
+  pub same_limit : new.limit ≡ old.limit
+  pub below : x < new.limit
   pub embedding : IsEmbedding new
 
 -- the segment of x is gone and leaves its place to another
@@ -83,7 +98,18 @@ pub record Shrinks (old new : Rotation) (x : ℕ) : Type 0 where
   pub segments_fewer : segments new + 1 ≡ segments old
   pub room_kept : old.room ≤ new.room
   pub room_more : 0 < old.room → new.room ≡ old.room + 1
+  pub same_limit : new.limit ≡ old.limit
   pub embedding : IsEmbedding new
+
+-- the two halves of x have this label, and those that were live keep theirs
+pub record AddsLabel (live : ℕ → Bool) (old new : ℕ → ℕ) (x label : ℕ) : Type 0 where
+  pub here : new x ≡ label
+  pub here_twin : new (twin x) ≡ label
+  pub others : (a : ℕ) → live a ≡ true → new a ≡ old a
+
+-- what is live has the label that it had
+abbrev pub KeepsLabels : (ℕ → Bool) → (ℕ → ℕ) → (ℕ → ℕ) → Type 0
+KeepsLabels live old new = (a : ℕ) → live a ≡ true → new a ≡ old a
 
 -- so many points and faces more, and what hangs together still does
 pub record CountsMore (old new : Rotation) (more_points more_faces : ℕ) : Type 0 where
@@ -115,6 +141,10 @@ pub record IsDegree (r : Rotation) (a k : ℕ) : Type 0 where
   pub least : (j : ℕ) → 0 < j → j < k → after (turn r) j a ≢ a
 
 -- ---- Built from a list of turns
+
+-- the two halves of each segment, side by side in the list, have its label
+abbrev pub AreLabelled : List ℕ → List ℕ → (ℕ → ℕ) → Type 0
+AreLabelled labels halves label = (a : ℕ) → a < length halves → label (map_of halves a) ≡ map_of labels (a / 2)
 
 -- the halves stand for the places of the turns, in order, and turn as these say; there are no others
 pub record IsMadeFrom (turns halves : List ℕ) (r : Rotation) : Type 0 where

@@ -1,8 +1,8 @@
 use Rattle.std.proofs.Common.{ap, ◌∙◌, subst, Bool, ℕ}
 use Rattle.topo_core.specs.Edits.{IsUnchord}
-use Rattle.topo_map.specs.Rotation.{CountsFewer, PartsFaces, Rotation, Shrinks, half_limit, turn, is_live}
-use Rattle.topo_map.specs.Segments.{holds, view_of}
-use Rattle.topo_map.proofs.Steps.{IsUnchorded, unchord_alone, without_alone, unchorded, same_twin}
+use Rattle.topo_map.specs.Rotation.{KeepsLabels, edge_of, CountsFewer, PartsFaces, Rotation, Shrinks, half_limit, turn, is_live}
+use Rattle.topo_map.specs.Segments.{holds, label_in, view_of}
+use Rattle.topo_map.proofs.Steps.{labels_kept, IsUnchorded, unchord_alone, without_alone, unchorded, same_twin}
 use Rattle.topo_map.proofs.embedding.Embedding.unchord.Goals as goal
 
 pub take_out-requires-2-clause-live : goal.take_out-requires-2-clause-live
@@ -13,7 +13,7 @@ take_out-requires-2-clause-live c =
 done : (c : goal.After-remove_isolated) → IsUnchorded c.self.inside.segments c.remove_isolated.new.segments c.args.h
 done c = unchorded c.self.inside.segments c.take_out.new.segments c.take_out-2.new.segments c.remove_isolated.new.segments c.args.h c.twin.result c.self.invariant
     (ap (λ (r : Rotation). is_live r c.args.h) c.self.view_is ∙ c.requires)
-    c.twin.ensures c.take_out.ensures c.take_out-2.ensures c.remove_isolated.ensures
+    c.twin.ensures c.take_out.ensures c.take_out-2.ensures c.remove_isolated.ensures.removed
 
 pub invariant_of-self : goal.invariant_of-self
 invariant_of-self c = (done c).taken.sound
@@ -32,3 +32,7 @@ remove_isolated-requires-clause-alone c = unchord_alone c.self.inside.segments c
 
 pub remove_isolated-requires-clause-twin_alone : goal.remove_isolated-requires-clause-twin_alone
 remove_isolated-requires-clause-twin_alone c = without_alone c.take_out.new.segments c.take_out-2.new.segments c.args.h c.twin.result c.twin.ensures c.take_out-2.ensures
+
+pub returns-clause-labels : goal.returns-clause-labels
+returns-clause-labels c = subst (λ (r : Rotation). KeepsLabels (holds c.remove_isolated.new.segments) (edge_of r) (label_in c.remove_isolated.new.segments)) c.self.view_is
+    (labels_kept c.self.inside.segments c.take_out-2.new.segments c.remove_isolated.new.segments (c.take_out-2.ensures.edges ∙ c.take_out.ensures.edges) c.remove_isolated.ensures.labels)
