@@ -11,7 +11,6 @@ mod book;
 mod next;
 mod replaying;
 mod replicas;
-mod replies;
 mod steps;
 
 pub use book::Book;

@@ -8,7 +8,6 @@ ghost use Rattle.topo_price.specs.Prices.{prices_of};
 ghost use Rattle.topo_book.specs.Books.{IsDue};
 ghost use Rattle.topo_book.specs.Faults.{IsFaultOf, IsIllegalAt};
 
-use crate::replies::same_reply;
 use crate::steps::{advance, decide};
 use std::alloc::{AllocError, Global};
 use thiserror::Error;
@@ -43,7 +42,7 @@ fn replay_entry<F: Asks>(
     ensures lawful { IsPicture picture.new.limits picture.new.rows }
 {
     let reply = decide(alloc, picture, tariff, entry.call, None, work)?;
-    if !same_reply(&reply, &entry.reply) {
+    if !reply.equals(&entry.reply) {
         return Ok(false);
     }
     advance(alloc, picture, tariff, entry)?;

@@ -73,7 +73,12 @@ fn command(name: &str) -> Result<Command> {
 }
 
 /// What a command prints on these bytes, if that is not what is due.
-fn other_than(alloc: Global, command: Command, bytes: &[u8], due: &[u8]) -> Result<Option<Vec<u8>>> {
+fn other_than(
+    alloc: Global,
+    command: Command,
+    bytes: &[u8],
+    due: &[u8],
+) -> Result<Option<Vec<u8>>> {
     let text = command.printed(alloc, bytes)?;
     if text.as_slice() == due {
         Ok(None)

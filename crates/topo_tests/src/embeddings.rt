@@ -5,7 +5,7 @@ use topo_map::Embedding;
 
 #[test]
 fn builds_from_turns(rt: HostRuntime) -> Result<(), Fail> {
-    let (embedding, halves) = Embedding::from_turns(rt.alloc(), &[0, 1])?;
+    let (embedding, halves) = Embedding::from_turns(rt.alloc(), &[0, 1], &[5])?;
     assert_eq!(rt; halves.len(), 2);
     for place in 0..2 {
         let half = halves[place];
@@ -13,18 +13,23 @@ fn builds_from_turns(rt: HostRuntime) -> Result<(), Fail> {
         assert_eq!(rt; embedding.turn(half), half);
         assert_eq!(rt; embedding.twin(half), halves[1 - place]);
     }
-    let (embedding, halves) = Embedding::from_turns(rt.alloc(), &[2, 3, 1, 0])?;
+    let (embedding, halves) = Embedding::from_turns(rt.alloc(), &[2, 3, 1, 0], &[3, 4])?;
     assert_eq!(rt; halves.len(), 4);
     for (place, turned) in [(0, 2), (1, 3), (2, 1), (3, 0)] {
         assert!(rt; embedding.contains(halves[place]));
         assert_eq!(rt; embedding.turn(halves[place]), halves[turned]);
+        assert_eq!(rt;
+            embedding.edge(halves[place]),
+            if place < 2 { 3 } else { 4 }
+        );
+        assert!(rt; (halves[place].number() as usize) < embedding.limit());
     }
     Ok(())
 }
 
 #[test]
 fn chords_and_hangs(rt: HostRuntime) -> Result<(), Fail> {
-    let (mut embedding, h) = Embedding::seed(rt.alloc())?;
+    let (mut embedding, h) = Embedding::seed(rt.alloc(), 7)?;
     let t = h.twin();
     assert!(rt; embedding.contains(h));
     assert!(rt; embedding.contains(t));
@@ -32,16 +37,18 @@ fn chords_and_hangs(rt: HostRuntime) -> Result<(), Fail> {
     embedding.reserve(100)?;
     let room = embedding.room();
     assert!(rt; room >= 100);
-    let x = embedding.chord(h, t);
+    let x = embedding.chord(h, t, 8);
     assert_eq!(rt; embedding.room(), room - 1);
     assert!(rt; embedding.contains(h));
     assert!(rt; embedding.contains(t));
     assert!(rt; embedding.contains(x));
+    assert_eq!(rt; embedding.edge(x), 8);
+    assert_eq!(rt; embedding.edge(h), 7);
     assert_eq!(rt; embedding.turn(h), x);
     assert_eq!(rt; embedding.turn(x), h);
     assert_eq!(rt; embedding.face_next(h), embedding.twin(x));
     assert!(rt; !embedding.same_face(h, t));
-    let y = embedding.hang(h);
+    let y = embedding.hang(h, 9);
     assert!(rt; embedding.contains(h));
     assert!(rt; embedding.contains(x));
     assert!(rt; embedding.contains(y));
@@ -65,7 +72,7 @@ fn chords_and_hangs(rt: HostRuntime) -> Result<(), Fail> {
 
 #[test]
 fn splits_and_smooths(rt: HostRuntime) -> Result<(), Fail> {
-    let (mut embedding, h) = Embedding::seed(rt.alloc())?;
+    let (mut embedding, h) = Embedding::seed(rt.alloc(), 7)?;
     let t = h.twin();
     embedding.reserve(1)?;
     assert!(rt; embedding.contains(h));
@@ -74,6 +81,7 @@ fn splits_and_smooths(rt: HostRuntime) -> Result<(), Fail> {
     assert!(rt; embedding.contains(x));
     assert!(rt; embedding.contains(t));
     assert!(rt; embedding.contains(x.twin()));
+    assert_eq!(rt; embedding.edge(x), 7);
     assert_eq!(rt; embedding.turn(x), t);
     assert_eq!(rt; embedding.turn(t), x);
     assert_eq!(rt; embedding.turn(x.twin()), x.twin());
@@ -91,7 +99,7 @@ fn splits_and_smooths(rt: HostRuntime) -> Result<(), Fail> {
 
 #[test]
 fn copies(rt: HostRuntime) -> Result<(), Fail> {
-    let (embedding, halves) = Embedding::from_turns(rt.alloc(), &[2, 3, 1, 0])?;
+    let (embedding, halves) = Embedding::from_turns(rt.alloc(), &[2, 3, 1, 0], &[3, 4])?;
     let copy = embedding.copy()?;
     for half in halves {
         assert!(rt; embedding.contains(half));
@@ -103,7 +111,7 @@ fn copies(rt: HostRuntime) -> Result<(), Fail> {
 
 #[test]
 fn refuses_what_no_memory_holds(rt: HostRuntime) -> Result<(), Fail> {
-    let (mut embedding, h) = Embedding::seed(rt.alloc())?;
+    let (mut embedding, h) = Embedding::seed(rt.alloc(), 7)?;
     assert!(rt; embedding.reserve(usize::MAX).is_err());
     assert!(rt; embedding.contains(h));
     assert_eq!(rt; embedding.turn(h), h);

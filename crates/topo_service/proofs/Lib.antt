@@ -1,0 +1,5 @@
+pub mod Matching
+pub mod Numbers
+pub mod Versions
+pub mod Wholeness
+pub mod Working

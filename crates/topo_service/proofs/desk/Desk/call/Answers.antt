@@ -1,0 +1,34 @@
+use Rattle.std.proofs.Common.{rules, ◌≡◌, ◌+◌, ◌<◌, ◌≤◌, [], ◌∷◌, ◌++◌, length, Option, Some, None, List, IfSome, sym, ap, ◌∙◌, subst, arith, true, is_some, length-append}
+use Rattle.topo_core.specs.History.{is_accepted, versions}
+use Rattle.topo_frozen.specs.Shown.{IsPicture, Shown}
+use Rattle.topo_book.specs.Books.{IsNext, NextState, picture_after}
+use Rattle.topo_versions.specs.Names.{prices_named}
+use Rattle.topo_versions.specs.Versions.{IsVersionFrom}
+use Rattle.topo_service.proofs.Versions.{if_some, named_step, version_ready, versions_length}
+use Rattle.topo_service.proofs.desk.Desk.call.Goals as goal
+
+pub show-requires-clause-room : goal.show-requires-clause-room
+show-requires-clause-room g c = omega (arith, ap length c.self.invariant.3, versions_length c.self.inside.book.history, c.make_ready.ensures.room)
+
+pub show-requires-clause-follows : goal.show-requires-clause-follows
+show-requires-clause-follows g c =
+    let n = c.in_ok-next.next in
+    let i = c.self.invariant in
+    let m = c.make_ready.ensures in
+    let is_next = subst (λ (s : NextState). IsNext s.entry s.picture) c.next.view_is c.next.invariant in
+    if_some _ n.picture (λ p is.
+    let good = subst (λ (o : Option Shown). IfSome o (λ q. IsPicture q.limits q.rows)) is is_next.lawful in
+    let on : is_accepted n.entry.reply ≡ true = sym is_next.accepted ∙ ap is_some is in
+    let there = version_ready g.F.Asks.answers g.K.Naming.closure g.K.Naming.start c.self.inside.book c.make_ready.new.book n i.1 i.0 m.unchanged m.same_book m.same_limits c.in_ok-next.ensures.ready m.legal p is on good in
+    rw i.3 there)
+
+pub returns-clause-step : goal.returns-clause-step
+returns-clause-step g c =
+    let n = c.in_ok-next.next in
+    let b = c.self.inside.book in
+    let i = c.self.invariant in
+    let m = c.make_ready.ensures in
+    let told : c.in_ok-answer.answer.told ≡ n.entry.reply = c.in_ok-answer.ensures ∙ ap (λ e. e.reply) c.entry.ensures.entry in
+    let after : c.commit.new.self.picture ≡ picture_after n.picture b.picture = c.commit.ensures.picture ∙ ap (picture_after n.picture) m.unchanged.1 in
+    let step = named_step g.F.Asks.answers g.K.Naming.closure g.K.Naming.start b c.make_ready.new.book n i.1 i.0 m.unchanged m.same_book m.same_limits c.in_ok-next.ensures.ready in
+    rw (← c.in_ok-next.ensures.call, told, after, ← ap (λ s. s.picture) c.self.view_is) step

@@ -1,0 +1,5 @@
+pub mod Answers
+pub mod Commands
+pub mod Faults
+pub mod Passes
+pub mod Receipts

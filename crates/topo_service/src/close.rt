@@ -1,0 +1,141 @@
+//! How a service begins and ends.
+
+ghost use Rattle.std.specs.Prelude.{◌≡◌, ◌<◌, ℕ, [], length, All, IfOk, IfErr, OnOk, Some};
+ghost use Rattle.std.specs.Arc.{arc_value};
+ghost use Rattle.topo_core.specs.History.{IsPrefix, Replays, versions};
+ghost use Rattle.topo_book.specs.Books.{ReplaysLawfully};
+ghost use Rattle.topo_price.specs.Prices.{prices_of};
+ghost use Rattle.topo_service.specs.Faults.{IsEndFault};
+ghost use Rattle.topo_service.specs.Receipts.{AllAgree, AreWhole, HasNumber, receipt_count};
+
+use crate::checks::{first_fault, gather};
+use crate::desk::Desk;
+use crate::faults::EndFault;
+use crate::pass::PassOver;
+use crate::seats::Seats;
+use crate::service::ServiceOver;
+use crate::wait::wait_forever;
+use std::alloc::{AllocError, Global};
+use std::sync::ledger::Blank;
+use std::sync::{Arc, Mutex, Wait};
+use topo_book::Book;
+use topo_picture::Picture;
+use topo_price::tariff::{Asks, Tariff};
+use topo_versions::{Glass, Naming, Opened, Shelf, StoreWriter, Version};
+
+/// The end of a service that was not well, with the book and the passes as they were handed in.
+#[derive(Drop)]
+pub struct CloseFault<F: Asks, K: Naming<F>, G: Glass<F, K>> {
+    pub fault: EndFault,
+    pub book: Book<F>,
+    pub passes: Vec<PassOver<F, K, G>>,
+}
+
+/// A ledger and a list of accepted entries that no type stands for yet.
+pub struct Unopened {
+    pub blank: Blank,
+    pub opened: Opened,
+}
+
+impl Unopened {
+    pub fn new() -> Unopened
+        ensures { result.blank.parts ≡ 16 }
+    {
+        Unopened {
+            blank: Blank::new(16),
+            opened: Opened::new(),
+        }
+    }
+}
+
+/// A service over the version store.
+pub type Service<F, K> = ServiceOver<F, K, StoreWriter<F, K>>;
+
+impl<F: Asks + Drop, K: Naming<F>> Service<F, K> {
+    /// Begins a service, at the start and with the closure that K names, with no entry and no pass.
+    pub fn new(
+        alloc: Global,
+        unopened: Unopened,
+        start: Picture,
+        tariff: Arc<Tariff<F>>,
+    ) -> Result<Service<F, K>, AllocError>
+        requires ledger { (unopened.blank.name ≡ K.name) × (unopened.blank.parts ≡ K.parts) }
+        requires parts { K.parts ≡ 16 }
+        requires list { unopened.opened.seen.book ≡ K.book }
+        requires start { start ≡ K.start }
+        requires prices { K.closure ≡ Some (arc_value tariff) }
+        ensures tariff { IfOk result (λ s. s.tariff ≡ arc_value tariff) }
+        ensures no_pass { IfOk result (λ s. s.given ≡ 0) }
+    {
+        let Unopened { blank, opened } = unopened;
+        let (calls, rest) = blank.open::<K>();
+        let (head, front) = opened.named::<K>();
+        let book = Book::new(alloc, start, Arc::try_clone(&tariff)?)?;
+        let shared = Arc::try_clone(book.shared_picture())?;
+        let first = Version::first(alloc, shared, front.again())?;
+        let second = first.again()?;
+        let writer = StoreWriter::<F, K>::new(alloc, first, second, 16)?;
+        Ok(ServiceOver {
+            alloc,
+            tariff,
+            desk: Mutex::new(Desk::new(book, calls, head, front, writer)),
+            seats: Mutex::new(Seats::new(rest)),
+            given: 0,
+        })
+    }
+}
+
+impl<F: Asks + Drop, K: Naming<F>, W: Shelf<F, K>> ServiceOver<F, K, W> {
+    /// Ends the service. Where each pass that was given out is there and every receipt agrees with the
+    /// history, the book is handed back: its history is one thread's, from the start to its picture, and
+    /// the receipts of the passes are all of it. Else the fault names the least number of a pass that is
+    /// not there, and where none is missing, a receipt that differs. It takes no memory.
+    pub fn close<G: Glass<F, K>, R: Wait>(
+        self,
+        rt: &R,
+        passes: Vec<PassOver<F, K, G>>,
+    ) -> Result<Book<F>, CloseFault<F, K, G>>
+        ensures tariff { IfOk result (λ b. b.tariff ≡ self.tariff) }
+        ensures start { IfOk result (λ b. b.start ≡ K.start) }
+        ensures legal { IfOk result (λ b. Replays (prices_of (F.answers b.tariff)) b.start.limits b.start.rows b.history b.picture.rows) }
+        ensures lawful { IfOk result (λ b. ReplaysLawfully (prices_of (F.answers b.tariff)) b.start.limits b.start.rows b.history b.picture.rows) }
+        ensures same_limits { IfOk result (λ b. b.picture.limits ≡ b.start.limits) }
+
+        ensures all_there { OnOk result ((n : ℕ) → n < self.given → HasNumber n passes.items) }
+        ensures agree { IfOk result (λ b. All (λ p. AllAgree b.history p.number p.receipts) passes.items) }
+        ensures counted { IfOk result (λ b. length b.history ≡ receipt_count passes.items) }
+        ensures whole { IfOk result (λ b. AreWhole b.history passes.items) }
+        ensures seen { IfOk result (λ b. All (λ p. IsPrefix p.seen (versions b.history)) passes.items) }
+
+        ensures fault { IfErr result (λ e. IsEndFault self.given e.book.history passes.items e.fault) }
+        ensures fault_passes { IfErr result (λ e. e.passes ≡ passes) }
+        ensures fault_tariff { IfErr result (λ e. e.book.tariff ≡ self.tariff) }
+        ensures fault_start { IfErr result (λ e. e.book.start ≡ K.start) }
+        ensures fault_legal { IfErr result (λ e. Replays (prices_of (F.answers e.book.tariff)) e.book.start.limits e.book.start.rows e.book.history e.book.picture.rows) }
+        ensures fault_lawful { IfErr result (λ e. ReplaysLawfully (prices_of (F.answers e.book.tariff)) e.book.start.limits e.book.start.rows e.book.history e.book.picture.rows) }
+    {
+        let ServiceOver {
+            alloc: _,
+            tariff: _tariff,
+            desk,
+            seats,
+            given,
+        } = self;
+        let seats = seats.into_inner();
+        if seats.given() != given {
+            wait_forever(rt);
+        }
+        let rest = seats.into_rest();
+        let mut desk = desk.into_inner();
+        if let Some(fault) = first_fault(given, passes.as_slice(), desk.history()) {
+            return Err(CloseFault {
+                fault,
+                book: desk.into_book(rt),
+                passes,
+            });
+        }
+        let mut all = gather(rt, &desk, rest, passes);
+        desk.audit(&mut all);
+        Ok(desk.into_book(rt))
+    }
+}

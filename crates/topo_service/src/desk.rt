@@ -1,0 +1,226 @@
+//! What lies under the lock.
+
+ghost use Rattle.std.specs.Prelude.{◌≡◌, ◌≢◌, ◌+◌, ◌<◌, ◌^◌, ◌∷◌, ◌++◌, [], length, is_ok, if◌then◌else◌, IfOk, IfSome, OnOk, OnErr, Some};
+ghost use Rattle.topo_core.specs.History.{IsPrefix, IsVersion, Replays, is_accepted, versions};
+ghost use Rattle.topo_core.specs.Steps.{Step};
+ghost use Rattle.topo_core.specs.declared.calls.Refusal.TheVariants.{Memory};
+ghost use Rattle.topo_core.specs.declared.calls.Reply.TheVariants.{Refused};
+ghost use Rattle.topo_book.specs.Books.{CanFollow, IsSameBook, IsUnchanged, ReplaysLawfully};
+ghost use Rattle.topo_price.specs.Prices.{prices_of};
+ghost use Rattle.topo_versions.specs.Names.{prices_named};
+ghost use Rattle.topo_versions.specs.Versions.{IsVersionFrom};
+ghost use Rattle.topo_service.specs.Passes.{entry_of};
+
+use crate::answer::Answer;
+use crate::wait::wait_forever;
+use std::alloc::{AllocError, Global};
+use std::marker::Model;
+use std::sync::ledger::{Book as Tally, Share};
+use std::sync::{Arc, Wait};
+use topo_book::{Book, Next};
+use topo_core::calls::{Call, Entry};
+use topo_price::tariff::Asks;
+use topo_route::plan::Plan;
+use topo_versions::{Front, Glass, Head, Lends, Naming, Shelf, Version};
+
+/// The book, the number of its calls, and the versions. Contracts see the book.
+///
+/// At all times the book begins with the start and has the prices that K names, the ledger's total is the
+/// length of the history, and what is published are the accepted entries of the history.
+pub struct Desk<F: Asks, K: Naming<F>, W: Shelf<F, K>> {
+    book: Book<F>,
+    calls: Tally<K>,
+    head: Head<K>,
+    // The accepted entries.
+    front: Front<K>,
+    writer: W,
+}
+
+impl<F: Asks, K: Naming<F>, W: Shelf<F, K>> Model for Desk<F, K, W> {
+    ghost use Rattle.std.specs.Prelude.{◌≡◌, length, Some};
+    ghost use Rattle.topo_core.specs.History.{versions};
+    ghost use Rattle.topo_book.specs.Books.{BookState};
+
+    ghost Value = { BookState F };
+
+    ghost view = { λ d. d.book };
+
+    ghost invariant = { λ d. (d.book.start ≡ K.start) × (K.closure ≡ Some d.book.tariff) × (d.calls.total ≡ length d.book.history)
+        × (d.front ≡ versions d.book.history) × (W.published d.writer ≡ versions d.book.history) };
+}
+
+/// Makes a call ready, with its plan where it has one. The rest is what is true of every book.
+fn make_ready<F: Asks>(
+    book: &mut Book<F>,
+    alloc: Global,
+    caller: u32,
+    call: Call,
+    plan: Option<&Plan>,
+) -> Result<Next, AllocError>
+    ensures caller { IfOk result (λ n. n.entry.caller ≡ caller) }
+    ensures call { IfOk result (λ n. n.entry.call ≡ call) }
+    ensures ready { IfOk result (CanFollow (prices_of (F.answers book.new.tariff)) book.new) }
+    ensures unchanged { IsUnchanged book.old book.new }
+    ensures same_book { IsSameBook book.old book.new }
+    ensures legal { Replays (prices_of (F.answers book.old.tariff)) book.old.start.limits book.old.start.rows book.old.history book.old.picture.rows }
+    ensures same_limits { book.old.picture.limits ≡ book.old.start.limits }
+    ensures room { length book.old.history + 1 < 2 ^ 64 }
+{
+    let _more = book.history().len() + 1;
+    book.picture();
+    match (call, plan) {
+        (Call::Insert { u, v, kind }, Some(plan)) => {
+            book.prepare_planned(alloc, caller, u, v, kind, plan)
+        }
+        _ => book.prepare(alloc, caller, call),
+    }
+}
+
+/// Publishes the version after a call that was made ready, where it is accepted. After want of memory
+/// nothing has changed.
+fn show<F: Asks, K: Naming<F>, W: Shelf<F, K>, R: Wait>(
+    rt: &R,
+    alloc: Global,
+    head: &Head<K>,
+    front: &mut Front<K>,
+    writer: &mut W,
+    next: &Next,
+) -> Result<(), AllocError>
+    requires room { length front.old + 1 < 2 ^ 64 }
+    requires whole { W.published writer.old ≡ front.old }
+    requires follows { IfSome next.now.picture (λ picture. IsVersionFrom (prices_named F.answers K.closure) K.start (front.old ++ next.now.entry ∷ []) picture) }
+    ensures front { OnOk result (front.new ≡ (if is_accepted next.now.entry.reply then front.old ++ next.now.entry ∷ [] else front.old)) }
+    ensures published { OnOk result (W.published writer.new ≡ front.new) }
+    ensures err { OnErr result ((front.new ≡ front.old) × (W.published writer.new ≡ W.published writer.old)) }
+{
+    let Some(picture) = next.shared() else {
+        return Ok(());
+    };
+    let share = Arc::try_clone(picture)?;
+    let entry = next.entry();
+    let version = Version::<F, K>::after(alloc, front.again(), entry.copy(alloc)?, share)?;
+    writer.publish(rt, &version)?;
+    if !front.add(head, entry) {
+        wait_forever(rt);
+    }
+    Ok(())
+}
+
+impl<F: Asks, K: Naming<F>, W: Shelf<F, K>> Desk<F, K, W> {
+    pub(crate) fn new(
+        book: Book<F>,
+        calls: Tally<K>,
+        head: Head<K>,
+        front: Front<K>,
+        writer: W,
+    ) -> Desk<F, K, W>
+        requires book { (book.start ≡ K.start) × (book.history ≡ []) }
+        requires prices { K.closure ≡ Some book.tariff }
+        requires empty { (calls.total ≡ 0) × (front ≡ []) × (W.published writer ≡ []) }
+        ensures { result ≡ book }
+    {
+        Desk {
+            book,
+            calls,
+            head,
+            front,
+            writer,
+        }
+    }
+
+    /// One call. An accepted one is published before it is entered. All that can fail comes before
+    /// anything changes.
+    pub(crate) fn call<R: Wait>(
+        &mut self,
+        rt: &R,
+        alloc: Global,
+        mine: &mut Share<K>,
+        caller: u32,
+        call: Call,
+        plan: Option<&Plan>,
+    ) -> Result<Answer, AllocError>
+        requires { 0 < mine.old.parts }
+        ensures parts { mine.new.parts ≡ mine.old.parts }
+        ensures amount { mine.new.amount ≡ (if is_ok result then mine.old.amount + 1 else mine.old.amount) }
+        ensures same_book { IsSameBook self.old self.new }
+        ensures entered { IfOk result (λ answer. self.new.history ≡ self.old.history ++ entry_of caller call answer.told ∷ []) }
+        ensures step { IfOk result (λ answer. Step (prices_named F.answers K.closure) K.start.limits self.old.picture.rows call answer.told self.new.picture.rows) }
+        ensures no_memory { IfOk result (λ answer. answer.told ≢ Refused Memory) }
+        ensures unchanged { OnErr result (IsUnchanged self.old self.new) }
+    {
+        let next = make_ready(&mut self.book, alloc, caller, call, plan)?;
+        let answer = Answer::of(alloc, &next.entry().reply)?;
+        show::<F, K, W, R>(
+            rt,
+            alloc,
+            &self.head,
+            &mut self.front,
+            &mut self.writer,
+            &next,
+        )?;
+        self.book.commit(next);
+        self.calls.add(mine, 1);
+        Ok(answer)
+    }
+
+    /// Lets a reader see the version of now.
+    pub(crate) fn meet<G: Glass<F, K>, R: Wait>(&self, rt: &R, reader: &mut G, count: &mut u64)
+        requires { count.old ≡ length (G.seen reader.old) }
+        ensures count { count.new ≡ length (G.seen reader.new) }
+        ensures now { G.seen reader.new ≡ versions self.now.history }
+        ensures later { IsPrefix (G.seen reader.old) (G.seen reader.new) }
+        ensures replayed { IsVersion (prices_named F.answers K.closure) K.start.limits K.start.rows (G.seen reader.new) self.now.picture.rows }
+    {
+        if !reader.meets(count, self.writer.current()) {
+            wait_forever(rt);
+        }
+        self.book.history();
+    }
+
+    /// A reader that has seen nothing.
+    pub(crate) fn reader<G: Glass<F, K>>(&self) -> Result<G, AllocError>
+    where
+        W: Lends<F, K, G>,
+        ensures { IfOk result (λ r. G.seen r ≡ []) }
+    {
+        self.writer.reader()
+    }
+
+    /// The entries so far.
+    pub(crate) fn history(&self) -> &[Entry]
+        ensures { result.now ≡ self.now.history }
+    {
+        self.book.history()
+    }
+
+    /// The book. The versions end.
+    pub(crate) fn into_book<R: Wait>(self, rt: &R) -> Book<F>
+        ensures same { result ≡ self }
+        ensures start { result.start ≡ K.start }
+        ensures named { K.closure ≡ Some result.tariff }
+        ensures legal { Replays (prices_of (F.answers result.tariff)) result.start.limits result.start.rows result.history result.picture.rows }
+        ensures lawful { ReplaysLawfully (prices_of (F.answers result.tariff)) result.start.limits result.start.rows result.history result.picture.rows }
+        ensures same_limits { result.picture.limits ≡ result.start.limits }
+    {
+        let Desk {
+            book,
+            calls: _calls,
+            head: _head,
+            front: _front,
+            writer,
+        } = self;
+        writer.end(rt);
+        book.history();
+        book.picture();
+        book
+    }
+
+    /// The length of the history, as the whole share of the ledger has it.
+    pub(crate) fn audit(&mut self, all: &mut Share<K>)
+        requires { all.old.parts ≡ K.parts }
+        ensures same { self.new ≡ self.old }
+        ensures counted { length self.new.history ≡ all.old.amount }
+    {
+        self.calls.audit(all);
+    }
+}

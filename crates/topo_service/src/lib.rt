@@ -1,0 +1,26 @@
+//! A picture that threads share under one lock, with versions for readers that do not wait.
+//!
+//! A `Service` holds a book under a lock. Each caller has a `Pass`: a call of the service carries it
+//! through the lock, enters what was answered, publishes the version after an accepted call, and leaves
+//! a receipt in the pass. `Pass::view` takes the version of now and `Pass::plan` searches on it, both
+//! without waiting. `Service::close` takes all passes back, compares every receipt with the history, and
+//! hands the book out: its Ok says that the history is one thread's, and has as many calls as the passes
+//! have receipts. `run_workers` runs lists of commands, each with a pass in a thread of its own.
+#![tactic(auto)]
+
+pub mod answer;
+mod checks;
+pub mod close;
+pub mod desk;
+pub mod faults;
+pub mod pass;
+mod seats;
+pub mod service;
+mod wait;
+pub mod workers;
+
+pub use close::{CloseFault, Service, Unopened};
+pub use faults::{EndFault, PassFault, ServiceFault};
+pub use pass::{Pass, PassOver, Receipt};
+pub use service::ServiceOver;
+pub use workers::{Gate, WorkerEnd, run_workers};

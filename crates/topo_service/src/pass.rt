@@ -1,0 +1,149 @@
+//! What one caller has.
+
+ghost use Rattle.std.specs.Prelude.{◌≡◌, length, IfOk, IfErr};
+ghost use Rattle.topo_core.specs.History.{IsPrefix};
+ghost use Rattle.topo_price.specs.Prices.{prices_of};
+ghost use Rattle.topo_route.specs.Plans.{IsPlan};
+ghost use Rattle.topo_frozen.specs.Shown.{Shown};
+ghost use Rattle.topo_versions.specs.Names.{prices_named};
+ghost use Rattle.topo_versions.specs.Versions.{IsVersionFrom};
+ghost use Rattle.topo_service.specs.Faults.{IsPlanFault, IsPlanRefusal};
+
+use crate::faults::PassFault;
+use std::alloc::Global;
+use std::marker::{Model, PhantomData};
+use std::sync::ledger::Share;
+use topo_core::calls::{Call, Refusal, Reply};
+use topo_picture::Picture;
+use topo_price::tariff::{Asks, Tariff};
+use topo_route::plan::Plan;
+use topo_route::search::search;
+use topo_versions::{Glass, Naming, StoreReader, Version};
+
+/// A call of a pass, and what it was answered.
+#[derive(Drop)]
+pub struct Receipt {
+    pub call: Call,
+    pub reply: Reply,
+}
+
+/// A caller's number, its receipts, its share of the ledger and its reader of versions. Contracts see its
+/// number, its receipts and the accepted entries that it has seen.
+#[derive(Drop)]
+pub struct PassOver<F: Asks, K: Naming<F>, G: Glass<F, K>> {
+    pub(crate) number: u32,
+    pub(crate) receipts: Vec<Receipt>,
+    pub(crate) share: Share<K>,
+    pub(crate) reader: G,
+    pub(crate) seen: u64,
+    pub(crate) of: PhantomData<F>,
+}
+
+/// A pass of a service.
+pub type Pass<F, K> = PassOver<F, K, StoreReader<F, K>>;
+
+impl<F: Asks, K: Naming<F>, G: Glass<F, K>> Model for PassOver<F, K, G> {
+    ghost use Rattle.std.specs.Prelude.{◌≡◌, length};
+    ghost use Rattle.topo_service.specs.Passes.{PassState};
+
+    ghost Value = { PassState };
+
+    ghost view = { λ p. record { number = p.number; receipts = p.receipts.items; seen = G.seen p.reader } };
+
+    ghost invariant = { λ p. (p.share.parts ≡ 1) × (p.share.amount ≡ length p.receipts.items) × (p.seen ≡ length (G.seen p.reader)) };
+}
+
+/// The first cheapest route on a picture, or the first reason why there is no plan.
+fn plan_on<A: Asks>(
+    alloc: Global,
+    picture: &Picture,
+    tariff: &Tariff<A>,
+    u: u32,
+    v: u32,
+) -> Result<Plan, Refusal>
+    ensures planned { IfOk result (IsPlan (prices_of (A.answers tariff.now)) picture.now.rows u v) }
+    ensures refused { IfErr result (IsPlanRefusal (prices_of (A.answers tariff.now)) picture.now.rows u v) }
+{
+    let vertices = picture.counts().vertices;
+    if u >= vertices || v >= vertices {
+        return Err(Refusal::NoVertex);
+    }
+    if u == v {
+        return Err(Refusal::SameEnds);
+    }
+    let Ok(frozen) = picture.freeze(alloc) else {
+        return Err(Refusal::Memory);
+    };
+    match search(alloc, &frozen, tariff, u, v) {
+        Ok(Some(plan)) => Ok(plan),
+        Ok(None) => Err(Refusal::NoRoute),
+        Err(_) => Err(Refusal::Memory),
+    }
+}
+
+impl<F: Asks, K: Naming<F>, G: Glass<F, K>> PassOver<F, K, G> {
+    /// Its number: the caller in the entries of its calls.
+    pub fn number(&self) -> u32
+        ensures { result ≡ self.now.number }
+    {
+        self.number
+    }
+
+    /// Its calls that were answered otherwise than by want of memory, with the replies, the oldest first.
+    pub fn receipts(&self) -> &[Receipt]
+        ensures { result.now ≡ self.now.receipts }
+    {
+        self.receipts.as_slice()
+    }
+
+    /// How many accepted entries it has seen.
+    pub fn seen(&self) -> u64
+        ensures { result ≡ length self.now.seen }
+    {
+        self.seen
+    }
+
+    /// The version of now: the picture after accepted entries that begin with all that the pass has seen,
+    /// and that it has seen from then on. It takes no memory and waits for nobody. NoView is answered
+    /// where the service has ended or no further share of the version is left.
+    pub fn view(&mut self) -> Result<Version<F, K>, PassFault>
+        ensures number { self.new.number ≡ self.old.number }
+        ensures receipts { self.new.receipts ≡ self.old.receipts }
+        ensures later { IsPrefix self.old.seen self.new.seen }
+        ensures seen { IfOk result (λ v. v.entries ≡ self.new.seen) }
+        ensures version { IfOk result (λ v. IsVersionFrom (prices_named F.answers K.closure) K.start v.entries v.picture) }
+        ensures fault { IfErr result (λ e. e ≡ PassFault.NoView) }
+    {
+        match self.reader.look(&mut self.seen) {
+            Some(version) => {
+                version.picture();
+                Ok(version)
+            }
+            None => Err(PassFault::NoView),
+        }
+    }
+
+    /// The first cheapest route from `u` to `v` at these prices on the version of now, with its price and
+    /// the least heights. It waits for nobody. NoView comes first, then NoVertex, then SameEnds, by the
+    /// picture of that version, then NoRoute; Memory where the search wants it.
+    pub fn plan<A: Asks>(
+        &mut self,
+        alloc: Global,
+        tariff: &Tariff<A>,
+        u: u32,
+        v: u32,
+    ) -> Result<Plan, PassFault>
+        ensures number { self.new.number ≡ self.old.number }
+        ensures receipts { self.new.receipts ≡ self.old.receipts }
+        ensures later { IsPrefix self.old.seen self.new.seen }
+        ensures planned { IfOk result (λ plan. (picture : Shown) × IsVersionFrom (prices_named F.answers K.closure) K.start self.new.seen picture
+            × IsPlan (prices_of (A.answers tariff.now)) picture.rows u v plan) }
+        ensures fault { IfErr result (IsPlanFault (prices_named F.answers K.closure) (prices_of (A.answers tariff.now)) K.start self.new.seen u v) }
+    {
+        let version = self.view()?;
+        match plan_on(alloc, version.picture(), tariff, u, v) {
+            Ok(plan) => Ok(plan),
+            Err(why) => Err(PassFault::Refused(why)),
+        }
+    }
+}

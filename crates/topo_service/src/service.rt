@@ -1,0 +1,212 @@
+//! The locked service.
+
+ghost use Rattle.std.specs.Prelude.{◌≡◌, ◌≢◌, ◌+◌, ◌<◌, ◌≤◌, ◌++◌, ◌∷◌, [], true, false, IfOk, IsErr, OnErr, Some};
+ghost use Rattle.topo_core.specs.History.{IsPrefix, is_accepted};
+ghost use Rattle.topo_core.specs.declared.calls.Call.TheVariants.{Grow, Insert, Delete};
+ghost use Rattle.topo_core.specs.declared.calls.Refusal.TheVariants.{Memory};
+ghost use Rattle.topo_core.specs.declared.calls.Reply.TheVariants.{Refused};
+ghost use Rattle.topo_versions.specs.Names.{prices_named};
+ghost use Rattle.topo_service.specs.Answers.{HasSeenOwn, IsDueAfter};
+ghost use Rattle.topo_service.specs.Passes.{receipt_of};
+
+use crate::answer::Answer;
+use crate::desk::Desk;
+use crate::faults::ServiceFault;
+use crate::pass::{PassOver, Receipt};
+use crate::seats::Seats;
+use crate::wait::wait_forever;
+use std::alloc::{AllocError, Global};
+use std::marker::{Model, PhantomData};
+use std::sync::{Arc, Mutex, Wait};
+use topo_core::calls::{Call, Reply};
+use topo_price::tariff::{Asks, Tariff};
+use topo_route::plan::Plan;
+use topo_versions::{Glass, Lends, Naming, Shelf};
+
+/// One lock round a book, with the passes that were given out. Contracts see what answers its prices, and
+/// how many passes it has given out.
+pub struct ServiceOver<F: Asks, K: Naming<F>, W: Shelf<F, K>> {
+    pub(crate) alloc: Global,
+    pub(crate) tariff: Arc<Tariff<F>>,
+    pub(crate) desk: Mutex<Desk<F, K, W>>,
+    pub(crate) seats: Mutex<Seats<K>>,
+    pub(crate) given: u32,
+}
+
+impl<F: Asks, K: Naming<F>, W: Shelf<F, K>> Model for ServiceOver<F, K, W> {
+    ghost use Rattle.std.specs.Prelude.{◌≡◌, Some};
+    ghost use Rattle.std.specs.Arc.{arc_value};
+    ghost use Rattle.topo_service.specs.Passes.{ServiceState};
+
+    ghost Value = { ServiceState F };
+
+    ghost view = { λ s. record { tariff = arc_value s.tariff; given = s.given } };
+
+    ghost invariant = { λ s. (K.closure ≡ Some (arc_value s.tariff)) × (K.parts ≡ 16) };
+}
+
+impl<F: Asks, K: Naming<F>, W: Shelf<F, K>> ServiceOver<F, K, W> {
+    /// The prices. It takes no lock.
+    pub fn tariff(&self) -> &Tariff<F>
+        ensures tariff { result.now ≡ self.now.tariff }
+        ensures named { K.closure ≡ Some self.now.tariff }
+    {
+        &self.tariff
+    }
+
+    /// The next pass, with no receipt. NoSeat is answered where 16 were given out, or the version store
+    /// has no place for a reader. It waits for nobody.
+    pub fn pass<G: Glass<F, K>>(&mut self) -> Result<PassOver<F, K, G>, ServiceFault>
+    where
+        W: Lends<F, K, G>,
+        ensures number { IfOk result (λ p. p.number ≡ self.old.given) }
+        ensures receipts { IfOk result (λ p. p.receipts ≡ []) }
+        ensures seen { IfOk result (λ p. p.seen ≡ []) }
+        ensures given { IfOk result (λ p. (self.old.given < 16) × (self.new.given ≡ self.old.given + 1)) }
+        ensures refused { OnErr result (self.new.given ≡ self.old.given) }
+        ensures same { self.new.tariff ≡ self.old.tariff }
+    {
+        if self.given >= 16 {
+            return Err(ServiceFault::NoSeat);
+        }
+        let Ok(reader) = self.desk.get_mut().reader() else {
+            return Err(ServiceFault::NoSeat);
+        };
+        let seats = self.seats.get_mut();
+        if seats.given() >= 16 {
+            return Err(ServiceFault::NoSeat);
+        }
+        let share = seats.take();
+        let number = self.given;
+        self.given += 1;
+        Ok(PassOver {
+            number,
+            receipts: Vec::new(self.alloc),
+            share,
+            reader,
+            seen: 0,
+            of: PhantomData,
+        })
+    }
+
+    /// Inserts an edge of this kind from `u` to `v` along the first of the cheapest routes, or answers
+    /// the first reason why not, under the lock. The pass gains a receipt, and has then seen the version
+    /// of its call. Want of memory may stand in place of any answer; nothing was published then, and the
+    /// pass is as it was.
+    pub fn insert<G: Glass<F, K>, R: Wait>(
+        &self,
+        rt: &R,
+        pass: &mut PassOver<F, K, G>,
+        u: u32,
+        v: u32,
+        kind: u32,
+    ) -> Result<Reply, AllocError>
+        ensures number { pass.new.number ≡ pass.old.number }
+        ensures receipt { IfOk result (λ reply. pass.new.receipts ≡ pass.old.receipts ++ receipt_of (Insert u v kind) reply ∷ []) }
+        ensures later { IsPrefix pass.old.seen pass.new.seen }
+        ensures accepted { IfOk result (λ reply. is_accepted reply ≡ true → HasSeenOwn pass.old pass.new (Insert u v kind) reply) }
+        ensures refused { IfOk result (λ reply. is_accepted reply ≡ false → IsDueAfter (prices_named F.answers K.closure) K.start pass.new.seen (Insert u v kind) reply) }
+        ensures no_memory { IfOk result (λ reply. reply ≢ Refused Memory) }
+        ensures unchanged { OnErr result (pass.new ≡ pass.old) }
+    {
+        self.call(rt, pass, Call::Insert { u, v, kind }, None)
+    }
+
+    /// As `insert`, whatever the plan: its route is taken where the plan passes the check on the picture
+    /// of now, which spares the search, and else the route is looked for.
+    pub fn insert_planned<G: Glass<F, K>, R: Wait>(
+        &self,
+        rt: &R,
+        pass: &mut PassOver<F, K, G>,
+        u: u32,
+        v: u32,
+        kind: u32,
+        plan: &Plan,
+    ) -> Result<Reply, AllocError>
+        ensures number { pass.new.number ≡ pass.old.number }
+        ensures receipt { IfOk result (λ reply. pass.new.receipts ≡ pass.old.receipts ++ receipt_of (Insert u v kind) reply ∷ []) }
+        ensures later { IsPrefix pass.old.seen pass.new.seen }
+        ensures accepted { IfOk result (λ reply. is_accepted reply ≡ true → HasSeenOwn pass.old pass.new (Insert u v kind) reply) }
+        ensures refused { IfOk result (λ reply. is_accepted reply ≡ false → IsDueAfter (prices_named F.answers K.closure) K.start pass.new.seen (Insert u v kind) reply) }
+        ensures no_memory { IfOk result (λ reply. reply ≢ Refused Memory) }
+        ensures unchanged { OnErr result (pass.new ≡ pass.old) }
+    {
+        self.call(rt, pass, Call::Insert { u, v, kind }, Some(plan))
+    }
+
+    /// Takes an edge out, or answers why not; in all else as `insert`.
+    pub fn delete<G: Glass<F, K>, R: Wait>(
+        &self,
+        rt: &R,
+        pass: &mut PassOver<F, K, G>,
+        edge: u32,
+    ) -> Result<Reply, AllocError>
+        ensures number { pass.new.number ≡ pass.old.number }
+        ensures receipt { IfOk result (λ reply. pass.new.receipts ≡ pass.old.receipts ++ receipt_of (Delete edge) reply ∷ []) }
+        ensures later { IsPrefix pass.old.seen pass.new.seen }
+        ensures accepted { IfOk result (λ reply. is_accepted reply ≡ true → HasSeenOwn pass.old pass.new (Delete edge) reply) }
+        ensures refused { IfOk result (λ reply. is_accepted reply ≡ false → IsDueAfter (prices_named F.answers K.closure) K.start pass.new.seen (Delete edge) reply) }
+        ensures no_memory { IfOk result (λ reply. reply ≢ Refused Memory) }
+        ensures unchanged { OnErr result (pass.new ≡ pass.old) }
+    {
+        self.call(rt, pass, Call::Delete { edge }, None)
+    }
+
+    /// Puts a new vertex on a new edge of this kind into the corner at `position` of `u`, or answers the
+    /// first reason why not; in all else as `insert`.
+    pub fn grow<G: Glass<F, K>, R: Wait>(
+        &self,
+        rt: &R,
+        pass: &mut PassOver<F, K, G>,
+        u: u32,
+        position: u32,
+        kind: u32,
+    ) -> Result<Reply, AllocError>
+        ensures number { pass.new.number ≡ pass.old.number }
+        ensures receipt { IfOk result (λ reply. pass.new.receipts ≡ pass.old.receipts ++ receipt_of (Grow u position kind) reply ∷ []) }
+        ensures later { IsPrefix pass.old.seen pass.new.seen }
+        ensures accepted { IfOk result (λ reply. is_accepted reply ≡ true → HasSeenOwn pass.old pass.new (Grow u position kind) reply) }
+        ensures refused { IfOk result (λ reply. is_accepted reply ≡ false → IsDueAfter (prices_named F.answers K.closure) K.start pass.new.seen (Grow u position kind) reply) }
+        ensures no_memory { IfOk result (λ reply. reply ≢ Refused Memory) }
+        ensures unchanged { OnErr result (pass.new ≡ pass.old) }
+    {
+        self.call(rt, pass, Call::Grow { u, position, kind }, None)
+    }
+
+    /// One call under the lock. The place of its receipt is taken first.
+    pub(crate) fn call<G: Glass<F, K>, R: Wait>(
+        &self,
+        rt: &R,
+        pass: &mut PassOver<F, K, G>,
+        call: Call,
+        plan: Option<&Plan>,
+    ) -> Result<Reply, AllocError>
+        ensures number { pass.new.number ≡ pass.old.number }
+        ensures receipt { IfOk result (λ reply. pass.new.receipts ≡ pass.old.receipts ++ receipt_of call reply ∷ []) }
+        ensures later { IsPrefix pass.old.seen pass.new.seen }
+        ensures accepted { IfOk result (λ reply. is_accepted reply ≡ true → HasSeenOwn pass.old pass.new call reply) }
+        ensures refused { IfOk result (λ reply. is_accepted reply ≡ false → IsDueAfter (prices_named F.answers K.closure) K.start pass.new.seen call reply) }
+        ensures no_memory { IfOk result (λ reply. reply ≢ Refused Memory) }
+        ensures unchanged { OnErr result (pass.new ≡ pass.old) }
+    {
+        pass.receipts.reserve(1)?;
+        let mut guard = self.desk.lock(rt);
+        let desk = &mut *guard;
+        let made = desk.call(rt, self.alloc, &mut pass.share, pass.number, call, plan);
+        let Answer { told, kept } = made?;
+        pass.receipts.push_reserved(Receipt { call, reply: kept });
+        let seen = pass.seen;
+        desk.meet(rt, &mut pass.reader, &mut pass.seen);
+        if is_change(&told) && pass.seen <= seen {
+            wait_forever(rt);
+        }
+        Ok(told)
+    }
+}
+
+/// Whether the reply is that of an accepted call.
+fn is_change(reply: &Reply) -> bool
+    ensures { result ≡ is_accepted reply.now }
+{
+    !matches!(reply, Reply::Refused(_))
+}

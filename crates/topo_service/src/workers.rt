@@ -1,0 +1,209 @@
+//! Lists of commands, each with a pass in a thread of its own.
+
+ghost use Rattle.std.specs.Prelude.{◌≡◌, ◌<◌, ◌≤◌, ◌-◌, ◌++◌, ◌∷◌, ℕ, [], length, map, IfOk, OnErr, slice_index_or, vec_capacity};
+ghost use Rattle.topo_core.specs.History.{IsPrefix, call_of};
+ghost use Rattle.topo_service.specs.Commands.{HasEnded, HasMade, commands, end_by, receipts_of};
+ghost use Rattle.topo_service.specs.Passes.{PassState, receipt_of};
+
+use crate::pass::PassOver;
+use crate::service::ServiceOver;
+use std::alloc::{AllocError, Global};
+use std::sync::Wait;
+use std::thread;
+use std::thread::Threads;
+use topo_core::calls::{Call, Command, Reply};
+use topo_price::tariff::Asks;
+use topo_versions::{Glass, Naming, Shelf};
+
+/// What is called round each command: with the place of the list, and the command's place in it.
+pub trait Gate: Sync {
+    fn before(&self, worker: usize, index: usize);
+
+    fn after(&self, worker: usize, index: usize);
+}
+
+/// How the work on a list ended.
+#[derive(Clone, Copy, Debug, Drop, PartialEq, Eq)]
+pub enum WorkerEnd {
+    /// Each command was carried out.
+    Done,
+    /// Memory was wanted for the command at this place; the rest of the list was not run.
+    OutOfMemory(usize),
+}
+
+/// Carries a call out.
+fn call<F: Asks, K: Naming<F>, W: Shelf<F, K>, G: Glass<F, K>, R: Wait>(
+    rt: &R,
+    service: &ServiceOver<F, K, W>,
+    pass: &mut PassOver<F, K, G>,
+    call: Call,
+) -> Result<Reply, AllocError>
+    ensures number { pass.new.number ≡ pass.old.number }
+    ensures receipt { IfOk result (λ reply. pass.new.receipts ≡ pass.old.receipts ++ receipt_of call reply ∷ []) }
+    ensures later { IsPrefix pass.old.seen pass.new.seen }
+    ensures unchanged { OnErr result (pass.new.receipts ≡ pass.old.receipts) }
+{
+    match call {
+        Call::Insert { u, v, kind } => service.insert(rt, pass, u, v, kind),
+        Call::Delete { edge } => service.delete(rt, pass, edge),
+        Call::Grow { u, position, kind } => service.grow(rt, pass, u, position, kind),
+    }
+}
+
+/// Carries a command out. A planned insertion plans on a view first; where it has no plan, it is an
+/// insertion.
+fn carry_out<F: Asks, K: Naming<F>, W: Shelf<F, K>, G: Glass<F, K>, R: Wait>(
+    rt: &R,
+    alloc: Global,
+    service: &ServiceOver<F, K, W>,
+    pass: &mut PassOver<F, K, G>,
+    command: Command,
+) -> Result<Reply, AllocError>
+    ensures number { pass.new.number ≡ pass.old.number }
+    ensures receipt { IfOk result (λ reply. pass.new.receipts ≡ pass.old.receipts ++ receipt_of (call_of command) reply ∷ []) }
+    ensures later { IsPrefix pass.old.seen pass.new.seen }
+    ensures unchanged { OnErr result (pass.new.receipts ≡ pass.old.receipts) }
+{
+    match command {
+        Command::Plain(asked) => call(rt, service, pass, asked),
+        Command::Planned { u, v, kind } => match pass.plan(alloc, service.tariff(), u, v) {
+            Ok(plan) => service.insert_planned(rt, pass, u, v, kind, &plan),
+            Err(_) => service.insert(rt, pass, u, v, kind),
+        },
+    }
+}
+
+/// Carries a list out, until memory is wanted.
+fn work<F: Asks, K: Naming<F>, W: Shelf<F, K>, G: Glass<F, K>, R: Wait, T: Gate>(
+    rt: &R,
+    alloc: Global,
+    service: &ServiceOver<F, K, W>,
+    pass: &mut PassOver<F, K, G>,
+    worker: usize,
+    list: &[Command],
+    gate: &T,
+)
+    ensures { HasMade pass.old pass.new list.now }
+{
+    for (index, command) in list.iter().enumerate() {
+        gate.before(worker, index);
+        let made = carry_out(rt, alloc, service, pass, *command);
+        gate.after(worker, index);
+        let Ok(_reply) = made else {
+            return;
+        };
+    }
+}
+
+/// Runs each list with the pass at its place, in a thread of its own.
+fn run_each<
+    F: Asks + Drop + Send + Sync,
+    K: Naming<F> + Send + Sync,
+    W: Shelf<F, K> + Send,
+    G: Glass<F, K> + Send,
+    R: Threads + Wait + Sync,
+    T: Gate,
+>(
+    rt: &R,
+    alloc: Global,
+    service: &ServiceOver<F, K, W>,
+    passes: &mut [PassOver<F, K, G>],
+    lists: &[Vec<Command>],
+    gate: &T,
+)
+    requires { length passes.old ≡ length lists.now }
+    ensures { (i : ℕ) (p : PassState) → i < length lists.now → HasMade (slice_index_or passes.old i p) (slice_index_or passes.new i p) (slice_index_or (map commands lists.now) i []) }
+{
+    if passes.is_empty() {
+        return;
+    }
+    let threads = passes.len();
+    thread::for_each_mut(
+        rt,
+        passes,
+        threads,
+        &|i, pass: &mut PassOver<F, K, G>|
+            requires { i < length lists.now }
+            ensures { HasMade pass.entry.now pass.exit.now (slice_index_or (map commands lists.entry.now) i []) }
+        { work(rt, alloc, service, pass, i, lists[i].as_slice(), gate) },
+    );
+}
+
+/// How many receipts each pass has.
+fn receipt_counts<F: Asks, K: Naming<F>, G: Glass<F, K>>(
+    alloc: Global,
+    passes: &[PassOver<F, K, G>],
+) -> Result<Vec<usize>, AllocError>
+    ensures { IfOk result (λ counts. counts.items ≡ map receipts_of passes.now) }
+{
+    let mut counts = Vec::with_capacity(alloc, passes.len())?;
+    for pass in passes {
+        counts.push_reserved(pass.receipts().len());
+    }
+    Ok(counts)
+}
+
+/// How the work on a list of this length ended, by the receipts before and after.
+fn end_of(before: usize, after: usize, commands: usize) -> WorkerEnd
+    requires { before ≤ after }
+    ensures { result ≡ end_by (after - before) commands }
+{
+    if after - before == commands {
+        WorkerEnd::Done
+    } else {
+        WorkerEnd::OutOfMemory(after - before)
+    }
+}
+
+/// Tells how the work on each list ended.
+fn tell_ends<F: Asks, K: Naming<F>, G: Glass<F, K>>(
+    ends: &mut Vec<WorkerEnd>,
+    before: &[usize],
+    passes: &[PassOver<F, K, G>],
+    lists: &[Vec<Command>],
+)
+    requires empty { ends.old.items ≡ [] }
+    requires room { length passes.now ≤ vec_capacity ends.old }
+    requires befores { length before.now ≡ length passes.now }
+    requires as_many { length passes.now ≡ length lists.now }
+    requires risen { (i : ℕ) (p : PassState) → i < length passes.now → slice_index_or before.now i 0 ≤ receipts_of (slice_index_or passes.now i p) }
+    ensures one_each { length ends.new.items ≡ length lists.now }
+    ensures told { (i : ℕ) (p : PassState) (e : WorkerEnd) → i < length passes.now
+        → slice_index_or ends.new.items i e ≡ end_by (receipts_of (slice_index_or passes.now i p) - slice_index_or before.now i 0) (length (slice_index_or (map commands lists.now) i [])) }
+{
+    for i in 0..passes.len() {
+        ends.push_reserved(end_of(before[i], passes[i].receipts().len(), lists[i].len()));
+    }
+}
+
+/// Runs each list with the pass at its place, in a thread of its own, or in its turn where no thread can
+/// be made. A command is carried out between the gate's calls for it. The answer says of each list
+/// whether it was carried out, or where memory was wanted; its room is taken first, and where that is
+/// refused, no pass has changed.
+pub fn run_workers<
+    F: Asks + Drop + Send + Sync,
+    K: Naming<F> + Send + Sync,
+    W: Shelf<F, K> + Send,
+    G: Glass<F, K> + Send,
+    R: Threads + Wait + Sync,
+    T: Gate,
+>(
+    rt: &R,
+    alloc: Global,
+    service: &ServiceOver<F, K, W>,
+    passes: &mut [PassOver<F, K, G>],
+    lists: &[Vec<Command>],
+    gate: &T,
+) -> Result<Vec<WorkerEnd>, AllocError>
+    requires { length passes.old ≡ length lists.now }
+    ensures one_each { IfOk result (λ ends. length ends.items ≡ length lists.now) }
+    ensures ended { IfOk result (λ ends. (i : ℕ) (p : PassState) (e : WorkerEnd) → i < length lists.now
+        → HasEnded (slice_index_or passes.old i p) (slice_index_or passes.new i p) (slice_index_or (map commands lists.now) i []) (slice_index_or ends.items i e)) }
+    ensures unchanged { OnErr result (passes.new ≡ passes.old) }
+{
+    let before = receipt_counts(alloc, passes)?;
+    let mut ends = Vec::with_capacity(alloc, passes.len())?;
+    run_each(rt, alloc, service, passes, lists, gate);
+    tell_ends(&mut ends, before.as_slice(), passes, lists);
+    Ok(ends)
+}

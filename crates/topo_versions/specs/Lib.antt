@@ -1,0 +1,4 @@
+pub mod Listing
+pub mod Names
+pub mod Seeing
+pub mod Versions
