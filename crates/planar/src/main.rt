@@ -6,8 +6,10 @@ use clap::error::ErrorKind;
 use std::process::ExitCode;
 use std::rt::Env;
 use std::{env, io};
-use topo_cli::verbs::verb;
-use topo_cli::{RunFault, Verb, check_io, replay_io, run_io};
+use topo_cli::answer;
+use topo_settings::RunFault;
+use topo_words::Verb;
+use topo_words::verbs::verb;
 
 /// The status of a run without a fault.
 const DONE: u8 = 0;
@@ -17,9 +19,7 @@ const REFUSED: u8 = 2;
 
 fn main(rt: HostRuntime) -> ExitCode {
     let status = match read_verb(&rt) {
-        Ok(Verb::Run) => run(&rt),
-        Ok(Verb::Replay) => replay(&rt),
-        Ok(Verb::Check) => check(&rt),
+        Ok(verb) => carry_out(&rt, verb),
         Err(status) => status,
     };
     ExitCode::from(status)
@@ -50,25 +50,9 @@ fn read_verb<R: Env + Eprint + AllocGlobal>(rt: &R) -> Result<Verb, u8> {
     }
 }
 
-/// Runs the script on standard input.
-fn run<R: Input + Print + Eprint + AllocGlobal>(rt: &R) -> u8 {
-    match run_io(rt.alloc(), &mut rt.reader(), &mut io::writer(rt)) {
-        Ok(()) => DONE,
-        Err(fault) => tell(rt, &fault),
-    }
-}
-
-/// Replays the report on standard input.
-fn replay<R: Input + Print + Eprint + AllocGlobal>(rt: &R) -> u8 {
-    match replay_io(rt.alloc(), &mut rt.reader(), &mut io::writer(rt)) {
-        Ok(()) => DONE,
-        Err(fault) => tell(rt, &fault),
-    }
-}
-
-/// Checks the picture on standard input.
-fn check<R: Input + Print + Eprint + AllocGlobal>(rt: &R) -> u8 {
-    match check_io(rt.alloc(), &mut rt.reader(), &mut io::writer(rt)) {
+/// Carries out a command on standard input and standard output.
+fn carry_out<R: Input + Print + Eprint + AllocGlobal>(rt: &R, verb: Verb) -> u8 {
+    match answer(rt.alloc(), verb, &mut rt.reader(), &mut io::writer(rt)) {
         Ok(()) => DONE,
         Err(fault) => tell(rt, &fault),
     }

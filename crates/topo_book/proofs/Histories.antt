@@ -1,5 +1,6 @@
 -- Histories that grow at their end, and the books that keep them.
-use Rattle.std.proofs.Common.{◌≡◌, List, [], ◌∷◌, ◌++◌, Option, Some, None, IfSome, refl, sym, subst, ◌∙◌}
+use Rattle.std.proofs.Common.{◌≡◌, List, [], ◌∷◌, ◌++◌, Option, Some, None, IfSome, Result, Ok, Err, OnOk, OnErr, false, true, refl, sym, subst, ◌∙◌}
+use Rattle.std.specs.Prelude.{is_err}
 use Rattle.topo_core.specs.declared.rows.Rows.{Rows}
 use Rattle.topo_core.specs.declared.limits.Limits.{Limits}
 use Rattle.topo_core.specs.declared.calls.Entry.{Entry}
@@ -43,6 +44,16 @@ module _ (price : Pricing) (start picture : Shown) (history : List Entry) (book 
             (subst (λ (l : Limits). Step price l picture.rows entry.call entry.reply next.rows) book.same_limits step)
             (subst (λ (l : Limits). IsPicture l next.rows) same good);
       }
+
+-- what holds where a call does not fail
+pub on_ok : {A E P : Type 0} (r : Result A E) → is_err r ≡ false → OnOk r P → P
+on_ok (Ok x) h p = p
+on_ok (Err e) h p = cc
+
+-- what holds where a call fails
+pub on_err : {A E P : Type 0} (r : Result A E) → is_err r ≡ true → OnErr r P → P
+on_err (Ok x) h p = cc
+on_err (Err e) h p = p
 
 -- what was made ready makes a book of a book
 pub book_follows : {F : Type 0} (price : Pricing) (book : BookState F) (next : NextState) → IsBook price book.start book.history book.picture → IsNext next.entry next.picture

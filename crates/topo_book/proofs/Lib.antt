@@ -1,2 +1,4 @@
 pub mod Histories
 pub mod Wrong
+pub mod ReplicaLaws
+pub mod Due

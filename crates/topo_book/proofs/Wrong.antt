@@ -4,15 +4,15 @@ use Rattle.std.specs.Prelude.{slice_get}
 use Rattle.topo_core.specs.declared.rows.Rows.{Rows}
 use Rattle.topo_core.specs.declared.limits.Limits.{Limits}
 use Rattle.topo_core.specs.declared.calls.Entry.{Entry}
-use Rattle.topo_core.specs.declared.calls.Reply.{Reply}
 use Rattle.topo_core.specs.Routes.{Pricing}
 use Rattle.topo_core.specs.Steps.{Step}
 use Rattle.topo_core.specs.History.{IsLegal, Replays}
 use Rattle.topo_core.proofs.Determined.{one_step}
 use Rattle.topo_core.proofs.Replaying.{replays_on}
+use Rattle.topo_book.specs.Books.{IsDue}
 use Rattle.topo_book.specs.Faults.{IsFirstWrong}
 
-take_one_more : (entries : List Entry) (i : ℕ) (entry : Entry) → slice_get entries i ≡ Some entry → take (suc i) entries ≡ take i entries ++ entry ∷ []
+pub take_one_more : (entries : List Entry) (i : ℕ) (entry : Entry) → slice_get entries i ≡ Some entry → take (suc i) entries ≡ take i entries ++ entry ∷ []
 take_one_more [] i entry there = cc
 take_one_more (first ∷ entries) zero entry there = let same : first ≡ entry = cc in ap (λ e. e ∷ []) same
 take_one_more (first ∷ entries) (suc i) entry there = ap (λ es. first ∷ es) (take_one_more entries i entry there)
@@ -25,7 +25,7 @@ module _ (price : Pricing) (limits : Limits) where
       rw add-one (subst (λ (es : List Entry). Replays price limits p es next) (sym (take_one_more entries i entry there)) (replays_on price limits (take i entries) p q next entry before step))
 
   -- in a legal list each entry is a step from where those before it lead
-  legal_at : (entries : List Entry) (i : ℕ) (p q r : Rows) (entry : Entry) → Replays price limits p entries r → Replays price limits p (take i entries) q → slice_get entries i ≡ Some entry
+  pub legal_at : (entries : List Entry) (i : ℕ) (p q r : Rows) (entry : Entry) → Replays price limits p entries r → Replays price limits p (take i entries) q → slice_get entries i ≡ Some entry
       → (next : Rows) × Step price limits q entry.call entry.reply next
   legal_at [] i p q r entry way before there = cc
   legal_at (first ∷ entries) zero p q r entry way before there =
@@ -41,13 +41,13 @@ module _ (price : Pricing) (limits : Limits) where
       let step = legal_at entries i start fault.picture legal.0 fault.entry legal.1 fault.before fault.there in
       fault.wrong step.0 step.1
 
-  -- a reply other than the one due is wrong
-  pub wrong_reply : (start : Rows) (entries : List Entry) (i : ℕ) (picture after : Rows) (entry : Entry) (due : Reply) → Replays price limits start (take i entries) picture
-      → slice_get entries i ≡ Some entry → Step price limits picture entry.call due after → (due ≡ entry.reply → ⊥) → IsFirstWrong price limits start entries i
-  wrong_reply start entries i picture after entry due before there step other = record {
+  -- an entry whose reply is not due is wrong
+  pub wrong_reply : (start : Rows) (entries : List Entry) (i : ℕ) (picture : Rows) (entry : Entry) → Replays price limits start (take i entries) picture
+      → slice_get entries i ≡ Some entry → (IsDue price limits picture entry.call entry.reply → ⊥) → IsFirstWrong price limits start entries i
+  wrong_reply start entries i picture entry before there wrong = record {
     picture = picture;
     before = before;
     entry = entry;
     there = there;
-    wrong = λ next step'. other (one_step price limits picture entry.call due entry.reply after next step step').0;
+    wrong = λ next step. wrong (next, step);
   }

@@ -1,9 +1,11 @@
 -- What a book is, and what is true of it at all times.
-use Rattle.std.specs.Prelude.{◌≡◌, ◌≢◌, ◌<◌, ℕ, IfSome, List, [], ◌∷◌, Option, Some, None, is_some}
+use Rattle.std.specs.Prelude.{◌≡◌, ◌≢◌, ◌<◌, ◌≤◌, ℕ, IfSome, List, [], ◌∷◌, length, take, Option, Some, None, is_some}
 use Rattle.topo_core.specs.declared.rows.Rows.{Rows}
 use Rattle.topo_core.specs.declared.limits.Limits.{Limits}
+use Rattle.topo_core.specs.declared.calls.Call.{Call}
 use Rattle.topo_core.specs.declared.calls.Entry.{Entry}
 use Rattle.topo_core.specs.declared.calls.Refusal.TheVariants.{Memory}
+use Rattle.topo_core.specs.declared.calls.Reply.{Reply}
 use Rattle.topo_core.specs.declared.calls.Reply.TheVariants.{Refused}
 use Rattle.topo_core.specs.Routes.{Pricing}
 use Rattle.topo_core.specs.Steps.{Step}
@@ -19,6 +21,10 @@ pub record BookState (F : Type 0) : Type 0 where
   pub picture : Shown
   pub spare : ℕ
 
+-- the reply is the one due: by some step from p the call is answered so
+abbrev pub IsDue : Pricing → Limits → Rows → Call → Reply → Type 0
+IsDue price limits p call reply = (next : Rows) × Step price limits p call reply next
+
 -- from p the entries lead to q, each by a step, and every picture on the way is lawful and within the limits
 abbrev pub ReplaysLawfully : Pricing → Limits → Rows → List Entry → Rows → Type 0
 ReplaysLawfully price limits p [] q = (q ≡ p) × IsPicture limits p
@@ -29,6 +35,11 @@ ReplaysLawfully price limits p (entry ∷ entries) q = (next : Rows) × IsPictur
 pub record IsBook (price : Pricing) (start : Shown) (history : List Entry) (picture : Shown) : Type 0 where
   pub same_limits : picture.limits ≡ start.limits
   pub replayed : ReplaysLawfully price start.limits start.rows history picture.rows
+
+-- the picture stands after the first entries of the history, this many
+pub record IsReplica (price : Pricing) (start : Shown) (history : List Entry) (entries : ℕ) (picture : Shown) : Type 0 where
+  pub there : entries ≤ length history
+  pub stands : IsBook price start (take entries history) picture
 
 -- the tariff, the start and the limits are as they were
 abbrev pub IsSameBook : {F : Type 0} → BookState F → BookState F → Type 0

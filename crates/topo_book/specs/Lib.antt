@@ -1,2 +1,3 @@
 pub mod Books
 pub mod Faults
+pub mod Replicas

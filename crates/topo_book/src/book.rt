@@ -2,10 +2,12 @@
 
 ghost use Rattle.std.specs.Arc.{arc_value};
 
-use crate::next::{Next, make_next};
-use crate::steps::take_step;
+use crate::next::Next;
+use crate::replicas::{Replica, Replicas};
+use crate::steps::{advance, advance_alone, decide};
 use std::alloc::{AllocError, Global};
 use std::marker::Model;
+use std::mem;
 use std::sync::Arc;
 use topo_core::calls::{Call, Entry, Reply};
 use topo_picture::Picture;
@@ -15,12 +17,15 @@ use topo_route::workspace::Workspace;
 
 /// A picture that calls change, with the picture that it began with and every answer since. What its
 /// searches write on is kept from one call to the next, so that a search writes only what it reaches.
+/// Pictures that took part before are kept as well: brought up to date, one of them is the next picture,
+/// so that a call which others see at once costs its change, and not a copy.
 #[derive(Drop)]
 pub struct Book<F: Asks> {
     tariff: Arc<Tariff<F>>,
     start: Picture,
     history: Vec<Entry>,
     picture: Arc<Picture>,
+    replicas: Replicas,
     work: Workspace,
 }
 
@@ -28,7 +33,8 @@ impl<F: Asks> Model for Book<F> {
     ghost use Rattle.std.specs.Prelude.{◌-◌, vec_len, vec_capacity};
     ghost use Rattle.std.specs.Arc.{arc_value};
     ghost use Rattle.topo_price.specs.Prices.{prices_of};
-    ghost use Rattle.topo_book.specs.Books.{BookState, IsBook};
+    ghost use Rattle.topo_book.specs.Books.{BookState};
+    ghost use Rattle.topo_book.specs.Replicas.{IsBookWith};
 
     ghost Value = { BookState F };
 
@@ -40,19 +46,19 @@ impl<F: Asks> Model for Book<F> {
       spare = vec_capacity b.history - vec_len b.history;
     } };
 
-    ghost invariant = { λ b. IsBook (prices_of (F.answers (arc_value b.tariff))) b.start b.history.items (arc_value b.picture) };
+    ghost invariant = { λ b. IsBookWith (prices_of (F.answers (arc_value b.tariff))) b.start b.history.items (arc_value b.picture) b.replicas };
 }
 
 impl<F: Asks> Book<F> {
-    ghost use Rattle.std.specs.Prelude.{◌≡◌, ◌≢◌, IfOk, OnOk, OnErr, [], ◌∷◌, ◌++◌};
-    ghost use Rattle.topo_core.specs.History.{Replays};
+    ghost use Rattle.std.specs.Prelude.{◌≡◌, ◌≢◌, ◌<◌, true, IfOk, OnOk, OnErr, [], ◌∷◌, ◌++◌};
+    ghost use Rattle.topo_core.specs.History.{Replays, is_accepted};
     ghost use Rattle.topo_core.specs.Steps.{Step};
     ghost use Rattle.topo_core.specs.declared.calls.Call.TheVariants.{Grow, Insert, Delete};
     ghost use Rattle.topo_core.specs.declared.calls.Refusal.TheVariants.{Memory};
     ghost use Rattle.topo_core.specs.declared.calls.Reply.TheVariants.{Refused};
     ghost use Rattle.topo_frozen.specs.Shown.{IsPicture};
     ghost use Rattle.topo_price.specs.Prices.{prices_of};
-    ghost use Rattle.topo_book.specs.Books.{CanFollow, IsSameBook, IsUnchanged, ReplaysLawfully, picture_after};
+    ghost use Rattle.topo_book.specs.Books.{CanFollow, IsDue, IsReplica, IsSameBook, IsUnchanged, ReplaysLawfully, picture_after};
 
     /// The book that begins with this picture and no entry.
     pub fn new(alloc: Global, start: Picture, tariff: Arc<Tariff<F>>) -> Result<Self, AllocError>
@@ -64,12 +70,14 @@ impl<F: Asks> Book<F> {
         ensures picture { IfOk result (λ b. b.picture ≡ start) }
     {
         let picture = Arc::new(alloc, start.copy(alloc)?)?;
+        let replicas = Replicas::new(alloc)?;
         let work = Workspace::new(alloc)?;
         Ok(Book {
             tariff,
             start,
             history: Vec::new(alloc),
             picture,
+            replicas,
             work,
         })
     }
@@ -104,7 +112,7 @@ impl<F: Asks> Book<F> {
         ensures lawful { IsPicture self.now.picture.limits self.now.picture.rows }
         ensures same_limits { self.now.picture.limits ≡ self.now.start.limits }
     {
-        &self.picture
+        self.shared_picture()
     }
 
     /// The same picture, of which a reader may take a share: it stays as it is for as long as the share
@@ -201,7 +209,7 @@ impl<F: Asks> Book<F> {
         self.carry_out(alloc, caller, Call::Grow { u, position, kind }, None)
     }
 
-    /// Makes a call ready to be entered, on a copy of the picture, with the place of its entry
+    /// Makes a call ready to be entered, on a picture of its own, with the place of its entry
     /// reserved. The book is as it was, whatever the answer.
     pub fn prepare(&mut self, alloc: Global, caller: u32, call: Call) -> Result<Next, AllocError>
         ensures caller { IfOk result (λ n. n.entry.caller ≡ caller) }
@@ -241,13 +249,106 @@ impl<F: Asks> Book<F> {
         ensures same_book { IsSameBook self.old self.new }
     {
         let (entry, picture) = next.into_parts();
+        let entries = self.history.len();
         self.history.push_reserved(entry);
         if let Some(picture) = picture {
-            self.picture = picture;
+            let before = mem::replace(&mut self.picture, picture);
+            self.replicas.keep(Replica {
+                picture: before,
+                entries,
+            });
         }
     }
 
-    /// Makes the call ready on a copy of the picture.
+    /// Carries the entries out on a picture that stands after the first `from` of them, and answers after
+    /// how many it stands then: after all of them, but where memory is wanted.
+    fn carry_on(&self, alloc: Global, picture: &mut Picture, from: usize) -> usize
+        requires { IsReplica (prices_of (F.answers self.now.tariff)) self.now.start self.now.history from picture.old }
+        ensures { IsReplica (prices_of (F.answers self.now.tariff)) self.now.start self.now.history result picture.new }
+    {
+        let history = self.history();
+        for index in from..history.len() {
+            if advance(alloc, picture, &self.tariff, &history[index]).is_err() {
+                return index;
+            }
+        }
+        history.len()
+    }
+
+    /// Brings a replica up to date, if nobody else holds it. Where memory is wanted it stands after some
+    /// later entry.
+    fn catch_up(&self, alloc: Global, replica: &mut Replica) -> Result<(), AllocError>
+        requires { IsReplica (prices_of (F.answers self.now.tariff)) self.now.start self.now.history replica.old.entries (arc_value replica.old.picture) }
+        ensures stands { IsReplica (prices_of (F.answers self.now.tariff)) self.now.start self.now.history replica.new.entries (arc_value replica.new.picture) }
+        ensures equal { OnOk result (arc_value replica.new.picture ≡ self.now.picture) }
+    {
+        let Some(picture) = Arc::get_mut(&mut replica.picture) else {
+            return Err(AllocError);
+        };
+        replica.entries = self.carry_on(alloc, picture, replica.entries);
+        if replica.entries < self.history.len() {
+            return Err(AllocError);
+        }
+        Ok(())
+    }
+
+    /// How many entries a replica may be behind. To carry an entry out takes about as long as to copy 128
+    /// segments, so from there on a copy takes no longer.
+    fn reach(&self) -> usize {
+        self.picture.counts().segments as usize / 128 + 16
+    }
+
+    /// A copy of the picture now.
+    fn copied(&self, alloc: Global) -> Result<Arc<Picture>, AllocError>
+        ensures equal { IfOk result (λ p. arc_value p ≡ self.now.picture) }
+        ensures lawful { IfOk result (λ p. IsPicture (arc_value p).limits (arc_value p).rows) }
+    {
+        Ok(Arc::new(alloc, self.picture.copy(alloc)?)?)
+    }
+
+    /// A picture that equals the picture now, and that nobody else holds: a replica that is brought up to
+    /// date, and a copy where none is free.
+    fn take_twin(&mut self, alloc: Global) -> Result<Arc<Picture>, AllocError>
+        ensures equal { IfOk result (λ p. arc_value p ≡ self.new.picture) }
+        ensures lawful { IfOk result (λ p. IsPicture (arc_value p).limits (arc_value p).rows) }
+        ensures unchanged { IsUnchanged self.old self.new }
+        ensures same_book { IsSameBook self.old self.new }
+        ensures same_room { self.new.spare ≡ self.old.spare }
+    {
+        let least = self.history.len().saturating_sub(self.reach());
+        let Some(mut replica) = self.replicas.take_free(least) else {
+            return self.copied(alloc);
+        };
+        if self.catch_up(alloc, &mut replica).is_err() {
+            self.replicas.keep(replica);
+            return Err(AllocError);
+        }
+        Ok(replica.picture)
+    }
+
+    /// Makes an accepted entry ready, on a picture that nobody else holds.
+    fn make_accepted(&mut self, alloc: Global, entry: Entry) -> Result<Next, AllocError>
+        requires accepted { is_accepted entry.reply ≡ true }
+        requires due { IsDue (prices_of (F.answers self.old.tariff)) self.old.picture.limits self.old.picture.rows entry.call entry.reply }
+        requires no_memory { entry.reply ≢ Refused Memory }
+        requires room { 0 < self.old.spare }
+        ensures entry { IfOk result (λ n. n.entry ≡ entry) }
+        ensures ready { IfOk result (CanFollow (prices_of (F.answers self.new.tariff)) self.new) }
+        ensures unchanged { IsUnchanged self.old self.new }
+        ensures same_book { IsSameBook self.old self.new }
+    {
+        let mut twin = self.take_twin(alloc)?;
+        if advance_alone(alloc, &mut twin, &self.tariff, &entry).is_err() {
+            self.replicas.keep(Replica {
+                picture: twin,
+                entries: self.history.len(),
+            });
+            return Err(AllocError);
+        }
+        Ok(Next::accepted(entry, twin))
+    }
+
+    /// Makes the call ready. A refused call takes no other picture.
     fn make_ready(
         &mut self,
         alloc: Global,
@@ -262,15 +363,23 @@ impl<F: Asks> Book<F> {
         ensures same_book { IsSameBook self.old self.new }
     {
         self.history.reserve(1)?;
-        make_next(
+        let reply = decide(
             alloc,
             &self.picture,
             &self.tariff,
-            caller,
             call,
             plan,
             &mut self.work,
-        )
+        )?;
+        let entry = Entry {
+            caller,
+            call,
+            reply,
+        };
+        match entry.reply {
+            Reply::Refused(_) => Ok(Next::refused(entry)),
+            _ => self.make_accepted(alloc, entry),
+        }
     }
 
     /// Carries the call out and enters it. Whatever fails, fails before anything changes.
@@ -291,13 +400,16 @@ impl<F: Asks> Book<F> {
             return self.carry_out_aside(alloc, caller, call, plan);
         };
         self.history.reserve(1)?;
-        let answer = take_step(alloc, picture, &self.tariff, call, plan, &mut self.work)?;
-        self.history.push_reserved(Entry {
+        let reply = decide(alloc, picture, &self.tariff, call, plan, &mut self.work)?;
+        let entry = Entry {
             caller,
             call,
-            reply: answer.entered,
-        });
-        Ok(answer.told)
+            reply,
+        };
+        let told = entry.reply.copy(alloc)?;
+        advance(alloc, picture, &self.tariff, &entry)?;
+        self.history.push_reserved(entry);
+        Ok(told)
     }
 
     /// As `carry_out`, where readers share the picture now: the call is made ready on another, and then

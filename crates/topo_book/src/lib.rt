@@ -10,10 +10,8 @@
 mod book;
 mod next;
 mod replaying;
-mod replies;
+mod replicas;
 mod steps;
-#[cfg(test)]
-mod tests;
 
 pub use book::Book;
 pub use next::Next;

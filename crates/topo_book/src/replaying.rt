@@ -1,14 +1,15 @@
 //! The replay of a list of entries.
 
-ghost use Rattle.std.specs.Prelude.{◌≡◌, IfErr, IfOk};
+ghost use Rattle.std.specs.Prelude.{◌≡◌, IfErr, IfOk, MatchBool};
 ghost use Rattle.topo_core.specs.History.{Replays};
+ghost use Rattle.topo_core.specs.Steps.{Step};
 ghost use Rattle.topo_frozen.specs.Shown.{IsPicture};
 ghost use Rattle.topo_price.specs.Prices.{prices_of};
+ghost use Rattle.topo_book.specs.Books.{IsDue};
 ghost use Rattle.topo_book.specs.Faults.{IsFaultOf, IsIllegalAt};
 
-use crate::replies::same_reply;
-use crate::steps::take_step;
-use std::alloc::Global;
+use crate::steps::{advance, decide};
+use std::alloc::{AllocError, Global};
 use thiserror::Error;
 use topo_core::calls::Entry;
 use topo_picture::Picture;
@@ -24,6 +25,28 @@ pub enum ReplayFault {
     /// A growth of memory was refused.
     #[error("8 Memory")]
     Memory,
+}
+
+/// Carries an entry out where its reply is the one due, and answers whether it is.
+fn replay_entry<F: Asks>(
+    alloc: Global,
+    picture: &mut Picture,
+    tariff: &Tariff<F>,
+    entry: &Entry,
+    work: &mut Workspace,
+) -> Result<bool, AllocError>
+    requires { IsPicture picture.old.limits picture.old.rows }
+    ensures due { IfOk result (λ due. MatchBool due (Step (prices_of (F.answers tariff.now)) picture.old.limits picture.old.rows entry.now.call entry.now.reply picture.new.rows)
+        (IsDue (prices_of (F.answers tariff.now)) picture.old.limits picture.old.rows entry.now.call entry.now.reply → ⊥)) }
+    ensures same_limits { picture.new.limits ≡ picture.old.limits }
+    ensures lawful { IsPicture picture.new.limits picture.new.rows }
+{
+    let reply = decide(alloc, picture, tariff, entry.call, None, work)?;
+    if !reply.equals(&entry.reply) {
+        return Ok(false);
+    }
+    advance(alloc, picture, tariff, entry)?;
+    Ok(true)
 }
 
 /// The picture that the entries lead to from the start, each call carried out again. A reply that is
@@ -49,12 +72,9 @@ pub fn replay<F: Asks>(
         Err(_) => return Err(ReplayFault::Memory),
     };
     for (index, entry) in entries.iter().enumerate() {
-        match take_step(alloc, &mut picture, tariff, entry.call, None, &mut work) {
-            Ok(answer) => {
-                if !same_reply(&answer.entered, &entry.reply) {
-                    return Err(ReplayFault::WrongReply(index));
-                }
-            }
+        match replay_entry(alloc, &mut picture, tariff, entry, &mut work) {
+            Ok(true) => {}
+            Ok(false) => return Err(ReplayFault::WrongReply(index)),
             Err(_) => return Err(ReplayFault::Memory),
         }
     }

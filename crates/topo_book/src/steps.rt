@@ -1,15 +1,20 @@
-//! One step of a picture, in place.
+//! One step of a picture, in two parts: what the reply is, and the change that an accepted reply says.
 
-ghost use Rattle.std.specs.Prelude.{◌≡◌, ◌≢◌, ◌<◌, IfOk, MatchOption, OnErr, None, length};
+ghost use Rattle.std.specs.Prelude.{◌≡◌, ◌≢◌, ◌<◌, IfOk, MatchOption, OnErr, OnOk, None, length};
+ghost use Rattle.std.specs.Arc.{arc_value};
 ghost use Rattle.topo_core.specs.Routes.{HasNoRoute, IsFirst};
-ghost use Rattle.topo_core.specs.Steps.{Step, insert_refusal};
+ghost use Rattle.topo_core.specs.Steps.{Step};
 ghost use Rattle.topo_core.specs.declared.calls.Call.TheVariants.{Insert};
+ghost use Rattle.topo_core.specs.declared.calls.Refusal.TheVariants.{Memory};
+ghost use Rattle.topo_core.specs.declared.calls.Reply.TheVariants.{Refused};
 ghost use Rattle.topo_price.specs.Prices.{prices_of};
 ghost use Rattle.topo_frozen.specs.Shown.{IsPicture};
+ghost use Rattle.topo_book.specs.Books.{IsDue};
 
-use crate::replies::{Answer, copy_route, deletion_answer, growth_answer, refused};
 use std::alloc::{AllocError, Global};
-use topo_core::calls::{Call, Refusal, Reply};
+use std::sync::Arc;
+use topo_core::calls::{Call, Entry, Refusal, Reply};
+use topo_core::ids::EdgeId;
 use topo_core::routes::Inserted;
 use topo_picture::Picture;
 use topo_price::tariff::{Asks, Tariff};
@@ -18,43 +23,10 @@ use topo_route::plan::{Plan, PricedRoute};
 use topo_route::search::first_route;
 use topo_route::workspace::Workspace;
 
-/// Puts an edge in along the first route.
-fn apply_first<F: Asks>(
-    alloc: Global,
-    picture: &mut Picture,
-    tariff: &Tariff<F>,
-    u: u32,
-    v: u32,
-    kind: u32,
-    first: PricedRoute,
-) -> Result<Answer, AllocError>
-    requires lawful { IsPicture picture.old.limits picture.old.rows }
-    requires admitted { insert_refusal picture.old.limits picture.old.rows u v kind ≡ None }
-    requires first { IsFirst (prices_of (F.answers tariff.now)) picture.old.rows u v first.route first.price }
-    ensures step { IfOk result (λ answer. Step (prices_of (F.answers tariff.now)) picture.old.limits picture.old.rows (Insert u v kind) answer.entered picture.new.rows) }
-    ensures same_limits { picture.new.limits ≡ picture.old.limits }
-    ensures lawful { IsPicture picture.new.limits picture.new.rows }
-    ensures unchanged { OnErr result (picture.new ≡ picture.old) }
-{
-    tariff.keeps_promise();
-    let told = copy_route(alloc, &first.route)?;
-    let price = first.price;
-    match picture.apply_route(alloc, u, v, kind, &first.route) {
-        Ok(id) => Ok(Answer {
-            told: Reply::Inserted(Inserted {
-                id,
-                route: told,
-                price,
-            }),
-            entered: Reply::Inserted(Inserted {
-                id,
-                route: first.route,
-                price,
-            }),
-        }),
-        Err(Refusal::Memory) => Err(AllocError),
-        Err(why) => Ok(refused(why)),
-    }
+/// Whether a plan has as many heights as the picture has darts. A plan of an earlier picture mostly has
+/// not, and need not be compared with a frozen picture then.
+fn has_height_for_each_dart(picture: &Picture, plan: &Plan) -> bool {
+    plan.heights.as_slice().len() == 2 * picture.counts().segments as usize
 }
 
 /// The first route: the plan's where it passes the check, and else the one that a search finds.
@@ -74,10 +46,12 @@ fn find_first<F: Asks>(
         (HasNoRoute (prices_of (F.answers tariff.now)) picture.now.rows u v)
         (λ r. IsFirst (prices_of (F.answers tariff.now)) picture.now.rows u v r.route r.price)) }
 {
-    if let Some(plan) = plan {
+    if let Some(plan) = plan
+        && has_height_for_each_dart(picture, plan)
+    {
         let frozen = picture.freeze(alloc)?;
         if let Ok(()) = check(&frozen, tariff, u, v, plan) {
-            let route = copy_route(alloc, &plan.route)?;
+            let route = plan.route.copy(alloc)?;
             let price = plan.price;
             return Ok(Some(PricedRoute { route, price }));
         }
@@ -85,60 +59,116 @@ fn find_first<F: Asks>(
     first_route(alloc, &picture.linked(), tariff, u, v, work)
 }
 
-/// Inserts an edge from the first of the ends to the second along the first route, for which a plan may
-/// spare the search.
-fn insert_first<F: Asks>(
+/// The reply that is due to an insertion from `u` to `v`, for which a plan may spare the search.
+fn decide_insertion<F: Asks>(
     alloc: Global,
-    picture: &mut Picture,
+    picture: &Picture,
     tariff: &Tariff<F>,
     ends: (u32, u32),
     kind: u32,
     plan: Option<&Plan>,
     work: &mut Workspace,
-) -> Result<Answer, AllocError>
-    requires lawful { IsPicture picture.old.limits picture.old.rows }
-    ensures step { IfOk result (λ answer. Step (prices_of (F.answers tariff.now)) picture.old.limits picture.old.rows (Insert ends.0 ends.1 kind) answer.entered picture.new.rows) }
-    ensures same_limits { picture.new.limits ≡ picture.old.limits }
-    ensures lawful { IsPicture picture.new.limits picture.new.rows }
-    ensures unchanged { OnErr result (picture.new ≡ picture.old) }
+) -> Result<Reply, AllocError>
+    ensures { IfOk result (IsDue (prices_of (F.answers tariff.now)) picture.now.limits picture.now.rows (Insert ends.0 ends.1 kind)) }
 {
     let (u, v) = ends;
     if let Err(why) = picture.admit(u, v, kind) {
-        return Ok(refused(why));
+        return Ok(Reply::Refused(why));
     }
-    match find_first(alloc, picture, tariff, u, v, plan, work)? {
-        Some(first) => apply_first(alloc, picture, tariff, u, v, kind, first),
-        None => Ok(refused(Refusal::NoRoute)),
+    let Some(first) = find_first(alloc, picture, tariff, u, v, plan, work)? else {
+        return Ok(Reply::Refused(Refusal::NoRoute));
+    };
+    match picture.admit_route(&first.route) {
+        Ok(id) => Ok(Reply::Inserted(Inserted {
+            id,
+            route: first.route,
+            price: first.price,
+        })),
+        Err(why) => Ok(Reply::Refused(why)),
     }
 }
 
-/// Carries the call out in place. An insertion takes the plan's route where the plan passes the check.
-/// Whatever fails, fails before the picture changes.
-pub(crate) fn take_step<F: Asks>(
+/// The reply that is due to a call. An insertion takes the plan's route where the plan passes the check.
+/// The picture is only read.
+pub(crate) fn decide<F: Asks>(
     alloc: Global,
-    picture: &mut Picture,
+    picture: &Picture,
     tariff: &Tariff<F>,
     call: Call,
     plan: Option<&Plan>,
     work: &mut Workspace,
-) -> Result<Answer, AllocError>
+) -> Result<Reply, AllocError>
+    ensures due { IfOk result (IsDue (prices_of (F.answers tariff.now)) picture.now.limits picture.now.rows call) }
+    ensures no_memory { IfOk result (λ reply. reply ≢ Refused Memory) }
+{
+    match call {
+        Call::Grow { u, position, kind } => match picture.admit_growth(u, position, kind) {
+            Ok((vertex, edge)) => Ok(Reply::Grown { vertex, edge }),
+            Err(why) => Ok(Reply::Refused(why)),
+        },
+        Call::Insert { u, v, kind } => {
+            decide_insertion(alloc, picture, tariff, (u, v), kind, plan, work)
+        }
+        Call::Delete { edge } => match picture.admit_deletion(edge) {
+            Ok(()) => Ok(Reply::Deleted(EdgeId::new(edge))),
+            Err(why) => Ok(Reply::Refused(why)),
+        },
+    }
+}
+
+/// Carries out in place what the reply of an entry says: an insertion along the route that it holds,
+/// with no search. A refusal changes nothing. Whatever fails, fails before the picture changes.
+pub(crate) fn advance<F: Asks>(
+    alloc: Global,
+    picture: &mut Picture,
+    tariff: &Tariff<F>,
+    entry: &Entry,
+) -> Result<(), AllocError>
     requires lawful { IsPicture picture.old.limits picture.old.rows }
-    ensures step { IfOk result (λ answer. Step (prices_of (F.answers tariff.now)) picture.old.limits picture.old.rows call answer.entered picture.new.rows) }
+    requires due { IsDue (prices_of (F.answers tariff.now)) picture.old.limits picture.old.rows entry.now.call entry.now.reply }
+    ensures step { OnOk result (Step (prices_of (F.answers tariff.now)) picture.old.limits picture.old.rows entry.now.call entry.now.reply picture.new.rows) }
     ensures same_limits { picture.new.limits ≡ picture.old.limits }
     ensures lawful { IsPicture picture.new.limits picture.new.rows }
     ensures unchanged { OnErr result (picture.new ≡ picture.old) }
 {
-    match call {
-        Call::Grow { u, position, kind } => growth_answer(picture.grow(alloc, u, position, kind)),
-        Call::Insert { u, v, kind } => insert_first(
-            alloc,
-            picture,
-            tariff,
-            (u, v),
-            kind,
-            plan,
-            work,
-        ),
-        Call::Delete { edge } => Ok(deletion_answer(edge, picture.delete(alloc, edge))),
+    match (entry.call, &entry.reply) {
+        (Call::Grow { u, position, kind }, Reply::Grown { .. }) => {
+            match picture.grow(alloc, u, position, kind) {
+                Ok(_) => Ok(()),
+                Err(_) => Err(AllocError),
+            }
+        }
+        (Call::Insert { u, v, kind }, Reply::Inserted(made)) => {
+            tariff.keeps_promise();
+            match picture.apply_route(alloc, u, v, kind, &made.route) {
+                Ok(_) => Ok(()),
+                Err(_) => Err(AllocError),
+            }
+        }
+        (Call::Delete { edge }, Reply::Deleted(_)) => {
+            picture.take_out(alloc, edge);
+            Ok(())
+        }
+        _ => Ok(()),
+    }
+}
+
+/// As `advance`, on a picture that nobody else holds. One that others hold is left as it is.
+pub(crate) fn advance_alone<F: Asks>(
+    alloc: Global,
+    picture: &mut Arc<Picture>,
+    tariff: &Tariff<F>,
+    entry: &Entry,
+) -> Result<(), AllocError>
+    requires lawful { IsPicture (arc_value picture.old).limits (arc_value picture.old).rows }
+    requires due { IsDue (prices_of (F.answers tariff.now)) (arc_value picture.old).limits (arc_value picture.old).rows entry.now.call entry.now.reply }
+    ensures step { OnOk result (Step (prices_of (F.answers tariff.now)) (arc_value picture.old).limits (arc_value picture.old).rows entry.now.call entry.now.reply (arc_value picture.new).rows) }
+    ensures same_limits { (arc_value picture.new).limits ≡ (arc_value picture.old).limits }
+    ensures lawful { IsPicture (arc_value picture.new).limits (arc_value picture.new).rows }
+    ensures unchanged { OnErr result (arc_value picture.new ≡ arc_value picture.old) }
+{
+    match Arc::get_mut(picture) {
+        Some(picture) => advance(alloc, picture, tariff, entry),
+        None => Err(AllocError),
     }
 }

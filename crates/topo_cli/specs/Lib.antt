@@ -1,9 +1,1 @@
-pub mod Checks
-pub mod Limiting
-pub mod Lists
-pub mod Reading
-pub mod Replays
-pub mod Runs
-pub mod Settings
-pub mod Statuses
-pub mod Words
+pub mod Commands

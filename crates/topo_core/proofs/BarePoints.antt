@@ -33,7 +33,7 @@ none_of p [] h = refl
 none_of p (x ∷ xs) h = or_from (p x) (list_any p xs) (h x (inl refl)) (none_of p xs (λ y k. h y (inr k)))
 
 -- an item passes
-any_of : {X : Type 0} (p : X → Bool) (x : X) (xs : List X) → IsIn x xs → p x ≡ true → list_any p xs ≡ true
+pub any_of : {X : Type 0} (p : X → Bool) (x : X) (xs : List X) → IsIn x xs → p x ≡ true → list_any p xs ≡ true
 any_of p x [] h passes = absurd h
 any_of p x (y ∷ xs) (inl e) passes = or_left (p y) (list_any p xs) (ap p (sym e) ∙ passes)
 any_of p x (y ∷ xs) (inr h) passes = or_right (p y) (list_any p xs) (any_of p x xs h passes)

@@ -14,6 +14,7 @@ pub mod LeastRoutes
 pub mod Lengthening
 pub mod Members
 pub mod NewDarts
+pub mod NumberOrder
 pub mod Numbering
 pub mod OpenedDarts
 pub mod Openings
@@ -22,6 +23,7 @@ pub mod Points
 pub mod Renumbering
 pub mod RoundPoints
 pub mod Replaying
+pub mod Reaching
 pub mod RouteDarts
 pub mod RouteOrder
 pub mod ShownForm

@@ -1,12 +1,19 @@
 -- What the definitions say of the named pictures: each record is proved as the contract of a function without a body.
-use Rattle.std.specs.Prelude.{◌≡◌, ℕ, List, [], ◌∷◌, ◌++◌, map, length, sum_by, slice_index_or, Some, None, false, true}
+use Rattle.std.specs.Prelude.{◌≡◌, ◌≤◌, ℕ, List, [], ◌∷◌, ◌++◌, map, length, sum_by, slice_index_or, Some, None, false, true}
 use Rattle.topo_core.specs.declared.darts.Dart.{Dart}
 use Rattle.topo_core.specs.declared.darts.Sign.TheVariants.{LeftToRight, RightToLeft}
 use Rattle.topo_core.specs.declared.darts.Way.TheVariants.{Forward, Back}
 use Rattle.topo_core.specs.declared.routes.Route.{Route}
 use Rattle.topo_core.specs.declared.rows.Rows.{Rows}
 use Rattle.topo_core.specs.declared.limits.Limits.{Limits}
+use Rattle.topo_core.specs.declared.calls.Call.{Call}
+use Rattle.topo_core.specs.declared.calls.Call.TheVariants.{Delete, Grow, Insert}
+use Rattle.topo_core.specs.declared.calls.Command.{Command}
+use Rattle.topo_core.specs.declared.calls.Command.TheVariants.{Plain, Planned}
+use Rattle.topo_core.specs.declared.calls.Entry.{Entry}
 use Rattle.topo_core.specs.declared.calls.Refusal.TheVariants.{NoVertex, SameEnds, NoPosition, BadKind, Full}
+use Rattle.topo_core.specs.declared.calls.Reply.{Reply}
+use Rattle.topo_core.specs.declared.calls.Reply.TheVariants.{Grown, Inserted as Put, Refused}
 use Rattle.topo_core.specs.Systems.{Connected, face_step}
 use Rattle.topo_core.specs.Picture.{system, segment_count, face_count, around_vertex, edge_row}
 use Rattle.topo_core.specs.Pictures.{seed, bipyramid, joined_apexes, hexagon, crossed_hexagon, barrier, passed_barrier, cross, crossing, forward, back}
@@ -15,7 +22,8 @@ use Rattle.topo_core.specs.Routes.{Pricing, IsFirst, HasNoRoute}
 use Rattle.topo_core.specs.Changes.{shown, grown, without, IsCut, IsLocalCut}
 use Rattle.topo_core.specs.Insertions.{lifted}
 use Rattle.topo_core.specs.Deletions.{crossings_between, rightward, RunsOver}
-use Rattle.topo_core.specs.Steps.{grow_refusal, insert_refusal}
+use Rattle.topo_core.specs.History.{Agrees, IsRun, IsVersion, Replays, versions}
+use Rattle.topo_core.specs.Steps.{Step, grow_refusal, insert_refusal}
 
 -- ---- Words of the evidence
 
@@ -188,3 +196,41 @@ pub record UnlawfulEvidence : Type 0 where
   pub bare_apart : Connected (system (rows_of ([] ∷ [] ∷ []))) → ⊥
   -- a list that lacks an end
   pub lacking : has_good_rotations (record seed { rotations = (0 ∷ []) ∷ [] ∷ [] }) ≡ false
+
+-- ---- A history of two callers on the seed: one grows a vertex and joins it again, the other is refused
+
+abbrev pub entry : ℕ → Call → Reply → Entry
+entry caller call reply = record { caller = caller; call = call; reply = reply }
+
+abbrev pub growth : Entry
+growth = entry 0 (Grow 1 0 0) (Grown 2 1)
+
+abbrev pub refusal : Entry
+refusal = entry 1 (Insert 0 0 0) (Refused SameEnds)
+
+abbrev pub insertion : Entry
+insertion = entry 0 (Insert 1 2 0) (Put (record { id = 2; route = route 0 [] 0; price = 0 }))
+
+abbrev pub two_callers : List Entry
+two_callers = growth ∷ refusal ∷ insertion ∷ []
+
+-- where they lead
+abbrev pub after_two : Rows
+after_two = shown (grown seed 1 0 0) 1 2 0 (route 0 [] 0)
+
+-- the lists of commands that they made
+abbrev pub two_lists : List (List Command)
+two_lists = (Plain (Grow 1 0 0) ∷ Planned 1 2 0 ∷ []) ∷ (Plain (Insert 0 0 0) ∷ []) ∷ []
+
+pub record HistoryEvidence (wide : Limits) : Type 0 where
+  pub step : Step (by_kind []) wide seed (Grow 1 0 0) (Grown 2 1) (grown seed 1 0 0)
+  pub replayed : Replays (by_kind []) wide seed two_callers after_two
+  -- the accepted entries are the versions, and lead to the same picture
+  pub accepted : versions two_callers ≡ growth ∷ insertion ∷ []
+  pub version : IsVersion (by_kind []) wide seed (growth ∷ insertion ∷ []) after_two
+  -- a receipt of the second call of caller 0 agrees; of caller 1, one with another refusal does not
+  pub agrees : Agrees two_callers 0 1 (Insert 1 2 0) insertion.reply
+  pub differs : Agrees two_callers 1 0 (Insert 0 0 0) (Refused NoVertex) → ⊥
+  -- caller 1 made one call
+  pub no_more : Agrees two_callers 1 1 (Insert 0 0 0) (Refused SameEnds) → ⊥
+  pub run : IsRun (by_kind []) wide seed two_lists two_callers after_two

@@ -1,12 +1,13 @@
 -- Laws of the definitions, each proved as the contract of a function without a body.
-use Rattle.std.specs.Prelude.{◌≡◌, ◌<◌, ◌↔◌, ◌%◌, ◌==◌, ℕ, true, false, cond, length, count_by, slice_get, slice_index, Some}
+use Rattle.std.specs.Prelude.{◌≡◌, ◌<◌, ◌↔◌, ◌%◌, ◌⊎◌, ◌==◌, ℕ, true, false, cond, length, count_by, slice_get, slice_index, Some}
 use Rattle.std.specs.List.{list_any}
 use Rattle.topo_core.specs.declared.darts.Dart.{Dart}
 use Rattle.topo_core.specs.declared.darts.Way.TheVariants.{Forward}
 use Rattle.topo_core.specs.declared.rows.Rows.{Rows}
 use Rattle.topo_core.specs.Cycles.{IsPermutation, IsPermutationList, SameCycle, map_of}
 use Rattle.topo_core.specs.Rotations.{twin, face_next, IsConnected}
-use Rattle.topo_core.specs.Darts.{same_dart, dart_twin}
+use Rattle.std.specs.declared.cmp.Ordering.TheVariants.{Less}
+use Rattle.topo_core.specs.Darts.{dart_cmp, same_dart, dart_twin}
 use Rattle.topo_core.specs.Systems.{darts_in, has_dart, turn, Connected, SameFace}
 use Rattle.topo_core.specs.Picture.{IsDart, darts, rotation, system, index_of, turn_images, face_count}
 use Rattle.topo_core.specs.Lawful.{IsEmbedding, HasGenusZero, IsWellFormed}
@@ -67,6 +68,17 @@ pub record NumbersStandForDarts (rows : Rows) : Type 0 where
 -- in well-formed rows the numbers stand for the darts
 abbrev pub DartsAreNumbered : Type 0
 DartsAreNumbered = (rows : Rows) → IsWellFormed rows → NumbersStandForDarts rows
+
+-- the canonical order is total: of two darts one comes first, or they are one, and what comes before a dart comes before all
+-- behind it
+pub record DartOrderIsTotal : Type 0 where
+  pub total : (c d : Dart) → (dart_cmp c d ≡ Less) ⊎ ((c ≡ d) ⊎ (dart_cmp d c ≡ Less))
+  pub transitive : (c d e : Dart) → dart_cmp c d ≡ Less → dart_cmp d e ≡ Less → dart_cmp c e ≡ Less
+
+-- a dart has the smaller number just where it comes first
+abbrev pub NumbersKeepOrder : Type 0
+NumbersKeepOrder = (rows : Rows) → IsWellFormed rows → (c d : Dart) → has_dart (darts rows) c ≡ true → has_dart (darts rows) d ≡ true
+    → ((index_of rows c < index_of rows d) ↔ (dart_cmp c d ≡ Less))
 
 -- the rotation system is connected just when no point is bare and the numbers are connected
 abbrev pub NumbersKeepConnection : Type 0

@@ -7,7 +7,7 @@ use Rattle.topo_core.specs.declared.routes.Route.{Route}
 use Rattle.topo_core.specs.Darts.{dart_twin, dart_cmp}
 use Rattle.topo_core.specs.Systems.{SameFace, has_dart}
 use Rattle.topo_core.specs.Picture.{darts, corner, system}
-use Rattle.topo_core.specs.Lawful.{IsWellFormed}
+use Rattle.topo_core.specs.Lawful.{IsEmbedding, IsWellFormed}
 use Rattle.topo_core.specs.Routes.{Pricing, KeepsPromise, Price, Costs, IsPricedRoute, IsLeast, IsFirst, IsSimpleRoute, IsCertificate}
 
 -- ---- Routes by heights
@@ -66,3 +66,12 @@ HasOneCost price = (rows : Rows) → KeepsPromise price → (ds : List Dart) (m 
 -- between two visits of one face a walk can be cut short, so a least route meets no face twice
 abbrev pub LeastIsSimple : Pricing → Type 0
 LeastIsSimple price = (rows : Rows) → KeepsPromise price → IsWellFormed rows → (u v : ℕ) (r : Route) (n : ℕ) → IsLeast price rows u v r n → IsSimpleRoute rows u v r
+
+-- every edge has a price
+abbrev pub IsPriced : Pricing → Rows → Type 0
+IsPriced price rows = (d : Dart) → has_dart (darts rows) d ≡ true → (n : ℕ) × Price price rows d n
+
+-- where every edge has a price, a route with a cost leads from any vertex of a connected picture to any other
+abbrev pub RoutesExist : Pricing → Type 0
+RoutesExist price = (rows : Rows) (u v : ℕ) → IsEmbedding rows → IsPriced price rows → u < length rows.rotations → v < length rows.rotations
+    → (r : Route) × (n : ℕ) × IsPricedRoute price rows u v r n

@@ -3,16 +3,16 @@
 use crate::ids::{CrossId, EdgeId, VertexId};
 
 /// Which way along an edge: Forward is from its end `a` to its end `b`.
-#[derive(Clone, Copy, Debug, PartialEq, Eq, PartialOrd, Ord)]
+#[derive(Clone, Copy, Debug, PartialEq, Eq)]
 pub enum Way {
     Forward,
     Back,
 }
 
 /// A segment of an edge with a direction, also called a half-edge. Segment 0 starts at the edge's
-/// end `a`, and segment i lies between the crossings i - 1 and i of the path. The derived order is
-/// the canonical one: by edge, then by segment, then Forward before Back.
-#[derive(Clone, Copy, Debug, PartialEq, Eq, PartialOrd, Ord)]
+/// end `a`, and segment i lies between the crossings i - 1 and i of the path. In
+/// canonical order darts go by edge, then by segment, then Forward before Back.
+#[derive(Clone, Copy, Debug, PartialEq, Eq)]
 pub struct Dart {
     pub edge: EdgeId,
     pub seg: u32,

@@ -2,7 +2,7 @@
 //! the evidence.
 
 ghost use Rattle.std.specs.Prelude.{◌≡◌};
-ghost use Rattle.topo_core.specs.Evidence.{BarrierEvidence, BipyramidEvidence, CrossEvidence, HexagonEvidence, JoinedApexesEvidence, RefusalEvidence, SeedEvidence, UnlawfulEvidence};
+ghost use Rattle.topo_core.specs.Evidence.{BarrierEvidence, BipyramidEvidence, CrossEvidence, HexagonEvidence, HistoryEvidence, JoinedApexesEvidence, RefusalEvidence, SeedEvidence, UnlawfulEvidence};
 
 use crate::limits::Limits;
 
@@ -48,4 +48,12 @@ pub fn cross()
 /// Rows that are no pictures.
 pub fn unlawful()
     ensures { UnlawfulEvidence }
+{}
+
+/// A history of two callers: its replay, its versions, receipts that agree and that do not, and the lists
+/// of commands of which it is a run.
+pub fn history(wide: Limits)
+    requires vertices { wide.vertices ≡ 65536 }
+    requires edges { wide.edges ≡ 65536 }
+    ensures { HistoryEvidence wide }
 {}

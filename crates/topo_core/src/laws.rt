@@ -3,7 +3,7 @@
 ghost use Rattle.topo_core.specs.Deletions.{DeletionKeepsForm, DeletionShowsTurns, InsertionIsUndone};
 ghost use Rattle.topo_core.specs.Insertions.{InsertionKeepsForm, InsertionShowsTurns, SimpleRoutesAreInsertable};
 ghost use Rattle.topo_core.specs.Openings.{OpeningBares, OpeningUnchords, OpeningsKeepConnection, OpeningsKeepFaces};
-ghost use Rattle.topo_core.specs.Laws.{DartsAreNumbered, DartsStandOnce, GrowthKeepsEmbedding, GrowthKeepsFaces, GrowthKeepsGenus, NumbersKeepConnection, NumbersKeepFaces, TurnIsAPermutation};
+ghost use Rattle.topo_core.specs.Laws.{DartOrderIsTotal, DartsAreNumbered, DartsStandOnce, GrowthKeepsEmbedding, GrowthKeepsFaces, GrowthKeepsGenus, NumbersKeepConnection, NumbersKeepFaces, NumbersKeepOrder, TurnIsAPermutation};
 
 /// A growth in a corner of a vertex makes a connected embedding of a connected embedding.
 pub fn growth_keeps_embedding()
@@ -34,6 +34,16 @@ pub fn turn_is_a_permutation()
 /// hold for each number that of the next dart clockwise.
 pub fn darts_are_numbered()
     ensures { DartsAreNumbered }
+{}
+
+/// The canonical order of darts is total: by edge, then by segment, then Forward before Back.
+pub fn dart_order_is_total()
+    ensures { DartOrderIsTotal }
+{}
+
+/// The numbers of darts keep the canonical order.
+pub fn numbers_keep_order()
+    ensures { NumbersKeepOrder }
 {}
 
 /// A rotation system is connected just when no point is bare and the numbers of its darts are connected.

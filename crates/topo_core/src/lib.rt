@@ -10,6 +10,7 @@
 
 pub mod calls;
 pub mod darts;
+mod equality;
 pub mod evidence;
 pub mod ids;
 pub mod laws;
@@ -20,5 +21,3 @@ pub mod route_laws;
 pub mod routes;
 pub mod rows;
 pub mod step_laws;
-#[cfg(test)]
-mod tests;

@@ -38,7 +38,7 @@ pub enum LoadFault {
     Memory,
 }
 
-ghost use Rattle.std.specs.Prelude.{◌≡◌, ◌==◌, ◌+◌, ◌%◌, ◌<◌, ◌≤◌, ◌*◌, ◌^◌, ◌↔◌, IfOk, IsTrue, MatchOption, length, sum_by};
+ghost use Rattle.std.specs.Prelude.{◌≡◌, ◌≢◌, ◌==◌, ◌+◌, ◌%◌, ◌<◌, ◌≤◌, ◌*◌, ◌^◌, ◌↔◌, IfOk, IsTrue, MatchOption, Some, length, sum_by};
 ghost use Rattle.std.specs.List.{list_any};
 ghost use Rattle.topo_core.specs.Cycles.{IsPermutationList};
 ghost use Rattle.topo_core.specs.Lawful.{HasGenusZero, IsWellFormed};
@@ -97,13 +97,14 @@ fn has_genus_zero(alloc: Global, rows: &Rows, images: &[u32]) -> Result<bool, Al
     Ok(faces(alloc, images)? + points as u64 == segments as u64 + 2)
 }
 
-/// The first test that rows fail, if they fail one.
+/// The first test that rows fail, if they fail one. Want of memory is an error, and no such test.
 pub fn first_fault(
     alloc: Global,
     limits: &Limits,
     rows: &Rows,
 ) -> Result<Option<LoadFault>, AllocError>
-    ensures { IfOk result (λ found. MatchOption found (IsPicture limits.now rows.now) (FailsFirst limits.now rows.now)) }
+    ensures first { IfOk result (λ found. MatchOption found (IsPicture limits.now rows.now) (FailsFirst limits.now rows.now)) }
+    ensures no_memory { IfOk result (λ found. found ≢ Some LoadFault.Memory) }
 {
     if !within_limits(limits, rows) {
         return Ok(Some(LoadFault::TooMany));

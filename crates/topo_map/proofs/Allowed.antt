@@ -2,8 +2,8 @@
 use Rattle.std.proofs.Common.{◌≡◌, ◌≢◌, ℕ, ◌%◌, ◌<◌, refl, sym, ◌∙◌, ap}
 use Rattle.topo_core.specs.Cycles.{IsPermutation, SameCycle}
 use Rattle.topo_core.specs.Rotations.{twin, face_next}
-use Rattle.topo_core.specs.Edits.{IsIsolated}
-use Rattle.topo_perm.specs.Edits.{IsApart, IsAllowedHang, IsAllowedChord, IsAllowedUnchord, IsAllowedSplit, IsAllowedSmooth, IsPutBefore, IsSmoothing}
+use Rattle.topo_core.specs.Edits.{IsChord, IsIsolated, IsUnchord}
+use Rattle.topo_perm.specs.Edits.{AreTurns, IsApart, IsAllowedHang, IsAllowedChord, IsAllowedUnchord, IsAllowedSplit, IsAllowedSmooth, IsPutBefore, IsSmoothing}
 use Rattle.topo_perm.proofs.Walks.{twin-within}
 use Rattle.topo_perm.proofs.Faces.{twin-twin, twin-apart, twin-other}
 use Rattle.topo_perm.proofs.Splitting.{without-self, without-onward, without-elsewhere, without-bypass, bypassed-permutation}
@@ -24,8 +24,14 @@ hang_allowed f n c x h lx room k =
       edit = record { room = room; start = put_before f (put f x c) n x c h.permutation lx k.within k.not_self w };
     }
 
-pub chord_allowed : (f : ℕ → ℕ) (n c d x : ℕ) → AreDarts f n → x < n → IsIsolated f x → IsApart n c x → IsApart n d x → SameCycle (face_next f) c d → IsAllowedChord f (put (put f x c) (twin x) d) n c d x
-chord_allowed f n c d x h lx room k m one =
+-- a chord, whether or not its corners lie in one face
+pub record IsDrawn (f g : ℕ → ℕ) (n c d x : ℕ) : Type 0 where
+  pub turns : AreTurns f g n x
+  pub corner : IsApart n c x
+  pub edit : IsChord f g n c d x
+
+pub chord_drawn : (f : ℕ → ℕ) (n c d x : ℕ) → AreDarts f n → x < n → IsIsolated f x → IsApart n c x → IsApart n d x → IsDrawn f (put (put f x c) (twin x) d) n c d x
+chord_drawn f n c d x h lx room k m =
     let lt : twin x < n = twin-within n x h.even lx in
     let ld : d < n = m.within in
     let far : d ≢ twin x = m.not_twin in
@@ -38,7 +44,6 @@ chord_allowed f n c d x h lx room k m one =
     record {
       turns = record { before = h.permutation; after = put_permutation half g n (twin x) d hh lt ld far v; even = h.even; within = lx };
       corner = k;
-      one_face = one;
       edit = record {
         room = room;
         half = half;
@@ -46,6 +51,12 @@ chord_allowed f n c d x h lx room k m one =
         end = put_before half g n (twin x) d hh lt ld far v;
       };
     }
+
+pub chord_allowed : (f g : ℕ → ℕ) (n c d x : ℕ) → IsDrawn f g n c d x → SameCycle (face_next f) c d → IsAllowedChord f g n c d x
+chord_allowed f g n c d x w one = record { turns = w.turns; corner = w.corner; one_face = one; edit = w.edit }
+
+pub unchord_made : (f : ℕ → ℕ) (n h : ℕ) → IsUnchord f (without (without f h) (twin h)) n h
+unchord_made f n h = record { half = without f h; first = without-bypass f n h; second = without-bypass (without f h) n (twin h) }
 
 pub unchord_allowed : (f : ℕ → ℕ) (n h : ℕ) → AreDarts f n → h < n → ¬ SameCycle (face_next f) h (twin h) → (f h ≡ twin h → f (twin h) ≢ h) → IsAllowedUnchord f (without (without f h) (twin h)) n h
 unchord_allowed f n h d lh two not_alone =
@@ -55,7 +66,7 @@ unchord_allowed f n h d lh two not_alone =
       turns = record { before = d.permutation; after = bypassed-permutation half (without half (twin h)) n (twin h) hh (twin-within n h d.even lh) (without-bypass half n (twin h)); even = d.even; within = lh };
       two_faces = two;
       not_alone = not_alone;
-      edit = record { half = half; first = without-bypass f n h; second = without-bypass half n (twin h) };
+      edit = unchord_made f n h;
     }
 
 pub split_allowed : (f : ℕ → ℕ) (n h x : ℕ) → AreDarts f n → x < n → IsIsolated f x → IsApart n h x → IsAllowedSplit f (put (without (put f (twin x) (twin h)) (twin h)) x (twin h)) n h x

@@ -1,90 +1,71 @@
 -- What each edit does to the counts of live points, segments and faces, and that all holds together.
-use Rattle.std.proofs.Common.{◌≡◌, ℕ, ◌+◌, ◌<◌, Bool, true, sym}
+use Rattle.std.proofs.Common.{◌≡◌, ℕ, ◌+◌, Bool, true, sym}
 use Rattle.topo_core.specs.Rotations.{face_next}
 use Rattle.topo_perm.specs.Edits.{IsAllowedHang, IsAllowedChord, IsAllowedUnchord, IsAllowedSplit, IsAllowedSmooth}
 use Rattle.topo_perm.specs.Joins.{AddsSegment, IsConnectedAmong}
-use Rattle.topo_perm.specs.Live.{IsSlab, live_cycle_count, live_segments}
+use Rattle.topo_perm.specs.Live.{IsSlab, live_cycle_count}
 use Rattle.topo_perm.specs.LiveEdits.{GrowsSlab, ShrinksSlab}
 use Rattle.topo_perm.proofs.Connecting.{hang_connects, chord_connects, split_connects, unchord_connects, smooth_connects}
-use Rattle.topo_perm.proofs.SlabEdits.{segments_grow, hang_keeps_slab, hang_live_points, hang_live_faces, chord_keeps_slab, chord_live_points, chord_live_faces, split_keeps_slab, split_live_points, split_live_faces, unchord_keeps_slab, unchord_live_points, unchord_live_faces, smooth_keeps_slab, smooth_live_points, smooth_live_faces}
+use Rattle.topo_perm.proofs.SlabEdits.{hang_keeps_slab, hang_live_points, hang_live_faces, chord_keeps_slab, chord_live_points, chord_live_faces, split_keeps_slab, split_live_points, split_live_faces, unchord_keeps_slab, unchord_live_points, unchord_live_faces, smooth_keeps_slab, smooth_live_points, smooth_live_faces}
 use Rattle.topo_map.specs.Rotation.{IsWhole, half_limit}
 
-abbrev IsWithin : (ℕ → Bool) → Type 0
-IsWithin live = (a : ℕ) → live a ≡ true → a < half_limit
-
--- so many points and faces more, and all is whole
+-- so many points and faces more
 pub record More (live live' : ℕ → Bool) (f g : ℕ → ℕ) (p q : ℕ) : Type 0 where
   pub points : live_cycle_count live' g half_limit ≡ live_cycle_count live f half_limit + p
-  pub segments : live_segments live' half_limit ≡ live_segments live half_limit + 1
   pub faces : live_cycle_count live' (face_next g) half_limit ≡ live_cycle_count live (face_next f) half_limit + q
-  pub whole : IsWhole live' g
   pub connected : IsConnectedAmong live f half_limit → IsConnectedAmong live' g half_limit
 
 pub record Fewer (live live' : ℕ → Bool) (f g : ℕ → ℕ) (p q : ℕ) : Type 0 where
   pub points : live_cycle_count live' g half_limit + p ≡ live_cycle_count live f half_limit
-  pub segments : live_segments live' half_limit + 1 ≡ live_segments live half_limit
   pub faces : live_cycle_count live' (face_next g) half_limit + q ≡ live_cycle_count live (face_next f) half_limit
-  pub whole : IsWhole live' g
   pub connected : IsConnectedAmong live f half_limit → IsConnectedAmong live' g half_limit
 
-pub hang_more : (live live' : ℕ → Bool) (f g : ℕ → ℕ) (c x : ℕ) → IsWhole live f → IsWithin live' → AddsSegment live live' half_limit x → live c ≡ true → IsAllowedHang f g half_limit c x → More live live' f g 1 0
-hang_more live live' f g c x w l t alive k =
+pub hang_more : (live live' : ℕ → Bool) (f g : ℕ → ℕ) (c x : ℕ) → IsWhole live f → AddsSegment live live' half_limit x → live c ≡ true → IsAllowedHang f g half_limit c x → More live live' f g 1 0
+hang_more live live' f g c x w t alive k =
     let s : IsSlab live' g half_limit = hang_keeps_slab live live' f g half_limit c x w.slab t alive k in
     let e : GrowsSlab live live' f g half_limit x = record { before = w.slab; after = s; within = k.turns.within; adds = t } in
     record {
       points = hang_live_points live live' f g half_limit c x e k;
-      segments = segments_grow live live' f g half_limit x e;
       faces = hang_live_faces live live' f g half_limit c x e k;
-      whole = record { slab = s; within = l };
       connected = hang_connects f g live live' half_limit c x k t alive;
     }
 
-pub chord_more : (live live' : ℕ → Bool) (f g : ℕ → ℕ) (c d x : ℕ) → IsWhole live f → IsWithin live' → AddsSegment live live' half_limit x → live c ≡ true → live d ≡ true → IsAllowedChord f g half_limit c d x → More live live' f g 0 1
-chord_more live live' f g c d x w l t alive alive_d k =
+pub chord_more : (live live' : ℕ → Bool) (f g : ℕ → ℕ) (c d x : ℕ) → IsWhole live f → AddsSegment live live' half_limit x → live c ≡ true → live d ≡ true → IsAllowedChord f g half_limit c d x → More live live' f g 0 1
+chord_more live live' f g c d x w t alive alive_d k =
     let s : IsSlab live' g half_limit = chord_keeps_slab live live' f g half_limit c d x w.slab t alive alive_d k in
     let e : GrowsSlab live live' f g half_limit x = record { before = w.slab; after = s; within = k.turns.within; adds = t } in
     record {
       points = chord_live_points live live' f g half_limit c d x e k;
-      segments = segments_grow live live' f g half_limit x e;
       faces = chord_live_faces live live' f g half_limit c d x e k;
-      whole = record { slab = s; within = l };
       connected = chord_connects f g live live' half_limit c d x k t alive;
     }
 
-pub split_more : (live live' : ℕ → Bool) (f g : ℕ → ℕ) (h x : ℕ) → IsWhole live f → IsWithin live' → AddsSegment live live' half_limit x → live h ≡ true → IsAllowedSplit f g half_limit h x → More live live' f g 1 0
-split_more live live' f g h x w l t alive k =
+pub split_more : (live live' : ℕ → Bool) (f g : ℕ → ℕ) (h x : ℕ) → IsWhole live f → AddsSegment live live' half_limit x → live h ≡ true → IsAllowedSplit f g half_limit h x → More live live' f g 1 0
+split_more live live' f g h x w t alive k =
     let s : IsSlab live' g half_limit = split_keeps_slab live live' f g half_limit h x w.slab t alive k in
     let e : GrowsSlab live live' f g half_limit x = record { before = w.slab; after = s; within = k.turns.within; adds = t } in
     record {
       points = split_live_points live live' f g half_limit h x e k;
-      segments = segments_grow live live' f g half_limit x e;
       faces = split_live_faces live live' f g half_limit h x e k;
-      whole = record { slab = s; within = l };
       connected = split_connects f g live live' half_limit h x k t alive;
     }
 
-pub unchord_fewer : (live live' : ℕ → Bool) (f g : ℕ → ℕ) (h : ℕ) → IsWhole live f → IsWithin live' → AddsSegment live' live half_limit h → IsAllowedUnchord f g half_limit h → Fewer live live' f g 0 1
-unchord_fewer live live' f g h w l t k =
+pub unchord_fewer : (live live' : ℕ → Bool) (f g : ℕ → ℕ) (h : ℕ) → IsWhole live f → AddsSegment live' live half_limit h → IsAllowedUnchord f g half_limit h → Fewer live live' f g 0 1
+unchord_fewer live live' f g h w t k =
     let s : IsSlab live' g half_limit = unchord_keeps_slab live live' f g half_limit h w.slab t k in
     let e : ShrinksSlab live live' f g half_limit h = record { before = w.slab; after = s; within = k.turns.within; takes = t } in
-    let b : GrowsSlab live' live g f half_limit h = record { before = s; after = w.slab; within = k.turns.within; adds = t } in
     record {
       points = sym (unchord_live_points live live' f g half_limit h e k);
-      segments = sym (segments_grow live' live g f half_limit h b);
       faces = sym (unchord_live_faces live live' f g half_limit h e k);
-      whole = record { slab = s; within = l };
       connected = unchord_connects f g live live' half_limit h k t;
     }
 
-pub smooth_fewer : (live live' : ℕ → Bool) (f g : ℕ → ℕ) (x : ℕ) → IsWhole live f → IsWithin live' → AddsSegment live' live half_limit x → IsAllowedSmooth f g half_limit x → Fewer live live' f g 1 0
-smooth_fewer live live' f g x w l t k =
+pub smooth_fewer : (live live' : ℕ → Bool) (f g : ℕ → ℕ) (x : ℕ) → IsWhole live f → AddsSegment live' live half_limit x → IsAllowedSmooth f g half_limit x → Fewer live live' f g 1 0
+smooth_fewer live live' f g x w t k =
     let s : IsSlab live' g half_limit = smooth_keeps_slab live live' f g half_limit x w.slab t k in
     let e : ShrinksSlab live live' f g half_limit x = record { before = w.slab; after = s; within = k.turns.within; takes = t } in
-    let b : GrowsSlab live' live g f half_limit x = record { before = s; after = w.slab; within = k.turns.within; adds = t } in
     record {
       points = sym (smooth_live_points live live' f g half_limit x e k);
-      segments = sym (segments_grow live' live g f half_limit x b);
       faces = sym (smooth_live_faces live live' f g half_limit x e k);
-      whole = record { slab = s; within = l };
       connected = smooth_connects f g live live' half_limit x k t;
     }

@@ -3,18 +3,18 @@ use Rattle.std.proofs.Common.{◌≡◌, ◌≢◌, ℕ, ◌/◌, Bool, true, fa
 use Rattle.std.proofs.lemmas.Bool.{cases_Bool}
 use Rattle.std.specs.Option.{option_map}
 use Rattle.slab.specs.Slab.{Slab, get}
-use Rattle.topo_map.specs.Rotation.{Turns, turned, turn_in}
+use Rattle.topo_map.specs.Rotation.{Slot, turned, turn_in}
 use Rattle.topo_map.specs.Segments.{shown, written, put, without, holds, next_in, before_in, nexts, befores, AreInverse, IsKept, Rewires, IsTurned}
 use Rattle.topo_map.specs.declared.segments.Segment.{Segment}
 use Rattle.topo_map.proofs.Maps.{IsLone, put_next, put_inverse, without_next, without_inverse}
 use Rattle.topo_map.proofs.Slots.{turn_at, live_at}
 
-nothing-turned : (pick : Segment → Turns) (a : ℕ) (o : Option Segment) → is_some o ≡ false → turned a (option_map pick o) ≡ a
+nothing-turned : (pick : Segment → Slot) (a : ℕ) (o : Option Segment) → is_some o ≡ false → turned a (option_map pick o) ≡ a
 nothing-turned pick a None e = refl
 nothing-turned pick a (Some x) e = cc
 
 -- what is not live turns to itself
-pub free_turn : (pick : Segment → Turns) (s : Slab Segment) (a : ℕ) → holds s a ≡ false → turn_in (shown pick s) a ≡ a
+pub free_turn : (pick : Segment → Slot) (s : Slab Segment) (a : ℕ) → holds s a ≡ false → turn_in (shown pick s) a ≡ a
 free_turn pick s a e = turn_at pick s a ∙ nothing-turned pick a (get s (a / 2)) (sym (live_at nexts s a) ∙ e)
 
 -- live halves turn to live ones, both ways
@@ -41,6 +41,7 @@ turned_to : (s s1 s2 : Slab Segment) (f f' b' : ℕ → ℕ) (f1 b1 f2 b2 : ℕ 
 turned_to s s1 s2 f f' b' f1 b1 f2 b2 k r1 r2 ef eb e i = record {
   next = r2.next ∙ ef ∙ e;
   live = r2.live ∙ r1.live;
+  edges = r2.edges ∙ r1.edges;
   len = r2.len ∙ r1.len;
   capacity = r2.capacity ∙ r1.capacity;
   kept = record {

@@ -1,3 +1,4 @@
+pub mod HalfNumbers
 pub mod Maps
 pub mod Slots
 pub mod Kept

@@ -9,7 +9,7 @@ use Rattle.topo_perm.specs.Joins.{AddsSegment}
 use Rattle.topo_perm.proofs.Walks.{twin-within, twin-cases}
 use Rattle.topo_perm.proofs.Faces.{twin-twin, twin-other}
 use Rattle.topo_perm.specs.Live.{live_segments}
-use Rattle.topo_map.specs.Rotation.{half_limit}
+use Rattle.topo_map.specs.Rotation.{AddsLabel, AreLabelled, half_limit}
 use Rattle.topo_map.specs.Building.{IsListed}
 use Rattle.topo_map.proofs.Stored.{true_false}
 
@@ -119,6 +119,19 @@ listed_more live live' hs new x y one_more within within' k t ey en =
         ]
       ];
     }
+
+-- a new segment's halves have its label
+pub labelled_more : (old new : ℕ → ℕ) (live : ℕ → Bool) (labels hs all : List ℕ) (x y i label : ℕ) → all ≡ (hs ++ x ∷ []) ++ y ∷ [] → y ≡ twin x → length hs ≡ 2 * i → label ≡ map_of labels i → IsListed live hs
+    → AreLabelled labels hs old → AddsLabel live old new x label → AreLabelled labels all new
+labelled_more old new live labels hs all x y i label en ey size is k were t a l =
+    let g : Longer hs all x y = subst (λ (l : List ℕ). Longer hs l x y) (sym en) (longer hs x y) in
+    elim (three a (length hs) (subst (λ (n : ℕ). a < n) g.size l)) [
+      | inl before ↦ ap new (g.old a before) ∙ t.others (map_of hs a) (k.alive a before) ∙ were a before
+      | inr q ↦ elim q [
+        | inl e ↦ ap (λ (n : ℕ). new (map_of all n)) e ∙ ap new g.first ∙ t.here ∙ is ∙ ap (map_of labels) (let w : i ≡ a / 2 = omega arith in w)
+        | inr e ↦ ap (λ (n : ℕ). new (map_of all n)) e ∙ ap new (g.second ∙ ey) ∙ t.here_twin ∙ is ∙ ap (map_of labels) (let w : i ≡ a / 2 = omega arith in w)
+      ]
+    ]
 
 count_none : (p : ℕ → Bool) (n : ℕ) → ((i : ℕ) → p i ≡ false) → count_below p n ≡ 0
 count_none p zero h = refl

@@ -1,22 +1,22 @@
 -- The slab along each edit: from an embedding to an embedding.
-use Rattle.std.proofs.Common.{◌≡◌, ◌≢◌, ℕ, ◌+◌, ◌-◌, ◌%◌, ◌<◌, ◌≤◌, Bool, true, cond, nat_le, is_some, inl, inr, refl, sym, ◌∙◌, ap, subst, arith}
+use Rattle.std.proofs.Common.{◌≡◌, ◌≢◌, ℕ, ◌+◌, ◌-◌, ◌*◌, ◌%◌, ◌<◌, ◌≤◌, Bool, true, cond, nat_le, min, is_some, inl, inr, refl, sym, ◌∙◌, ap, subst, arith}
 use Rattle.std.proofs.lemmas.Bool.{cases_Bool}
 use Rattle.slab.specs.Slab.{Slab, get, slab_len}
-use Rattle.topo_core.specs.Cycles.{SameCycle}
-use Rattle.topo_core.specs.Rotations.{twin, face_next}
-use Rattle.topo_core.specs.Edits.{IsIsolated}
-use Rattle.topo_perm.specs.Edits.{IsApart, IsAllowedHang, IsAllowedChord, IsAllowedUnchord, IsAllowedSplit, IsAllowedSmooth}
+use Rattle.topo_core.specs.Rotations.{twin}
+use Rattle.topo_core.specs.Edits.{IsIsolated, IsUnchord}
+use Rattle.topo_perm.specs.Edits.{IsApart, IsAllowedHang, IsAllowedUnchord, IsAllowedSplit, IsAllowedSmooth}
 use Rattle.topo_perm.specs.Joins.{AddsSegment}
 use Rattle.topo_perm.proofs.Faces.{twin-twin, twin-other}
 use Rattle.topo_perm.proofs.Splitting.{without-self, without-onward, without-elsewhere}
 use Rattle.topo_perm.proofs.EditCounts.{put-elsewhere}
-use Rattle.topo_map.specs.Rotation.{half_limit, IsWhole, Grows, Shrinks}
-use Rattle.topo_map.specs.Segments.{put, without, holds, next_in, before_in, nexts, room_of, view_of, IsKept, IsTurned, IsInserted, IsRemoved}
+use Rattle.topo_perm.proofs.SlabEdits.{segments_grow}
+use Rattle.topo_map.specs.Rotation.{half_limit, AddsLabel, CountsFewer, CountsMore, IsOneFace, IsWhole, KeepsLabels, Grows, PartsFaces, Shrinks}
+use Rattle.topo_map.specs.Segments.{put, without, holds, next_in, before_in, nexts, label_in, limit_of, room_of, view_of, IsKept, IsTurned, IsInserted, IsRemoved}
 use Rattle.topo_map.specs.declared.segments.Segment.{Segment}
 use Rattle.topo_map.proofs.Slots.{live_at}
 use Rattle.topo_map.proofs.Kept.{free_turn, live_next}
 use Rattle.topo_map.proofs.Stored.{limit-is, twin-key, true_false}
-use Rattle.topo_map.proofs.Allowed.{AreDarts, hang_allowed, chord_allowed, unchord_allowed, split_allowed, smooth_allowed}
+use Rattle.topo_map.proofs.Allowed.{AreDarts, IsDrawn, hang_allowed, chord_allowed, chord_drawn, unchord_allowed, unchord_made, split_allowed, smooth_allowed}
 use Rattle.topo_map.proofs.Counted.{More, Fewer, hang_more, chord_more, split_more, unchord_fewer, smooth_fewer}
 
 -- ---- A sound slab
@@ -86,7 +86,7 @@ still_live s s1 x c st h =
 -- ---- Steps in a row
 
 pub then_turned : (s s1 s2 : Slab Segment) (f g : ℕ → ℕ) → IsTurned s s1 f → IsTurned s1 s2 g → IsTurned s s2 g
-then_turned s s1 s2 f g t u = record { next = u.next; live = u.live ∙ t.live; len = u.len ∙ t.len; capacity = u.capacity ∙ t.capacity; kept = u.kept }
+then_turned s s1 s2 f g t u = record { next = u.next; live = u.live ∙ t.live; edges = u.edges ∙ t.edges; len = u.len ∙ t.len; capacity = u.capacity ∙ t.capacity; kept = u.kept }
 
 pub turned_live : (s s1 : Slab Segment) (f : ℕ → ℕ) (a b : ℕ) → IsTurned s s1 f → a ≡ b → holds s b ≡ true → holds s1 a ≡ true
 turned_live s s1 f a b t e h = ap (λ (l : ℕ → Bool). l a) t.live ∙ ap (holds s) e ∙ h
@@ -94,53 +94,70 @@ turned_live s s1 f a b t e h = ap (λ (l : ℕ → Bool). l a) t.live ∙ ap (ho
 same_room : (s s1 : Slab Segment) (f : ℕ → ℕ) → IsTurned s s1 f → room_of s1 ≡ room_of s
 same_room s s1 f t = ap (λ (n : ℕ). cond (nat_le n 2147483648) (n - slab_len s1) 0) t.capacity ∙ ap (λ (n : ℕ). cond (nat_le s.capacity 2147483648) (s.capacity - n) 0) t.len
 
+same_limit : (s s1 : Slab Segment) (f : ℕ → ℕ) → IsTurned s s1 f → limit_of s1 ≡ limit_of s
+same_limit s s1 f t = ap (λ (n : ℕ). 2 * min n 2147483648) t.capacity
+
+-- ---- Labels
+
+pub label_added : (s s1 s' : Slab Segment) (x label : ℕ) → label_in s' ≡ label_in s1 → AddsLabel (holds s) (label_in s) (label_in s1) x label → AddsLabel (holds s) (label_in s) (label_in s') x label
+label_added s s1 s' x label e a = subst (λ (f : ℕ → ℕ). AddsLabel (holds s) (label_in s) f x label) (sym e) a
+
+pub labels_kept : (s s1 s' : Slab Segment) → label_in s1 ≡ label_in s → KeepsLabels (holds s') (label_in s1) (label_in s') → KeepsLabels (holds s') (label_in s) (label_in s')
+labels_kept s s1 s' e k = subst (λ (f : ℕ → ℕ). KeepsLabels (holds s') f (label_in s')) e k
+
 -- ---- The ends
 
-pub record IsAdded (s s' : Slab Segment) (x p q : ℕ) : Type 0 where
-  pub grows : Grows (view_of s) (view_of s') x p q
+-- the counts of two slabs
+counts_more : (s s' : Slab Segment) (p q : ℕ) → More (holds s) (holds s') (next_in s) (next_in s') p q → CountsMore (view_of s) (view_of s') p q
+counts_more s s' p q m = record { points_more = m.points; faces_more = m.faces; connected = m.connected }
+
+counts_fewer : (s s' : Slab Segment) (p q : ℕ) → Fewer (holds s) (holds s') (next_in s) (next_in s') p q → CountsFewer (view_of s) (view_of s') p q
+counts_fewer s s' p q m = record { points_fewer = m.points; faces_fewer = m.faces; connected = m.connected }
+
+pub record IsAdded (s s' : Slab Segment) (x : ℕ) : Type 0 where
+  pub grows : Grows (view_of s) (view_of s') x
   pub sound : IsKept s'
 
 live_added : (s s1 s' : Slab Segment) (x : ℕ) (g : ℕ → ℕ) → IsStart s s1 x → IsTurned s1 s' g → AddsSegment (holds s) (holds s') half_limit x
 live_added s s1 s' x g st t = subst (λ (l : ℕ → Bool). AddsSegment (holds s) l half_limit x) (sym t.live) st.inserted.live
 
-added : (s s1 s' : Slab Segment) (x p q : ℕ) (g : ℕ → ℕ) → IsStart s s1 x → IsTurned s1 s' g → More (holds s) (holds s') (next_in s) (next_in s') p q → IsAdded s s' x p q
-added s s1 s' x p q g st t m = record {
+added : (s s1 s' : Slab Segment) (x : ℕ) (g : ℕ → ℕ) → IsStart s s1 x → IsTurned s1 s' g → IsAdded s s' x
+added s s1 s' x g st t = record {
   grows = record {
     within = st.inserted.within;
     live = live_added s s1 s' x g st t;
     stays = λ a h. turned_live s1 s' g a a t refl (still_live s s1 x a st h);
-    points_more = m.points;
-    segments_more = m.segments;
-    faces_more = m.faces;
+    segments_more = segments_grow (holds s) (holds s') (next_in s) (next_in s') half_limit x
+        (record { before = (whole s st.sound).slab; after = (whole s' t.kept).slab; within = st.inserted.within; adds = live_added s s1 s' x g st t });
     room_less = ap (λ (n : ℕ). n + 1) (same_room s1 s' g t) ∙ st.inserted.room;
-    embedding = m.whole;
-    connected = m.connected;
+    same_limit = same_limit s1 s' g t ∙ st.inserted.limit;
+    below = subst (λ (n : ℕ). x < n) (sym (same_limit s1 s' g t)) st.inserted.below;
+    embedding = whole s' t.kept;
   };
   sound = t.kept;
 }
 
-pub record IsTaken (s s' : Slab Segment) (x p q : ℕ) : Type 0 where
-  pub shrinks : Shrinks (view_of s) (view_of s') x p q
+pub record IsTaken (s s' : Slab Segment) (x : ℕ) : Type 0 where
+  pub shrinks : Shrinks (view_of s) (view_of s') x
   pub sound : IsKept s'
 
 live_taken : (s s1 s' : Slab Segment) (x : ℕ) (g : ℕ → ℕ) → IsTurned s s1 g → IsRemoved s1 s' x → AddsSegment (holds s') (holds s) half_limit x
 live_taken s s1 s' x g t r = subst (λ (l : ℕ → Bool). AddsSegment (holds s') l half_limit x) t.live r.live
 
-taken : (s s1 s' : Slab Segment) (x p q : ℕ) (g : ℕ → ℕ) → IsTurned s s1 g → IsRemoved s1 s' x → Fewer (holds s) (holds s') (next_in s) (next_in s') p q → IsTaken s s' x p q
-taken s s1 s' x p q g t r m =
+taken : (s s1 s' : Slab Segment) (x : ℕ) (g : ℕ → ℕ) → IsKept s → x < half_limit → IsTurned s s1 g → IsRemoved s1 s' x → IsTaken s s' x
+taken s s1 s' x g k within t r =
     let e : room_of s1 ≡ room_of s = same_room s s1 g t in
     let kept : room_of s1 ≤ room_of s' = r.room in
     record {
       shrinks = record {
         live = live_taken s s1 s' x g t r;
         stays = λ a nx nt h. sym (r.live.others a (t.kept.within a (turned_live s s1 g a a t refl h)) nx nt) ∙ turned_live s s1 g a a t refl h;
-        points_fewer = m.points;
-        segments_fewer = m.segments;
-        faces_fewer = m.faces;
+        segments_fewer = sym (segments_grow (holds s') (holds s) (next_in s') (next_in s) half_limit x
+            (record { before = (whole s' r.kept).slab; after = (whole s k).slab; within = within; adds = live_taken s s1 s' x g t r }));
         room_kept = subst (λ (n : ℕ). n ≤ room_of s') e kept;
+        same_limit = r.limit ∙ same_limit s s1 g t;
         room_more = λ h. r.freed (subst (λ (n : ℕ). 0 < n) (sym e) h) ∙ ap (λ (n : ℕ). n + 1) e;
-        embedding = m.whole;
-        connected = m.connected;
+        embedding = whole s' r.kept;
       };
       sound = r.kept;
     }
@@ -149,7 +166,8 @@ taken s s1 s' x p q g t r m =
 
 pub record IsHung (s s' : Slab Segment) (c x : ℕ) : Type 0 where
   pub allowed : IsAllowedHang (next_in s) (next_in s') half_limit c x
-  pub added : IsAdded s s' x 1 0
+  pub added : IsAdded s s' x
+  pub counts : CountsMore (view_of s) (view_of s') 1 0
 
 pub hung : (s s1 s2 : Slab Segment) (c x : ℕ) → IsStart s s1 x → holds s c ≡ true → IsTurned s1 s2 (put (next_in s1) x c) → IsHung s s2 c x
 hung s s1 s2 c x st alive t =
@@ -158,15 +176,16 @@ hung s s1 s2 c x st alive t =
     (hang_allowed (next_in s) half_limit c x (darts s st.sound) st.inserted.within (isolated s s1 x st) (apart s s1 x c st alive)) in
     record {
       allowed = k;
-      added = added s s1 s2 x 1 0 (put (next_in s1) x c) st t
-          (hang_more (holds s) (holds s2) (next_in s) (next_in s2) c x (whole s st.sound) t.kept.within (live_added s s1 s2 x (put (next_in s1) x c) st t) alive k);
+      added = added s s1 s2 x (put (next_in s1) x c) st t;
+      counts = counts_more s s2 1 0 (hang_more (holds s) (holds s2) (next_in s) (next_in s2) c x (whole s st.sound) (live_added s s1 s2 x (put (next_in s1) x c) st t) alive k);
     }
 
 -- ---- Chord
 
 pub record IsChorded (s s' : Slab Segment) (c d x : ℕ) : Type 0 where
-  pub allowed : IsAllowedChord (next_in s) (next_in s') half_limit c d x
-  pub added : IsAdded s s' x 0 1
+  pub drawn : IsDrawn (next_in s) (next_in s') half_limit c d x
+  pub added : IsAdded s s' x
+  pub counts : IsOneFace (view_of s) c d → CountsMore (view_of s) (view_of s') 0 1
 
 pub chord_end_alone : (s s1 s2 : Slab Segment) (c x y : ℕ) → IsStart s s1 x → holds s c ≡ true → IsTurned s1 s2 (put (next_in s1) x c) → y ≡ twin x → next_in s2 y ≡ y
 chord_end_alone s s1 s2 c x y st alive t e =
@@ -174,23 +193,25 @@ chord_end_alone s s1 s2 c x y st alive t e =
     let a : next_in s1 (twin x) ≡ twin x = twin_alone s s1 x st in
     ap (next_in s2) e ∙ ap (λ (f : ℕ → ℕ). f (twin x)) t.next ∙ put-elsewhere (next_in s1) x c (twin x) (twin-other x) (λ w. k.not_twin (sym w ∙ a)) ∙ a ∙ sym e
 
-pub chorded : (s s1 s2 s3 : Slab Segment) (c d x y : ℕ) → IsStart s s1 x → holds s c ≡ true → holds s d ≡ true → SameCycle (face_next (next_in s)) c d → y ≡ twin x → IsTurned s1 s2 (put (next_in s1) x c) → IsTurned s2 s3 (put (next_in s2) y d) → IsChorded s s3 c d x
-chorded s s1 s2 s3 c d x y st alive alive_d one ey t u =
+pub chorded : (s s1 s2 s3 : Slab Segment) (c d x y : ℕ) → IsStart s s1 x → holds s c ≡ true → holds s d ≡ true → y ≡ twin x → IsTurned s1 s2 (put (next_in s1) x c) → IsTurned s2 s3 (put (next_in s2) y d) → IsChorded s s3 c d x
+chorded s s1 s2 s3 c d x y st alive alive_d ey t u =
     let both : IsTurned s1 s3 (put (next_in s2) y d) = then_turned s1 s2 s3 (put (next_in s1) x c) (put (next_in s2) y d) t u in
     let e : next_in s3 ≡ put (put (next_in s) x c) (twin x) d = u.next ∙ ap (λ (v : ℕ). put (next_in s2) v d) ey ∙ ap (λ (f : ℕ → ℕ). put f (twin x) d) (t.next ∙ ap (λ (f : ℕ → ℕ). put f x c) st.inserted.next) in
-    let k : IsAllowedChord (next_in s) (next_in s3) half_limit c d x = subst (λ (g : ℕ → ℕ). IsAllowedChord (next_in s) g half_limit c d x) (sym e)
-    (chord_allowed (next_in s) half_limit c d x (darts s st.sound) st.inserted.within (isolated s s1 x st) (apart s s1 x c st alive) (apart s s1 x d st alive_d) one) in
+    let k : IsDrawn (next_in s) (next_in s3) half_limit c d x = subst (λ (g : ℕ → ℕ). IsDrawn (next_in s) g half_limit c d x) (sym e)
+    (chord_drawn (next_in s) half_limit c d x (darts s st.sound) st.inserted.within (isolated s s1 x st) (apart s s1 x c st alive) (apart s s1 x d st alive_d)) in
     record {
-      allowed = k;
-      added = added s s1 s3 x 0 1 (put (next_in s2) y d) st both
-          (chord_more (holds s) (holds s3) (next_in s) (next_in s3) c d x (whole s st.sound) both.kept.within (live_added s s1 s3 x (put (next_in s2) y d) st both) alive alive_d k);
+      drawn = k;
+      added = added s s1 s3 x (put (next_in s2) y d) st both;
+      counts = λ one. counts_more s s3 0 1 (chord_more (holds s) (holds s3) (next_in s) (next_in s3) c d x (whole s st.sound) (live_added s s1 s3 x (put (next_in s2) y d) st both) alive alive_d
+          (chord_allowed (next_in s) (next_in s3) half_limit c d x k one));
     }
 
 -- ---- Split
 
 pub record IsSplitUp (s s' : Slab Segment) (h x : ℕ) : Type 0 where
   pub allowed : IsAllowedSplit (next_in s) (next_in s') half_limit h x
-  pub added : IsAdded s s' x 1 0
+  pub added : IsAdded s s' x
+  pub counts : CountsMore (view_of s) (view_of s') 1 0
 
 -- after its end is out of the turn, x still stands alone
 pub split_alone : (s s1 s2 s3 : Slab Segment) (h x y t : ℕ) → IsStart s s1 x → holds s h ≡ true → y ≡ twin x → t ≡ twin h → IsTurned s1 s2 (put (next_in s1) y t) → IsTurned s2 s3 (without (next_in s2) t) → next_in s3 x ≡ x
@@ -214,15 +235,16 @@ splitted s s1 s2 s3 s4 h x y t st alive ey et u v w =
     (split_allowed f half_limit h x (darts s st.sound) st.inserted.within (isolated s s1 x st) (apart s s1 x h st alive)) in
     record {
       allowed = k;
-      added = added s s1 s4 x 1 0 (put (next_in s3) x t) st all
-          (split_more (holds s) (holds s4) f (next_in s4) h x (whole s st.sound) all.kept.within (live_added s s1 s4 x (put (next_in s3) x t) st all) alive k);
+      added = added s s1 s4 x (put (next_in s3) x t) st all;
+      counts = counts_more s s4 1 0 (split_more (holds s) (holds s4) f (next_in s4) h x (whole s st.sound) (live_added s s1 s4 x (put (next_in s3) x t) st all) alive k);
     }
 
 -- ---- Unchord
 
 pub record IsUnchorded (s s' : Slab Segment) (h : ℕ) : Type 0 where
-  pub allowed : IsAllowedUnchord (next_in s) (next_in s') half_limit h
-  pub taken : IsTaken s s' h 0 1
+  pub edit : IsUnchord (next_in s) (next_in s') half_limit h
+  pub taken : IsTaken s s' h
+  pub counts : PartsFaces (view_of s) h → CountsFewer (view_of s) (view_of s') 0 1
 
 pub unchord_alone : (s s1 s2 : Slab Segment) (h t : ℕ) → t ≡ twin h → IsTurned s s1 (without (next_in s) h) → IsTurned s1 s2 (without (next_in s1) t) → next_in s2 h ≡ h
 unchord_alone s s1 s2 h t et u v =
@@ -233,24 +255,24 @@ unchord_alone s s1 s2 h t et u v =
 pub without_alone : (s s1 : Slab Segment) (h t : ℕ) → t ≡ twin h → IsTurned s s1 (without (next_in s) t) → next_in s1 (twin h) ≡ twin h
 without_alone s s1 h t et v = ap (next_in s1) (sym et) ∙ ap (λ (f : ℕ → ℕ). f t) v.next ∙ without-self (next_in s) t t refl ∙ et
 
-pub unchorded : (s s1 s2 s3 : Slab Segment) (h t : ℕ) → IsKept s → holds s h ≡ true → ¬ SameCycle (face_next (next_in s)) h (twin h) → (next_in s h ≡ twin h → next_in s (twin h) ≢ h) → t ≡ twin h → IsTurned s s1 (without (next_in s) h) → IsTurned s1 s2 (without (next_in s1) t) → IsRemoved s2 s3 h → IsUnchorded s s3 h
-unchorded s s1 s2 s3 h t i alive two not_alone et u v r =
+pub unchorded : (s s1 s2 s3 : Slab Segment) (h t : ℕ) → IsKept s → holds s h ≡ true → t ≡ twin h → IsTurned s s1 (without (next_in s) h) → IsTurned s1 s2 (without (next_in s1) t) → IsRemoved s2 s3 h → IsUnchorded s s3 h
+unchorded s s1 s2 s3 h t i alive et u v r =
     let f : ℕ → ℕ = next_in s in
     let uv : IsTurned s s2 (without (next_in s1) t) = then_turned s s1 s2 (without f h) (without (next_in s1) t) u v in
     let e : next_in s3 ≡ without (without f h) (twin h) = r.next ∙ v.next ∙ ap (λ (k : ℕ → ℕ). without k t) u.next ∙ ap (λ (a : ℕ). without (without f h) a) et in
-    let k : IsAllowedUnchord f (next_in s3) half_limit h = subst (λ (g : ℕ → ℕ). IsAllowedUnchord f g half_limit h) (sym e)
-    (unchord_allowed f half_limit h (darts s i) (i.within h alive) two not_alone) in
     record {
-      allowed = k;
-      taken = taken s s2 s3 h 0 1 (without (next_in s1) t) uv r
-          (unchord_fewer (holds s) (holds s3) f (next_in s3) h (whole s i) r.kept.within (live_taken s s2 s3 h (without (next_in s1) t) uv r) k);
+      edit = subst (λ (g : ℕ → ℕ). IsUnchord f g half_limit h) (sym e) (unchord_made f half_limit h);
+      taken = taken s s2 s3 h (without (next_in s1) t) i (i.within h alive) uv r;
+      counts = λ parts. counts_fewer s s3 0 1 (unchord_fewer (holds s) (holds s3) f (next_in s3) h (whole s i) (live_taken s s2 s3 h (without (next_in s1) t) uv r)
+          (subst (λ (g : ℕ → ℕ). IsAllowedUnchord f g half_limit h) (sym e) (unchord_allowed f half_limit h (darts s i) (i.within h alive) parts.two_faces parts.not_alone)));
     }
 
 -- ---- Smooth
 
 pub record IsSmoothed (s s' : Slab Segment) (x : ℕ) : Type 0 where
   pub allowed : IsAllowedSmooth (next_in s) (next_in s') half_limit x
-  pub taken : IsTaken s s' x 1 0
+  pub taken : IsTaken s s' x
+  pub counts : CountsFewer (view_of s) (view_of s') 1 0
 
 pub smooth_other_alone : (s s1 : Slab Segment) (x t : ℕ) → next_in s (next_in s x) ≡ x → next_in s x ≢ x → t ≡ next_in s x → IsTurned s s1 (without (next_in s) x) → next_in s1 t ≡ t
 smooth_other_alone s s1 x t back na et u =
@@ -274,6 +296,6 @@ smoothed_out s s1 s2 s3 s4 x t y i alive back na nl et ey u v w r =
     (smooth_allowed f half_limit x (darts s i) (i.within x alive) back na nl) in
     record {
       allowed = k;
-      taken = taken s s3 s4 x 1 0 (without (next_in s2) y) all r
-          (smooth_fewer (holds s) (holds s4) f (next_in s4) x (whole s i) r.kept.within (live_taken s s3 s4 x (without (next_in s2) y) all r) k);
+      taken = taken s s3 s4 x (without (next_in s2) y) i (i.within x alive) all r;
+      counts = counts_fewer s s4 1 0 (smooth_fewer (holds s) (holds s4) f (next_in s4) x (whole s i) (live_taken s s3 s4 x (without (next_in s2) y) all r) k);
     }

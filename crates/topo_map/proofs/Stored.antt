@@ -1,16 +1,16 @@
 -- Segments that are stored by themselves, and those that are taken out.
-use Rattle.std.proofs.Common.{◌≡◌, ◌≢◌, ℕ, ◌+◌, ◌-◌, ◌*◌, ◌/◌, ◌%◌, ◌<◌, ◌≤◌, ◌==◌, Bool, true, false, cond, ◌⊎◌, inl, inr, refl, sym, ◌∙◌, ap, subst, arith, Option, Some, None, is_some, nat_le}
+use Rattle.std.proofs.Common.{◌≡◌, ◌≢◌, ℕ, ◌+◌, ◌-◌, ◌*◌, ◌/◌, ◌%◌, ◌<◌, ◌≤◌, ◌==◌, Bool, true, false, cond, ◌⊎◌, inl, inr, refl, sym, ◌∙◌, ap, subst, arith, Option, Some, None, is_some, length, nat_le, min}
 use Rattle.std.proofs.lemmas.Bool.{cases_Bool, cases_eq, cond-true, cond-false, eq-eqb, ne_eqb, leb-true}
 use Rattle.std.specs.Option.{option_map}
 use Rattle.slab.specs.Slab.{Slab, get, slab_len, with_value, Updates}
 use Rattle.topo_core.specs.Rotations.{twin}
 use Rattle.topo_perm.specs.Joins.{AddsSegment}
 use Rattle.topo_perm.proofs.Walks.{twin-cases}
-use Rattle.topo_map.specs.Rotation.{Turns, turned, turn_in, half_limit}
-use Rattle.topo_map.specs.Segments.{shown, holds, next_in, before_in, nexts, befores, room_of, isolated_segment, AreInverse, IsKept, IsInserted, IsRemoved}
+use Rattle.topo_map.specs.Rotation.{AddsLabel, KeepsLabels, Slot, turned, turn_in, half_limit}
+use Rattle.topo_map.specs.Segments.{shown, holds, next_in, before_in, nexts, befores, label_in, limit_of, room_of, isolated_segment, AreInverse, IsKept, IsInserted, IsRemoved}
 use Rattle.topo_map.specs.declared.segments.Segment.{Segment}
 use Rattle.topo_map.proofs.Maps.{funext}
-use Rattle.topo_map.proofs.Slots.{turn_at, live_at, updates, same_len}
+use Rattle.topo_map.proofs.Slots.{turn_at, label-there, label-else, live-slot, live_at, updates, same_len}
 
 pub limit-is : half_limit ≡ 4294967296
 unfolding half_limit
@@ -64,6 +64,13 @@ room_more cap len cap' len' ec el = elim (cases_Bool (nat_le cap 2147483648)) [
       record { never_less = omega arith; one_more = λ h. absurd (omega arith) }
 ]
 
+pub below_limit : (s : Slab Segment) (a : ℕ) → IsKept s → length s.slots ≤ s.capacity → holds s a ≡ true → a < limit_of s
+below_limit s a k all h =
+    let lim : half_limit ≡ 4294967296 = limit-is in
+    let within : a < half_limit = k.within a h in
+    let there : a / 2 < length s.slots = live-slot s a h in
+    omega arith
+
 -- ---- The two halves at a key
 
 pub twin-key : (a : ℕ) → twin a / 2 ≡ a / 2
@@ -101,13 +108,13 @@ live-else s new key slot u a ne = live_at nexts new a ∙ ap is_some (u.others (
 live-was : (s : Slab Segment) (key : ℕ) (slot : Option Segment) → get s key ≡ slot → (a : ℕ) → a / 2 ≡ key → holds s a ≡ is_some slot
 live-was s key slot g a e = live_at nexts s a ∙ ap (λ (k : ℕ). is_some (get s k)) e ∙ ap is_some g
 
-same_turn : (pick : Segment → Turns) (s new : Slab Segment) (key : ℕ) (slot : Option Segment) → Updates s new key slot → ((a : ℕ) → a / 2 ≡ key → turned a (option_map pick slot) ≡ a) → ((a : ℕ) → a / 2 ≡ key → turn_in (shown pick s) a ≡ a) → turn_in (shown pick new) ≡ turn_in (shown pick s)
+same_turn : (pick : Segment → Slot) (s new : Slab Segment) (key : ℕ) (slot : Option Segment) → Updates s new key slot → ((a : ℕ) → a / 2 ≡ key → turned a (option_map pick slot) ≡ a) → ((a : ℕ) → a / 2 ≡ key → turn_in (shown pick s) a ≡ a) → turn_in (shown pick new) ≡ turn_in (shown pick s)
 same_turn pick s new key slot u after before = funext (turn_in (shown pick new)) (turn_in (shown pick s)) (λ a. elim (cases_eq (a / 2) key) [
   | inl e ↦ turn_at pick new a ∙ ap (λ (k : ℕ). turned a (option_map pick (get new k))) e ∙ ap (λ (o : Option Segment). turned a (option_map pick o)) u.changed ∙ after a e ∙ sym (before a e)
   | inr ne ↦ turn_at pick new a ∙ ap (λ (o : Option Segment). turned a (option_map pick o)) (u.others (a / 2) ne) ∙ sym (turn_at pick s a)
 ])
 
-turn-none : (pick : Segment → Turns) (s : Slab Segment) (key : ℕ) → get s key ≡ None → (a : ℕ) → a / 2 ≡ key → turn_in (shown pick s) a ≡ a
+turn-none : (pick : Segment → Slot) (s : Slab Segment) (key : ℕ) → get s key ≡ None → (a : ℕ) → a / 2 ≡ key → turn_in (shown pick s) a ≡ a
 turn-none pick s key g a e = turn_at pick s a ∙ ap (λ (k : ℕ). turned a (option_map pick (get s k))) e ∙ ap (λ (o : Option Segment). turned a (option_map pick o)) g
 
 by_itself : (a key : ℕ) → a / 2 ≡ key → cond (a % 2 == 0) (2 * key) (2 * key + 1) ≡ a
@@ -122,34 +129,46 @@ inverse-same f b f' b' e d k = subst (λ (g : ℕ → ℕ). AreInverse g b') (sy
 -- ---- The two changes
 
 -- the key of a new segment, and what the slab says of it
-pub record IsNewAt (s new : Slab Segment) (key : ℕ) : Type 0 where
+pub record IsNewAt (s new : Slab Segment) (key edge : ℕ) : Type 0 where
   pub free : get s key ≡ None
-  pub updates : Updates s new key (Some (isolated_segment key))
+  pub updates : Updates s new key (Some (isolated_segment key edge))
   pub len : slab_len new ≡ slab_len s + 1
   pub capacity : new.capacity ≡ s.capacity
   pub below : key < s.capacity
 
-pub inserted : (s new : Slab Segment) (key x : ℕ) → IsKept s → 0 < room_of s → IsNewAt s new key → 2 * key ≡ x → IsInserted s new x
-inserted s new key x k room i ex =
+pub inserted : (s new : Slab Segment) (key edge x : ℕ) → IsKept s → 0 < room_of s → IsNewAt s new key edge → 2 * key ≡ x → IsInserted s new x
+inserted s new key edge x k room i ex =
     let kx : x / 2 ≡ key = omega arith in
     let r : HasRoom s.capacity (slab_len s) = has_room s.capacity (slab_len s) room in
     let narrow : s.capacity ≤ 2147483648 = r.narrow in
     let below : key < s.capacity = i.below in
     let lim : half_limit ≡ 4294967296 = limit-is in
-    let f : next_in new ≡ next_in s = same_turn nexts s new key (Some (isolated_segment key)) i.updates (λ a e. by_itself a key e) (turn-none nexts s key i.free) in
-    let b : before_in new ≡ before_in s = same_turn befores s new key (Some (isolated_segment key)) i.updates (λ a e. by_itself a key e) (turn-none befores s key i.free) in
+    let f : next_in new ≡ next_in s = same_turn nexts s new key (Some (isolated_segment key edge)) i.updates (λ a e. by_itself a key e) (turn-none nexts s key i.free) in
+    let b : before_in new ≡ before_in s = same_turn befores s new key (Some (isolated_segment key edge)) i.updates (λ a e. by_itself a key e) (turn-none befores s key i.free) in
     record {
       next = f;
       within = omega arith;
-      live = adds (holds s) (holds new) half_limit key x kx (live-was s key None i.free) (live-there s new key (Some (isolated_segment key)) i.updates) (live-else s new key (Some (isolated_segment key)) i.updates);
+      live = adds (holds s) (holds new) half_limit key x kx (live-was s key None i.free) (live-there s new key (Some (isolated_segment key edge)) i.updates) (live-else s new key (Some (isolated_segment key edge)) i.updates);
       room = room_less s.capacity (slab_len s) new.capacity (slab_len new) room i.capacity i.len;
+      limit = ap (λ (n : ℕ). 2 * min n 2147483648) i.capacity;
+      below = (let same : new.capacity ≡ s.capacity = i.capacity in omega arith);
       kept = record {
         inverse = inverse-same (next_in s) (before_in s) (next_in new) (before_in new) f b k.inverse;
         within = λ a h. elim (cases_eq (a / 2) key) [
           | inl e ↦ let l : a < half_limit = omega arith in l
-          | inr ne ↦ k.within a (sym (live-else s new key (Some (isolated_segment key)) i.updates a ne) ∙ h)
+          | inr ne ↦ k.within a (sym (live-else s new key (Some (isolated_segment key edge)) i.updates a ne) ∙ h)
         ];
       };
+    }
+
+-- its halves have its label, and all others theirs
+pub label_stored : (s new : Slab Segment) (key edge x : ℕ) → IsNewAt s new key edge → 2 * key ≡ x → AddsLabel (holds s) (label_in s) (label_in new) x edge
+label_stored s new key edge x i ex =
+    let kx : x / 2 ≡ key = omega arith in
+    record {
+      here = label-there new key (isolated_segment key edge) x kx i.updates.changed;
+      here_twin = label-there new key (isolated_segment key edge) (twin x) (twin-key x ∙ kx) i.updates.changed;
+      others = λ a h. label-else s new key (Some (isolated_segment key edge)) i.updates a (λ e. true_false (sym h ∙ live-was s key None i.free a e));
     }
 
 pub record IsGoneAt (s new : Slab Segment) (key : ℕ) (seg : Segment) : Type 0 where
@@ -172,6 +191,7 @@ removed s new key x seg k alone twin_alone i kx =
       live = adds (holds new) (holds s) half_limit key x kx (live-there s new key None i.updates) (live-was s key (Some seg) i.was) (λ a ne. sym (live-else s new key None i.updates a ne));
       room = r.never_less;
       freed = r.one_more;
+      limit = ap (λ (n : ℕ). 2 * min n 2147483648) i.capacity;
       kept = record {
         inverse = inverse-same (next_in s) (before_in s) (next_in new) (before_in new) f b k.inverse;
         within = λ a h. elim (cases_eq (a / 2) key) [
@@ -181,9 +201,13 @@ removed s new key x seg k alone twin_alone i kx =
       };
     }
 
+-- those that are left keep their labels
+pub labels_left : (s new : Slab Segment) (key : ℕ) (seg : Segment) → IsGoneAt s new key seg → KeepsLabels (holds new) (label_in s) (label_in new)
+labels_left s new key seg i a h = label-else s new key None i.updates a (λ e. true_false (sym h ∙ live-there s new key None i.updates a e))
+
 -- stored, and then written again at its key
-pub two_writes : (s mid : Slab Segment) (key : ℕ) (blank seg : Segment) → get s key ≡ None → Updates s mid key (Some blank) → seg ≡ isolated_segment key → slab_len mid ≡ slab_len s + 1 → mid.capacity ≡ s.capacity → key < mid.capacity → IsNewAt s (with_value mid key seg) key
-two_writes s mid key blank seg free u e len cap below =
+pub two_writes : (s mid : Slab Segment) (key edge : ℕ) (blank seg : Segment) → get s key ≡ None → Updates s mid key (Some blank) → seg ≡ isolated_segment key edge → slab_len mid ≡ slab_len s + 1 → mid.capacity ≡ s.capacity → key < mid.capacity → IsNewAt s (with_value mid key seg) key edge
+two_writes s mid key edge blank seg free u e len cap below =
     let v : Updates mid (with_value mid key seg) key (Some seg) = updates mid key blank seg u.changed in
     record {
       free = free;

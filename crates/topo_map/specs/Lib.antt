@@ -1,5 +1,4 @@
 pub mod Halves
-pub mod HalfInverse
 pub mod Rotation
 pub mod Segments
 pub mod Building

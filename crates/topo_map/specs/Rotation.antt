@@ -1,31 +1,40 @@
 -- What a contract sees of an embedding: which halves are live, how they turn, and the room for more segments.
 -- A half is a number: 2 * key and 2 * key + 1 are the two of the segment at a key.
 use Rattle.std.specs.Prelude.{◌≡◌, ◌≢◌, ℕ, ◌+◌, ◌*◌, ◌/◌, ◌%◌, ◌<◌, ◌≤◌, ◌==◌, Bool, true, cond, List, length, Option, Some, None, is_some, slice_index_or}
-use Rattle.topo_core.specs.Cycles.{after, map_of, cycles_of}
+use Rattle.topo_core.specs.Cycles.{SameCycle, after, map_of, cycles_of}
 use Rattle.topo_core.specs.Rotations.{twin, face_next, faces_of, IsConnected}
 use Rattle.topo_perm.specs.Joins.{IsConnectedAmong, AddsSegment}
 use Rattle.topo_perm.specs.Renumbering.{RenumbersTurn}
 use Rattle.topo_perm.specs.Live.{IsSlab, live_cycle_count, live_segments}
 
--- the halves that follow the two of a segment, clockwise at their points
-pub record Turns : Type 0 where
+-- a segment: the halves that follow its two, clockwise at their points, and the label of its edge
+pub record Slot : Type 0 where
   pub forward : ℕ
   pub back : ℕ
+  pub edge : ℕ
 
--- at each key the turns of a segment or nothing, and how many segments can be added with no memory taken
+-- at each key a segment or nothing, what lies above all halves that there is place for, and how many segments can be added with no memory taken
 pub record Rotation : Type 0 where
-  pub slots : List (Option Turns)
+  pub slots : List (Option Slot)
+  pub limit : ℕ
   pub room : ℕ
 
 -- the half that follows a; at a slot with no segment a itself
-abbrev pub turned : ℕ → Option Turns → ℕ
+abbrev pub turned : ℕ → Option Slot → ℕ
 turned a None = a
 turned a (Some t) = cond (a % 2 == 0) t.forward t.back
 
-unfoldable pub turn_in : List (Option Turns) → ℕ → ℕ
+unfoldable pub turn_in : List (Option Slot) → ℕ → ℕ
 turn_in slots a = turned a (slice_index_or slots (a / 2) None)
 
-unfoldable pub live_in : List (Option Turns) → ℕ → Bool
+abbrev pub labelled : Option Slot → ℕ
+labelled None = 0
+labelled (Some t) = t.edge
+
+unfoldable pub edge_in : List (Option Slot) → ℕ → ℕ
+edge_in slots a = labelled (slice_index_or slots (a / 2) None)
+
+unfoldable pub live_in : List (Option Slot) → ℕ → Bool
 live_in slots a = is_some (slice_index_or slots (a / 2) None)
 
 -- the next half clockwise
@@ -35,6 +44,10 @@ turn r = turn_in r.slots
 -- whether a number is a half of a segment
 abbrev pub is_live : Rotation → ℕ → Bool
 is_live r = live_in r.slots
+
+-- the label of the edge that a half is on
+abbrev pub edge_of : Rotation → ℕ → ℕ
+edge_of r = edge_in r.slots
 
 -- above all halves. It is a name and no numeral, since counts run up to it
 unfoldable pub half_limit : ℕ
@@ -67,29 +80,59 @@ HangsTogether r = IsConnectedAmong (is_live r) (turn r) half_limit
 
 -- ---- What an edit adds or takes
 
--- the segment of x is new and takes one place of the room, and there are so many points and faces more
-pub record Grows (old new : Rotation) (x more_points more_faces : ℕ) : Type 0 where
+-- the segment of x is new and takes one place of the room
+pub record Grows (old new : Rotation) (x : ℕ) : Type 0 where
   pub within : x < half_limit
   pub live : AddsSegment (is_live old) (is_live new) half_limit x
   pub stays : (a : ℕ) → is_live old a ≡ true → is_live new a ≡ true
-  pub points_more : points new ≡ points old + more_points
   pub segments_more : segments new ≡ segments old + 1
-  pub faces_more : faces new ≡ faces old + more_faces
   pub room_less : new.room + 1 ≡ old.room
+  pub same_limit : new.limit ≡ old.limit
+  pub below : x < new.limit
   pub embedding : IsEmbedding new
-  pub connected : HangsTogether old → HangsTogether new
 
--- the segment of x is gone and leaves its place to another, and there are so many points and faces fewer
-pub record Shrinks (old new : Rotation) (x fewer_points fewer_faces : ℕ) : Type 0 where
+-- the segment of x is gone and leaves its place to another
+pub record Shrinks (old new : Rotation) (x : ℕ) : Type 0 where
   pub live : AddsSegment (is_live new) (is_live old) half_limit x
   pub stays : (a : ℕ) → a ≢ x → a ≢ twin x → is_live old a ≡ true → is_live new a ≡ true
-  pub points_fewer : points new + fewer_points ≡ points old
   pub segments_fewer : segments new + 1 ≡ segments old
-  pub faces_fewer : faces new + fewer_faces ≡ faces old
   pub room_kept : old.room ≤ new.room
   pub room_more : 0 < old.room → new.room ≡ old.room + 1
+  pub same_limit : new.limit ≡ old.limit
   pub embedding : IsEmbedding new
+
+-- the two halves of x have this label, and those that were live keep theirs
+pub record AddsLabel (live : ℕ → Bool) (old new : ℕ → ℕ) (x label : ℕ) : Type 0 where
+  pub here : new x ≡ label
+  pub here_twin : new (twin x) ≡ label
+  pub others : (a : ℕ) → live a ≡ true → new a ≡ old a
+
+-- what is live has the label that it had
+abbrev pub KeepsLabels : (ℕ → Bool) → (ℕ → ℕ) → (ℕ → ℕ) → Type 0
+KeepsLabels live old new = (a : ℕ) → live a ≡ true → new a ≡ old a
+
+-- so many points and faces more, and what hangs together still does
+pub record CountsMore (old new : Rotation) (more_points more_faces : ℕ) : Type 0 where
+  pub points_more : points new ≡ points old + more_points
+  pub faces_more : faces new ≡ faces old + more_faces
   pub connected : HangsTogether old → HangsTogether new
+
+-- and so many fewer
+pub record CountsFewer (old new : Rotation) (fewer_points fewer_faces : ℕ) : Type 0 where
+  pub points_fewer : points new + fewer_points ≡ points old
+  pub faces_fewer : faces new + fewer_faces ≡ faces old
+  pub connected : HangsTogether old → HangsTogether new
+
+-- ---- Where an edit counts as it does
+
+-- both corners lie in one face, which the new segment parts
+abbrev pub IsOneFace : Rotation → ℕ → ℕ → Type 0
+IsOneFace r c d = SameCycle (face_next (turn r)) c d
+
+-- different faces lie on the two sides of the segment of h, and it is not a loop alone at its point
+pub record PartsFaces (r : Rotation) (h : ℕ) : Type 0 where
+  pub two_faces : ¬ IsOneFace r h (twin h)
+  pub not_alone : turn r h ≡ twin h → turn r (twin h) ≢ h
 
 -- k steps, and no fewer, lead round the point of a
 pub record IsDegree (r : Rotation) (a k : ℕ) : Type 0 where
@@ -98,6 +141,10 @@ pub record IsDegree (r : Rotation) (a k : ℕ) : Type 0 where
   pub least : (j : ℕ) → 0 < j → j < k → after (turn r) j a ≢ a
 
 -- ---- Built from a list of turns
+
+-- the two halves of each segment, side by side in the list, have its label
+abbrev pub AreLabelled : List ℕ → List ℕ → (ℕ → ℕ) → Type 0
+AreLabelled labels halves label = (a : ℕ) → a < length halves → label (map_of halves a) ≡ map_of labels (a / 2)
 
 -- the halves stand for the places of the turns, in order, and turn as these say; there are no others
 pub record IsMadeFrom (turns halves : List ℕ) (r : Rotation) : Type 0 where

@@ -1,18 +1,18 @@
 -- How segments lie in a slab. No public clause cites this module.
-use Rattle.std.specs.Prelude.{◌≡◌, ℕ, ◌+◌, ◌-◌, ◌*◌, ◌<◌, ◌≤◌, ◌==◌, nat_le, Bool, true, cond, List, map, Option, option_map}
+use Rattle.std.specs.Prelude.{◌≡◌, ℕ, ◌+◌, ◌-◌, ◌*◌, ◌<◌, ◌≤◌, ◌==◌, nat_le, min, Bool, true, cond, List, map, Option, option_map}
 use Rattle.slab.specs.Slab.{Slab, slab_len}
 use Rattle.topo_perm.specs.Joins.{AddsSegment}
-use Rattle.topo_map.specs.Rotation.{Turns, Rotation, turn_in, live_in, half_limit}
+use Rattle.topo_map.specs.Rotation.{Slot, Rotation, turn_in, edge_in, live_in, half_limit}
 use Rattle.topo_map.specs.declared.segments.Segment.{Segment}
 
 -- the halves after and before the two of a segment
-abbrev pub nexts : Segment → Turns
-nexts s = record { forward = s.forward.next; back = s.back.next }
+abbrev pub nexts : Segment → Slot
+nexts s = record { forward = s.forward.next; back = s.back.next; edge = s.edge }
 
-abbrev pub befores : Segment → Turns
-befores s = record { forward = s.forward.previous; back = s.back.previous }
+abbrev pub befores : Segment → Slot
+befores s = record { forward = s.forward.previous; back = s.back.previous; edge = s.edge }
 
-abbrev pub shown : (Segment → Turns) → Slab Segment → List (Option Turns)
+abbrev pub shown : (Segment → Slot) → Slab Segment → List (Option Slot)
 shown pick s = map (option_map pick) s.slots
 
 abbrev pub next_in : Slab Segment → ℕ → ℕ
@@ -24,19 +24,27 @@ before_in s = turn_in (shown befores s)
 abbrev pub holds : Slab Segment → ℕ → Bool
 holds s = live_in (shown nexts s)
 
+abbrev pub label_in : Slab Segment → ℕ → ℕ
+label_in s = edge_in (shown nexts s)
+
+-- above all halves that there is place for
+abbrev pub limit_of : Slab Segment → ℕ
+limit_of s = 2 * min s.capacity 2147483648
+
 -- how many segments fit with no memory, as long as their halves stay below the limit
 abbrev pub room_of : Slab Segment → ℕ
 room_of s = cond (nat_le s.capacity 2147483648) (s.capacity - slab_len s) 0
 
 -- what a contract sees
 abbrev pub view_of : Slab Segment → Rotation
-view_of s = record { slots = shown nexts s; room = room_of s }
+view_of s = record { slots = shown nexts s; limit = limit_of s; room = room_of s }
 
 -- a segment by itself
-abbrev pub isolated_segment : ℕ → Segment
-isolated_segment key = record {
+abbrev pub isolated_segment : ℕ → ℕ → Segment
+isolated_segment key edge = record {
   forward = record { next = 2 * key; previous = 2 * key };
   back = record { next = 2 * key + 1; previous = 2 * key + 1 };
+  edge = edge;
 }
 
 -- ---- Maps
@@ -70,6 +78,7 @@ pub record Rewires (old new : Slab Segment) (f b : ℕ → ℕ) : Type 0 where
   pub next : next_in new ≡ f
   pub before : before_in new ≡ b
   pub live : holds new ≡ holds old
+  pub edges : label_in new ≡ label_in old
   pub len : slab_len new ≡ slab_len old
   pub capacity : new.capacity ≡ old.capacity
 
@@ -77,6 +86,7 @@ pub record Rewires (old new : Slab Segment) (f b : ℕ → ℕ) : Type 0 where
 pub record IsTurned (old new : Slab Segment) (f : ℕ → ℕ) : Type 0 where
   pub next : next_in new ≡ f
   pub live : holds new ≡ holds old
+  pub edges : label_in new ≡ label_in old
   pub len : slab_len new ≡ slab_len old
   pub capacity : new.capacity ≡ old.capacity
   pub kept : IsKept new
@@ -87,6 +97,8 @@ pub record IsInserted (old new : Slab Segment) (x : ℕ) : Type 0 where
   pub within : x < half_limit
   pub live : AddsSegment (holds old) (holds new) half_limit x
   pub room : room_of new + 1 ≡ room_of old
+  pub limit : limit_of new ≡ limit_of old
+  pub below : x < limit_of new
   pub kept : IsKept new
 
 -- the segment of x, by itself, is gone
@@ -95,4 +107,5 @@ pub record IsRemoved (old new : Slab Segment) (x : ℕ) : Type 0 where
   pub live : AddsSegment (holds new) (holds old) half_limit x
   pub room : room_of old ≤ room_of new
   pub freed : 0 < room_of old → room_of new ≡ room_of old + 1
+  pub limit : limit_of new ≡ limit_of old
   pub kept : IsKept new

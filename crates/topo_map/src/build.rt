@@ -4,27 +4,29 @@ ghost use Rattle.std.specs.Prelude.{◌≡◌, ◌+◌, ◌*◌, ◌%◌, ◌<�
 ghost use Rattle.topo_core.specs.Cycles.{IsPermutationList, map_of};
 ghost use Rattle.topo_core.specs.Rotations.{twin};
 ghost use Rattle.topo_map.specs.Building.{AreAlone, IsJoined};
-ghost use Rattle.topo_map.specs.Segments.{IsKept, holds, next_in, room_of};
+ghost use Rattle.topo_map.specs.Rotation.{AreLabelled};
+ghost use Rattle.topo_map.specs.Segments.{IsKept, holds, label_in, next_in, room_of};
 
 use crate::half::Half;
 use crate::segments::{self, Segment, insert_isolated, link};
 use slab::Slab;
 use std::alloc::{AllocError, Global};
 
-/// So many segments, each half a point by itself, and their halves.
+/// Segments with these labels, each half a point by itself, and their halves.
 pub(crate) fn isolated_halves(
     alloc: Global,
     segments: &mut Slab<Segment>,
-    count: usize,
+    edges: &[u32],
 ) -> Result<Vec<Half>, AllocError>
     requires { segments.old.slots ≡ [] }
-    ensures length { IfOk result (λ halves. length halves.items ≡ 2 * count) }
+    ensures length { IfOk result (λ halves. length halves.items ≡ 2 * length edges.now) }
     ensures alone { IfOk result (λ halves. AreAlone segments.new halves.items) }
+    ensures labels { IfOk result (λ halves. AreLabelled edges.now halves.items (label_in segments.new)) }
 {
-    segments::reserve(segments, count)?;
+    segments::reserve(segments, edges.len())?;
     let mut halves: Vec<Half> = Vec::new(alloc);
-    for _segment in 0..count {
-        let half = insert_isolated(segments);
+    for segment in 0..edges.len() {
+        let half = insert_isolated(segments, edges[segment]);
         halves.push(half)?;
         halves.push(half.twin())?;
     }
@@ -36,7 +38,8 @@ pub(crate) fn join_turns(segments: &mut Slab<Segment>, halves: &[Half], turns: &
     requires permutation { IsPermutationList turns.now }
     requires same_length { length halves.now ≡ length turns.now }
     requires alone { AreAlone segments.old halves.now }
-    ensures { IsJoined segments.new halves.now turns.now }
+    ensures joined { IsJoined segments.new halves.now turns.now }
+    ensures labels { label_in segments.new ≡ label_in segments.old }
 {
     for place in 0..turns.len() {
         link(segments, halves[place], halves[turns[place] as usize]);

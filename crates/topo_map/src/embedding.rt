@@ -1,10 +1,10 @@
 //! The embedding and its edits.
 
-ghost use Rattle.std.specs.Prelude.{◌≡◌, ◌≢◌, ◌↔◌, ◌%◌, [], ◌∷◌, length, ◌<◌, ◌≤◌, true, IsTrue, IsOk, IfOk, OnOk};
+ghost use Rattle.std.specs.Prelude.{◌≡◌, ◌≢◌, ◌↔◌, ◌*◌, ℕ, [], ◌∷◌, length, ◌<◌, ◌≤◌, true, IsTrue, IsOk, IfOk, OnOk};
 ghost use Rattle.topo_core.specs.Cycles.{IsPermutationList, SameCycle};
 ghost use Rattle.topo_core.specs.Edits.{IsChord, IsHang, IsSmooth, IsSplit, IsUnchord};
 ghost use Rattle.topo_core.specs.Rotations.{face_next, twin};
-ghost use Rattle.topo_map.specs.Rotation.{Grows, IsDegree, IsEmbedding, IsMadeFrom, Shrinks, half_limit, is_live, turn};
+ghost use Rattle.topo_map.specs.Rotation.{AddsLabel, AreLabelled, CountsFewer, CountsMore, Grows, IsDegree, IsEmbedding, IsMadeFrom, IsOneFace, KeepsLabels, PartsFaces, Shrinks, edge_of, half_limit, is_live, turn};
 
 use crate::build::{isolated_halves, join_turns};
 use crate::half::Half;
@@ -38,27 +38,41 @@ impl Model for Embedding {
 }
 
 impl Embedding {
-    /// One segment with two points, and one of its halves.
-    pub fn seed(alloc: Global) -> Result<(Self, Half), AllocError>
-        ensures { IfOk result (λ made. IsMadeFrom (0 ∷ 1 ∷ []) (made.1 ∷ twin made.1 ∷ []) made.0) }
+    /// One segment with two points, on an edge with this label, and one of its halves.
+    pub fn seed(alloc: Global, edge: u32) -> Result<(Self, Half), AllocError>
+        ensures made { IfOk result (λ made. IsMadeFrom (0 ∷ 1 ∷ []) (made.1 ∷ twin made.1 ∷ []) made.0) }
+        ensures labels { IfOk result (λ made. (edge_of made.0 made.1 ≡ edge) × (edge_of made.0 (twin made.1) ≡ edge)) }
     {
         let mut segments = Slab::new(alloc);
         segments::reserve(&mut segments, 1)?;
-        let half = insert_isolated(&mut segments);
+        let half = insert_isolated(&mut segments, edge);
         Ok((Embedding { segments }, half))
     }
 
-    /// The embedding of which `turns` are the turns, where `2i` and `2i + 1` are the two halves of one
-    /// segment, and its halves in this order.
-    pub fn from_turns(alloc: Global, turns: &[u32]) -> Result<(Self, Vec<Half>), AllocError>
+    /// The embedding of which `turns` are the turns, where `2i` and `2i + 1` are the two halves of the
+    /// segment with label `edges[i]`, and its halves in this order.
+    pub fn from_turns(
+        alloc: Global,
+        turns: &[u32],
+        edges: &[u32],
+    ) -> Result<(Self, Vec<Half>), AllocError>
         requires permutation { IsPermutationList turns.now }
-        requires even { length turns.now % 2 ≡ 0 }
-        ensures { IfOk result (λ made. IsMadeFrom turns.now made.1.items made.0) }
+        requires two_each { length turns.now ≡ 2 * length edges.now }
+        ensures made { IfOk result (λ made. IsMadeFrom turns.now made.1.items made.0) }
+        ensures labels { IfOk result (λ made. AreLabelled edges.now made.1.items (edge_of made.0)) }
     {
         let mut segments = Slab::new(alloc);
-        let halves = isolated_halves(alloc, &mut segments, turns.len() / 2)?;
+        let halves = isolated_halves(alloc, &mut segments, edges)?;
         join_turns(&mut segments, &halves, turns);
         Ok((Embedding { segments }, halves))
+    }
+
+    /// A length for lists by half: above the numbers of all halves, now and while there is room.
+    pub fn limit(&self) -> usize
+        ensures limit { result ≡ self.now.limit }
+        ensures above { (a : ℕ) → is_live self.now a ≡ true → a < result }
+    {
+        segments::limit(&self.segments)
     }
 
     /// How many segments can be added with no memory taken.
@@ -80,13 +94,14 @@ impl Embedding {
         segments::reserve(&mut self.segments, more)
     }
 
-    /// The same halves with the same turn, in memory of its own.
+    /// The same halves with the same turn, in memory of its own, with no less room.
     pub fn copy(&self) -> Result<Self, AllocError>
-        ensures { IfOk result (λ copy. copy.slots ≡ self.now.slots) }
+        ensures slots { IfOk result (λ copy. copy.slots ≡ self.now.slots) }
+        ensures room { IfOk result (λ copy. self.now.room ≤ copy.room) }
     {
-        Ok(Embedding {
-            segments: self.segments.clone()?,
-        })
+        let mut segments = self.segments.clone()?;
+        segments::reserve(&mut segments, self.room())?;
+        Ok(Embedding { segments })
     }
 
     /// What always holds, for a caller that sees the halves and their turn alone. It does nothing.
@@ -131,6 +146,14 @@ impl Embedding {
         next(&self.segments, h.twin())
     }
 
+    /// The label of the edge that `h` is on.
+    pub fn edge(&self, h: Half) -> u32
+        requires { is_live self.now h ≡ true }
+        ensures { result ≡ edge_of self.now h }
+    {
+        segments::edge(&self.segments, h)
+    }
+
     /// Whether `a` and `b` lie in one face. It walks round the face of `a`.
     pub fn same_face(&self, a: Half, b: Half) -> bool
         requires live { is_live self.now a ≡ true }
@@ -167,59 +190,65 @@ impl Embedding {
         HALF_LIMIT
     }
 
-    /// A new point on a new segment that starts in the corner before `c`. Answers the half that
-    /// leads to the point.
-    pub fn hang(&mut self, c: Half) -> Half
+    /// A new point on a new segment of this edge that starts in the corner before `c`. Answers the half
+    /// that leads to the point.
+    pub fn hang(&mut self, c: Half, edge: u32) -> Half
         requires live { is_live self.old c ≡ true }
         requires room { 0 < self.old.room }
         ensures edit { IsHang (turn self.old) (turn self.new) half_limit c result }
-        ensures grows { Grows self.old self.new result 1 0 }
+        ensures grows { Grows self.old self.new result }
+        ensures label { AddsLabel (is_live self.old) (edge_of self.old) (edge_of self.new) result edge }
+        ensures counts { CountsMore self.old self.new 1 0 }
     {
-        let x = insert_isolated(&mut self.segments);
+        let x = insert_isolated(&mut self.segments, edge);
         put_before(&mut self.segments, x, c);
         x
     }
 
-    /// A new segment from the corner before `c` to the corner before `d`, which lie in one face; they
-    /// may be one corner, and the segment is then a loop. Answers its half that starts at `c`.
-    pub fn chord(&mut self, c: Half, d: Half) -> Half
+    /// A new segment of this edge from the corner before `c` to the corner before `d`; they may be one corner, and
+    /// the segment is then a loop. Where they lie in one face, it parts that face in two. Answers its
+    /// half that starts at `c`.
+    pub fn chord(&mut self, c: Half, d: Half, edge: u32) -> Half
         requires live { is_live self.old c ≡ true }
         requires live_end { is_live self.old d ≡ true }
-        requires one_face { SameCycle (face_next (turn self.old)) c d }
         requires room { 0 < self.old.room }
         ensures edit { IsChord (turn self.old) (turn self.new) half_limit c d result }
-        ensures grows { Grows self.old self.new result 0 1 }
+        ensures grows { Grows self.old self.new result }
+        ensures label { AddsLabel (is_live self.old) (edge_of self.old) (edge_of self.new) result edge }
+        ensures counts { IsOneFace self.old c d → CountsMore self.old self.new 0 1 }
     {
-        let start = insert_isolated(&mut self.segments);
+        let start = insert_isolated(&mut self.segments, edge);
         put_before(&mut self.segments, start, c);
         put_before(&mut self.segments, start.twin(), d);
         start
     }
 
-    /// A new point on the segment of `h`. Answers the half that goes on from it, in the direction
+    /// A new point on the segment of `h`, and so on its edge. Answers the half that goes on from it, in the direction
     /// of `h`.
     pub fn split(&mut self, h: Half) -> Half
         requires live { is_live self.old h ≡ true }
         requires room { 0 < self.old.room }
         ensures edit { IsSplit (turn self.old) (turn self.new) half_limit h result }
-        ensures grows { Grows self.old self.new result 1 0 }
+        ensures grows { Grows self.old self.new result }
+        ensures label { AddsLabel (is_live self.old) (edge_of self.old) (edge_of self.new) result (edge_of self.old h) }
+        ensures counts { CountsMore self.old self.new 1 0 }
     {
         let end = h.twin();
-        let x = insert_isolated(&mut self.segments);
+        let edge = segments::edge(&self.segments, h);
+        let x = insert_isolated(&mut self.segments, edge);
         put_before(&mut self.segments, x.twin(), end);
         take_out(&mut self.segments, end);
         put_before(&mut self.segments, x, end);
         x
     }
 
-    /// The segment of `h` goes, and the two faces beside it become one. It must not be a loop alone
-    /// at its point.
+    /// The segment of `h` goes. Where two faces lie beside it, they become one.
     pub fn unchord(&mut self, h: Half)
-        requires live { is_live self.old h ≡ true }
-        requires two_faces { ¬ SameCycle (face_next (turn self.old)) h (twin h) }
-        requires not_alone { turn self.old h ≡ twin h → turn self.old (twin h) ≢ h }
+        requires { is_live self.old h ≡ true }
         ensures edit { IsUnchord (turn self.old) (turn self.new) half_limit h }
-        ensures shrinks { Shrinks self.old self.new h 0 1 }
+        ensures shrinks { Shrinks self.old self.new h }
+        ensures labels { KeepsLabels (is_live self.new) (edge_of self.old) (edge_of self.new) }
+        ensures counts { PartsFaces self.old h → CountsFewer self.old self.new 0 1 }
     {
         take_out(&mut self.segments, h);
         take_out(&mut self.segments, h.twin());
@@ -233,7 +262,9 @@ impl Embedding {
         requires not_alone { turn self.old x ≢ x }
         requires two_segments { turn self.old x ≢ twin x }
         ensures edit { IsSmooth (turn self.old) (turn self.new) half_limit x }
-        ensures shrinks { Shrinks self.old self.new x 1 0 }
+        ensures shrinks { Shrinks self.old self.new x }
+        ensures labels { KeepsLabels (is_live self.new) (edge_of self.old) (edge_of self.new) }
+        ensures counts { CountsFewer self.old self.new 1 0 }
     {
         let other = next(&self.segments, x);
         let end = x.twin();

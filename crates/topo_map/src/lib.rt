@@ -1,17 +1,19 @@
 //! The embedding of a graph: segments between points, with the clockwise order of the halves round
 //! each point.
 //!
-//! A half is a segment with a direction, and contracts know it by a number: `2 * key` and
-//! `2 * key + 1` are the two of the segment at a key of a slab. An `Embedding` is seen as a
-//! `Rotation`: which numbers are live halves (`is_live`), how they turn (`turn`), and for how many
-//! more segments there is room. A slot with no segment is a segment by itself in that view, whose
+//! A half is a segment with a direction, and is kept as one number: `2 * key` and `2 * key + 1` are
+//! the two of the segment at a key of a slab. An `Embedding` is seen as a
+//! `Rotation`: which numbers are live halves (`is_live`), how they turn (`turn`), the label of the edge
+//! that each is on (`edge_of`), and for how many more segments there is room. A slot with no segment is a segment by itself in that view, whose
 //! halves turn to themselves: so the turn is one permutation of all numbers below `half_limit`, an
 //! edit neither lengthens nor shortens it, and what is known of whole permutations applies to it as
 //! it is. A new segment is first stored by itself, which changes no turn, and then put in.
 //!
 //! Each edit (`hang`, `chord`, `split`, `unchord`, `smooth`) is exactly the edit of that name on the
-//! turn. Its contract gives the points, segments and faces more or fewer, that all other halves stay,
-//! and that what hangs together stays together. With room an edit takes no memory and cannot fail.
+//! turn. Its contract gives the points, segments and faces more or fewer, that all other halves stay
+//! and keep their labels, and that what hangs together stays together. Where the counts ask that two
+//! corners lie in one face, or that two faces lie beside a segment, the edit itself does not. With room
+//! an edit takes no memory and cannot fail.
 //! Both directions of the turn are kept, so each takes a constant number of steps; `same_face` and
 //! `degree` walk round a face and round a point. Room for a label of the face beside a half is in
 //! its links, which no contract sees.
@@ -21,8 +23,6 @@ mod build;
 pub mod embedding;
 pub mod half;
 mod segments;
-#[cfg(test)]
-mod tests;
 
 pub use embedding::Embedding;
 pub use half::Half;

@@ -1,9 +1,11 @@
 //! Segments in a slab, each with the halves after and before its two. Both directions are kept, so
 //! that a half is put in or taken out in a constant number of steps.
 
-ghost use Rattle.std.specs.Prelude.{◌≡◌, ◌≢◌, ◌<◌, ◌≤◌, true, OnOk, IsOk};
+ghost use Rattle.std.specs.Prelude.{◌≡◌, ◌≢◌, ◌+◌, ◌<◌, ◌≤◌, true, length, OnOk, IsOk};
+ghost use Rattle.slab.specs.Slab.{slab_len};
 ghost use Rattle.topo_core.specs.Rotations.{twin};
-ghost use Rattle.topo_map.specs.Segments.{IsInserted, IsKept, IsRemoved, IsTurned, Rewires, before_in, holds, isolated_segment, next_in, put, room_of, without, written};
+ghost use Rattle.topo_map.specs.Rotation.{AddsLabel, KeepsLabels};
+ghost use Rattle.topo_map.specs.Segments.{IsInserted, IsKept, IsRemoved, IsTurned, Rewires, before_in, holds, isolated_segment, label_in, limit_of, next_in, put, room_of, without, written};
 
 use crate::half::Half;
 use slab::Slab;
@@ -20,21 +22,23 @@ pub(crate) struct Links {
     previous: Half,
 }
 
-/// What is kept for a segment: the links of its two halves. A label of the face beside a half would
-/// stand in its links.
+/// What is kept for a segment: the links of its two halves, and the label of its edge. A label of the
+/// face beside a half would stand in its links.
 #[derive(Clone, Copy)]
 pub(crate) struct Segment {
     forward: Links,
     back: Links,
+    edge: u32,
 }
 
 impl Segment {
     // Each half a point by itself.
-    fn isolated(key: u32) -> Self
-        ensures { result ≡ isolated_segment key }
+    fn isolated(key: u32, edge: u32) -> Self
+        requires { key < 2147483648 }
+        ensures { result ≡ isolated_segment key edge }
     {
-        let forward = Half::new(key, Way::Forward);
-        let back = Half::new(key, Way::Back);
+        let forward = Half::forward(key);
+        let back = forward.twin();
         Segment {
             forward: Links {
                 next: forward,
@@ -44,6 +48,7 @@ impl Segment {
                 next: back,
                 previous: back,
             },
+            edge,
         }
     }
 }
@@ -52,7 +57,7 @@ impl Segment {
 pub(crate) fn contains(segments: &Slab<Segment>, half: Half) -> bool
     ensures { result ≡ holds segments.now half }
 {
-    segments.contains(half.key as usize)
+    segments.contains(half.key())
 }
 
 /// The next half clockwise.
@@ -60,8 +65,8 @@ pub(crate) fn next(segments: &Slab<Segment>, at: Half) -> Half
     requires { holds segments.now at ≡ true }
     ensures { result ≡ next_in segments.now at }
 {
-    let segment = &segments[at.key as usize];
-    match at.way {
+    let segment = &segments[at.key()];
+    match at.way() {
         Way::Forward => segment.forward.next,
         Way::Back => segment.back.next,
     }
@@ -72,19 +77,27 @@ pub(crate) fn previous(segments: &Slab<Segment>, at: Half) -> Half
     requires { holds segments.now at ≡ true }
     ensures { result ≡ before_in segments.now at }
 {
-    let segment = &segments[at.key as usize];
-    match at.way {
+    let segment = &segments[at.key()];
+    match at.way() {
         Way::Forward => segment.forward.previous,
         Way::Back => segment.back.previous,
     }
+}
+
+/// The label of the edge that a half is on.
+pub(crate) fn edge(segments: &Slab<Segment>, at: Half) -> u32
+    requires { holds segments.now at ≡ true }
+    ensures { result ≡ label_in segments.now at }
+{
+    segments[at.key()].edge
 }
 
 fn set_next(segments: &mut Slab<Segment>, at: Half, to: Half)
     requires { holds segments.old at ≡ true }
     ensures { Rewires segments.old segments.new (written (next_in segments.old) at to) (before_in segments.old) }
 {
-    let segment = &mut segments[at.key as usize];
-    match at.way {
+    let segment = &mut segments[at.key()];
+    match at.way() {
         Way::Forward => segment.forward.next = to,
         Way::Back => segment.back.next = to,
     }
@@ -94,8 +107,8 @@ fn set_previous(segments: &mut Slab<Segment>, at: Half, to: Half)
     requires { holds segments.old at ≡ true }
     ensures { Rewires segments.old segments.new (next_in segments.old) (written (before_in segments.old) at to) }
 {
-    let segment = &mut segments[at.key as usize];
-    match at.way {
+    let segment = &mut segments[at.key()];
+    match at.way() {
         Way::Forward => segment.forward.previous = to,
         Way::Back => segment.back.previous = to,
     }
@@ -137,16 +150,17 @@ pub(crate) fn take_out(segments: &mut Slab<Segment>, x: Half)
     link(segments, x, x);
 }
 
-/// A new segment, with each half a point by itself. The slab tells the key only as it stores, so
+/// A new segment on an edge, with each half a point by itself. The slab tells the key only as it stores, so
 /// the segment is written a second time.
-pub(crate) fn insert_isolated(segments: &mut Slab<Segment>) -> Half
+pub(crate) fn insert_isolated(segments: &mut Slab<Segment>, edge: u32) -> Half
     requires kept { IsKept segments.old }
     requires room { 0 < room_of segments.old }
-    ensures { IsInserted segments.old segments.new result }
+    ensures inserted { IsInserted segments.old segments.new result }
+    ensures label { AddsLabel (holds segments.old) (label_in segments.old) (label_in segments.new) result edge }
 {
-    let key = segments.insert_reserved(Segment::isolated(0));
-    segments[key] = Segment::isolated(key as u32);
-    Half::new(key as u32, Way::Forward)
+    let key = segments.insert_reserved(Segment::isolated(0, edge));
+    segments[key] = Segment::isolated(key as u32, edge);
+    Half::forward(key as u32)
 }
 
 /// The segment of `x`, each half of which is a point by itself, is gone.
@@ -155,9 +169,18 @@ pub(crate) fn remove_isolated(segments: &mut Slab<Segment>, x: Half)
     requires live { holds segments.old x ≡ true }
     requires alone { next_in segments.old x ≡ x }
     requires twin_alone { next_in segments.old (twin x) ≡ twin x }
-    ensures { IsRemoved segments.old segments.new x }
+    ensures removed { IsRemoved segments.old segments.new x }
+    ensures labels { KeepsLabels (holds segments.new) (label_in segments.old) (label_in segments.new) }
 {
-    segments.remove(x.key as usize);
+    segments.remove(x.key());
+}
+
+/// Above all halves that there is place for.
+pub(crate) fn limit(segments: &Slab<Segment>) -> usize
+    ensures value { result ≡ limit_of segments.now }
+    ensures slots { length segments.now.slots ≤ segments.now.capacity }
+{
+    2 * segments.capacity().min(MOST_SEGMENTS)
 }
 
 /// How many segments fit with no memory taken. A slab that is so large that a key might not fit its
@@ -173,16 +196,20 @@ pub(crate) fn room(segments: &Slab<Segment>) -> usize
     }
 }
 
-/// Makes room for so many more segments.
+/// Makes room for so many more segments. What would pass the bound is refused before anything grows.
 pub(crate) fn reserve(segments: &mut Slab<Segment>, more: usize) -> Result<(), AllocError>
     ensures slots { segments.new.slots ≡ segments.old.slots }
     ensures room { OnOk result (more ≤ room_of segments.new) }
     ensures never_less { OnOk result (room_of segments.old ≤ room_of segments.new) }
     ensures succeeds { more ≤ room_of segments.old → IsOk result }
     ensures had_room { more ≤ room_of segments.old → segments.new ≡ segments.old }
+    ensures bounded { 2147483648 < slab_len segments.old + more → segments.new ≡ segments.old }
 {
     if more <= room(segments) {
         return Ok(());
+    }
+    if MOST_SEGMENTS.saturating_sub(segments.len()) < more {
+        return Err(AllocError);
     }
     segments.reserve(more)?;
     if segments.capacity() <= MOST_SEGMENTS {

@@ -1,5 +1,5 @@
 -- What a deletion makes of a picture within its limits.
-use Rattle.std.proofs.Common.{◌≡◌, ℕ, ◌≤◌, ◌==◌, Bool, true, false, ◌||◌, cond, List, [], ◌∷◌, length, Option, Some, None, is_some, refl, sym, subst, arith, ◌+◌, ap, ◌∙◌}
+use Rattle.std.proofs.Common.{◌≡◌, ℕ, zero, suc, ◌<◌, ◌≤◌, ◌==◌, Bool, true, false, ◌||◌, cond, List, [], ◌∷◌, length, Option, Some, None, is_some, refl, sym, subst, arith, ◌+◌, ap, ◌∙◌}
 use Rattle.std.specs.Prelude.{find}
 use Rattle.std.specs.List.{list_any}
 use Rattle.topo_core.specs.declared.limits.Limits.{Limits}
@@ -44,6 +44,14 @@ module _ (limits : Limits) (rows : Rows) (e : ℕ) (is : IsPicture limits rows) 
 
   pub local_of_picture : (i : ℕ) → IsCut rows e i → IsLocalCut rows e i
   local_of_picture = cut_is_by_faces rows is.lawful.embedding.well_formed e (some_of (edge_row rows e) there).0 (some_of (edge_row rows e) there).1 is.lawful.embedding.connected is.lawful.genus_zero
+
+  -- where nothing is a cut, no segment has one face on both sides
+  pub faces_of_picture : ((i : ℕ) → IsCut rows e i → ⊥) → (i : ℕ) → i ≤ length (edge_at rows e).crossings → HasOneFace rows e i → ⊥
+  faces_of_picture none i on_path one_face = below (i + 1) i (omega arith) on_path one_face where
+    below : (n i : ℕ) → i < n → i ≤ length (edge_at rows e).crossings → HasOneFace rows e i → ⊥
+    below zero i before on_path one_face = omega arith
+    below (suc n) i before on_path one_face =
+        none i (cut_of_picture i (record { on_path = on_path; one_face = one_face; two_faces_before = λ j least. below n j (omega arith) (omega arith) }))
 
 -- ---- What is seen
 

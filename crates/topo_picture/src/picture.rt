@@ -169,6 +169,47 @@ impl Picture {
         }
     }
 
+    /// The numbers that a growth would get, or the first reason why it would be refused, as `grow` says.
+    pub fn admit_growth(
+        &self,
+        u: u32,
+        position: u32,
+        kind: u32,
+    ) -> Result<(VertexId, EdgeId), Refusal>
+        ensures admitted { IfOk result (λ _. grow_refusal self.now.limits self.now.rows u position kind ≡ None) }
+        ensures numbers { IfOk result (λ made. (made.0 ≡ length self.now.rows.rotations) × (made.1 ≡ self.now.rows.next_edge)) }
+        ensures refused { IfErr result (λ why. grow_refusal self.now.limits self.now.rows u position kind ≡ Some why) }
+    {
+        growth_numbers(&self.limits, &self.rows, u, position, kind)
+    }
+
+    /// The number that an edge along this route would get. It would be refused as Full where the crossing
+    /// ids left are fewer than the route crosses.
+    pub fn admit_route(&self, route: &Route) -> Result<EdgeId, Refusal>
+        ensures room { IfOk result (λ _. HasRoomFor self.now.limits self.now.rows route.now) }
+        ensures number { IfOk result (λ made. made ≡ self.now.rows.next_edge) }
+        ensures refused { IfErr result (λ why. (why ≡ Refusal.Full) × (self.now.limits.crossings < self.now.rows.next_crossing + length route.now.crossed)) }
+    {
+        edge_number(&self.limits, &self.rows, route)
+    }
+
+    /// Whether an edge may be taken out, or the first reason why not, as `delete` says.
+    pub fn admit_deletion(&self, edge: u32) -> Result<(), Refusal>
+        ensures there { IfOk result (λ _. is_some (edge_row self.now.rows edge) ≡ true) }
+        ensures whole { IfOk result (λ _. (i : ℕ) → IsCut self.now.rows edge i → ⊥) }
+        ensures refused { IfErr result (λ why. ((why ≡ Refusal.NoEdge) × (edge_row self.now.rows edge ≡ None))
+            ⊎ ((i : ℕ) × (why ≡ Refusal.Cut i) × (is_some (edge_row self.now.rows edge) ≡ true) × IsCut self.now.rows edge i)) }
+        ensures lawful { IsPicture self.now.limits self.now.rows }
+    {
+        if !has_edge(&self.rows, &self.hints, edge) {
+            return Err(Refusal::NoEdge);
+        }
+        match first_cut(&self.rows, &self.hints, edge) {
+            Some(segment) => Err(Refusal::Cut(segment)),
+            None => Ok(()),
+        }
+    }
+
     /// Puts a new vertex on a new edge of the given kind into the corner at `position` of vertex
     /// `u`, and answers their numbers. It is refused as NoVertex where `u` is no vertex, as
     /// NoPosition where `u` has fewer corners, as BadKind where the kind is above 63, and as Full
@@ -192,24 +233,18 @@ impl Picture {
         ensures same_limits { self.new.limits ≡ self.old.limits }
         ensures lawful { IsPicture self.new.limits self.new.rows }
     {
-        match grow_fault(&self.limits, &self.rows, u, position, kind) {
-            Some(why) => Err(why),
-            None => {
-                let vertex = VertexId::new(self.rows.rotations.as_slice().len() as u32);
-                let edge = EdgeId::new(self.rows.next_edge);
-                match grow_linked(
-                    alloc,
-                    &mut self.rows,
-                    &mut self.links,
-                    &mut self.hints,
-                    u,
-                    position,
-                    kind,
-                ) {
-                    Ok(()) => Ok((vertex, edge)),
-                    Err(_) => Err(Refusal::Memory),
-                }
-            }
+        let made = growth_numbers(&self.limits, &self.rows, u, position, kind)?;
+        match grow_linked(
+            alloc,
+            &mut self.rows,
+            &mut self.links,
+            &mut self.hints,
+            u,
+            position,
+            kind,
+        ) {
+            Ok(()) => Ok(made),
+            Err(_) => Err(Refusal::Memory),
         }
     }
 
@@ -237,12 +272,7 @@ impl Picture {
         ensures same_limits { self.new.limits ≡ self.old.limits }
         ensures lawful { IsPicture self.new.limits self.new.rows }
     {
-        let needed = route.crossed.as_slice().len();
-        let left = self.limits.crossings - self.rows.next_crossing;
-        if needed > left as usize {
-            return Err(Refusal::Full);
-        }
-        let made = EdgeId::new(self.rows.next_edge);
+        let made = edge_number(&self.limits, &self.rows, route)?;
         match apply_linked(
             alloc,
             &mut self.rows,
@@ -301,26 +331,31 @@ impl Picture {
         ensures same_limits { self.new.limits ≡ self.old.limits }
         ensures lawful { IsPicture self.new.limits self.new.rows }
     {
-        if !has_edge(&self.rows, &self.hints, edge) {
-            return Err(Refusal::NoEdge);
-        }
-        match first_cut(&self.rows, &self.hints, edge) {
-            Some(segment) => Err(Refusal::Cut(segment)),
-            None => {
-                self.links.delete(&self.rows, &self.hints, edge);
-                delete_rows(alloc, &mut self.rows, &mut self.hints, edge);
-                self.hints.settle(&self.rows);
-                Ok(())
-            }
-        }
+        self.admit_deletion(edge)?;
+        self.take_out(alloc, edge);
+        Ok(())
+    }
+
+    /// Takes out an edge without which the picture stays connected, with its crossings. It takes no
+    /// memory.
+    pub fn take_out(&mut self, alloc: Global, edge: u32)
+        requires there { is_some (edge_row self.old.rows edge) ≡ true }
+        requires whole { (i : ℕ) → IsCut self.old.rows edge i → ⊥ }
+        ensures without { self.new.rows ≡ without self.old.rows edge }
+        ensures same_limits { self.new.limits ≡ self.old.limits }
+        ensures lawful { IsPicture self.new.limits self.new.rows }
+    {
+        self.links.delete(&self.rows, &self.hints, edge);
+        delete_rows(alloc, &mut self.rows, &mut self.hints, edge);
+        self.hints.settle(&self.rows);
     }
 }
 
-ghost use Rattle.std.specs.Prelude.{◌≡◌, true, IfOk, is_some, [], ◌∷◌};
+ghost use Rattle.std.specs.Prelude.{◌≡◌, ◌+◌, ◌<◌, ◌≤◌, true, IfErr, IfOk, None, Some, is_some, length, [], ◌∷◌};
 ghost use Rattle.topo_core.specs.Lawful.{has_good_paths};
 ghost use Rattle.topo_core.specs.Picture.{edge_row};
 ghost use Rattle.topo_core.specs.Pictures.{seed};
-ghost use Rattle.topo_core.specs.Steps.{grow_refusal, insert_refusal};
+ghost use Rattle.topo_core.specs.Steps.{HasRoomFor, grow_refusal, insert_refusal};
 ghost use Rattle.topo_frozen.specs.Shown.{IsPicture};
 
 /// The picture with a copy of these rows, which are lawful.
@@ -381,22 +416,45 @@ fn has_edge(rows: &Rows, hints: &Hints, e: u32) -> bool
     edge_place(rows.edges.as_slice(), hints, e).is_some()
 }
 
-/// The first reason to refuse a growth.
-fn grow_fault(limits: &Limits, rows: &Rows, u: u32, position: u32, kind: u32) -> Option<Refusal>
-    ensures { result ≡ grow_refusal limits.now rows.now u position kind }
+/// The numbers of a new vertex and its edge, or the first reason to refuse the growth.
+fn growth_numbers(
+    limits: &Limits,
+    rows: &Rows,
+    u: u32,
+    position: u32,
+    kind: u32,
+) -> Result<(VertexId, EdgeId), Refusal>
+    ensures admitted { IfOk result (λ _. grow_refusal limits.now rows.now u position kind ≡ None) }
+    ensures numbers { IfOk result (λ made. (made.0 ≡ length rows.now.rotations) × (made.1 ≡ rows.now.next_edge)) }
+    ensures refused { IfErr result (λ why. grow_refusal limits.now rows.now u position kind ≡ Some why) }
 {
     let vertices = rows.rotations.as_slice().len();
     if u as usize >= vertices {
-        Some(Refusal::NoVertex)
+        Err(Refusal::NoVertex)
     } else if position as usize >= rows.degree(u) {
-        Some(Refusal::NoPosition)
+        Err(Refusal::NoPosition)
     } else if kind >= 64 {
-        Some(Refusal::BadKind)
+        Err(Refusal::BadKind)
     } else if vertices >= limits.vertices as usize || rows.next_edge >= limits.edges {
-        Some(Refusal::Full)
+        Err(Refusal::Full)
     } else {
-        None
+        Ok((VertexId::new(vertices as u32), EdgeId::new(rows.next_edge)))
     }
+}
+
+/// The number of a new edge along a route, or Full where too few crossing ids are left for it.
+fn edge_number(limits: &Limits, rows: &Rows, route: &Route) -> Result<EdgeId, Refusal>
+    requires { rows.now.next_crossing ≤ limits.now.crossings }
+    ensures room { IfOk result (λ _. HasRoomFor limits.now rows.now route.now) }
+    ensures number { IfOk result (λ made. made ≡ rows.now.next_edge) }
+    ensures refused { IfErr result (λ why. (why ≡ Refusal.Full) × (limits.now.crossings < rows.now.next_crossing + length route.now.crossed)) }
+{
+    let needed = route.crossed.as_slice().len();
+    let left = limits.crossings - rows.next_crossing;
+    if needed > left as usize {
+        return Err(Refusal::Full);
+    }
+    Ok(EdgeId::new(rows.next_edge))
 }
 
 /// The first reason to refuse an insertion before a route is looked for.

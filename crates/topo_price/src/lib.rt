@@ -9,5 +9,3 @@
 pub mod asked;
 pub mod table;
 pub mod tariff;
-#[cfg(test)]
-mod tests;

@@ -15,7 +15,7 @@ use Rattle.topo_route.specs.Names.{IsName, IsNamed, Named, canonical, dart_named
 use Rattle.topo_route.specs.Numbers.{IsPriceAt, IsPriceFor, dart_of, next_of}
 use Rattle.topo_route.proofs.Names.{dart_of_name, name_below, name_is}
 use Rattle.topo_route.proofs.Numbers.{dart_in, got, in_list, next_number, number_below, number_of}
-use Rattle.topo_route.proofs.Order.{number_order, order_number}
+use Rattle.topo_core.proofs.NumberOrder.{number_order, order_number}
 
 module _ (rows : Rows) (lawful : Lawful rows) where
   pub canonical_named : IsNamed (canonical rows)
@@ -57,7 +57,7 @@ module _ (rows : Rows) (lawful : Lawful rows) where
       let c = dart_named (canonical rows) i in
       let d = dart_named (canonical rows) j in (
         (λ less. (number_order rows lawful.embedding.well_formed.paths c d ni.there nj.there (omega (arith, ni.is, nj.is))).0),
-        (λ less. omega (arith, order_number rows lawful c d ni.there nj.there less, ni.is, nj.is)),
+        (λ less. omega (arith, order_number rows lawful.embedding.well_formed.paths c d ni.there nj.there less, ni.is, nj.is)),
       )
 
 -- ---- A picture whose names are the numbers

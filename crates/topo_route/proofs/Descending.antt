@@ -26,7 +26,7 @@ use Rattle.topo_route.specs.Plans.{AreHeights, AreHeightsBelow, IsPlan, capped, 
 use Rattle.topo_route.proofs.Levels.{capped_at}
 use Rattle.topo_route.proofs.Names.{dart_of_name, dart_of_twin, face_of_names, height_named, names_of_face, round_names, twin_is}
 use Rattle.topo_route.proofs.Numbers.{corner_below, face_stays, number_below}
-use Rattle.topo_route.proofs.Order.{not_later, number_order, order_number}
+use Rattle.topo_core.proofs.NumberOrder.{not_later, number_order, order_number}
 use Rattle.topo_route.proofs.Rounds.{round_home}
 
 -- a tight dart lies in the face of `at`
@@ -270,7 +270,7 @@ module _ (price : Pricing) (g : Named) (heights : List ℕ) (at : ℕ) where
   module _ (lawful : Lawful g.rows) (has : IsNamed g) (name : IsName g at) where
     less_later : (first : Option ℕ) (dart k : ℕ) → IsName g dart → IfSome first (IsName g) → IfSome first (λ b. dart_cmp (dart_named g dart) (dart_named g b) ≡ Less) → NoLater first k → number dart ≤ number k
     less_later (Some b) dart k name_d names less later =
-        let order = order_number g.rows lawful (dart_named g dart) (dart_named g b) name_d.there names.there less in omega arith
+        let order = order_number g.rows lawful.embedding.well_formed.paths (dart_named g dart) (dart_named g b) name_d.there names.there less in omega arith
     less_later None dart k name_d names less later = elim later [ ]
 
     none_less : (first : Option ℕ) (dart : ℕ) → IsName g dart → IfSome first (IsName g) → IsSomeAnd first (λ b. dart_cmp (dart_named g dart) (dart_named g b) ≢ Less) → NoLater first dart
@@ -311,7 +311,7 @@ module _ (price : Pricing) (g : Named) (heights : List ℕ) (at : ℕ) where
           let is = dart_of_name g has y y_in in
           let later = all (g.name y) (names_of_face g lawful has at y name face) (subst (IsTight price g.rows (height_of g heights)) (sym is) tight) in
           let low : number f ≤ index_of g.rows y = subst (λ d. number f ≤ index_of g.rows d) is later in
-          not_later g.rows lawful (dart_named g f) y so_far.there.0.there y_in low;
+          not_later g.rows lawful.embedding.well_formed.paths (dart_named g f) y so_far.there.0.there y_in low;
     }
     first_known i None so_far all some =
         all (g.name some.dart) (names_of_face g lawful has at some.dart name some.face) (subst (IsTight price g.rows (height_of g heights)) (sym (dart_of_name g has some.dart some.there)) some.tight)

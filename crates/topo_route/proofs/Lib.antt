@@ -1,7 +1,6 @@
 pub mod Blank
 pub mod Numbers
 pub mod Rounds
-pub mod Order
 pub mod Prices
 pub mod Tests
 pub mod Walking

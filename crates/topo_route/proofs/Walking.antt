@@ -19,7 +19,7 @@ use Rattle.topo_route.specs.Numbers.{CannotCross, Crossing, HasTightBefore, Paym
 use Rattle.topo_route.specs.Plans.{height_in}
 use Rattle.topo_route.proofs.Numbers.{dart_in, dart_of_number, face_of_numbers, face_stays, number_below, number_of, numbers_of_face, twin_dart}
 use Rattle.topo_route.proofs.Rounds.{round_home}
-use Rattle.topo_route.proofs.Order.{not_later, number_order}
+use Rattle.topo_core.proofs.NumberOrder.{not_later, number_order}
 use Rattle.topo_route.proofs.Tests.{height_at, height_twin}
 
 -- ---- Numbers of darts
@@ -105,7 +105,7 @@ module _ (price : Pricing) (rows : Rows) (lawful : Lawful rows) where
         before = less;
         tight = subst (IsTight price rows height) (sym (dart_of_number rows lawful y y_in)) tight;
       })
-      | inr low ↦ not_later rows lawful x y x_in y_in (omega arith) greater
+      | inr low ↦ not_later rows lawful.embedding.well_formed.paths x y x_in y_in (omega arith) greater
     ]
 
     pub first_fails : (at : ℕ) (x : Dart) (xs : List Dart) → at < length (darts rows) → has_dart (darts rows) x ≡ true → HasTightBefore price rows heights at (index_of rows x)

@@ -5,14 +5,8 @@
 //! has the forms in words.
 #![tactic(auto)]
 
-#[cfg(test)]
-mod report_rows;
 pub mod report_text;
 mod rows;
-#[cfg(test)]
-mod script_rows;
-#[cfg(test)]
-mod tests;
 pub mod written;
 
 ghost use Rattle.std.specs.Prelude.{◌≡◌, ◌≤◌, IfOk, Ok, length, string_bytes};

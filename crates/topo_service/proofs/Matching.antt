@@ -106,10 +106,10 @@ differs_here n rs before after k e r is lt there other h = record {
   there = there;
   differs = λ agrees.
       let same : receipts_due n (before ++ e ∷ after) ≡ take k rs ++ receipt_in e ∷ receipts_due n after = due_append n before (e ∷ after) ∙ ap (λ l. receipts_due n before ++ l) (due_own n e after is)
-          ∙ ap (λ l. l ++ receipt_in e ∷ receipts_due n after) (h.all lt) in
+      ∙ ap (λ l. l ++ receipt_in e ∷ receipts_due n after) (h.all lt) in
       let len : length (take k rs) ≡ k = length-take-le k rs (omega (arith, lt)) in
       let here : slice_get (receipts_due n (before ++ e ∷ after)) k ≡ Some (receipt_in e) = ap (λ l. slice_get l k) same
-          ∙ subst (λ (i : ℕ). slice_get (take k rs ++ receipt_in e ∷ receipts_due n after) i ≡ Some (receipt_in e)) len (at_seam (take k rs) (receipt_in e) (receipts_due n after)) in
+      ∙ subst (λ (i : ℕ). slice_get (take k rs ++ receipt_in e ∷ receipts_due n after) i ≡ Some (receipt_in e)) len (at_seam (take k rs) (receipt_in e) (receipts_due n after)) in
       let both : Some r ≡ Some (receipt_in e) = sym (agreed (before ++ e ∷ after) n k r agrees) ∙ here in
       other cc;
 }

@@ -61,7 +61,7 @@ apart_behind g qs (p ∷ ps) f le = (
       let less = enough g (qs ++ ps) (λ n lt. skip n qs p ps again (f n lt)) in
       omega (arith, less, le, length-append qs ps, length-append qs (p ∷ ps))),
   (let same : (qs ++ p ∷ []) ++ ps ≡ qs ++ p ∷ ps = append_assoc qs (p ∷ []) ps in
-  apart_behind g (qs ++ p ∷ []) ps (λ n lt. subst (HasNumber n) (sym same) (f n lt)) (subst (λ (l : List PassState). length l ≤ g) (sym same) le)),
+      apart_behind g (qs ++ p ∷ []) ps (λ n lt. subst (HasNumber n) (sym same) (f n lt)) (subst (λ (l : List PassState). length l ≤ g) (sym same) le)),
 )
 
 -- as many passes as numbers that are all there: no number is there twice

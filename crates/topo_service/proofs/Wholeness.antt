@@ -116,7 +116,7 @@ all_fit history (p ∷ ps) firsts =
     (first_fits history p.number p.receipts (All-head P p ps firsts), all_fit history ps (All-tail P p ps firsts))
 
 first_is_all : (history : List Entry) (n : ℕ) (rs : List Receipt) → AreFirst history n rs → length rs ≡ length (entries_of n history) → receipts_due n history ≡ rs
-first_is_all history n rs (more , is) len =
+first_is_all history n rs (more, is) len =
     let all : length rs + length more ≡ length rs = sym (length-append rs more) ∙ sym (ap length is) ∙ length-map (entries_of n history) receipt_in ∙ sym len in
     nothing_more more is (omega (arith, all)) where
       nothing_more : (more : List Receipt) → receipts_due n history ≡ rs ++ more → length more ≡ 0 → receipts_due n history ≡ rs

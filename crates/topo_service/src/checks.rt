@@ -13,7 +13,6 @@ use std::sync::Wait;
 use std::sync::ledger::Share;
 use topo_core::calls::Entry;
 use topo_price::tariff::Asks;
-use topo_versions::replies::same_reply;
 use topo_versions::{Glass, Naming, Shelf};
 
 /// Whether a pass with this number is there.
@@ -52,7 +51,7 @@ fn first_missing<F: Asks, K: Naming<F>, G: Glass<F, K>>(
 fn is_of(receipt: &Receipt, entry: &Entry) -> bool
     ensures { IsTrue result ↔ (receipt.now ≡ receipt_in entry.now) }
 {
-    receipt.call == entry.call && same_reply(&receipt.reply, &entry.reply)
+    receipt.call == entry.call && receipt.reply.equals(&entry.reply)
 }
 
 /// How many receipts are found after one entry more; none where the entry is the caller's, and the next

@@ -192,14 +192,7 @@ impl<F: Asks, K: Naming<F>, W: Shelf<F, K>> ServiceOver<F, K, W> {
         pass.receipts.reserve(1)?;
         let mut guard = self.desk.lock(rt);
         let desk = &mut *guard;
-        let made = desk.call(
-            rt,
-            self.alloc,
-            &mut pass.share,
-            pass.number,
-            call,
-            plan,
-        );
+        let made = desk.call(rt, self.alloc, &mut pass.share, pass.number, call, plan);
         let Answer { told, kept } = made?;
         pass.receipts.push_reserved(Receipt { call, reply: kept });
         let seen = pass.seen;

@@ -8,7 +8,6 @@
 
 pub mod front;
 pub mod naming;
-pub mod replies;
 pub mod shelf;
 pub mod store;
 pub mod version;

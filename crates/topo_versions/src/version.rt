@@ -7,7 +7,6 @@ ghost use Rattle.topo_versions.specs.Versions.{IsVersionFrom};
 
 use crate::front::Front;
 use crate::naming::Naming;
-use crate::replies::same_entry;
 use left_right::Absorb;
 use std::alloc::{AllocError, Global};
 use std::collections::LinkedList;
@@ -86,7 +85,7 @@ fn same_last(a: &Option<Entry>, b: &Option<Entry>) -> bool
     ensures { result ≡ true → a.now ≡ b.now }
 {
     match (a, b) {
-        (Some(a), Some(b)) => same_entry(a, b),
+        (Some(a), Some(b)) => a.equals(b),
         (None, None) => true,
         _ => false,
     }

@@ -1,15 +1,19 @@
-use Rattle.std.proofs.Common.{◌≡◌, ◌+◌, ◌*◌, ◌≤◌, ◌∷◌, ◌++◌, [], List, ℕ, ◌∙◌, ap, sym, subst, arith, length}
+use Rattle.std.proofs.Common.{refl, ◌≡◌, ◌+◌, ◌*◌, ◌≤◌, ◌∷◌, ◌++◌, [], List, ℕ, ◌∙◌, ap, sym, subst, arith, length}
 use Rattle.std.proofs.lemmas.List.{length-append}
 use Rattle.topo_map.specs.Building.{AreAlone}
-use Rattle.topo_map.specs.Segments.{room_of}
+use Rattle.topo_map.specs.Segments.{holds, label_in, room_of}
+use Rattle.topo_map.specs.Rotation.{AreLabelled}
+use Rattle.topo_core.specs.Cycles.{map_of}
 use Rattle.topo_map.proofs.Joining.{empty_alone, alone_more}
+use Rattle.topo_map.proofs.Listing.{labelled_more}
 use Rattle.topo_map.proofs.build.isolated_halves.Goals as goal
 
 pub loop-segment-init : goal.loop-segment-init
 loop-segment-init c = record {
   size = ap length c.new-halves.ensures.items;
   alone = subst (λ (l : List ℕ). AreAlone c.reserve.new.segments l) (sym c.new-halves.ensures.items) (empty_alone c.reserve.new.segments (c.in_ok-reserve.ensures.slots ∙ c.requires));
-  room = (let w : c.args.count ≤ room_of c.reserve.new.segments = c.in_ok-reserve.ensures.room in let v : c.args.count ≤ room_of c.reserve.new.segments + 0 = omega arith in v);
+  labels = subst (λ (l : List ℕ). AreLabelled c.args.edges.now l (label_in c.reserve.new.segments)) (sym c.new-halves.ensures.items) (λ a l. absurd (let w : ⊥ = omega (arith, l) in w));
+  room = (let w : length c.args.edges.now ≤ room_of c.reserve.new.segments = c.in_ok-reserve.ensures.room in let v : length c.args.edges.now ≤ room_of c.reserve.new.segments + 0 = omega arith in v);
 }
 
 pub loop-segment-preserved : goal.loop-segment-preserved
@@ -21,11 +25,13 @@ loop-segment-preserved c =
     let e : new ≡ (old ++ x ∷ []) ++ y ∷ [] = c.in_ok-push-2.ensures.items ∙ ap (λ (l : List ℕ). l ++ y ∷ []) c.in_ok-push.ensures.items in
     let l1 : length (old ++ x ∷ []) ≡ length old + 1 = length-append old (x ∷ []) in
     let l2 : length ((old ++ x ∷ []) ++ y ∷ []) ≡ length (old ++ x ∷ []) + 1 = length-append (old ++ x ∷ []) (y ∷ []) in
-    let was : length old ≡ 2 * c.loop-segment._segment = c.loop-segment.invariant.size in
-    let room : c.args.count ≤ room_of c.loop-segment.segments + c.loop-segment._segment = c.loop-segment.invariant.room in
-    let less : room_of c.insert_isolated-half.new.segments + 1 ≡ room_of c.loop-segment.segments = c.insert_isolated-half.ensures.room in
+    let was : length old ≡ 2 * c.loop-segment.segment = c.loop-segment.invariant.size in
+    let room : length c.args.edges.now ≤ room_of c.loop-segment.segments + c.loop-segment.segment = c.loop-segment.invariant.room in
+    let less : room_of c.insert_isolated-half.new.segments + 1 ≡ room_of c.loop-segment.segments = c.insert_isolated-half.ensures.inserted.room in
     record {
-      size = ap length e ∙ (let w : length ((old ++ x ∷ []) ++ y ∷ []) ≡ 2 * (c.loop-segment._segment + 1) = omega arith in w);
-      alone = alone_more c.loop-segment.segments c.insert_isolated-half.new.segments old new x y c.loop-segment.invariant.alone c.insert_isolated-half.ensures c.twin.ensures e;
-      room = (let w : c.args.count ≤ room_of c.insert_isolated-half.new.segments + (c.loop-segment._segment + 1) = omega arith in w);
+      size = ap length e ∙ (let w : length ((old ++ x ∷ []) ++ y ∷ []) ≡ 2 * (c.loop-segment.segment + 1) = omega arith in w);
+      alone = alone_more c.loop-segment.segments c.insert_isolated-half.new.segments old new x y c.loop-segment.invariant.alone c.insert_isolated-half.ensures.inserted c.twin.ensures e;
+      labels = labelled_more (label_in c.loop-segment.segments) (label_in c.insert_isolated-half.new.segments) (holds c.loop-segment.segments) c.args.edges.now old new x y c.loop-segment.segment (map_of c.args.edges.now c.loop-segment.segment)
+          e c.twin.ensures c.loop-segment.invariant.size refl c.loop-segment.invariant.alone.listed c.loop-segment.invariant.labels c.insert_isolated-half.ensures.label;
+      room = (let w : length c.args.edges.now ≤ room_of c.insert_isolated-half.new.segments + (c.loop-segment.segment + 1) = omega arith in w);
     }

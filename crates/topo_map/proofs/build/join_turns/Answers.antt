@@ -9,7 +9,7 @@ pub link-requires-clause-from : goal.link-requires-clause-from
 link-requires-clause-from c =
     let k : ℕ = c.loop-place.place in
     let lh : k < length c.args.halves.now = subst (λ (n : ℕ). k < n) (sym c.requires.same_length) c.loop-place-test.true in
-    ap (holds c.loop-place.segments) (c.index-halves-place.is ∙ get_or_default_zero c.args.halves.now k _ lh) ∙ c.loop-place.invariant.listed.alive k lh
+    ap (holds c.loop-place.segments) (c.index-halves-place.is ∙ get_or_default_zero c.args.halves.now k _ lh) ∙ c.loop-place.invariant.joined.listed.alive k lh
 
 pub link-requires-clause-to : goal.link-requires-clause-to
 link-requires-clause-to c =
@@ -17,7 +17,7 @@ link-requires-clause-to c =
     let lk : k < length c.args.turns.now = c.loop-place-test.true in
     let lt : map_of c.args.turns.now k < length c.args.halves.now = subst (λ (n : ℕ). map_of c.args.turns.now k < n) (sym c.requires.same_length) (c.requires.permutation.within k lk) in
     let e : c.index-halves-turns.result ≡ map_of c.args.halves.now (map_of c.args.turns.now k) = c.index-halves-turns.is ∙ get_or_default_zero c.args.halves.now (map_of c.args.turns.now k) _ lt in
-    ap (holds c.loop-place.segments) e ∙ c.loop-place.invariant.listed.alive (map_of c.args.turns.now k) lt
+    ap (holds c.loop-place.segments) e ∙ c.loop-place.invariant.joined.listed.alive (map_of c.args.turns.now k) lt
 
 pub loop-place-preserved : goal.loop-place-preserved
 loop-place-preserved c =
@@ -25,13 +25,16 @@ loop-place-preserved c =
     let lk : k < length c.args.turns.now = c.loop-place-test.true in
     let lh : k < length c.args.halves.now = subst (λ (n : ℕ). k < n) (sym c.requires.same_length) lk in
     let lt : map_of c.args.turns.now k < length c.args.halves.now = subst (λ (n : ℕ). map_of c.args.turns.now k < n) (sym c.requires.same_length) (c.requires.permutation.within k lk) in
-    joined_more c.loop-place.segments c.link.new.segments c.args.halves.now c.args.turns.now k c.index-halves-place.result c.index-halves-turns.result
-    c.requires.permutation c.requires.same_length lk
-    (c.index-halves-place.is ∙ get_or_default_zero c.args.halves.now k _ lh)
-    (c.index-halves-turns.is ∙ get_or_default_zero c.args.halves.now (map_of c.args.turns.now k) _ lt)
-    c.loop-place.invariant c.link.ensures
+    record {
+      labels = c.link.ensures.edges ∙ c.loop-place.invariant.labels;
+      joined = joined_more c.loop-place.segments c.link.new.segments c.args.halves.now c.args.turns.now k c.index-halves-place.result c.index-halves-turns.result
+          c.requires.permutation c.requires.same_length lk
+          (c.index-halves-place.is ∙ get_or_default_zero c.args.halves.now k _ lh)
+          (c.index-halves-turns.is ∙ get_or_default_zero c.args.halves.now (map_of c.args.turns.now k) _ lt)
+          c.loop-place.invariant.joined c.link.ensures;
+    }
 
-pub returns : goal.returns
-returns c =
+pub returns-clause-joined : goal.returns-clause-joined
+returns-clause-joined c =
     let e : c.loop-place.place ≡ length c.args.turns.now = omega arith in
-    joined_all c.loop-place.segments c.args.halves.now c.args.turns.now c.loop-place.place c.requires.permutation c.requires.same_length e c.loop-place.invariant
+    joined_all c.loop-place.segments c.args.halves.now c.args.turns.now c.loop-place.place c.requires.permutation c.requires.same_length e c.loop-place.invariant.joined

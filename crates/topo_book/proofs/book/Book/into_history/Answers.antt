@@ -1,4 +1,5 @@
 use Rattle.std.proofs.Common.{subst}
+use Rattle.std.specs.Arc.{arc_value}
 use Rattle.topo_core.specs.History.{Replays}
 use Rattle.topo_price.specs.Prices.{prices_of}
 use Rattle.topo_book.specs.Books.{BookState}
@@ -9,4 +10,4 @@ pub returns-clause-legal : goal.returns-clause-legal
 returns-clause-legal g c =
     let f = c.self.inside in
     subst (λ (b : BookState _). Replays (prices_of (g.F.Asks.answers b.tariff)) b.start.limits b.start.rows b.history b.picture.rows) c.self.view_is
-    (book_replays _ f.start f.picture f.history.items c.self.invariant)
+    (book_replays _ f.start (arc_value f.picture) f.history.items c.self.invariant.book)

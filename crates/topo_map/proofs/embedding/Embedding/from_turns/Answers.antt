@@ -1,13 +1,15 @@
-use Rattle.std.proofs.Common.{◌≡◌, ◌*◌, ◌/◌, ◌%◌, ℕ, List, subst, arith, length}
+use Rattle.std.proofs.Common.{◌≡◌, ℕ, List, sym, ◌∙◌, subst, length}
 use Rattle.topo_map.specs.Building.{IsJoined}
+use Rattle.topo_map.specs.Rotation.{AreLabelled}
 use Rattle.topo_map.proofs.Joining.{made_from}
 use Rattle.topo_map.proofs.embedding.Embedding.from_turns.Goals as goal
 
-pub returns : goal.returns
-returns c =
+pub returns-clause-made : goal.returns-clause-made
+returns-clause-made c =
     let hs : List ℕ = c.in_ok-halves.halves.items in
-    let size : length hs ≡ 2 * (length c.args.turns.now / 2) = c.in_ok-halves.ensures.length in
-    let even : length c.args.turns.now % 2 ≡ 0 = c.requires.even in
-    let e : length hs ≡ length c.args.turns.now = omega arith in
+    let e : length hs ≡ length c.args.turns.now = c.in_ok-halves.ensures.length ∙ sym c.requires.two_each in
     made_from c.join_turns.new.segments hs c.args.turns.now c.requires.permutation e
-    (subst (λ (l : List ℕ). IsJoined c.join_turns.new.segments l c.args.turns.now) c.deref.ensures.value c.join_turns.ensures)
+    (subst (λ (l : List ℕ). IsJoined c.join_turns.new.segments l c.args.turns.now) c.deref.ensures.value c.join_turns.ensures.joined)
+
+pub returns-clause-labels : goal.returns-clause-labels
+returns-clause-labels c = subst (λ (f : ℕ → ℕ). AreLabelled c.args.edges.now c.in_ok-halves.halves.items f) (sym c.join_turns.ensures.labels) c.in_ok-halves.ensures.labels

@@ -5,5 +5,8 @@ use Rattle.topo_map.proofs.embedding.Embedding.seed.Goals as goal
 pub insert_isolated-half-requires-clause-kept : goal.insert_isolated-half-requires-clause-kept
 insert_isolated-half-requires-clause-kept c = (empty_alone c.reserve.new.segments (c.in_ok-reserve.ensures.slots ∙ c.new-segments.ensures.empty)).kept
 
-pub returns : goal.returns
-returns c = seed_made c.reserve.new.segments c.insert_isolated-half.new.segments c.insert_isolated-half.result (c.in_ok-reserve.ensures.slots ∙ c.new-segments.ensures.empty) c.insert_isolated-half.ensures
+pub returns-clause-labels : goal.returns-clause-labels
+returns-clause-labels c = (c.insert_isolated-half.ensures.label.here, c.insert_isolated-half.ensures.label.here_twin)
+
+pub returns-clause-made : goal.returns-clause-made
+returns-clause-made c = seed_made c.reserve.new.segments c.insert_isolated-half.new.segments c.insert_isolated-half.result (c.in_ok-reserve.ensures.slots ∙ c.new-segments.ensures.empty) c.insert_isolated-half.ensures.inserted

@@ -1,10 +1,10 @@
 use Rattle.std.proofs.Common.{refl, ◌≡◌, ◌≢◌, ap, ◌∙◌, sym, subst, Bool, ℕ}
 use Rattle.topo_core.specs.Rotations.{twin}
 use Rattle.topo_core.specs.Edits.{IsSmooth}
-use Rattle.topo_map.specs.Rotation.{Rotation, Shrinks, half_limit, turn, is_live}
-use Rattle.topo_map.specs.Segments.{next_in, view_of}
+use Rattle.topo_map.specs.Rotation.{KeepsLabels, edge_of, CountsFewer, Rotation, Shrinks, half_limit, turn, is_live}
+use Rattle.topo_map.specs.Segments.{holds, label_in, next_in, view_of}
 use Rattle.topo_map.proofs.Kept.{live_next}
-use Rattle.topo_map.proofs.Steps.{IsSmoothed, smoothed_out, live_twin, turned_live}
+use Rattle.topo_map.proofs.Steps.{labels_kept, IsSmoothed, smoothed_out, live_twin, turned_live}
 use Rattle.topo_map.proofs.embedding.Embedding.smooth.Goals as goal
 
 pub put_before-requires-clause-live : goal.put_before-requires-clause-live
@@ -25,7 +25,7 @@ done c = smoothed_out c.self.inside.segments c.take_out.new.segments c.put_befor
     (subst (λ (r : Rotation). turn r (turn r c.args.x) ≡ c.args.x) (sym c.self.view_is) c.requires.degree_two)
     (subst (λ (r : Rotation). turn r c.args.x ≢ c.args.x) (sym c.self.view_is) c.requires.not_alone)
     (subst (λ (r : Rotation). turn r c.args.x ≢ twin c.args.x) (sym c.self.view_is) c.requires.two_segments)
-    c.next-other.ensures c.twin-end.ensures c.take_out.ensures c.put_before.ensures c.take_out-2.ensures c.remove_isolated.ensures
+    c.next-other.ensures c.twin-end.ensures c.take_out.ensures c.put_before.ensures c.take_out-2.ensures c.remove_isolated.ensures.removed
 
 pub invariant_of-self : goal.invariant_of-self
 invariant_of-self c = (done c).taken.sound
@@ -34,4 +34,11 @@ pub returns-clause-edit : goal.returns-clause-edit
 returns-clause-edit c = subst (λ (r : Rotation). IsSmooth (turn r) (turn (view_of c.remove_isolated.new.segments)) half_limit c.args.x) c.self.view_is (done c).allowed.edit
 
 pub returns-clause-shrinks : goal.returns-clause-shrinks
-returns-clause-shrinks c = subst (λ (r : Rotation). Shrinks r (view_of c.remove_isolated.new.segments) c.args.x 1 0) c.self.view_is (done c).taken.shrinks
+returns-clause-shrinks c = subst (λ (r : Rotation). Shrinks r (view_of c.remove_isolated.new.segments) c.args.x) c.self.view_is (done c).taken.shrinks
+
+pub returns-clause-counts : goal.returns-clause-counts
+returns-clause-counts c = subst (λ (r : Rotation). CountsFewer r (view_of c.remove_isolated.new.segments) 1 0) c.self.view_is (done c).counts
+
+pub returns-clause-labels : goal.returns-clause-labels
+returns-clause-labels c = subst (λ (r : Rotation). KeepsLabels (holds c.remove_isolated.new.segments) (edge_of r) (label_in c.remove_isolated.new.segments)) c.self.view_is
+    (labels_kept c.self.inside.segments c.take_out-2.new.segments c.remove_isolated.new.segments (c.take_out-2.ensures.edges ∙ c.put_before.ensures.edges ∙ c.take_out.ensures.edges) c.remove_isolated.ensures.labels)

@@ -1,35 +1,38 @@
-use Rattle.std.proofs.Common.{◌≡◌, ◌≢◌, ap, ◌∙◌, sym, subst, Bool, ℕ}
-use Rattle.topo_core.specs.Rotations.{twin, face_next}
-use Rattle.topo_core.specs.Cycles.{SameCycle}
+use Rattle.std.proofs.Common.{ap, ◌∙◌, subst, Bool, ℕ}
 use Rattle.topo_core.specs.Edits.{IsUnchord}
-use Rattle.topo_map.specs.Rotation.{Rotation, Shrinks, half_limit, turn, is_live}
-use Rattle.topo_map.specs.Segments.{holds, view_of}
-use Rattle.topo_map.proofs.Steps.{IsUnchorded, unchord_alone, without_alone, unchorded, same_twin}
+use Rattle.topo_map.specs.Rotation.{KeepsLabels, edge_of, CountsFewer, PartsFaces, Rotation, Shrinks, half_limit, turn, is_live}
+use Rattle.topo_map.specs.Segments.{holds, label_in, view_of}
+use Rattle.topo_map.proofs.Steps.{labels_kept, IsUnchorded, unchord_alone, without_alone, unchorded, same_twin}
 use Rattle.topo_map.proofs.embedding.Embedding.unchord.Goals as goal
 
 pub take_out-requires-2-clause-live : goal.take_out-requires-2-clause-live
 take_out-requires-2-clause-live c =
     ap (λ (l : ℕ → Bool). l c.twin.result) c.take_out.ensures.live ∙ ap (holds c.self.inside.segments) c.twin.ensures ∙ same_twin c.self.inside.segments c.args.h
-    ∙ ap (λ (r : Rotation). is_live r c.args.h) c.self.view_is ∙ c.requires.live
+    ∙ ap (λ (r : Rotation). is_live r c.args.h) c.self.view_is ∙ c.requires
 
 done : (c : goal.After-remove_isolated) → IsUnchorded c.self.inside.segments c.remove_isolated.new.segments c.args.h
 done c = unchorded c.self.inside.segments c.take_out.new.segments c.take_out-2.new.segments c.remove_isolated.new.segments c.args.h c.twin.result c.self.invariant
-    (ap (λ (r : Rotation). is_live r c.args.h) c.self.view_is ∙ c.requires.live)
-    (subst (λ (r : Rotation). ¬ SameCycle (face_next (turn r)) c.args.h (twin c.args.h)) (sym c.self.view_is) c.requires.two_faces)
-    (subst (λ (r : Rotation). turn r c.args.h ≡ twin c.args.h → turn r (twin c.args.h) ≢ c.args.h) (sym c.self.view_is) c.requires.not_alone)
-    c.twin.ensures c.take_out.ensures c.take_out-2.ensures c.remove_isolated.ensures
+    (ap (λ (r : Rotation). is_live r c.args.h) c.self.view_is ∙ c.requires)
+    c.twin.ensures c.take_out.ensures c.take_out-2.ensures c.remove_isolated.ensures.removed
 
 pub invariant_of-self : goal.invariant_of-self
 invariant_of-self c = (done c).taken.sound
 
 pub returns-clause-edit : goal.returns-clause-edit
-returns-clause-edit c = subst (λ (r : Rotation). IsUnchord (turn r) (turn (view_of c.remove_isolated.new.segments)) half_limit c.args.h) c.self.view_is (done c).allowed.edit
+returns-clause-edit c = subst (λ (r : Rotation). IsUnchord (turn r) (turn (view_of c.remove_isolated.new.segments)) half_limit c.args.h) c.self.view_is (done c).edit
 
 pub returns-clause-shrinks : goal.returns-clause-shrinks
-returns-clause-shrinks c = subst (λ (r : Rotation). Shrinks r (view_of c.remove_isolated.new.segments) c.args.h 0 1) c.self.view_is (done c).taken.shrinks
+returns-clause-shrinks c = subst (λ (r : Rotation). Shrinks r (view_of c.remove_isolated.new.segments) c.args.h) c.self.view_is (done c).taken.shrinks
+
+pub returns-clause-counts : goal.returns-clause-counts
+returns-clause-counts c = subst (λ (r : Rotation). PartsFaces r c.args.h → CountsFewer r (view_of c.remove_isolated.new.segments) 0 1) c.self.view_is (done c).counts
 
 pub remove_isolated-requires-clause-alone : goal.remove_isolated-requires-clause-alone
 remove_isolated-requires-clause-alone c = unchord_alone c.self.inside.segments c.take_out.new.segments c.take_out-2.new.segments c.args.h c.twin.result c.twin.ensures c.take_out.ensures c.take_out-2.ensures
 
 pub remove_isolated-requires-clause-twin_alone : goal.remove_isolated-requires-clause-twin_alone
 remove_isolated-requires-clause-twin_alone c = without_alone c.take_out.new.segments c.take_out-2.new.segments c.args.h c.twin.result c.twin.ensures c.take_out-2.ensures
+
+pub returns-clause-labels : goal.returns-clause-labels
+returns-clause-labels c = subst (λ (r : Rotation). KeepsLabels (holds c.remove_isolated.new.segments) (edge_of r) (label_in c.remove_isolated.new.segments)) c.self.view_is
+    (labels_kept c.self.inside.segments c.take_out-2.new.segments c.remove_isolated.new.segments (c.take_out-2.ensures.edges ∙ c.take_out.ensures.edges) c.remove_isolated.ensures.labels)

@@ -1,5 +1,4 @@
-use Rattle.std.proofs.Common.{◌≡◌, ◌≤◌, ◌-◌, ℕ, List, ap, arith, length, None, OnErr, OnOk, Result, subst, sym}
-use Rattle.topo_core.specs.declared.darts.Dart.{Dart}
+use Rattle.std.proofs.Common.{◌≡◌, ℕ, None, OnErr, OnOk, Result, subst, sym}
 use Rattle.topo_core.specs.declared.rows.Rows.{Rows}
 use Rattle.topo_core.specs.declared.limits.Limits.{Limits}
 use Rattle.topo_core.specs.declared.routes.Route.{Route}
@@ -24,12 +23,8 @@ module _ (limits : Limits) (rows : Rows) (s : Shown) (u v kind : ℕ) (r : Route
   insertable_inside : IsInsertable rows u v kind r
   insertable_inside = insertable limits rows u v kind r was may_inside simple_inside
 
-  picture_after : {A E : Type 0} (result : Result A E) (new : Rows) (darts : List Dart) → darts ≡ r.crossed → length darts ≤ limits.crossings - rows.next_crossing
-      → OnOk result (new ≡ shown rows u v kind r) → OnErr result (new ≡ rows) → IsPicture limits new
-  picture_after result new darts same fits ok err =
-      let long = ap length same in
-      let room : HasRoomFor limits rows r = omega (arith, was.crossings) in
-      after_insertion limits rows u v kind r was may_inside simple_inside result new room ok err
+  picture_after : {A E : Type 0} (result : Result A E) (new : Rows) → HasRoomFor limits rows r → OnOk result (new ≡ shown rows u v kind r) → OnErr result (new ≡ rows) → IsPicture limits new
+  picture_after result new room ok err = after_insertion limits rows u v kind r was may_inside simple_inside result new room ok err
 
 pub apply_linked-requires-clause-insertable : goal.apply_linked-requires-clause-insertable
 apply_linked-requires-clause-insertable c =
@@ -44,11 +39,11 @@ apply_linked-requires-clause-crossings c = (picture_small c.self.inside.limits c
 pub invariant_of-self : goal.invariant_of-self
 invariant_of-self c = (
   picture_after c.self.inside.limits c.self.inside.rows c.args.self.now c.args.u c.args.v c.args.kind c.args.route.now c.self.invariant.0 c.self.view_is c.requires.admitted c.requires.simple
-      c.apply_linked.result c.apply_linked.new.rows c.as_slice-needed.result.now c.as_slice-needed.ensures (omega arith) c.apply_linked.ensures.ok c.apply_linked.ensures.err,
+      c.apply_linked.result c.apply_linked.new.rows c.in_ok-made.ensures.room c.apply_linked.ensures.ok c.apply_linked.ensures.err,
   c.apply_linked.ensures.shows,
 )
 
 pub returns-clause-lawful : goal.returns-clause-lawful
 returns-clause-lawful c =
     picture_after c.self.inside.limits c.self.inside.rows c.args.self.now c.args.u c.args.v c.args.kind c.args.route.now c.self.invariant.0 c.self.view_is c.requires.admitted c.requires.simple
-    c.apply_linked.result c.apply_linked.new.rows c.as_slice-needed.result.now c.as_slice-needed.ensures (omega arith) c.apply_linked.ensures.ok c.apply_linked.ensures.err
+    c.apply_linked.result c.apply_linked.new.rows c.in_ok-made.ensures.room c.apply_linked.ensures.ok c.apply_linked.ensures.err

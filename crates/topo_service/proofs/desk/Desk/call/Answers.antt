@@ -17,10 +17,10 @@ show-requires-clause-follows g c =
     let m = c.make_ready.ensures in
     let is_next = subst (λ (s : NextState). IsNext s.entry s.picture) c.next.view_is c.next.invariant in
     if_some _ n.picture (λ p is.
-        let good = subst (λ (o : Option Shown). IfSome o (λ q. IsPicture q.limits q.rows)) is is_next.lawful in
-        let on : is_accepted n.entry.reply ≡ true = sym is_next.accepted ∙ ap is_some is in
-        let there = version_ready g.F.Asks.answers g.K.Naming.closure g.K.Naming.start c.self.inside.book c.make_ready.new.book n i.1 i.0 m.unchanged m.same_book m.same_limits c.in_ok-next.ensures.ready m.legal p is on good in
-        rw i.3 there)
+    let good = subst (λ (o : Option Shown). IfSome o (λ q. IsPicture q.limits q.rows)) is is_next.lawful in
+    let on : is_accepted n.entry.reply ≡ true = sym is_next.accepted ∙ ap is_some is in
+    let there = version_ready g.F.Asks.answers g.K.Naming.closure g.K.Naming.start c.self.inside.book c.make_ready.new.book n i.1 i.0 m.unchanged m.same_book m.same_limits c.in_ok-next.ensures.ready m.legal p is on good in
+    rw i.3 there)
 
 pub returns-clause-step : goal.returns-clause-step
 returns-clause-step g c =

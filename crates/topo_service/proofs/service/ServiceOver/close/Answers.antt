@@ -42,7 +42,7 @@ returns-clause-whole g c =
     let few : vec_len c.args.passes ≤ given = (all_parts rest.parts given _ _ _ sum c.self.invariant.1 s.parts s.apart (rw len (enough given passes there))).1 in
     let firsts : All (λ (p : PassState). AreFirst history p.number p.receipts) passes = rw (← c.as_slice.ensures.value, ← c.history.ensures) c.in_default.ensures.agree in
     let count : length history ≡ receipt_count passes =
-        omega (arith, ap (λ b. length b.history) c.audit.ensures.same, c.audit.ensures.counted, s.amount, none) in
+    omega (arith, ap (λ b. length b.history) c.audit.ensures.same, c.audit.ensures.counted, s.amount, none) in
     let all = whole history passes (apart given passes there (rw (← len) few)) firsts count in
     let same = ap (λ b. b.history) (c.into_book-2.ensures.same ∙ c.audit.ensures.same) in
     subst (λ (h : List Entry). AreWhole h passes) (sym same) all

@@ -1,0 +1,2 @@
+pub mod FaultsByTable
+pub mod Telling

@@ -1,0 +1,68 @@
+-- What is told of bytes is told of what was read and written.
+use Rattle.std.proofs.Common.{◌≡◌, ℕ, List, Option, subst}
+use Rattle.std.specs.Io.KnownBytes.{Appends, Keeps}
+use Rattle.topo_settings.specs.declared.fault.RunFault.{RunFault}
+use Rattle.topo_settings.specs.declared.fault.RunFault.TheVariants.{Memory, Script, BadLimits, Price, Load, WrongReply, WrongPicture, ReadFault, WriteFault}
+use Rattle.topo_settings.specs.Reading.{IsRead}
+use Rattle.topo_settings.specs.Writing.{AppendsPart, IsOfWriting}
+use Rattle.topo_settings.proofs.Faults.{by_writing}
+use Rattle.topo_check.specs.Checks.{CheckFailsBy, IsChecked, IsLawfulInput, IsSizeOfBytes, IsUnlawful}
+use Rattle.topo_check.specs.Replays.{IsUntrueReport, ReplayFailsBy, ReportsUntruly, TellsUntrue}
+
+module _ (old_left new_left old_held new_held : Option (List ℕ)) where
+  appends_so : (text line : List ℕ) → text ≡ line → Appends old_held new_held text → Appends old_held new_held line
+  appends_so text line same h = subst (λ (bs : List ℕ). Appends old_held new_held bs) same h
+
+  part_so : (text line : List ℕ) → text ≡ line → AppendsPart old_held new_held text → AppendsPart old_held new_held line
+  part_so text line same h = subst (λ (bs : List ℕ). AppendsPart old_held new_held bs) same h
+
+  module _ (bytes : List ℕ) (read : IsRead 268435456 old_left new_left bytes) where
+    -- ---- A replay
+
+    untrue : (fault : RunFault) → IsUntrueReport bytes fault → ReportsUntruly old_left new_left fault
+    untrue fault is = record { report = is.report; reported = record { input = bytes; read = read; spelled = is.spelled }; untrue = is.untrue }
+
+    pub replay_fails : (fault : RunFault) → TellsUntrue bytes fault → Keeps old_held new_held → ReplayFailsBy fault old_left new_left old_held new_held
+    replay_fails Memory is kept = kept
+    replay_fails (Script fault) is kept = (record { input = bytes; read = read; first = is }, kept)
+    replay_fails BadLimits is kept = (untrue BadLimits is, kept)
+    replay_fails (Price fault) is kept = (untrue (Price fault) is, kept)
+    replay_fails (Load fault) is kept = (untrue (Load fault) is, kept)
+    replay_fails (WrongReply i) is kept = (untrue (WrongReply i) is, kept)
+    replay_fails WrongPicture is kept = (untrue WrongPicture is, kept)
+    replay_fails ReadFault is kept = absurd is
+    replay_fails WriteFault is kept = absurd is
+
+    -- ---- A check
+
+    lawful : (line : List ℕ) (told : IsSizeOfBytes bytes line) → IsLawfulInput old_left new_left told.rows
+    lawful line told = record { spelled = record { input = bytes; read = read; spelled = told.spelled }; limits = told.limits; greatest = told.greatest; lawful = told.lawful }
+
+    pub checked : (line text : List ℕ) → IsSizeOfBytes bytes line → text ≡ line → Appends old_held new_held text → IsChecked old_left new_left old_held new_held
+    checked line text told same written = record {
+      rows = told.rows;
+      input = lawful line told;
+      counts = told.counts;
+      counted = told.counted;
+      written = appends_so line _ told.told (appends_so text line same written);
+    }
+
+    pub check_fails : (fault : RunFault) → IsUnlawful bytes fault → Keeps old_held new_held → CheckFailsBy fault old_left new_left old_held new_held
+    check_fails Memory is kept = kept
+    check_fails (Script fault) is kept = (record { input = bytes; read = read; first = is }, kept)
+    check_fails BadLimits is kept = absurd is
+    check_fails (Price fault) is kept = absurd is
+    check_fails (Load fault) is kept = (record { rows = is.rows; spelled = record { input = bytes; read = read; spelled = is.spelled }; limits = is.limits; greatest = is.greatest; first = is.first }, kept)
+    check_fails (WrongReply i) is kept = absurd is
+    check_fails WrongPicture is kept = absurd is
+    check_fails ReadFault is kept = absurd is
+    check_fails WriteFault is kept = absurd is
+
+    pub check_unwritten : (fault : RunFault) (line text : List ℕ) → IsSizeOfBytes bytes line → text ≡ line → AppendsPart old_held new_held text → IsOfWriting fault → CheckFailsBy fault old_left new_left old_held new_held
+    check_unwritten fault line text told same written is = by_writing (λ f. CheckFailsBy f old_left new_left old_held new_held) fault is (record {
+      rows = told.rows;
+      input = lawful line told;
+      counts = told.counts;
+      counted = told.counted;
+      written = part_so line _ told.told (part_so text line same written);
+    })

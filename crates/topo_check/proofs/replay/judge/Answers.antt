@@ -1,0 +1,49 @@
+use Rattle.std.proofs.Common.{◌∙◌, refl, subst, sym}
+use Rattle.std.proofs.lemmas.Bool.{false≢true}
+use Rattle.topo_book.specs.Faults.{IsFaultOf, IsIllegalAt}
+use Rattle.topo_book.specs.declared.replaying.ReplayFault.{ReplayFault}
+use Rattle.topo_book.specs.declared.replaying.ReplayFault.TheVariants.{WrongReply}
+use Rattle.topo_core.specs.declared.rows.Rows.{Rows}
+use Rattle.topo_core.specs.History.{Replays}
+use Rattle.topo_settings.proofs.Setting.{sound_so}
+use Rattle.topo_settings.specs.Settings.{priced}
+use Rattle.topo_check.proofs.replay.judge.Goals as goal
+
+pub returns-in-Err-WrongReply-clause-fault : goal.returns-in-Err-WrongReply-clause-fault
+returns-in-Err-WrongReply-clause-fault c =
+    let report = c.args.report.now in
+    let start = c.in_ok-table.start in
+    let price = priced report.prices in
+    let first = subst (λ (f : ReplayFault). IsFaultOf price start.limits start.rows report.history f) c.in-Err-WrongReply.field-0-is c.in-Err-WrongReply.ensures.first_wrong in
+    let illegal = subst (λ (f : ReplayFault). IsIllegalAt price start.limits start.rows report.history f) c.in-Err-WrongReply.field-0-is c.in-Err-WrongReply.ensures.illegal in
+    record {
+      limits = start.limits;
+      sound = sound_so report.limits _ report.prices _ _ start.limits c.as_slice-prices.ensures refl c.in_ok-table.ensures.sound;
+      first = subst (λ (p : Rows). IsFaultOf price start.limits p report.history (WrongReply c.in-Err-WrongReply.place)) c.in_ok-table.ensures.rows first;
+      illegal = subst (λ (p : Rows). IsIllegalAt price start.limits p report.history (WrongReply c.in-Err-WrongReply.place)) c.in_ok-table.ensures.rows illegal;
+    }
+
+pub returns-then-same_rows-clause-good : goal.returns-then-same_rows-clause-good
+returns-then-same_rows-clause-good c =
+    let report = c.args.report.now in
+    let start = c.in_ok-table.start in
+    let replayed = subst (λ (p : Rows). Replays (priced report.prices) start.limits p report.history c.in-Ok.rows) c.in_ok-table.ensures.rows c.in-Ok.ensures.replayed in
+    record {
+      limits = start.limits;
+      sound = sound_so report.limits _ report.prices _ _ start.limits c.as_slice-prices.ensures refl c.in_ok-table.ensures.sound;
+      replayed =
+          subst (λ (q : Rows). Replays (priced report.prices) start.limits report.start report.history q) (c.same_rows.ensures.0 c.if-same_rows.true) replayed;
+    }
+
+pub returns-clause-fault : goal.returns-clause-fault
+returns-clause-fault c =
+    let report = c.args.report.now in
+    let start = c.in_ok-table.start in
+    let replayed = subst (λ (p : Rows). Replays (priced report.prices) start.limits p report.history c.in-Ok.rows) c.in_ok-table.ensures.rows c.in-Ok.ensures.replayed in
+    record {
+      limits = start.limits;
+      sound = sound_so report.limits _ report.prices _ _ start.limits c.as_slice-prices.ensures refl c.in_ok-table.ensures.sound;
+      rows = c.in-Ok.rows;
+      replayed = replayed;
+      other = λ same. false≢true (sym c.if-same_rows.false ∙ c.same_rows.ensures.1 same);
+    }

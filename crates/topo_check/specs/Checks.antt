@@ -1,0 +1,101 @@
+-- What a check of a picture writes.
+use Rattle.std.specs.Prelude.{ℕ, List, [], ◌∷◌, ◌++◌, codes, decimal, Option, Ok, ◌≡◌, ⊤}
+use Rattle.std.specs.Io.KnownBytes.{Appends, Keeps}
+use Rattle.topo_core.specs.declared.rows.Rows.{Rows}
+use Rattle.topo_core.specs.declared.limits.Limits.{Limits}
+use Rattle.topo_picture.specs.declared.counts.Counts.{Counts}
+use Rattle.topo_frozen.specs.declared.load.LoadFault.{LoadFault}
+use Rattle.topo_frozen.specs.Loading.{FailsFirst}
+use Rattle.topo_frozen.specs.Shown.{IsPicture}
+use Rattle.topo_picture.specs.Totals.{AreCountsOf}
+use Rattle.topo_forms.specs.Reads.{IsFirstFault}
+use Rattle.topo_forms.specs.RowForms.{rows_of}
+use Rattle.topo_settings.specs.declared.fault.RunFault.{RunFault}
+use Rattle.topo_settings.specs.declared.fault.RunFault.TheVariants.{Memory, Script, BadLimits, Price, Load, WrongReply, WrongPicture, ReadFault, WriteFault}
+use Rattle.topo_settings.specs.Limiting.{AreGreatest}
+use Rattle.topo_settings.specs.Reading.{Spells, SpellsNone}
+use Rattle.topo_settings.specs.Writing.{AppendsPart}
+
+-- the line that says how large a picture is, with its line feed
+abbrev pub size_line : Counts → List ℕ
+size_line counts = codes "lawful vertices=" ++ (decimal counts.vertices ++ (codes " crossings=" ++ (decimal counts.crossings ++ (codes " edges=" ++ (decimal counts.edges
+    ++ (codes " segments=" ++ (decimal counts.segments ++ (codes " faces=" ++ (decimal counts.faces ++ 10 ∷ [])))))))))
+
+-- ---- What a check makes of bytes
+
+-- the bytes spell a lawful picture under the greatest limits, and the line says how large it is
+pub record IsSizeOfBytes (bytes line : List ℕ) : Type 0 where
+  pub rows : Rows
+  pub spelled : rows_of bytes ≡ Ok rows
+  pub limits : Limits
+  pub greatest : AreGreatest limits
+  pub lawful : IsPicture limits rows
+  pub counts : Counts
+  pub counted : AreCountsOf rows counts
+  pub told : line ≡ size_line counts
+
+-- the bytes spell rows that are no picture under the greatest limits: this is the first test that they fail
+pub record IsUnlawfulAt (bytes : List ℕ) (fault : LoadFault) : Type 0 where
+  pub rows : Rows
+  pub spelled : rows_of bytes ≡ Ok rows
+  pub limits : Limits
+  pub greatest : AreGreatest limits
+  pub first : FailsFirst limits rows fault
+
+-- what is told of bytes: the first fault of reading them, and then of loading the rows
+abbrev pub IsUnlawful : List ℕ → RunFault → Type 0
+IsUnlawful bytes Memory = ⊤
+IsUnlawful bytes (Script fault) = IsFirstFault (rows_of bytes) fault
+IsUnlawful bytes BadLimits = ⊥
+IsUnlawful bytes (Price fault) = ⊥
+IsUnlawful bytes (Load fault) = IsUnlawfulAt bytes fault
+IsUnlawful bytes (WrongReply i) = ⊥
+IsUnlawful bytes WrongPicture = ⊥
+IsUnlawful bytes ReadFault = ⊥
+IsUnlawful bytes WriteFault = ⊥
+
+-- ---- What a check reads and writes
+
+-- what was read spells a lawful picture under the greatest limits
+pub record IsLawfulInput (old_left new_left : Option (List ℕ)) (rows : Rows) : Type 0 where
+  pub spelled : Spells rows_of 268435456 old_left new_left rows
+  pub limits : Limits
+  pub greatest : AreGreatest limits
+  pub lawful : IsPicture limits rows
+
+-- what was read spells rows that are no picture under the greatest limits: this is the first test that they fail
+pub record IsUnlawfulInput (old_left new_left : Option (List ℕ)) (fault : LoadFault) : Type 0 where
+  pub rows : Rows
+  pub spelled : Spells rows_of 268435456 old_left new_left rows
+  pub limits : Limits
+  pub greatest : AreGreatest limits
+  pub first : FailsFirst limits rows fault
+
+-- what was read is a lawful picture, and the line that says how large it is was written
+pub record IsChecked (old_left new_left old_held new_held : Option (List ℕ)) : Type 0 where
+  pub rows : Rows
+  pub input : IsLawfulInput old_left new_left rows
+  pub counts : Counts
+  pub counted : AreCountsOf rows counts
+  pub written : Appends old_held new_held (size_line counts)
+
+-- what was read is a lawful picture, and a part of the line that says how large it is was written, from its beginning
+pub record IsPartlyChecked (old_left new_left old_held new_held : Option (List ℕ)) : Type 0 where
+  pub rows : Rows
+  pub input : IsLawfulInput old_left new_left rows
+  pub counts : Counts
+  pub counted : AreCountsOf rows counts
+  pub written : AppendsPart old_held new_held (size_line counts)
+
+-- A fault is the first one of what was read, and then nothing is written, but where the writer failed: then what was
+-- read is a lawful picture.
+abbrev pub CheckFailsBy : RunFault → Option (List ℕ) → Option (List ℕ) → Option (List ℕ) → Option (List ℕ) → Type 0
+CheckFailsBy Memory old_left new_left old_held new_held = Keeps old_held new_held
+CheckFailsBy (Script fault) old_left new_left old_held new_held = SpellsNone rows_of 268435456 old_left new_left fault × Keeps old_held new_held
+CheckFailsBy BadLimits old_left new_left old_held new_held = ⊥
+CheckFailsBy (Price fault) old_left new_left old_held new_held = ⊥
+CheckFailsBy (Load fault) old_left new_left old_held new_held = IsUnlawfulInput old_left new_left fault × Keeps old_held new_held
+CheckFailsBy (WrongReply i) old_left new_left old_held new_held = ⊥
+CheckFailsBy WrongPicture old_left new_left old_held new_held = ⊥
+CheckFailsBy ReadFault old_left new_left old_held new_held = Keeps old_held new_held
+CheckFailsBy WriteFault old_left new_left old_held new_held = IsPartlyChecked old_left new_left old_held new_held

@@ -1,0 +1,79 @@
+//! The command `check`.
+
+ghost use Rattle.std.specs.Prelude.{◌≡◌, IfOk, IfErr, string_bytes};
+ghost use Rattle.topo_check.specs.Checks.{CheckFailsBy, IsChecked, IsSizeOfBytes, IsUnlawful, size_line};
+ghost use Rattle.topo_settings.specs.Limiting.{AreGreatest};
+
+use std::alloc::{AllocError, Global};
+use std::io::{Read, Write};
+use topo_core::limits::Limits;
+use topo_forms::read_rows;
+use topo_forms::row_forms::MAX_PICTURE_BYTES;
+use topo_picture::{Counts, Picture};
+use topo_settings::RunFault;
+use topo_settings::reading::read_bytes;
+use topo_settings::writing::write_text;
+
+/// Reads a picture, and writes how large it is where it is a lawful one under the greatest limits.
+/// The reader is read until its end, or until it has given one byte more than a picture may have: in
+/// at most twice as many calls as a picture may have bytes, and two; an interrupted call is one of
+/// them. ReadFault comes where a call fails otherwise or there are too few of them, WriteFault where a
+/// call of the writer fails.
+pub fn check_io<R: Read, W: Write>(
+    alloc: Global,
+    reader: &mut R,
+    writer: &mut W,
+) -> Result<(), RunFault>
+    ensures done { IfOk result (λ _. IsChecked (R.remaining reader.old) (R.remaining reader.new) (W.contents writer.old) (W.contents writer.new)) }
+    ensures fault { IfErr result (λ fault. CheckFailsBy fault (R.remaining reader.old) (R.remaining reader.new) (W.contents writer.old) (W.contents writer.new)) }
+{
+    let bytes = read_bytes(alloc, MAX_PICTURE_BYTES as u32, reader)?;
+    let line = bytes_line(alloc, bytes.as_slice())?;
+    write_text(writer, line.as_str())
+}
+
+/// The line that says how large the picture is that bytes spell, or the first fault.
+fn bytes_line(alloc: Global, bytes: &[u8]) -> Result<String, RunFault>
+    ensures line { IfOk result (λ line. IsSizeOfBytes bytes.now (string_bytes line)) }
+    ensures fault { IfErr result (IsUnlawful bytes.now) }
+{
+    let rows = match read_rows(alloc, bytes) {
+        Ok(rows) => rows,
+        Err(fault) => return Err(RunFault::Script(fault)),
+    };
+    let picture = match Picture::load(alloc, greatest_limits(), &rows) {
+        Ok(picture) => picture,
+        Err(fault) => return Err(RunFault::Load(fault)),
+    };
+    match size_line(alloc, &picture.counts()) {
+        Ok(line) => Ok(line),
+        Err(_) => Err(RunFault::Memory),
+    }
+}
+
+/// The greatest limits.
+fn greatest_limits() -> Limits
+    ensures { AreGreatest result }
+{
+    Limits {
+        vertices: 65_536,
+        edges: 65_536,
+        crossings: 1_048_576,
+    }
+}
+
+/// The line that says how large a picture is, with its line feed.
+fn size_line(alloc: Global, counts: &Counts) -> Result<String, AllocError>
+    ensures { IfOk result (λ line. string_bytes line ≡ size_line counts.now) }
+{
+    let Counts {
+        vertices,
+        crossings,
+        edges,
+        segments,
+        faces,
+    } = *counts;
+    format!(in alloc;
+        "lawful vertices={vertices} crossings={crossings} edges={edges} segments={segments} faces={faces}\n"
+    )
+}

@@ -1,3 +1,0 @@
-pub mod Leading
-pub mod Pricing
-pub mod Setting

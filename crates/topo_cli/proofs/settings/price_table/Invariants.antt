@@ -1,9 +1,0 @@
-use Rattle.std.proofs.Common.{◌≡◌, ℕ, ◌<◌, None, get_or, length}
-use Rattle.topo_cli.specs.Settings.{price_of_kind}
-use Rattle.topo_cli.proofs.settings.price_table.Given as goal
-
-abbrev pub invariant-loop-kind : goal.invariant-loop-kind
-invariant-loop-kind l = record {
-  all : length l.table ≡ 64;
-  so_far : (k : ℕ) → k < l.kind → get_or l.table k None ≡ price_of_kind l.prices k;
-}

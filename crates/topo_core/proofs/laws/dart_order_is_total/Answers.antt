@@ -1,0 +1,5 @@
+use Rattle.topo_core.proofs.NumberOrder.{order_through, order_total}
+use Rattle.topo_core.proofs.laws.dart_order_is_total.Goals as goal
+
+pub returns : goal.returns
+returns c = record { total = order_total; transitive = order_through }

@@ -1,0 +1,154 @@
+//! The commands that a row can ask for, each carried out on the bytes that it reads.
+
+use std::alloc::{AllocError, Global};
+use std::fmt::Display;
+use topo_check::{check_io, replay_io};
+use topo_core::rows::Rows;
+use topo_run::run_io;
+use topo_script::{ScriptFault, picture_text, read_report, read_rows, read_script, report};
+
+/// What is done with the bytes of a row.
+#[derive(Clone, Copy)]
+pub(crate) enum Command {
+    /// The script is run.
+    Run,
+    /// The report is replayed.
+    Replay,
+    /// The picture is checked.
+    Check,
+    /// The picture at the start of the report is checked.
+    CheckStart,
+    /// The picture at the end of the report is checked.
+    CheckEnd,
+    /// The script is only read.
+    ReadScript,
+    /// The report is only read.
+    ReadReport,
+    /// The report is read and written again.
+    RewriteReport,
+    /// The picture is read and written again.
+    RewritePicture,
+}
+
+impl Command {
+    /// The command of this name.
+    pub(crate) fn from_name(name: &str) -> Option<Self> {
+        match name {
+            "run" => Some(Command::Run),
+            "replay" => Some(Command::Replay),
+            "check" => Some(Command::Check),
+            "check start" => Some(Command::CheckStart),
+            "check end" => Some(Command::CheckEnd),
+            "read script" => Some(Command::ReadScript),
+            "read report" => Some(Command::ReadReport),
+            "rewrite report" => Some(Command::RewriteReport),
+            "rewrite picture" => Some(Command::RewritePicture),
+            _ => None,
+        }
+    }
+
+    /// What the command prints on these bytes: what it writes, or its fault.
+    pub(crate) fn printed(self, alloc: Global, bytes: &[u8]) -> Result<Vec<u8>, AllocError> {
+        match self {
+            Command::Run => run(alloc, bytes),
+            Command::Replay => replay(alloc, bytes),
+            Command::Check => check(alloc, bytes),
+            Command::CheckStart => check_start(alloc, bytes),
+            Command::CheckEnd => check_end(alloc, bytes),
+            Command::ReadScript => read(alloc, read_script(alloc, bytes)),
+            Command::ReadReport => read(alloc, read_report(alloc, bytes)),
+            Command::RewriteReport => rewrite_report(alloc, bytes),
+            Command::RewritePicture => rewrite_picture(alloc, bytes),
+        }
+    }
+}
+
+/// What a command printed: what was written where it came to its end, and else the fault, before which
+/// nothing is to be written.
+fn told<E: Display + Drop>(
+    alloc: Global,
+    ended: Result<(), E>,
+    written: Vec<u8>,
+) -> Result<Vec<u8>, AllocError> {
+    match ended {
+        Ok(()) => Ok(written),
+        Err(fault) => {
+            let before = if written.is_empty() {
+                ""
+            } else {
+                "after a text: "
+            };
+            line_of(format!(in alloc; "{before}{fault}")?)
+        }
+    }
+}
+
+fn run(alloc: Global, bytes: &[u8]) -> Result<Vec<u8>, AllocError> {
+    let mut reader = bytes;
+    let mut written: Vec<u8> = Vec::new(alloc);
+    let ended = run_io(alloc, &mut reader, &mut written);
+    told(alloc, ended, written)
+}
+
+fn replay(alloc: Global, bytes: &[u8]) -> Result<Vec<u8>, AllocError> {
+    let mut reader = bytes;
+    let mut written: Vec<u8> = Vec::new(alloc);
+    let ended = replay_io(alloc, &mut reader, &mut written);
+    told(alloc, ended, written)
+}
+
+fn check(alloc: Global, bytes: &[u8]) -> Result<Vec<u8>, AllocError> {
+    let mut reader = bytes;
+    let mut written: Vec<u8> = Vec::new(alloc);
+    let ended = check_io(alloc, &mut reader, &mut written);
+    told(alloc, ended, written)
+}
+
+fn check_start(alloc: Global, bytes: &[u8]) -> Result<Vec<u8>, AllocError> {
+    match read_report(alloc, bytes) {
+        Ok(made) => check_rows(alloc, &made.start),
+        Err(fault) => line_of(format!(in alloc; "{fault}")?),
+    }
+}
+
+fn check_end(alloc: Global, bytes: &[u8]) -> Result<Vec<u8>, AllocError> {
+    match read_report(alloc, bytes) {
+        Ok(made) => check_rows(alloc, &made.picture),
+        Err(fault) => line_of(format!(in alloc; "{fault}")?),
+    }
+}
+
+/// Checks the text of a picture.
+fn check_rows(alloc: Global, rows: &Rows) -> Result<Vec<u8>, AllocError> {
+    let text = picture_text(alloc, rows)?;
+    check(alloc, text.as_bytes())
+}
+
+/// What is told of a form that was only read.
+fn read<T: Drop>(alloc: Global, read: Result<T, ScriptFault>) -> Result<Vec<u8>, AllocError> {
+    match read {
+        Ok(_) => line_of(String::from_str(alloc, "read")?),
+        Err(fault) => line_of(format!(in alloc; "{fault}")?),
+    }
+}
+
+fn rewrite_report(alloc: Global, bytes: &[u8]) -> Result<Vec<u8>, AllocError> {
+    match read_report(alloc, bytes) {
+        Ok(made) => line_of(report(alloc, &made)?),
+        Err(fault) => line_of(format!(in alloc; "{fault}")?),
+    }
+}
+
+fn rewrite_picture(alloc: Global, bytes: &[u8]) -> Result<Vec<u8>, AllocError> {
+    match read_rows(alloc, bytes) {
+        Ok(rows) => line_of(picture_text(alloc, &rows)?),
+        Err(fault) => line_of(format!(in alloc; "{fault}")?),
+    }
+}
+
+/// The bytes of a text and a line feed.
+fn line_of(text: String) -> Result<Vec<u8>, AllocError> {
+    let mut line = text;
+    line.push_str("\n")?;
+    Ok(line.into_bytes())
+}

@@ -1,0 +1,20 @@
+-- A half is known by its number.
+use Rattle.std.proofs.Common.{◌≡◌, ℕ, ◌+◌, ◌*◌, ◌/◌, ◌%◌, inl, inr, arith, ap, ◌∙◌}
+use Rattle.std.proofs.lemmas.Bool.{cases_eq, cond-true, cond-false, eq-eqb, ne_eqb}
+use Rattle.topo_core.specs.declared.darts.Way.{Way}
+use Rattle.topo_core.specs.declared.darts.Way.TheVariants.{Forward, Back}
+use Rattle.topo_map.specs.Halves.{half_number, way_of}
+
+pub number_key : (key : ℕ) (way : Way) → half_number key way / 2 ≡ key
+number_key key Forward = omega arith
+number_key key Back = omega arith
+
+-- the half at its key, on its way
+pub numbered : (a : ℕ) → half_number (a / 2) (way_of a) ≡ a
+numbered a = elim (cases_eq (a % 2) 0) [
+  | inl z ↦ ap (half_number (a / 2)) (cond-true _ _ _ (eq-eqb _ _ z)) ∙ (let e : 2 * (a / 2) ≡ a = omega arith in e)
+  | inr z ↦ ap (half_number (a / 2)) (cond-false _ _ _ (ne_eqb _ _ z)) ∙ (let e : 2 * (a / 2) + 1 ≡ a = omega arith in e)
+]
+
+pub half_of : (key : ℕ) (way : Way) (a : ℕ) → key ≡ a / 2 → way ≡ way_of a → half_number key way ≡ a
+half_of key way a ek ew = ap (λ (k : ℕ). half_number k way) ek ∙ ap (half_number (a / 2)) ew ∙ numbered a

@@ -1,0 +1,27 @@
+-- What follows of results, and of the fault of writing.
+use Rattle.std.proofs.Common.{Result, Ok, Err, IfErr, IfOk, OnErr, OnOk}
+use Rattle.topo_settings.specs.declared.fault.RunFault.{RunFault}
+use Rattle.topo_settings.specs.declared.fault.RunFault.TheVariants.{Memory, Script, BadLimits, Price, Load, WrongReply, WrongPicture, ReadFault, WriteFault}
+use Rattle.topo_settings.specs.Writing.{IsOfWriting}
+
+-- what holds of the fault of writing holds of each
+pub by_writing : (P : RunFault → Type 0) (fault : RunFault) → IsOfWriting fault → P WriteFault → P fault
+by_writing P Memory is write = absurd is
+by_writing P (Script fault) is write = absurd is
+by_writing P BadLimits is write = absurd is
+by_writing P (Price fault) is write = absurd is
+by_writing P (Load fault) is write = absurd is
+by_writing P (WrongReply i) is write = absurd is
+by_writing P WrongPicture is write = absurd is
+by_writing P ReadFault is write = absurd is
+by_writing P WriteFault is write = write
+
+-- ---- What follows of a result
+
+pub ok_by : {A E : Type 0} (r : Result A E) (P Q : Type 0) → (P → Q) → OnOk r P → IfOk r (λ _. Q)
+ok_by (Ok a) P Q f h = f h
+ok_by (Err e) P Q f h = h
+
+pub err_by : {A E : Type 0} (r : Result A E) (P : Type 0) (Q R : E → Type 0) → ((e : E) → P → Q e → R e) → OnErr r P → IfErr r Q → IfErr r R
+err_by (Ok a) P Q R f h k = k
+err_by (Err e) P Q R f h k = f e h k

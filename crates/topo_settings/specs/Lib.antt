@@ -1,0 +1,5 @@
+pub mod Limiting
+pub mod Reading
+pub mod Settings
+pub mod Statuses
+pub mod Writing

@@ -1,0 +1,147 @@
+//! Insertions by plans that are handed in.
+
+ghost use Rattle.std.specs.Prelude.{◌≢◌, ◌<◌, IsTrue, length};
+ghost use Rattle.topo_price.specs.Prices.{IsPromise};
+
+use crate::calls::book_of;
+use crate::pictures::{BIPYRAMID, WIDE};
+use crate::searches::{FIVE_TWO_NINE, LEAST, dart, invented, table_of};
+use std::alloc::{AllocError, Global};
+use std::cell::Cell;
+use std::process::Abort;
+use std::test::Fail;
+use topo_book::Book;
+use topo_core::calls::Reply;
+use topo_core::darts::Way;
+use topo_core::rows::Facts;
+use topo_frozen::Frozen;
+use topo_price::tariff::Asks;
+use topo_route::check::check;
+use topo_route::plan::Plan;
+
+/// The plan of the search between the apexes at prices 5, 2 and 9, and three that nobody searched for.
+const PLANS: &[((u32, u32, Way, u32, u64), &[u64])] = &[
+    ((2, 1, Way::Back, 2, 2), &LEAST),
+    ((1, 0, Way::Back, 0, 5), &LEAST),
+    ((1, 0, Way::Back, 0, 4), &LEAST),
+    (
+        (1, 0, Way::Back, 0, 5),
+        &[3, 0, 2, 0, 3, 3, 3, 3, 2, 2, 3, 0, 0, 0, 0, 0, 0],
+    ),
+];
+
+/// The plan at a place of the table.
+fn plan_of(
+    alloc: Global,
+    route: &(u32, u32, Way, u32, u64),
+    heights: &[u64],
+) -> Result<Plan, AllocError> {
+    let (start, edge, way, end, price) = *route;
+    invented(alloc, start, dart(edge, 0, way), end, price, heights)
+}
+
+/// Whether an insertion took the first route between the apexes, whatever the plan.
+fn is_first(reply: &Reply) -> bool {
+    match reply {
+        Reply::Inserted(made) => {
+            let crossed = made.route.crossed.as_slice();
+            made.id.number() == 9
+                && made.price == 2
+                && made.route.start == 2
+                && made.route.end == 2
+                && crossed == [dart(1, 0, Way::Back)].as_slice()
+        }
+        _ => false,
+    }
+}
+
+/// The reply to an insertion between the apexes by a plan.
+fn replied<F: Asks + Drop>(
+    rt: &impl Abort,
+    alloc: Global,
+    ask: F,
+    plan: &Plan,
+) -> Result<Reply, Fail>
+    requires callable { F.can_ask ask }
+    requires promise { IsPromise (F.answers ask) }
+{
+    let mut book = book_of(alloc, BIPYRAMID, WIDE, ask)?;
+    Ok(book.insert_planned(alloc, 0, 3, 4, 0, plan)?)
+}
+
+#[test]
+fn any_plan_gives_the_first_route(rt: HostRuntime) -> Result<(), Fail> {
+    let table = table_of(&rt, Some(1), FIVE_TWO_NINE);
+    for (at, (route, heights)) in PLANS.iter().enumerate() {
+        let plan = plan_of(rt.alloc(), route, heights)?;
+        let reply = replied(
+            &rt,
+            rt.alloc(),
+            |facts: &Facts| table.price(facts.kind),
+            &plan,
+        )?;
+        assert!(rt; is_first(&reply), "line {at}: {reply:?}");
+    }
+    Ok(())
+}
+
+/// Whether the apexes are vertices of the picture.
+fn has_apexes(frozen: &Frozen) -> bool
+    ensures u_there { IsTrue result → 3 < length frozen.now.rows.rotations }
+    ensures v_there { IsTrue result → 4 < length frozen.now.rows.rotations }
+{
+    frozen.rows().rotations.as_slice().len() > 4
+}
+
+/// Whether a plan passes the check on the picture of a book.
+fn passes<F: Asks>(
+    rt: &impl Abort,
+    alloc: Global,
+    book: &Book<F>,
+    plan: &Plan,
+) -> Result<bool, AllocError> {
+    let frozen = book.picture().freeze(alloc)?;
+    assert!(rt; has_apexes(&frozen));
+    Ok(check(&frozen, book.tariff(), 3, 4, plan).is_ok())
+}
+
+/// How often the prices are asked for in a check of the plan, and then in an insertion by it.
+fn counted<F: Asks + Drop>(
+    rt: &impl Abort,
+    alloc: Global,
+    asked: &Cell<u32>,
+    ask: F,
+    plan: &Plan,
+) -> Result<(u32, u32), Fail>
+    requires callable { F.can_ask ask }
+    requires promise { IsPromise (F.answers ask) }
+{
+    let mut book = book_of(alloc, BIPYRAMID, WIDE, ask)?;
+    asked.set(0);
+    assert!(rt; passes(rt, alloc, &book, plan)?);
+    let checked = asked.get();
+    asked.set(0);
+    let reply = book.insert_planned(alloc, 0, 3, 4, 0, plan)?;
+    assert!(rt; is_first(&reply), "{reply:?}");
+    Ok((checked, asked.get()))
+}
+
+#[test]
+fn a_plan_that_passes_spares_the_search(rt: HostRuntime) -> Result<(), Fail> {
+    let table = table_of(&rt, Some(1), FIVE_TWO_NINE);
+    let asked = Cell::new(0u32);
+    let plan = plan_of(rt.alloc(), &(2, 1, Way::Back, 2, 2), &LEAST)?;
+    let (checked, inserted) = counted(
+        &rt,
+        rt.alloc(),
+        &asked,
+        |facts: &Facts| {
+            asked.set(asked.get().wrapping_add(1));
+            table.price(facts.kind)
+        },
+        &plan,
+    )?;
+    assert!(rt; checked > 0);
+    assert_eq!(rt; inserted, checked);
+    Ok(())
+}

@@ -1,0 +1,67 @@
+//! A table as a tariff: the promise is kept with nothing written by the closure's maker.
+
+ghost use Rattle.std.specs.Prelude.{◌<◌};
+ghost use Rattle.topo_price.specs.Prices.{IsPromise};
+
+use std::alloc::{AllocError, Global};
+use std::test::Fail;
+use topo_core::rows::Facts;
+use topo_price::asked::Asked;
+use topo_price::table::{PriceFault, PriceTable};
+use topo_price::tariff::{Asks, Tariff};
+
+fn facts(id: u32, kind: u8) -> Facts
+    requires { kind < 64 }
+{
+    Facts {
+        id,
+        a: 0,
+        b: 1,
+        kind,
+    }
+}
+
+/// The prices of edges of kinds 1 and 2 by a closure, whoever wrote it.
+fn asked_of<F: Asks + Drop>(alloc: Global, ask: F) -> Result<Asked, AllocError>
+    requires callable { F.can_ask ask }
+    requires promise { IsPromise (F.answers ask) }
+{
+    let tariff = Tariff::new(ask);
+    let mut asked = Asked::new(alloc);
+    asked.ask(&tariff, &facts(0, 1))?;
+    asked.ask(&tariff, &facts(1, 2))?;
+    Ok(asked)
+}
+
+#[test]
+fn a_table_keeps_the_promise(rt: HostRuntime) -> Result<(), Fail> {
+    let mut prices = [Some(1); 64];
+    prices[1] = Some(5);
+    prices[2] = None;
+    let table = PriceTable::new(prices).expect(&rt, "a table");
+    let asked = asked_of(rt.alloc(), |facts: &Facts| table.price(facts.kind))?;
+    assert_eq!(rt; asked.len(), 2);
+    assert_eq!(rt; asked.price(0), Some(5));
+    assert_eq!(rt; asked.price(1), None);
+    Ok(())
+}
+
+#[test]
+fn tables_with_bad_entries_are_refused(rt: HostRuntime) {
+    for (kind, entry, accepted) in [
+        (7, 0, false),
+        (7, 1001, false),
+        (7, 1, true),
+        (7, 1000, true),
+    ] {
+        let mut prices = [Some(1); 64];
+        prices[kind] = Some(entry);
+        match PriceTable::new(prices) {
+            Ok(_) => assert!(rt; accepted),
+            Err(fault) => {
+                assert!(rt; !accepted);
+                assert_eq!(rt; fault, PriceFault::BadPrice(7));
+            }
+        }
+    }
+}

@@ -1,0 +1,541 @@
+//! Searches on loaded pictures, and plans that are checked.
+
+ghost use Rattle.std.specs.Prelude.{◌≢◌, ◌<◌, IsTrue, length};
+ghost use Rattle.topo_price.specs.Prices.{IsPromise};
+
+use crate::pictures::{BARRIER, BIPYRAMID, JOINED, PARALLEL, picture_of};
+use std::alloc::{AllocError, Global};
+use std::cell::Cell;
+use std::process::Abort;
+use std::test::Fail;
+use topo_core::darts::{Dart, Point, Way};
+use topo_core::ids::{CrossId, EdgeId, VertexId};
+use topo_core::listed::Listed;
+use topo_core::routes::Route;
+use topo_core::rows::Facts;
+use topo_frozen::Frozen;
+use topo_price::asked::Asked;
+use topo_price::table::PriceTable;
+use topo_price::tariff::{Asks, Tariff};
+use topo_route::check::check;
+use topo_route::dual::{Dual, has_number};
+use topo_route::plan::{Plan, PlanFault};
+use topo_route::search::search;
+use topo_route::walked::Walked;
+
+/// Whether both are vertices, and different ones.
+fn are_ends(frozen: &Frozen, u: u32, v: u32) -> bool
+    ensures u_there { IsTrue result → u < length frozen.now.rows.rotations }
+    ensures v_there { IsTrue result → v < length frozen.now.rows.rotations }
+    ensures apart { IsTrue result → u ≢ v }
+{
+    let vertices = frozen.rows().rotations.as_slice().len();
+    (u as usize) < vertices && (v as usize) < vertices && u != v
+}
+
+/// The plan of a search with the prices of a closure, if there is a route.
+fn planned<F: Asks + Drop>(
+    rt: &impl Abort,
+    alloc: Global,
+    frozen: &Frozen,
+    ask: F,
+    ends: (u32, u32),
+) -> Result<Option<Plan>, AllocError>
+    requires callable { F.can_ask ask }
+    requires promise { IsPromise (F.answers ask) }
+{
+    let (u, v) = ends;
+    assert!(rt; are_ends(frozen, u, v));
+    search(alloc, frozen, &Tariff::new(ask), u, v)
+}
+
+/// What the check says of a plan.
+fn judged<F: Asks + Drop>(
+    rt: &impl Abort,
+    frozen: &Frozen,
+    ask: F,
+    ends: (u32, u32),
+    plan: &Plan,
+) -> Result<(), PlanFault>
+    requires callable { F.can_ask ask }
+    requires promise { IsPromise (F.answers ask) }
+{
+    let (u, v) = ends;
+    assert!(rt; are_ends(frozen, u, v));
+    check(frozen, &Tariff::new(ask), u, v, plan)
+}
+
+/// The prices of two edges of the triangle between the apexes, as they are kept.
+fn asked_of<F: Asks + Drop>(
+    rt: &impl Abort,
+    alloc: Global,
+    frozen: &Frozen,
+    ask: F,
+) -> Result<Asked, AllocError>
+    requires callable { F.can_ask ask }
+    requires promise { IsPromise (F.answers ask) }
+{
+    let tariff = Tariff::new(ask);
+    let mut asked = Asked::new(alloc);
+    assert!(rt; has_number(frozen, 0));
+    assert!(rt; has_number(frozen, 2));
+    asked.ask(&tariff, &frozen.facts(0))?;
+    asked.ask(&tariff, &frozen.facts(2))?;
+    Ok(asked)
+}
+
+/// A table of prices with these entries for kinds, and one price for all other kinds.
+pub(crate) fn table_of(
+    rt: &impl Abort,
+    rest: Option<u32>,
+    entries: &[(usize, Option<u32>)],
+) -> PriceTable {
+    let mut prices = [rest; 64];
+    for (kind, price) in entries {
+        assert!(rt; *kind < 64);
+        prices[*kind] = *price;
+    }
+    PriceTable::new(prices).expect(rt, "prices from 1 to 1000")
+}
+
+/// The frozen picture of a text.
+fn frozen_of(alloc: Global, text: &str) -> Result<Frozen, Fail> {
+    Ok(picture_of(alloc, text)?.freeze(alloc)?)
+}
+
+pub(crate) fn dart(edge: u32, seg: u32, way: Way) -> Dart {
+    Dart {
+        edge: EdgeId::new(edge),
+        seg,
+        way,
+    }
+}
+
+/// A picture with prices of kinds, and from where to where.
+#[derive(Drop)]
+pub(crate) struct Question {
+    pub picture: &'static str,
+    pub rest: Option<u32>,
+    pub entries: &'static [(usize, Option<u32>)],
+    pub ends: (u32, u32),
+}
+
+/// A route with its price: a start, the crossed darts, an end.
+#[derive(Drop)]
+pub(crate) struct Answer {
+    pub start: u32,
+    pub crossed: &'static [(u32, u32, Way)],
+    pub end: u32,
+    pub price: u64,
+}
+
+/// Prices 5, 2 and 9 for the edges of the triangle.
+pub(crate) const FIVE_TWO_NINE: &[(usize, Option<u32>)] = &[
+    (1, Some(5)),
+    (2, Some(2)),
+    (3, Some(9)),
+];
+
+/// The same, but the second edge is dear, or must not be crossed.
+const SECOND_DEAR: &[(usize, Option<u32>)] = &[(1, Some(5)), (2, Some(1000)), (3, Some(9))];
+
+pub(crate) const SECOND_CLOSED: &[(usize, Option<u32>)] = &[(1, Some(5)), (2, None), (3, Some(9))];
+
+pub(crate) const APEXES: (u32, u32) = (3, 4);
+
+pub(crate) const ROUTES: &[(Question, Answer)] = &[
+    // the cheapest edge of the triangle, from the corner before edge 5
+    (
+        Question {
+            picture: BIPYRAMID,
+            rest: Some(1),
+            entries: FIVE_TWO_NINE,
+            ends: APEXES,
+        },
+        Answer {
+            start: 2,
+            crossed: &[(1, 0, Way::Back)],
+            end: 2,
+            price: 2,
+        },
+    ),
+    // all three edges cost 4: the first corner decides
+    (
+        Question {
+            picture: BIPYRAMID,
+            rest: Some(4),
+            entries: &[],
+            ends: APEXES,
+        },
+        Answer {
+            start: 0,
+            crossed: &[(2, 0, Way::Back)],
+            end: 1,
+            price: 4,
+        },
+    ),
+    // out of the triangle across its cheap base and back in across it
+    (
+        Question {
+            picture: BARRIER,
+            rest: Some(9),
+            entries: &[(0, Some(1))],
+            ends: (4, 5),
+        },
+        Answer {
+            start: 0,
+            crossed: &[(0, 0, Way::Forward), (0, 1, Way::Back)],
+            end: 0,
+            price: 2,
+        },
+    ),
+    // a detour past the dear edge
+    (
+        Question {
+            picture: BIPYRAMID,
+            rest: Some(1),
+            entries: SECOND_DEAR,
+            ends: APEXES,
+        },
+        Answer {
+            start: 1,
+            crossed: &[(0, 0, Way::Back)],
+            end: 0,
+            price: 5,
+        },
+    ),
+    // the same where it must not be crossed
+    (
+        Question {
+            picture: BIPYRAMID,
+            rest: Some(1),
+            entries: SECOND_CLOSED,
+            ends: APEXES,
+        },
+        Answer {
+            start: 1,
+            crossed: &[(0, 0, Way::Back)],
+            end: 0,
+            price: 5,
+        },
+    ),
+    // all edges at the greatest price: straight across the edge between the two parts
+    (
+        Question {
+            picture: BARRIER,
+            rest: Some(1000),
+            entries: &[],
+            ends: (4, 5),
+        },
+        Answer {
+            start: 0,
+            crossed: &[(3, 0, Way::Back)],
+            end: 0,
+            price: 1000,
+        },
+    ),
+];
+
+/// Whether a plan has this route and this price.
+fn is_answer(plan: &Plan, answer: &Answer) -> bool {
+    let crossed = plan.route.crossed.as_slice();
+    plan.route.start == answer.start
+        && plan.route.end == answer.end
+        && plan.price == answer.price
+        && crossed.len() == answer.crossed.len()
+        && crossed
+            .iter()
+            .zip(answer.crossed)
+            .all(|(had, (edge, seg, way))| *had == dart(*edge, *seg, *way))
+}
+
+#[test]
+fn searches_find_the_first_of_the_least_routes(rt: HostRuntime) -> Result<(), Fail> {
+    for (at, (question, answer)) in ROUTES.iter().enumerate() {
+        let frozen = frozen_of(rt.alloc(), question.picture)?;
+        let table = table_of(&rt, question.rest, question.entries);
+        let plan = planned(
+            &rt,
+            rt.alloc(),
+            &frozen,
+            |facts: &Facts| table.price(facts.kind),
+            question.ends,
+        )?
+        .ok_or("a route")?;
+        assert!(rt; is_answer(&plan, answer), "line {at}: {plan:?}");
+        let says = judged(
+            &rt,
+            &frozen,
+            |facts: &Facts| table.price(facts.kind),
+            question.ends,
+            &plan,
+        );
+        assert_eq!(rt; says, Ok(()), "line {at}");
+    }
+    Ok(())
+}
+
+#[test]
+fn a_search_gives_the_least_height_of_each_dart(rt: HostRuntime) -> Result<(), Fail> {
+    let far = [0, 5, 0, 6, 0, 6, 6, 5, 5, 6, 6, 6, 0, 0, 0, 0, 0, 0];
+    for (entries, heights) in [
+        (
+            FIVE_TWO_NINE,
+            [0, 3, 0, 2, 0, 3, 3, 3, 3, 2, 2, 3, 0, 0, 0, 0, 0, 0],
+        ),
+        (SECOND_DEAR, far),
+        (SECOND_CLOSED, far),
+    ] {
+        let frozen = frozen_of(rt.alloc(), BIPYRAMID)?;
+        let table = table_of(&rt, Some(1), entries);
+        let plan = planned(
+            &rt,
+            rt.alloc(),
+            &frozen,
+            |facts: &Facts| table.price(facts.kind),
+            APEXES,
+        )?
+        .ok_or("a route")?;
+        assert_eq!(rt; plan.heights.as_slice(), heights.as_slice());
+    }
+    Ok(())
+}
+
+#[test]
+fn no_route_where_the_triangle_is_closed(rt: HostRuntime) -> Result<(), Fail> {
+    let frozen = frozen_of(rt.alloc(), BIPYRAMID)?;
+    let table = table_of(&rt, Some(1), &[(1, None), (2, None), (3, None)]);
+    let plan = planned(
+        &rt,
+        rt.alloc(),
+        &frozen,
+        |facts: &Facts| table.price(facts.kind),
+        APEXES,
+    )?;
+    assert!(rt; plan.is_none());
+    Ok(())
+}
+
+#[test]
+fn a_search_after_growths(rt: HostRuntime) -> Result<(), Fail> {
+    let mut picture = picture_of(rt.alloc(), PARALLEL)?;
+    assert!(rt; picture.grow(rt.alloc(), 0, 0, 0).is_ok());
+    assert!(rt; picture.grow(rt.alloc(), 0, 2, 0).is_ok());
+    let frozen = picture.freeze(rt.alloc())?;
+    let table = table_of(&rt, Some(1000), &[]);
+    let plan = planned(
+        &rt,
+        rt.alloc(),
+        &frozen,
+        |facts: &Facts| table.price(facts.kind),
+        (2, 3),
+    )?
+    .ok_or("a route")?;
+    let answer = Answer {
+        start: 0,
+        crossed: &[(0, 0, Way::Forward), (1, 0, Way::Forward)],
+        end: 0,
+        price: 2000,
+    };
+    assert!(rt; is_answer(&plan, &answer), "{plan:?}");
+    Ok(())
+}
+
+/// A plan that nobody searched for.
+pub(crate) fn invented(
+    alloc: Global,
+    start: u32,
+    crossed: Dart,
+    end: u32,
+    price: u64,
+    heights: &[u64],
+) -> Result<Plan, AllocError> {
+    let mut darts = Vec::new(alloc);
+    darts.push(crossed)?;
+    Ok(Plan {
+        route: Route {
+            start,
+            crossed: Listed::from_vec(darts),
+            end,
+        },
+        price,
+        heights: Listed::from_vec(Vec::from_slice(alloc, heights)?),
+    })
+}
+
+/// The heights of the least plan at prices 5, 2 and 9.
+pub(crate) const LEAST: [u64; 18] = [0, 3, 0, 2, 0, 3, 3, 3, 3, 2, 2, 3, 0, 0, 0, 0, 0, 0];
+
+/// The heights where all edges of the triangle cost 4.
+const EVEN: [u64; 18] = [0, 4, 0, 4, 0, 4, 4, 4, 4, 4, 4, 4, 0, 0, 0, 0, 0, 0];
+
+/// Prices, a route as (start, crossed edge and direction, end, price), heights, and what the check says.
+type Judgement = (
+    &'static [(usize, Option<u32>)],
+    (u32, u32, Way, u32, u64),
+    &'static [u64],
+    Result<(), PlanFault>,
+);
+
+const FOURS: &[(usize, Option<u32>)] = &[(0, Some(4)), (1, Some(4)), (2, Some(4)), (3, Some(4))];
+
+const JUDGEMENTS: &[Judgement] = &[
+    // the plan of the search
+    (FIVE_TWO_NINE, (2, 1, Way::Back, 2, 2), &LEAST, Ok(())),
+    // edge 0 costs 5, but the least height at the start is 2
+    (
+        FIVE_TWO_NINE,
+        (1, 0, Way::Back, 0, 5),
+        &LEAST,
+        Err(PlanFault::NotLeast),
+    ),
+    // it does not cost 4
+    (
+        FIVE_TWO_NINE,
+        (1, 0, Way::Back, 0, 4),
+        &LEAST,
+        Err(PlanFault::NotARoute),
+    ),
+    // one height is missing
+    (
+        FIVE_TWO_NINE,
+        (1, 0, Way::Back, 0, 5),
+        &[3, 0, 2, 0, 3, 3, 3, 3, 2, 2, 3, 0, 0, 0, 0, 0, 0],
+        Err(PlanFault::WrongLength),
+    ),
+    // of three routes at price 4 that from the first corner is the first
+    (
+        FOURS,
+        (1, 0, Way::Back, 0, 4),
+        &EVEN,
+        Err(PlanFault::NotFirst),
+    ),
+    // the target's corners are not at height 0
+    (
+        FIVE_TWO_NINE,
+        (2, 1, Way::Back, 2, 2),
+        &[u64::MAX; 18],
+        Err(PlanFault::TargetNotZero),
+    ),
+    // heights that prove nothing
+    (
+        FIVE_TWO_NINE,
+        (2, 1, Way::Back, 2, 2),
+        &[0; 18],
+        Err(PlanFault::NotLeast),
+    ),
+    // there is no edge 99
+    (
+        FIVE_TWO_NINE,
+        (2, 99, Way::Forward, 2, 2),
+        &LEAST,
+        Err(PlanFault::NotARoute),
+    ),
+];
+
+#[test]
+fn plans_fail_the_first_test(rt: HostRuntime) -> Result<(), Fail> {
+    for (at, (entries, route, heights, says)) in JUDGEMENTS.iter().enumerate() {
+        let frozen = frozen_of(rt.alloc(), BIPYRAMID)?;
+        let table = table_of(&rt, Some(1), *entries);
+        let (start, edge, way, end, price) = *route;
+        let plan = invented(rt.alloc(), start, dart(edge, 0, way), end, price, *heights)?;
+        let said = judged(
+            &rt,
+            &frozen,
+            |facts: &Facts| table.price(facts.kind),
+            APEXES,
+            &plan,
+        );
+        assert_eq!(rt; said, *says, "line {at}");
+    }
+    Ok(())
+}
+
+#[test]
+fn one_height_raised_is_uneven(rt: HostRuntime) -> Result<(), Fail> {
+    for place in 0..18 {
+        let frozen = frozen_of(rt.alloc(), BIPYRAMID)?;
+        let table = table_of(&rt, Some(1), FIVE_TWO_NINE);
+        let mut heights = LEAST;
+        heights[place] = heights[place].wrapping_add(1);
+        let plan = invented(rt.alloc(), 2, dart(1, 0, Way::Back), 2, 2, &heights)?;
+        let said = judged(
+            &rt,
+            &frozen,
+            |facts: &Facts| table.price(facts.kind),
+            APEXES,
+            &plan,
+        );
+        assert_eq!(rt; said, Err(PlanFault::UnevenFace), "height {place}");
+    }
+    Ok(())
+}
+
+#[test]
+fn each_edge_is_asked_for_once(rt: HostRuntime) -> Result<(), Fail> {
+    let frozen = frozen_of(rt.alloc(), BIPYRAMID)?;
+    let table = table_of(&rt, Some(1), FIVE_TWO_NINE);
+    let asks = Cell::new(0u32);
+    let plan = planned(
+        &rt,
+        rt.alloc(),
+        &frozen,
+        |facts: &Facts| {
+            asks.set(asks.get().wrapping_add(1));
+            table.price(facts.kind)
+        },
+        APEXES,
+    )?;
+    assert!(rt; plan.is_some());
+    assert_eq!(rt; asks.get(), 9);
+    Ok(())
+}
+
+#[test]
+fn answers_are_kept_in_order(rt: HostRuntime) -> Result<(), Fail> {
+    let frozen = frozen_of(rt.alloc(), BIPYRAMID)?;
+    let table = table_of(&rt, Some(1), FIVE_TWO_NINE);
+    let asked = asked_of(
+        &rt,
+        rt.alloc(),
+        &frozen,
+        |facts: &Facts| table.price(facts.kind),
+    )?;
+    assert_eq!(rt; asked.len(), 2);
+    assert_eq!(rt; asked.price(0), Some(5));
+    assert_eq!(rt; asked.price(1), Some(2));
+    Ok(())
+}
+
+#[test]
+fn a_frozen_picture_answers(rt: HostRuntime) -> Result<(), Fail> {
+    let frozen = frozen_of(rt.alloc(), JOINED)?;
+    assert_eq!(rt; frozen.size(), 24);
+    assert!(rt; has_number(&frozen, 4));
+    assert!(rt; has_number(&frozen, 5));
+    assert!(rt; has_number(&frozen, 20));
+    assert!(rt; has_number(&frozen, 23));
+    assert!(rt; !has_number(&frozen, 24));
+    // edge 1 is crossed by edge 9: its four darts are 2 to 5, those of edge 9 are 20 to 23
+    assert_eq!(rt; frozen.dart(4), dart(1, 1, Way::Forward));
+    assert_eq!(rt; frozen.index(dart(1, 1, Way::Forward)), Some(4));
+    assert_eq!(rt; frozen.index(dart(1, 2, Way::Forward)), None);
+    assert_eq!(rt; frozen.index(dart(10, 0, Way::Forward)), None);
+    assert_eq!(rt; frozen.twin(4), 5);
+    assert_eq!(rt; frozen.tail(4), Point::Crossing(CrossId::new(0)));
+    assert_eq!(rt; frozen.tail(5), Point::Vertex(VertexId::new(2)));
+    assert_eq!(rt; frozen.tail(20), Point::Vertex(VertexId::new(3)));
+    // from edge 9 at the crossing the face on the left goes on along edge 1 towards its end 1
+    assert_eq!(rt; frozen.next(20), 3);
+    assert!(rt; frozen.precedes(5, 20));
+    assert!(rt; !frozen.precedes(20, 5));
+    assert_eq!(rt; frozen.degree(3), 4);
+    assert_eq!(rt; frozen.degree(5), 0);
+    assert_eq!(rt; frozen.corner(3, 2), Some(20));
+    assert_eq!(rt; frozen.corner(3, 4), None);
+    assert_eq!(rt; frozen.corner(5, 0), None);
+    let facts = frozen.facts(23);
+    assert_eq!(rt; (facts.id, facts.a, facts.b, facts.kind), (9, 3, 4, 0));
+    Ok(())
+}

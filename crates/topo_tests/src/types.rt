@@ -1,0 +1,107 @@
+//! The plain types: each call once, with values worked out by hand.
+
+use std::alloc::{AllocError, Global};
+use std::test::Fail;
+use topo_core::calls::Refusal;
+use topo_core::ids::{CrossId, EdgeId, VertexId};
+use topo_core::limits::{Limits, LimitsFault};
+use topo_core::listed::Listed;
+use topo_core::rows::{EdgeRow, Facts, Rows};
+
+fn edge_row(alloc: Global, id: u32, kind: u32) -> EdgeRow {
+    EdgeRow {
+        id,
+        a: 2,
+        b: 1,
+        kind,
+        crossings: Listed::new(alloc),
+    }
+}
+
+/// Three vertices, and the edges 4 and 6 from vertex 2 to vertex 1.
+fn two_edges(alloc: Global) -> Result<Rows, AllocError> {
+    let around = Listed::from_vec(vec![in alloc; 4, 6]?);
+    let other = Listed::from_vec(vec![in alloc; 4, 6]?);
+    Ok(Rows {
+        rotations: Listed::from_vec(vec![in alloc; Listed::new(alloc), around, other]?),
+        edges: Listed::from_vec(vec![in alloc; edge_row(alloc, 4, 63), edge_row(alloc, 6, 64)]?),
+        crossings: Listed::new(alloc),
+        next_edge: 7,
+        next_crossing: 0,
+    })
+}
+
+#[test]
+fn ids_are_their_numbers(rt: HostRuntime) {
+    assert_eq!(rt; VertexId::new(5).number(), 5);
+    assert_eq!(rt; EdgeId::new(6).number(), 6);
+    assert_eq!(rt; CrossId::new(7).number(), 7);
+}
+
+#[test]
+fn limits_have_ranges(rt: HostRuntime) {
+    let table = [
+        (2, 1, 0, true),
+        (65_536, 65_536, 1_048_576, true),
+        (1, 1, 0, false),
+        (65_537, 1, 0, false),
+        (2, 0, 0, false),
+        (2, 65_537, 0, false),
+        (2, 1, 1_048_577, false),
+    ];
+    for (vertices, edges, crossings, accepted) in table {
+        match Limits::new(vertices, edges, crossings) {
+            Ok(limits) => {
+                assert!(rt; accepted);
+                assert_eq!(rt; limits.vertices, vertices);
+                assert_eq!(rt; limits.edges, edges);
+                assert_eq!(rt; limits.crossings, crossings);
+            }
+            Err(fault) => {
+                assert!(rt; !accepted);
+                assert_eq!(rt; fault, LimitsFault::BadLimits);
+            }
+        }
+    }
+}
+
+#[test]
+fn rows_are_found_by_id(rt: HostRuntime) -> Result<(), Fail> {
+    let rows = two_edges(rt.alloc())?;
+    assert_eq!(rt; rows.degree(0), 0);
+    assert_eq!(rt; rows.degree(2), 2);
+    assert_eq!(rt; rows.degree(3), 0);
+    assert!(rt; rows.edge(5).is_none());
+    let row = rows.edge(4).ok_or("edge 4")?;
+    let facts = Facts::from_row(row).ok_or("facts of edge 4")?;
+    assert_eq!(rt; (facts.id, facts.a, facts.b, facts.kind), (4, 2, 1, 63));
+    let row = rows.edge(6).ok_or("edge 6")?;
+    assert!(rt; Facts::from_row(row).is_none());
+    Ok(())
+}
+
+#[test]
+fn lists_give_their_items_back(rt: HostRuntime) -> Result<(), Fail> {
+    let listed = Listed::from_vec(vec![in rt.alloc(); 3u32, 1]?);
+    assert_eq!(rt; listed.as_slice(), [3, 1].as_slice());
+    assert_eq!(rt; listed.into_vec().as_slice(), [3, 1].as_slice());
+    Ok(())
+}
+
+#[test]
+fn refusals_have_numbers(rt: HostRuntime) {
+    let table = [
+        (Refusal::NoVertex, 1),
+        (Refusal::SameEnds, 2),
+        (Refusal::NoPosition, 3),
+        (Refusal::NoEdge, 4),
+        (Refusal::BadKind, 5),
+        (Refusal::Cut(3), 6),
+        (Refusal::Full, 7),
+        (Refusal::Memory, 8),
+        (Refusal::NoRoute, 9),
+    ];
+    for (refusal, number) in table {
+        assert_eq!(rt; refusal.number(), number);
+    }
+}

@@ -1,0 +1,59 @@
+"""Planarization of graphs by the proved program `planar`.
+
+`planarize` takes a networkx graph and gives a picture of it with few crossings; `planarize_many` takes many.
+`Planarizer` collects single commands. The package itself needs only Python; networkx is wanted for embeddings and for
+edges that must not be crossed, matplotlib for `draw`.
+"""
+
+from .drawing import chain, draw, positions
+from .embeddings import Dummy, from_networkx_embedding, to_networkx_embedding
+from .faults import Fault, MemoryFault, NotPlanarized, PlanarError, ProgramFailed, ProgramNotFound, UsageRefused
+from .many import Bar, planarize_many
+from .pictures import Counts, Crossing, Dart, Edge, Picture, Point
+from .planarization import Planarization, Prepared, planarize, prepare, reinsert
+from .planarizer import Planarizer
+from .program import Program, find_program
+from .reports import Delete, Deleted, Entry, Grow, Grown, Insert, Inserted, Limits, Planned, Refused, Report
+
+__all__ = [
+    "Bar",
+    "Counts",
+    "Crossing",
+    "Dart",
+    "Delete",
+    "Deleted",
+    "Dummy",
+    "Edge",
+    "Entry",
+    "Fault",
+    "Grow",
+    "Grown",
+    "Insert",
+    "Inserted",
+    "Limits",
+    "MemoryFault",
+    "NotPlanarized",
+    "Picture",
+    "PlanarError",
+    "Planarization",
+    "Planarizer",
+    "Planned",
+    "Point",
+    "Prepared",
+    "Program",
+    "ProgramFailed",
+    "ProgramNotFound",
+    "Refused",
+    "Report",
+    "UsageRefused",
+    "chain",
+    "draw",
+    "find_program",
+    "from_networkx_embedding",
+    "planarize",
+    "planarize_many",
+    "positions",
+    "prepare",
+    "reinsert",
+    "to_networkx_embedding",
+]

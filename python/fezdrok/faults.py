@@ -1,0 +1,85 @@
+"""Exceptions: what the program `planar` says when it gives no answer."""
+
+from __future__ import annotations
+
+from typing import Any, Optional, Union
+
+Value = Union[int, str, None]
+
+
+class PlanarError(Exception):
+    """Base of all exceptions of this package that come from the program or from a refused call."""
+
+
+class ProgramNotFound(PlanarError):
+    """There is no program `planar` where it was looked for."""
+
+
+class UsageRefused(PlanarError):
+    """Status 2: the program refused the words of its command line, or could not be built."""
+
+
+class ProgramFailed(PlanarError):
+    """The program ended in a way that its documents do not name, for example by a signal.
+
+    `status` is its exit status (negative for a signal), `text` is what it wrote on standard error.
+    """
+
+    def __init__(self, status: int, text: str):
+        super().__init__(status, text)
+        self.status = status
+        self.text = text
+
+    def __str__(self) -> str:
+        return f"planar ended with status {self.status}: {self.text.strip()}"
+
+
+class Fault(PlanarError):
+    """Status 1: the first fault of the text that the program read, as `52 BadShape $/workers`.
+
+    `number` and `name` are those of docs/FORMATS.md. `value` is what stands behind the name: a path as text,
+    a kind or an index as a number, or None where nothing stands there.
+    """
+
+    status = 1
+
+    def __init__(self, number: int, name: str, value: Value = None):
+        super().__init__(number, name, value)
+        self.number = number
+        self.name = name
+        self.value = value
+
+    def __str__(self) -> str:
+        words = [str(self.number), self.name]
+        if self.value is not None:
+            words.append(str(self.value))
+        return " ".join(words)
+
+
+class MemoryFault(Fault):
+    """Status 3: the program could not get memory. The same call may succeed later."""
+
+    status = 3
+
+
+class NotPlanarized(PlanarError):
+    """A graph could not be planarized: the program refused one of its edges.
+
+    `edge` is the edge of the graph, `reply` the refusal, as 9 `NoRoute` where edges that must not be crossed part
+    its ends.
+    """
+
+    def __init__(self, edge: Any, reply: Any):
+        super().__init__(edge, reply)
+        self.edge = edge
+        self.reply = reply
+
+    def __str__(self) -> str:
+        return f"the edge {self.edge!r} was refused: {self.reply.number} {self.reply.name}"
+
+
+def read_value(text: Optional[str]) -> Value:
+    """The value of a fault line: a number where it is written in digits, else the text itself."""
+    if text is None:
+        return None
+    return int(text) if text.isdigit() else text

@@ -1,0 +1,185 @@
+"""A networkx graph read for planarization: its edges in order, and a kind for each by what it costs to cross.
+
+Nothing here imports networkx: a graph is asked by its own methods.
+"""
+
+from __future__ import annotations
+
+from dataclasses import dataclass
+from operator import index
+from typing import Any, Callable, Dict, Hashable, Iterable, Iterator, List, Mapping, Optional, Sequence, Set, Tuple, Union
+
+Node = Hashable
+#: An edge of a graph as its `edges` gives it: two nodes, and in a multigraph a key.
+GraphEdge = Tuple[Any, ...]
+#: None where the edge must not be crossed.
+Price = Optional[int]
+#: How prices are given: the name of an edge attribute, a mapping from edges, or a function of both nodes and the data.
+Pricing = Union[None, str, Mapping[GraphEdge, Price], Callable[[Any, Any, Dict[str, Any]], Price]]
+
+KINDS = 64
+GREATEST_PRICE = 1000
+
+
+@dataclass(frozen=True)
+class PricedGraph:
+    """A graph whose edges have kinds: `kinds[i]` belongs to `edges[i]`, and `prices[k]` is what crossing an edge of
+    kind k costs."""
+
+    graph: Any
+    nodes: Tuple[Node, ...]
+    edges: Tuple[GraphEdge, ...]
+    kinds: Tuple[int, ...]
+    prices: Tuple[Price, ...]
+
+    def price(self, place: int) -> Price:
+        """The price of the edge at this place of `edges`."""
+        return self.prices[self.kinds[place]]
+
+
+def read_graph(graph: Any, price: Pricing = None, forbidden: Optional[Iterable[GraphEdge]] = None) -> PricedGraph:
+    """The graph with its kinds, or a ValueError that says why it cannot be planarized."""
+    nodes = tuple(graph.nodes)
+    multi = graph.is_multigraph()
+    rows = list(graph.edges(keys=True, data=True)) if multi else list(graph.edges(data=True))
+    edges = tuple(tuple(row[:-1]) for row in rows)
+    _judge_form(nodes, edges)
+    price_of = _price_function(price, graph.is_directed())
+    prices = [_judge_price(edge, price_of(edge, row[-1])) for edge, row in zip(edges, rows)]
+    for place in _places(edges, forbidden or (), graph.is_directed()):
+        prices[place] = None
+    table = _price_table(prices)
+    kind_of = {price: kind for kind, price in enumerate(table)}
+    return PricedGraph(graph, nodes, edges, tuple(kind_of[price] for price in prices), table)
+
+
+def _judge_form(nodes: Sequence[Node], edges: Sequence[GraphEdge]) -> None:
+    """ValueError unless the graph is connected, has an edge and has no loop."""
+    if not edges:
+        raise ValueError("the graph has no edge: the smallest picture is one edge between two vertices")
+    loop = next((edge for edge in edges if edge[0] == edge[1]), None)
+    if loop is not None:
+        raise ValueError(f"the graph has a loop at {loop[0]!r}: a picture has none")
+    reached = reach(edges, edges[0][0])
+    if len(reached) < len(nodes):
+        outside = next(node for node in nodes if node not in reached)
+        raise ValueError(f"the graph is not connected: {outside!r} cannot be reached from {edges[0][0]!r}")
+
+
+def incidence(edges: Sequence[GraphEdge], places: Iterable[int]) -> Dict[Node, List[Tuple[int, Node]]]:
+    """For each node the edges at it, in the order of `places`: their places and their other ends."""
+    found: Dict[Node, List[Tuple[int, Node]]] = {}
+    for place in places:
+        u, v = edges[place][:2]
+        found.setdefault(u, []).append((place, v))
+        found.setdefault(v, []).append((place, u))
+    return found
+
+
+def reach(edges: Sequence[GraphEdge], root: Node) -> Set[Node]:
+    """The nodes that can be reached from the root, in whatever direction the edges go."""
+    at = incidence(edges, range(len(edges)))
+    reached, waiting = {root}, [root]
+    while waiting:
+        fresh = {other for _, other in at[waiting.pop()]} - reached
+        reached |= fresh
+        waiting.extend(fresh)
+    return reached
+
+
+def bridges(edges: Sequence[GraphEdge]) -> Set[int]:
+    """The places of the edges without which a connected graph falls apart.
+
+    A walk in depth numbers the nodes as it meets them. An edge down to a new node is a bridge where no edge leads
+    from that node or from below it to a node with the number of the edge's upper end, or less.
+    """
+    at = incidence(edges, range(len(edges)))
+    root = edges[0][0]
+    number = {root: 0}
+    lowest = {root: 0}
+    found: Set[int] = set()
+    walk: List[Tuple[int, Node, Iterator[Tuple[int, Node]]]] = [(-1, root, iter(at[root]))]
+    while walk:
+        place, node, left = walk[-1]
+        following, other = next(left, (-1, node))
+        if following == -1:
+            walk.pop()
+            upper = walk[-1][1] if walk else node
+            lowest[upper] = min(lowest[upper], lowest[node])
+            if walk and lowest[node] > number[upper]:
+                found.add(place)
+        elif other not in number:
+            number[other] = lowest[other] = len(number)
+            walk.append((following, other, iter(at[other])))
+        elif following != place:
+            lowest[node] = min(lowest[node], number[other])
+    return found
+
+
+def _price_function(price: Pricing, directed: bool) -> Callable[[GraphEdge, Dict[str, Any]], Price]:
+    """How much an edge with its data costs; an edge that is not named costs 1."""
+    if price is None:
+        return lambda edge, data: 1
+    if isinstance(price, str):
+        attribute = price
+        return lambda edge, data: data.get(attribute, 1)
+    if isinstance(price, Mapping):
+        table = price
+        return lambda edge, data: next((table[name] for name in _names(edge, directed) if name in table), 1)
+    function = price
+    return lambda edge, data: function(edge[0], edge[1], data)
+
+
+def _names(edge: GraphEdge, directed: bool) -> List[GraphEdge]:
+    """What an edge may be called: with or without its key, and in an undirected graph either way round."""
+    u, v, key = edge[0], edge[1], edge[2:]
+    names = [(u, v, *key)] if directed else [(u, v, *key), (v, u, *key)]
+    return names + [name[:2] for name in names] if key else names
+
+
+def _judge_price(edge: GraphEdge, price: Any) -> Price:
+    """The price if it is None or a whole number from 1 to 1000, else a ValueError."""
+    if price is None:
+        return None
+    try:
+        number = index(price)
+    except TypeError:
+        number = 0
+    if not 1 <= number <= GREATEST_PRICE:
+        raise ValueError(f"the price of {edge!r} is {price!r}: it must be a whole number from 1 to {GREATEST_PRICE}, or None")
+    return number
+
+
+def _places(edges: Sequence[GraphEdge], wanted: Iterable[GraphEdge], directed: bool) -> Set[int]:
+    """The places of the edges that are named; without a key all edges between both nodes are meant."""
+    by_name: Dict[GraphEdge, List[int]] = {}
+    for place, edge in enumerate(edges):
+        for name in _names(edge, directed):
+            by_name.setdefault(name, []).append(place)
+    places: Set[int] = set()
+    for edge in wanted:
+        if tuple(edge) not in by_name:
+            raise ValueError(f"{tuple(edge)!r} is no edge of the graph")
+        places.update(by_name[tuple(edge)])
+    return places
+
+
+def places_of(edges: Sequence[GraphEdge], wanted: Iterable[GraphEdge], directed: bool) -> List[int]:
+    """The places of the edges that are named, in the order in which they are named, each once."""
+    ordered: Dict[int, None] = {}
+    for edge in wanted:
+        ordered.update(dict.fromkeys(sorted(_places(edges, [edge], directed))))
+    return list(ordered)
+
+
+def _price_table(prices: Iterable[Price]) -> Tuple[Price, ...]:
+    """The different prices, the dearest first, or a ValueError where there are more than kinds."""
+    different = sorted(set(prices), key=lambda price: -rank(price))
+    if len(different) > KINDS:
+        raise ValueError(f"there are {len(different)} different prices: the program knows {KINDS} kinds of edges, one for each price")
+    return tuple(different)
+
+
+def rank(price: Price) -> int:
+    """A number that orders prices: None, which forbids, is above them all."""
+    return GREATEST_PRICE + 1 if price is None else price

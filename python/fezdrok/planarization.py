@@ -1,0 +1,339 @@
+"""Planarization of networkx graphs: a graph goes in, a picture with few crossings comes out."""
+
+from __future__ import annotations
+
+import random
+from dataclasses import dataclass, field, replace
+from functools import cached_property
+from typing import Any, Dict, FrozenSet, Iterable, List, Optional, Sequence, Tuple, Union
+
+from .embeddings import picture_of
+from .faults import NotPlanarized
+from .graphs import GraphEdge, Node, Price, PricedGraph, Pricing, bridges, incidence, places_of, rank, read_graph
+from .pictures import Edge, Picture
+from .planarizer import Planarizer
+from .program import PathLike
+from .reports import Inserted, Limits, Refused, Report
+
+#: `given` (the order of the graph's edges), `random`, or edges in the order in which they are to come.
+Order = Union[str, Sequence[GraphEdge]]
+
+
+@dataclass(frozen=True)
+class Planarization:
+    """A graph with a picture of it.
+
+    `node_of[v]` is the node of vertex v and `vertex_of` leads back; `edge_of[e]` is the edge of the graph that has the
+    id e in the picture, as the graph's `edges` gives it, and `id_of` leads back. `prices` are those of the kinds.
+    `reports` are the reports of the program's runs, each of which starts where the one before it ended. `tries` has
+    the number of crossings of each order that was tried.
+    """
+
+    graph: Any
+    picture: Picture
+    node_of: Tuple[Node, ...]
+    edge_of: Dict[int, GraphEdge]
+    prices: Tuple[Price, ...]
+    reports: Tuple[Report, ...] = field(repr=False)
+    tries: Tuple[int, ...] = ()
+
+    @cached_property
+    def vertex_of(self) -> Dict[Node, int]:
+        """The vertex of each node."""
+        return {node: vertex for vertex, node in enumerate(self.node_of)}
+
+    @cached_property
+    def id_of(self) -> Dict[GraphEdge, int]:
+        """The id of each edge of the graph, which is named as the graph's `edges` names it."""
+        return {edge: edge_id for edge_id, edge in self.edge_of.items()}
+
+    def edge_id(self, u: Node, v: Node, *key: Any) -> int:
+        """The id of an edge, which an undirected graph may name either way round; KeyError where there is none."""
+        if self.graph.is_directed() or (u, v, *key) in self.id_of:
+            return self.id_of[(u, v, *key)]
+        return self.id_of[(v, u, *key)]
+
+    @property
+    def crossings(self) -> int:
+        """How many crossings the picture has."""
+        return len(self.picture.crossings)
+
+    @property
+    def crossing_pairs(self) -> List[Tuple[GraphEdge, GraphEdge]]:
+        """For each crossing the two edges that cross there: the one that was there, and the one that crossed it."""
+        return [(self.edge_of[row.crossed], self.edge_of[row.newcomer]) for row in self.picture.crossings]
+
+    @property
+    def cost(self) -> int:
+        """The sum of the prices of the crossings: each costs what its crossed edge costs."""
+        return sum(self.prices[self.picture.edge(row.crossed).kind] or 0 for row in self.picture.crossings)
+
+    @property
+    def score(self) -> Tuple[int, int]:
+        """What is less in a better picture: the crossings, then their cost."""
+        return (self.crossings, self.cost)
+
+
+@dataclass(frozen=True)
+class Prepared:
+    """A graph made ready for one run: the commands, and what their replies will mean.
+
+    `planarizer` has the commands; `drawn[e]` is the place, among the graph's edges, of the edge with the id e in the
+    start picture, and `asked[i]` that of the edge that command i draws.
+    """
+
+    source: PricedGraph
+    planarizer: Planarizer
+    node_of: Tuple[Node, ...]
+    drawn: Tuple[int, ...]
+    asked: Tuple[int, ...]
+
+    def script_text(self) -> str:
+        """The script, to be run elsewhere by `planar run`."""
+        return self.planarizer.script_text()
+
+    def result(self, report: Report) -> Planarization:
+        """What the report of this script's run means for the graph; NotPlanarized where an edge was refused."""
+        edge_of = {edge_id: self.source.edges[place] for edge_id, place in enumerate(self.drawn)}
+        for place, reply in zip(self.asked, report.replies):
+            if isinstance(reply, Refused):
+                raise NotPlanarized(self.source.edges[place], reply)
+            edge_of[reply.edge] = self.source.edges[place]
+        result = Planarization(self.source.graph, report.picture, self.node_of, edge_of, self.source.prices, (report,))
+        return replace(result, tries=(result.crossings,))
+
+    def run(self) -> Planarization:
+        """Run the script here."""
+        return self.result(self.planarizer.run())
+
+
+def planarize(
+    graph: Any,
+    price: Pricing = None,
+    forbidden: Optional[Iterable[GraphEdge]] = None,
+    *,
+    begin: str = "tree",
+    order: Order = "given",
+    tries: int = 1,
+    rounds: int = 0,
+    seed: int = 0,
+    limits: Optional[Limits] = None,
+    program: Optional[PathLike] = None,
+) -> Planarization:
+    """A picture of a networkx graph, which must be connected and have an edge and no loop (else ValueError).
+
+    The first edge is the start, a breadth-first tree is grown from it, and every other edge is inserted along a
+    cheapest route, those that are cheap to cross last. With `begin="planar"` the start is as much of the graph as
+    networkx can draw without crossings when it takes the edges in order; a planar graph then has none.
+
+    `price` says what crossing an edge costs, from 1 to 1000: the name of an edge attribute, a mapping from edges, or a
+    function of both nodes and the data; without it, and for edges that it does not name, 1. A price of None, and an
+    edge of `forbidden`, has no crossing. Such edges are the start, with edges that join them, as networkx draws them
+    without crossings (ValueError where it cannot). At most 64 prices may differ (else ValueError).
+
+    `order` is the order of the edges: `given`, `random`, or a list of edges that come first and in this order,
+    whatever they cost. With `tries` above 1 that many orders are tried, all but the first at random by `seed`, and
+    the picture with the fewest crossings is kept, of equal ones the one that costs least, then the first.
+
+    After each try there are up to `rounds` rounds in which every crossed edge is taken out and inserted again; they
+    end when one saves nothing.
+
+    NotPlanarized where the program refuses an edge; Fault as Planarizer.run.
+    """
+    if tries < 1:
+        raise ValueError("tries must be at least 1")
+    source = read_graph(graph, price, forbidden)
+    found: List[Planarization] = []
+    for attempt in range(tries):
+        how = order if attempt == 0 else "random"
+        prepared = _prepare(source, begin, how, f"{seed}/{attempt}", limits, program)
+        found.append(reinsert(prepared.run(), rounds, limits, program))
+    best = min(found, key=lambda result: result.score)
+    return replace(best, tries=tuple(result.crossings for result in found))
+
+
+def prepare(
+    graph: Any,
+    price: Pricing = None,
+    forbidden: Optional[Iterable[GraphEdge]] = None,
+    *,
+    begin: str = "tree",
+    order: Order = "given",
+    seed: int = 0,
+    limits: Optional[Limits] = None,
+    program: Optional[PathLike] = None,
+) -> Prepared:
+    """The one run that `planarize` with the same words makes, to write its script and to read its report elsewhere."""
+    return _prepare(read_graph(graph, price, forbidden), begin, order, f"{seed}/0", limits, program)
+
+
+def _prepare(source: PricedGraph, begin: str, order: Order, seed: str, limits: Optional[Limits], program: Optional[PathLike]) -> Prepared:
+    """The run that draws the edges in this order."""
+    named, rest = _ordered(source, order, seed)
+    start = _begin(source, begin, [*named, *rest])
+    done = {*start.drawn, *start.grown}
+    left = [place for place in [*named, *_dearest_first(source, rest)] if place not in done]
+    left.sort(key=lambda place: source.price(place) is not None)
+    planarizer = Planarizer(start.picture, limits, source.prices, program)
+    vertex_of = {node: vertex for vertex, node in enumerate(start.node_of)}
+    for place, parent in start.grown.items():
+        planarizer.grow(vertex_of[parent], 0, source.kinds[place])
+    for place in left:
+        u, v = source.edges[place][:2]
+        planarizer.insert(vertex_of[u], vertex_of[v], source.kinds[place])
+    return Prepared(source, planarizer, start.node_of, start.drawn, (*start.grown, *left))
+
+
+def _ordered(source: PricedGraph, order: Order, seed: str) -> Tuple[List[int], List[int]]:
+    """The places of the edges that are named by the order, and those of all others in order."""
+    if not isinstance(order, str):
+        named = places_of(source.edges, order, source.graph.is_directed())
+        return named, [place for place in range(len(source.edges)) if place not in set(named)]
+    if order not in ("given", "random"):
+        raise ValueError(f"the order {order!r} is not known: it is 'given', 'random', or a list of edges")
+    places = list(range(len(source.edges)))
+    if order == "random":
+        random.Random(seed).shuffle(places)
+    return [], places
+
+
+def _dearest_first(source: PricedGraph, places: Iterable[int]) -> List[int]:
+    """The places by falling price, those of one price in the order in which they stand."""
+    return sorted(places, key=lambda place: -rank(source.price(place)))
+
+
+# ---- Where a run begins
+
+
+@dataclass(frozen=True)
+class _Beginning:
+    """A start picture with the nodes of all vertices, the edges that it draws by their ids, and the edges that are
+    grown next, each with the node that it grows from."""
+
+    picture: Picture
+    node_of: Tuple[Node, ...]
+    drawn: Tuple[int, ...]
+    grown: Dict[int, Node]
+
+
+def _begin(source: PricedGraph, begin: str, places: Sequence[int]) -> _Beginning:
+    """The beginning that is asked for."""
+    if begin not in ("tree", "planar"):
+        raise ValueError(f"the beginning {begin!r} is not known: it is 'tree' or 'planar'")
+    if begin == "planar" or None in source.prices:
+        return _begin_embedded(source, places, begin == "planar")
+    return _begin_tree(source, places)
+
+
+def _begin_tree(source: PricedGraph, places: Sequence[int]) -> _Beginning:
+    """The first edge, and a breadth-first tree that is grown from it."""
+    root = source.edges[places[0]][0]
+    at = incidence(source.edges, places)
+    nodes, seen = [root], {root}
+    grown: Dict[int, Node] = {}
+    for node in nodes:
+        for place, other in at[node]:
+            if other not in seen:
+                seen.add(other)
+                nodes.append(other)
+                grown[place] = node
+    first = next(iter(grown))
+    del grown[first]
+    picture = Picture(((0,), (0,)), (Edge(0, 0, 1, source.kinds[first]),), (), 1, 0)
+    return _Beginning(picture, tuple(nodes), (first,), grown)
+
+
+def _begin_embedded(source: PricedGraph, places: Sequence[int], is_full: bool) -> _Beginning:
+    """The edges that must not be crossed and edges that connect them, drawn by networkx without crossings; if
+    `is_full`, then also every other edge that can be added in turn."""
+    import networkx
+
+    chosen = _joined(source, places)
+    plain = networkx.Graph()
+    plain.add_edges_from(tuple(pair) for pair in chosen)
+    if not networkx.check_planarity(plain)[0]:
+        raise ValueError("the edges that must not be crossed cannot be drawn without crossings")
+    if is_full:
+        for place in _dearest_first(source, places):
+            chosen.setdefault(frozenset(source.edges[place][:2]), place)
+        _add_planar(plain, [tuple(pair) for pair in chosen if not plain.has_edge(*pair)])
+    embedding = networkx.check_planarity(plain)[1]
+    rotations = {node: list(embedding.neighbors_cw_order(node)) for node in embedding}
+    picture, pairs = picture_of(rotations, lambda u, v: source.kinds[chosen[frozenset((u, v))]])
+    return _Beginning(picture, tuple(rotations), tuple(chosen[frozenset(pair)] for pair in pairs), {})
+
+
+def _add_planar(plain: Any, pairs: List[Tuple[Node, ...]]) -> None:
+    """Adds to a planar networkx graph each of these edges in turn, if it stays planar with it."""
+    import networkx
+
+    plain.add_edges_from(pairs)
+    if not pairs or networkx.check_planarity(plain)[0]:
+        return
+    plain.remove_edges_from(pairs)
+    if len(pairs) > 1:
+        half = len(pairs) // 2
+        _add_planar(plain, pairs[:half])
+        _add_planar(plain, pairs[half:])
+
+
+def _joined(source: PricedGraph, places: Sequence[int]) -> Dict[FrozenSet[Node], int]:
+    """One edge for each pair of nodes that an edge without a price joins, and edges that connect what they leave
+    apart, in this order: for each pair the place of its edge."""
+    parts = {node: node for node in source.nodes}
+
+    def part(node: Node) -> Node:
+        while parts[node] != node:
+            parts[node] = node = parts[parts[node]]
+        return node
+
+    chosen: Dict[FrozenSet[Node], int] = {}
+    for place in sorted(places, key=lambda place: source.price(place) is not None):
+        u, v = source.edges[place][:2]
+        if source.price(place) is None or part(u) != part(v):
+            chosen.setdefault(frozenset((u, v)), place)
+            parts[part(u)] = part(v)
+    return chosen
+
+
+# ---- Edges taken out and inserted again
+
+
+def reinsert(result: Planarization, rounds: int = 1, limits: Optional[Limits] = None, program: Optional[PathLike] = None) -> Planarization:
+    """A picture of the same graph with as many crossings or fewer.
+
+    In a round each crossed edge that has a price is taken out and inserted again, the most crossed first. At most
+    this many rounds are made, and none after one that saves nothing.
+    """
+    for _ in range(rounds):
+        following = _round(result, limits, program)
+        if following is None or following.score >= result.score:
+            return result
+        result = following
+    return result
+
+
+def _round(result: Planarization, limits: Optional[Limits], program: Optional[PathLike]) -> Optional[Planarization]:
+    """One round, or None where there is nothing to take out or the limits do not suffice."""
+    rows = _movable(result)
+    planarizer = Planarizer(result.picture, limits, result.prices, program)
+    for row in rows:
+        planarizer.delete(row.id)
+        planarizer.insert(row.a, row.b, row.kind)
+    report = planarizer.run() if rows else None
+    if report is None or report.refused:
+        return None
+    edge_of = dict(result.edge_of)
+    inserted = [reply for reply in report.replies if isinstance(reply, Inserted)]
+    for row, reply in zip(rows, inserted):
+        edge_of[reply.edge] = edge_of.pop(row.id)
+    return replace(result, picture=report.picture, edge_of=edge_of, reports=(*result.reports, report))
+
+
+def _movable(result: Planarization) -> List[Edge]:
+    """The crossed edges that have a price and without which the graph is connected, the most crossed first."""
+    rows = [row for row in result.picture.edges if row.crossings and result.prices[row.kind] is not None]
+    rows.sort(key=lambda row: -len(row.crossings))
+    ids = list(result.edge_of)
+    held = {ids[place] for place in bridges([result.edge_of[edge_id] for edge_id in ids])}
+    return [row for row in rows if row.id not in held]

@@ -1,0 +1,226 @@
+"""Calls, replies and reports: what a run was asked to do, what each call answered, and what came of it."""
+
+from __future__ import annotations
+
+import json
+from dataclasses import dataclass
+from typing import Any, Callable, Dict, List, Optional, Sequence, Tuple, Union
+
+from .pictures import Dart, Picture, compact
+
+Prices = Tuple[Optional[int], ...]
+
+
+@dataclass(frozen=True)
+class Limits:
+    """The largest counters that a picture may have."""
+
+    vertices: int = 65536
+    edges: int = 65536
+    crossings: int = 1048576
+
+    @staticmethod
+    def from_json(value: Dict[str, int]) -> "Limits":
+        return Limits(value["vertices"], value["edges"], value["crossings"])
+
+    def to_json(self) -> Dict[str, int]:
+        return {"vertices": self.vertices, "edges": self.edges, "crossings": self.crossings}
+
+
+# ---- Calls
+
+
+@dataclass(frozen=True)
+class Grow:
+    """A new vertex on a new edge of this kind, from the corner at a position of vertex `u`."""
+
+    u: int
+    position: int
+    kind: int
+
+    def to_json(self) -> List[Any]:
+        return ["grow", self.u, self.position, self.kind]
+
+
+@dataclass(frozen=True)
+class Insert:
+    """A new edge of this kind from `u` to `v` along the first of the cheapest routes."""
+
+    u: int
+    v: int
+    kind: int
+
+    def to_json(self) -> List[Any]:
+        return ["insert", self.u, self.v, self.kind]
+
+
+@dataclass(frozen=True)
+class Planned(Insert):
+    """An insertion whose route is looked for on a version of the picture, outside the lock."""
+
+    def to_json(self) -> List[Any]:
+        return ["planned", self.u, self.v, self.kind]
+
+
+@dataclass(frozen=True)
+class Delete:
+    """An edge taken out."""
+
+    edge: int
+
+    def to_json(self) -> List[Any]:
+        return ["delete", self.edge]
+
+
+Call = Union[Grow, Insert, Planned, Delete]
+
+_CALLS: Dict[str, Callable[..., Call]] = {"grow": Grow, "insert": Insert, "planned": Planned, "delete": Delete}
+
+
+def call_from_json(value: List[Any]) -> Call:
+    """The call of an array as `["grow",1,0,0]`."""
+    return _CALLS[value[0]](*value[1:])
+
+
+# ---- Replies
+
+
+@dataclass(frozen=True)
+class Grown:
+    """A new vertex on a new edge."""
+
+    vertex: int
+    edge: int
+
+    def to_json(self) -> Dict[str, Any]:
+        return {"vertex": self.vertex, "edge": self.edge}
+
+
+@dataclass(frozen=True)
+class Inserted:
+    """A new edge along a route: from the corner at position `start` of its first end, over the crossed darts, to the
+    corner at position `end` of its other end. `price` is the sum of the prices of what it crossed."""
+
+    edge: int
+    crossed: Tuple[Dart, ...]
+    start: int
+    end: int
+    price: int
+
+    def to_json(self) -> Dict[str, Any]:
+        crossed = [dart.to_json() for dart in self.crossed]
+        return {"edge": self.edge, "crossed": crossed, "start": self.start, "end": self.end, "price": self.price}
+
+
+@dataclass(frozen=True)
+class Deleted:
+    """An edge was taken out."""
+
+    edge: int
+
+    def to_json(self) -> Dict[str, Any]:
+        return {"deleted": self.edge}
+
+
+@dataclass(frozen=True)
+class Refused:
+    """A call that changed nothing, and why, as 9 `NoRoute`. `segment` is set for 6 `Cut` alone."""
+
+    number: int
+    name: str
+    segment: Optional[int] = None
+
+    def to_json(self) -> Dict[str, Any]:
+        words: List[Any] = [self.number, self.name]
+        return {"refused": words if self.segment is None else [*words, self.segment]}
+
+
+Reply = Union[Grown, Inserted, Deleted, Refused]
+
+
+def reply_from_json(value: Dict[str, Any]) -> Reply:
+    """The reply of an object; its keys choose the form."""
+    if "deleted" in value:
+        return Deleted(value["deleted"])
+    if "refused" in value:
+        return Refused(*value["refused"])
+    if "crossed" in value:
+        crossed = tuple(Dart.from_json(dart) for dart in value["crossed"])
+        return Inserted(value["edge"], crossed, value["start"], value["end"], value["price"])
+    return Grown(value["vertex"], value["edge"])
+
+
+# ---- Histories and reports
+
+
+@dataclass(frozen=True)
+class Entry:
+    """A call of a history, with the number of the list of commands that it came from, and its reply."""
+
+    call: Call
+    caller: int
+    reply: Reply
+
+    @staticmethod
+    def from_json(value: Dict[str, Any]) -> "Entry":
+        return Entry(call_from_json(value["call"]), value["caller"], reply_from_json(value["reply"]))
+
+    def to_json(self) -> Dict[str, Any]:
+        return {"call": self.call.to_json(), "caller": self.caller, "reply": self.reply.to_json()}
+
+
+@dataclass(frozen=True)
+class Report:
+    """What a run did: its start, limits and prices, each call with its reply, and the picture at the end."""
+
+    history: Tuple[Entry, ...]
+    limits: Limits
+    picture: Picture
+    prices: Prices
+    start: Picture
+    version: int
+
+    @property
+    def replies(self) -> Tuple[Reply, ...]:
+        """The replies in the order of the calls."""
+        return tuple(entry.reply for entry in self.history)
+
+    @property
+    def refused(self) -> Tuple[Entry, ...]:
+        """The calls that were refused."""
+        return tuple(entry for entry in self.history if isinstance(entry.reply, Refused))
+
+    @staticmethod
+    def from_text(text: str) -> "Report":
+        """The report of the line that `planar run` prints."""
+        return Report.from_json(json.loads(text))
+
+    @staticmethod
+    def from_json(value: Dict[str, Any]) -> "Report":
+        return Report(
+            tuple(Entry.from_json(entry) for entry in value["history"]),
+            Limits.from_json(value["limits"]),
+            Picture.from_json(value["picture"]),
+            tuple(value["prices"]),
+            Picture.from_json(value["start"]),
+            value["version"],
+        )
+
+    def to_json(self) -> Dict[str, Any]:
+        return {
+            "history": [entry.to_json() for entry in self.history],
+            "limits": self.limits.to_json(),
+            "picture": self.picture.to_json(),
+            "prices": list(self.prices),
+            "start": self.start.to_json(),
+            "version": self.version,
+        }
+
+    def to_text(self) -> str:
+        """The report as the program writes it, without its line feed."""
+        return compact(self.to_json())
+
+
+def version_of(prices: Sequence[Optional[int]]) -> int:
+    """The version that a script with these prices has: 2 where an edge must not be crossed, else 1."""
+    return 2 if None in prices else 1

@@ -1,0 +1,1 @@
+"""Tests of the package fezdrok: `python/run_tests`."""

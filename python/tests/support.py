@@ -1,0 +1,113 @@
+"""What the tests share: where things are, what is left out, and counts made without the package."""
+
+from __future__ import annotations
+
+import os
+import stat
+import tempfile
+import unittest
+from importlib.util import find_spec
+from pathlib import Path
+from typing import Any, Dict, List, Tuple
+
+from fezdrok import ProgramNotFound, find_program
+
+ROOT = Path(__file__).resolve().parent.parent.parent
+EXAMPLES = ROOT / "crates" / "topo_examples" / "data"
+
+needs_networkx = unittest.skipUnless(find_spec("networkx"), "left out: networkx is not there")
+needs_matplotlib = unittest.skipUnless(find_spec("networkx") and find_spec("matplotlib"), "left out: networkx or matplotlib is not there")
+
+
+def has_program() -> bool:
+    """Whether there is a program to call, built or not."""
+    try:
+        find_program()
+    except ProgramNotFound:
+        return False
+    return True
+
+
+needs_program = unittest.skipUnless(has_program(), "left out: there is no program planar")
+
+
+def fake(test: unittest.TestCase, body: str) -> str:
+    """The path of a shell script with this body, which goes when the test is over."""
+    folder = tempfile.TemporaryDirectory()
+    test.addCleanup(folder.cleanup)
+    path = Path(folder.name) / "planar"
+    path.write_text("#!/bin/sh\n" + body + "\n")
+    path.chmod(path.stat().st_mode | stat.S_IXUSR)
+    return os.fspath(path)
+
+
+def report_files() -> List[Path]:
+    """All reports among the examples, also one that is only for readers and that no script leads to."""
+    return sorted(EXAMPLES.glob("*.report.json"))
+
+
+def example_reports() -> List[Path]:
+    """The reports of the example scripts."""
+    return [path for path in report_files() if path.name != "each_field.report.json"]
+
+
+def example_scripts() -> List[Path]:
+    """The scripts among the examples."""
+    return [path.with_name(path.name.replace(".report", "")) for path in example_reports()]
+
+
+# ---- Counts made from a networkx embedding alone
+
+
+def straight(embedding: Any, before: Any, node: Any) -> Any:
+    """The neighbour of a dummy node that lies opposite to the one we come from."""
+    around = list(embedding.neighbors_cw_order(node))
+    return around[(around.index(before) + len(around) // 2) % len(around)]
+
+
+def traced(embedding: Any) -> List[Tuple[Any, ...]]:
+    """The edges of a graph, read off its planarization: each is walked from a node that is no dummy straight through
+    the dummies to the next that is none. Each edge stands there once from either end, with the dummies on it."""
+    walks = []
+    for node in embedding:
+        if embedding.nodes[node]["dummy"]:
+            continue
+        for following in embedding.neighbors_cw_order(node):
+            walk = [node, following]
+            while embedding.nodes[walk[-1]]["dummy"]:
+                walk.append(straight(embedding, walk[-2], walk[-1]))
+            walks.append(tuple(walk))
+    return walks
+
+
+def pairs_of(walks: List[Tuple[Any, ...]]) -> Dict[frozenset, int]:
+    """How often each pair of nodes is joined, when every edge is walked from both ends."""
+    counts: Dict[frozenset, int] = {}
+    for walk in walks:
+        pair = frozenset((walk[0], walk[-1]))
+        counts[pair] = counts.get(pair, 0) + 1
+    return {pair: count // 2 for pair, count in counts.items()}
+
+
+def graph_pairs(graph: Any) -> Dict[frozenset, int]:
+    """How often each pair of nodes is joined in a graph."""
+    counts: Dict[frozenset, int] = {}
+    for edge in graph.edges():
+        counts[frozenset(edge)] = counts.get(frozenset(edge), 0) + 1
+    return counts
+
+
+def crossings_of(embedding: Any) -> int:
+    """How many dummies have four neighbours."""
+    return sum(1 for node in embedding if embedding.nodes[node]["dummy"] and embedding.degree(node) == 8)
+
+
+def euler(embedding: Any) -> int:
+    """Nodes - edges + faces of an embedding, by walks round its faces that networkx makes."""
+    seen: set = set()
+    faces = 0
+    for u, v in embedding.edges():
+        if (u, v) not in seen:
+            embedding.traverse_face(u, v, mark_half_edges=seen)
+            faces += 1
+    return len(embedding) - embedding.number_of_edges() // 2 + faces

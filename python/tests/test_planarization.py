@@ -1,0 +1,324 @@
+"""Graphs planarized: crossings counted again, the graph read back from its planarization, known crossing numbers."""
+
+import random
+import unittest
+from collections import Counter
+
+from fezdrok import Counts, Limits, NotPlanarized, Planarizer, Report, planarize, prepare, reinsert, to_networkx_embedding
+from fezdrok.graphs import bridges, read_graph
+
+from .support import crossings_of, euler, graph_pairs, needs_networkx, needs_program, pairs_of, traced
+
+try:
+    import networkx as nx
+except ImportError:
+    nx = None
+
+
+def named_graphs():
+    """Graphs with their crossing numbers."""
+    return {
+        "K4": (nx.complete_graph(4), 0),
+        "K5": (nx.complete_graph(5), 1),
+        "K6": (nx.complete_graph(6), 3),
+        "K7": (nx.complete_graph(7), 9),
+        "K8": (nx.complete_graph(8), 18),
+        "K33": (nx.complete_bipartite_graph(3, 3), 1),
+        "K45": (nx.complete_bipartite_graph(4, 5), 8),
+        "Petersen": (nx.petersen_graph(), 2),
+        "Heawood": (nx.heawood_graph(), 3),
+        "Moebius-Kantor": (nx.moebius_kantor_graph(), 4),
+        "Pappus": (nx.pappus_graph(), 5),
+        "Desargues": (nx.desargues_graph(), 6),
+        "Q4": (nx.hypercube_graph(4), 8),
+        "grid": (nx.grid_2d_graph(5, 6), 0),
+        "torus": (nx.grid_2d_graph(4, 5, periodic=True), 10),
+        "tree": (nx.balanced_tree(2, 4), 0),
+        "edge": (nx.path_graph(2), 0),
+    }
+
+
+class Judged(unittest.TestCase):
+    """What holds of every result, told from the embedding that networkx has and from the graph."""
+
+    def judge(self, result):
+        graph, picture = result.graph, result.picture
+        embedding = to_networkx_embedding(result)
+        embedding.check_structure()
+        self.assertEqual(euler(embedding), 2)
+        self.assertEqual(crossings_of(embedding), result.crossings)
+        walks = traced(embedding)
+        self.assertEqual(pairs_of(walks), graph_pairs(graph))
+        self.assertEqual({walk[0] for walk in walks}, set(graph))
+        through = Counter(node for walk in walks for node in walk[1:-1])
+        self.assertEqual({node for node in embedding if embedding.nodes[node]["dummy"]}, set(through))
+        self.assertEqual(set(through.values()) - {2, 4}, set())
+        self.judge_maps(result)
+        self.assertEqual(picture.counts.euler, 2)
+
+    def judge_maps(self, result):
+        graph, picture = result.graph, result.picture
+        edges = set(graph.edges(keys=True)) if graph.is_multigraph() else set(graph.edges())
+        self.assertEqual(set(result.id_of), edges)
+        self.assertEqual(set(result.vertex_of), set(graph))
+        self.assertEqual(set(result.edge_of), {row.id for row in picture.edges})
+        for edge_id, edge in result.edge_of.items():
+            row = picture.edge(edge_id)
+            self.assertEqual({result.node_of[row.a], result.node_of[row.b]}, set(edge[:2]))
+            self.assertEqual(result.edge_id(*edge), edge_id)
+
+
+@needs_networkx
+class Refusals(unittest.TestCase):
+    """Graphs and words that are refused before the program is called."""
+
+    def test_graphs(self):
+        loop = nx.Graph([(0, 1), (1, 1)])
+        for graph, words in ((nx.empty_graph(3), "no edge"), (nx.Graph(), "no edge"), (loop, "loop at 1"), (nx.Graph([(0, 1), (2, 3)]), "not connected")):
+            with self.subTest(words), self.assertRaisesRegex(ValueError, words):
+                planarize(graph)
+
+    def test_prices(self):
+        graph = nx.path_graph(3)
+        for price in (0, 1001, 1.5, "dear"):
+            with self.subTest(price), self.assertRaisesRegex(ValueError, "from 1 to 1000"):
+                planarize(graph, price=lambda u, v, data, price=price: price)
+
+    def test_64_prices_and_one_more(self):
+        graph = nx.path_graph(66)
+        self.assertEqual(len(read_graph(graph, lambda u, v, data: 1 + u % 64).prices), 64)
+        with self.assertRaisesRegex(ValueError, "65 different prices"):
+            planarize(graph, price=lambda u, v, data: 1 + u)
+        with self.assertRaisesRegex(ValueError, "65 different prices"):
+            planarize(graph, price=lambda u, v, data: 1 + u % 64, forbidden=[(0, 1)])
+
+    def test_edges_that_are_not_there(self):
+        with self.assertRaisesRegex(ValueError, "no edge of the graph"):
+            planarize(nx.path_graph(3), forbidden=[(0, 2)])
+        with self.assertRaisesRegex(ValueError, "no edge of the graph"):
+            planarize(nx.path_graph(3), order=[(0, 2)])
+
+    def test_options(self):
+        with self.assertRaisesRegex(ValueError, "tries"):
+            planarize(nx.path_graph(3), tries=0)
+        for options in ({"order": "best"}, {"begin": "best"}):
+            with self.assertRaisesRegex(ValueError, "not known"):
+                planarize(nx.path_graph(3), **options)
+
+    def test_forbidden_edges_that_cross(self):
+        graph = nx.complete_graph(5)
+        with self.assertRaisesRegex(ValueError, "without crossings"):
+            planarize(graph, forbidden=graph.edges)
+
+
+@needs_networkx
+class Kinds(unittest.TestCase):
+    """Prices become kinds, without the program."""
+
+    def test_equal_prices_share_a_kind_and_the_dearest_come_first(self):
+        graph = nx.path_graph(4)
+        source = read_graph(graph, {(0, 1): 5, (2, 1): 5, (2, 3): None})
+        self.assertEqual((source.prices, source.kinds), ((None, 5), (1, 1, 0)))
+
+    def test_attributes_and_what_has_none(self):
+        graph = nx.Graph()
+        graph.add_edge("a", "b", weight=7)
+        graph.add_edge("b", "c")
+        self.assertEqual([read_graph(graph, "weight").price(place) for place in (0, 1)], [7, 1])
+
+    def test_parallel_edges_by_key_and_without(self):
+        graph = nx.MultiGraph([(0, 1), (0, 1), (1, 2)])
+        self.assertEqual(read_graph(graph, forbidden=[(1, 0, 1)]).kinds, (1, 0, 1))
+        self.assertEqual(read_graph(graph, forbidden=[(1, 0)]).kinds, (0, 0, 1))
+
+    def test_bridges(self):
+        for seed in range(30):
+            graph = nx.random_labeled_tree(14, seed=seed) if hasattr(nx, "random_labeled_tree") else nx.random_tree(14, seed=seed)
+            graph.add_edges_from(random.Random(seed).sample(sorted(nx.non_edges(graph)), seed % 7))
+            edges = list(graph.edges)
+            with self.subTest(seed):
+                self.assertEqual({edges[place] for place in bridges(edges)}, {edge for edge in edges if edge in set(nx.bridges(graph)) or edge[::-1] in set(nx.bridges(graph))})
+        self.assertEqual(bridges([(0, 1), (1, 0), (1, 2)]), {2})
+
+    def test_cheap_edges_are_inserted_last(self):
+        graph = nx.cycle_graph(5)
+        graph.add_edges_from([(0, 2, {"weight": 1}), (0, 3, {"weight": 9}), (1, 3, {"weight": 4})])
+        prepared = prepare(graph, "weight")
+        inserted = [prepared.source.price(place) for place in prepared.asked[-4:]]
+        self.assertEqual(inserted, sorted(inserted, reverse=True))
+
+    def test_an_order_that_is_given(self):
+        graph = nx.complete_graph(5)
+        prepared = prepare(graph, order=[(4, 3), (3, 2), (4, 2)])
+        self.assertEqual([prepared.source.edges[place] for place in prepared.drawn], [(3, 4)])
+        grown, inserted = prepared.asked[:3], prepared.asked[3:]
+        self.assertEqual([prepared.source.edges[place] for place in grown], [(2, 3), (0, 3), (1, 3)])
+        self.assertEqual(prepared.source.edges[inserted[0]], (2, 4))
+
+    def test_a_seed_fixes_the_order(self):
+        graph = nx.complete_graph(6)
+        texts = [prepare(graph, order="random", seed=seed).script_text() for seed in (1, 1, 2)]
+        self.assertEqual(texts[0], texts[1])
+        self.assertNotEqual(prepare(graph, order="random", seed=1).asked, prepare(graph, order="random", seed=2).asked)
+
+
+@needs_networkx
+@needs_program
+class Planarizations(Judged):
+    def test_known_crossing_numbers_are_lower_bounds(self):
+        for name, (graph, number) in named_graphs().items():
+            with self.subTest(name):
+                result = planarize(graph)
+                self.judge(result)
+                self.assertGreaterEqual(result.crossings, number)
+
+    def test_some_are_met(self):
+        for name in ("K4", "K5", "K33", "tree", "edge"):
+            graph, number = named_graphs()[name]
+            self.assertEqual(planarize(graph, tries=5).crossings, number, name)
+
+    def test_random_graphs(self):
+        for seed in range(6):
+            with self.subTest(seed):
+                graph = nx.random_regular_graph(3 + seed % 3, 14, seed=seed)
+                if nx.is_connected(graph):
+                    self.judge(planarize(graph, order="random", seed=seed))
+
+    def test_several_orders(self):
+        graph = nx.complete_graph(7)
+        result = planarize(graph, tries=6, seed=3)
+        self.judge(result)
+        self.assertEqual(len(result.tries), 6)
+        self.assertEqual(result.crossings, min(result.tries))
+        self.assertEqual(result.tries[0], planarize(graph).crossings)
+        again = planarize(graph, tries=6, seed=3)
+        self.assertEqual((again.picture, again.tries), (result.picture, result.tries))
+
+    def test_a_planar_beginning(self):
+        """A planar graph has no crossing then, and others have no fewer than they must."""
+        for name, (graph, number) in named_graphs().items():
+            with self.subTest(name):
+                result = planarize(graph, begin="planar")
+                self.judge(result)
+                if number == 0:
+                    self.assertEqual(result.crossings, 0)
+                self.assertGreaterEqual(result.crossings, number)
+        graph = nx.MultiGraph(list(nx.complete_graph(5).edges) * 2)
+        self.judge(planarize(graph, begin="planar", forbidden=[(0, 1)], order="random", price=lambda u, v, data: 1 + u))
+
+    def test_a_planar_beginning_is_as_large_as_one_edge_after_another_makes_it(self):
+        graph = nx.complete_graph(7)
+        prepared = prepare(graph, begin="planar", order="random", seed=4)
+        edges = [prepared.source.edges[place] for place in prepared.drawn]
+        self.assertTrue(nx.check_planarity(nx.Graph(edges))[0])
+        for place in prepared.asked:
+            self.assertFalse(nx.check_planarity(nx.Graph([*edges, prepared.source.edges[place]]))[0])
+
+    def test_rounds_save_crossings_and_replay(self):
+        before = planarize(nx.complete_graph(8))
+        after = reinsert(before, 5)
+        self.judge(after)
+        self.assertLess(after.crossings, before.crossings)
+        self.assertGreaterEqual(after.crossings, 18)
+        self.assertEqual(planarize(nx.complete_graph(8), rounds=5).picture, after.picture)
+        for report, following in zip(after.reports, after.reports[1:]):
+            self.assertEqual(report.picture, following.start)
+        for report in after.reports:
+            self.assertEqual(Planarizer().replay(report), len(report.history))
+
+    def test_multigraphs_directed_graphs_and_names_of_any_kind(self):
+        multi = nx.MultiGraph([("a", "b"), ("a", "b"), ("b", "c"), ("c", "a"), ("b", "a")])
+        directed = nx.DiGraph([(0, 1), (1, 0), (1, (2, 3)), ((2, 3), 0)])
+        for graph in (multi, directed):
+            result = planarize(graph)
+            self.judge(result)
+            self.assertEqual(result.crossings, 0)
+
+    def test_two_edges_side_by_side_between_crossings(self):
+        """An edge is crossed twice by another and then nothing lies between: the embedding needs a bend."""
+        graph = nx.complete_graph(5)
+        for seed in range(4):
+            doubled = nx.MultiGraph(list(graph.edges) * 2)
+            self.judge(planarize(doubled, order="random", seed=seed))
+
+    def test_prices_decide_what_is_crossed(self):
+        graph = nx.complete_graph(5)
+        dear = {edge: 1000 for edge in graph.edges if edge != (0, 1)}
+        result = planarize(graph, price=dear, order=[edge for edge in graph.edges if 4 not in edge or edge[0] > 1])
+        self.judge(result)
+        self.assertEqual(result.cost, sum(result.prices[result.picture.edge(result.id_of[pair[0]]).kind] for pair in result.crossing_pairs))
+
+    def test_forbidden_edges_have_no_crossing(self):
+        for seed in range(5):
+            graph = nx.complete_graph(7)
+            forbidden = random.Random(seed).sample(sorted(nx.maximal_matching(graph)) + [(0, 2), (2, 4)], 4)
+            with self.subTest(seed):
+                result = planarize(graph, forbidden=forbidden, order="random", seed=seed)
+                self.judge(result)
+                self.assertEqual(result.reports[0].version, 2)
+                for u, v in forbidden:
+                    self.assertEqual(result.picture.edge(result.edge_id(u, v)).crossings, ())
+
+    def test_forbidden_parallel_edges(self):
+        graph = nx.MultiGraph(list(nx.complete_graph(6).edges) + [(0, 1), (0, 1)])
+        result = planarize(graph, forbidden=[(0, 1)], rounds=2)
+        self.judge(result)
+        for key in range(3):
+            self.assertEqual(result.picture.edge(result.edge_id(0, 1, key)).crossings, ())
+
+    def test_forbidden_edges_that_part_the_ends_of_another(self):
+        graph = nx.complete_graph(5)
+        forbidden = [edge for edge in graph.edges if edge != (3, 4)]
+        with self.assertRaises(NotPlanarized) as caught:
+            planarize(graph, forbidden=forbidden)
+        self.assertEqual((caught.exception.edge, caught.exception.reply.name), ((3, 4), "NoRoute"))
+
+    def test_limits(self):
+        with self.assertRaises(NotPlanarized) as caught:
+            planarize(nx.complete_graph(5), limits=Limits(5, 10, 0))
+        self.assertEqual(caught.exception.reply.name, "Full")
+
+    def test_a_script_that_is_run_elsewhere(self):
+        graph = nx.petersen_graph()
+        prepared = prepare(graph)
+        text = prepared.planarizer.program.run(prepared.script_text())
+        self.assertEqual(prepared.result(Report.from_text(text)), planarize(graph))
+
+    def test_the_program_counts_the_same(self):
+        result = planarize(nx.complete_graph(6))
+        self.assertEqual(Planarizer().check(result.picture), result.picture.counts)
+        self.assertEqual(result.picture.counts, Counts(6, result.crossings, 15, 15 + 2 * result.crossings, 11 + result.crossings))
+
+
+@needs_networkx
+@needs_program
+class Routes(unittest.TestCase):
+    """No route is cheaper than the one that was taken: the dual graph is made here, and networkx looks in it."""
+
+    def test_prices_of_routes(self):
+        for graph, price in ((nx.complete_graph(6), None), (nx.complete_graph(5), lambda u, v, data: 1 + (3 * u + v) % 5)):
+            report = planarize(graph, price).reports[0]
+            planarizer = Planarizer(start=report.start, prices=report.prices)
+            before = report.start
+            for entry in report.history:
+                with self.subTest(entry.call):
+                    if hasattr(entry.reply, "crossed"):
+                        self.assertEqual(entry.reply.price, self.least(before, entry.call.u, entry.call.v, report.prices))
+                planarizer.commands.append(entry.call)
+                before = planarizer.run().picture
+            self.assertEqual(before, report.picture)
+
+    def least(self, picture, u, v, prices):
+        face_of = {dart: number for number, face in enumerate(picture.faces) for dart in face}
+        dual = nx.MultiDiGraph()
+        dual.add_nodes_from(face_of.values())
+        for dart in picture.darts:
+            kind = picture.edge(dart.edge).kind
+            dual.add_edge(face_of[dart], face_of[dart.twin], weight=prices[kind] if kind < len(prices) else 1)
+        faces_at = [{face_of[picture.corner(vertex, place)] for place in range(len(picture.rotations[vertex]))} for vertex in (u, v)]
+        lengths = nx.multi_source_dijkstra_path_length(dual, faces_at[0])
+        return min(lengths[face] for face in faces_at[1])
+
+
+if __name__ == "__main__":
+    unittest.main()
