@@ -176,7 +176,7 @@ chord_sides f g n c d x k other =
 -- ---- Unchord
 
 -- with one end of a segment left, and that taken out too, no face is parted
-unhung_faces : (f g : ℕ → ℕ) (n x c a b : ℕ) → Hung f g n x c → a < n → a ≢ x → a ≢ twin x → b ≢ x → b ≢ twin x → SameCycle (face_next g) a b → SameCycle (face_next f) a b
+pub unhung_faces : (f g : ℕ → ℕ) (n x c a b : ℕ) → Hung f g n x c → a < n → a ≢ x → a ≢ twin x → b ≢ x → b ≢ twin x → SameCycle (face_next g) a b → SameCycle (face_next f) a b
 unhung_faces f g n x c a b h la ax ay bx by' s =
     let p : Insertion f g n x c = insertion f g n x c h.permutation h.within h.not_self h.before in
     let lp : twin p.place < n = twin-within n p.place h.even p.within in

@@ -17,6 +17,7 @@ pub mod Renumbered
 pub mod Slabs
 pub mod SlabEdits
 pub mod FacesKept
+pub mod LabelledFaces
 pub mod Possible
 pub mod Links
 pub mod Bends

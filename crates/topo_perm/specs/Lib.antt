@@ -1,5 +1,6 @@
 pub mod Cuts
 pub mod Edits
+pub mod FaceLabels
 pub mod Faces
 pub mod Joins
 pub mod Live

@@ -7,6 +7,7 @@ ghost use Rattle.topo_core.specs.Rotations.{IsComponentCount, faces_of};
 pub mod cuts;
 pub mod edits;
 pub mod faces;
+pub mod labels;
 pub mod renumbering;
 pub mod slabs;
 

@@ -1,0 +1,5 @@
+use Rattle.topo_perm.proofs.LabelledFaces.{chord_labels}
+use Rattle.topo_perm.proofs.laws.labels.chord.Goals as goal
+
+pub returns : goal.returns
+returns c = chord_labels

@@ -1,0 +1,5 @@
+use Rattle.topo_perm.proofs.LabelledFaces.{hang_labels}
+use Rattle.topo_perm.proofs.laws.labels.hang.Goals as goal
+
+pub returns : goal.returns
+returns c = hang_labels

@@ -1,0 +1,5 @@
+use Rattle.topo_perm.proofs.LabelledFaces.{split_labels}
+use Rattle.topo_perm.proofs.laws.labels.split.Goals as goal
+
+pub returns : goal.returns
+returns c = split_labels
