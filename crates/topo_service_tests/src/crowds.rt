@@ -93,21 +93,21 @@ fn stir(x: u32) -> u32 {
 /// A command by such a number, on some hundred vertices.
 fn command_of(x: u32) -> Command {
     let (u, v) = (x % 211, (x / 256) % 223);
-    match x % 7 {
-        0 => Command::Plain(Call::Grow {
+    match x % 61 {
+        0 => Command::Planned { u, v, kind: 0 },
+        1..=9 => Command::Plain(Call::Grow {
             u,
             position: 0,
             kind: 0,
         }),
-        1 => Command::Plain(Call::Delete { edge: x % 4_099 }),
-        2 | 3 => Command::Planned { u, v, kind: 0 },
+        10..=19 => Command::Plain(Call::Delete { edge: x % 997 }),
         _ => Command::Plain(Call::Insert { u, v, kind: 0 }),
     }
 }
 
-/// The seed with two hundred vertices more, and room for some thousand edges.
+/// The seed with two hundred vertices more, and room for some hundred edges.
 fn tree(rt: &impl Abort, alloc: Global) -> Result<Picture, AllocError> {
-    let limits = Limits::new(65_536, 1_500, 65_536).expect(rt, "limits");
+    let limits = Limits::new(65_536, 600, 4_096).expect(rt, "limits");
     let mut picture = Picture::seed(alloc, limits)?;
     for i in 0..200u32 {
         if picture.grow(alloc, stir(i) % (i + 2), 0, 0).is_err() {
