@@ -23,8 +23,8 @@ returns-in-Err-WrongReply-clause-fault c =
       illegal = subst (λ (p : Rows). IsIllegalAt price start.limits p report.history (WrongReply c.in-Err-WrongReply.place)) c.in_ok-table.ensures.rows illegal;
     }
 
-pub returns-then-same_rows-clause-good : goal.returns-then-same_rows-clause-good
-returns-then-same_rows-clause-good c =
+pub returns-then-equals-clause-good : goal.returns-then-equals-clause-good
+returns-then-equals-clause-good c =
     let report = c.args.report.now in
     let start = c.in_ok-table.start in
     let replayed = subst (λ (p : Rows). Replays (priced report.prices) start.limits p report.history c.in-Ok.rows) c.in_ok-table.ensures.rows c.in-Ok.ensures.replayed in
@@ -32,7 +32,7 @@ returns-then-same_rows-clause-good c =
       limits = start.limits;
       sound = sound_so report.limits _ report.prices _ _ start.limits c.as_slice-prices.ensures refl c.in_ok-table.ensures.sound;
       replayed =
-          subst (λ (q : Rows). Replays (priced report.prices) start.limits report.start report.history q) (c.same_rows.ensures.0 c.if-same_rows.true) replayed;
+          subst (λ (q : Rows). Replays (priced report.prices) start.limits report.start report.history q) (c.equals.ensures.0 c.if-equals.true) replayed;
     }
 
 pub returns-clause-fault : goal.returns-clause-fault
@@ -45,5 +45,5 @@ returns-clause-fault c =
       sound = sound_so report.limits _ report.prices _ _ start.limits c.as_slice-prices.ensures refl c.in_ok-table.ensures.sound;
       rows = c.in-Ok.rows;
       replayed = replayed;
-      other = λ same. false≢true (sym c.if-same_rows.false ∙ c.same_rows.ensures.1 same);
+      other = λ same. false≢true (sym c.if-equals.false ∙ c.equals.ensures.1 same);
     }
