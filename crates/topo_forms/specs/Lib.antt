@@ -1,4 +1,5 @@
 pub mod CallForms
+pub mod FaultTexts
 pub mod Paths
 pub mod Prices
 pub mod Reads

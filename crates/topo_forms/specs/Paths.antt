@@ -1,5 +1,5 @@
 -- Places in a text, and the names of keys.
-use Rattle.std.specs.Prelude.{ℕ, List, codes, Some, None, is_none, if◌then◌else◌}
+use Rattle.std.specs.Prelude.{ℕ, List, [], ◌++◌, codes, decimal, Option, Some, None, is_none, if◌then◌else◌}
 use Rattle.topo_forms.specs.declared.path.Key.{Key}
 use Rattle.topo_forms.specs.declared.path.Key.TheVariants.{A, B, Call, Caller, Crossed, Crossings, Deleted, Edge, Edges, End, History, Id, Kind, Limits, Newcomer, NextCrossing, NextEdge, Picture, Price, Prices, Refused, Reply, Rotations, Sign, Start, Version, Vertex, Vertices, Workers}
 use Rattle.topo_forms.specs.declared.path.Step.{Step}
@@ -57,3 +57,16 @@ member_of path key = under path (Member key)
 
 abbrev pub element_of : Path → ℕ → Path
 element_of path i = under path (Element i)
+
+-- a step as it is printed, where there is one
+abbrev pub step_text : Option Step → List ℕ
+step_text None = []
+step_text (Some (Member key)) = codes "/" ++ key_name key
+step_text (Some (Element i)) = codes "/" ++ decimal i
+
+abbrev pub three_text : Option Step → Option Step → Option Step → List ℕ
+three_text a b c = step_text a ++ (step_text b ++ step_text c)
+
+-- a path as it is printed
+abbrev pub path_text : Path → List ℕ
+path_text path = codes "$" ++ (three_text path.first path.second path.third ++ three_text path.fourth path.fifth path.sixth)

@@ -1,7 +1,8 @@
 //! Places in a JSON text.
 
-ghost use Rattle.std.specs.Prelude.{◌≡◌};
-ghost use Rattle.topo_forms.specs.Paths.{key_name};
+ghost use Rattle.std.specs.Fmt.{DisplaysOnOk};
+ghost use Rattle.std.specs.Prelude.{◌≡◌, Some};
+ghost use Rattle.topo_forms.specs.Paths.{key_name, path_text, step_text, three_text};
 
 use std::fmt;
 
@@ -175,32 +176,40 @@ impl Path {
     }
 }
 
-impl fmt::Display for Step {
-    fn fmt<W: fmt::Write>(&self, f: &mut fmt::Formatter<W>) -> fmt::Result {
-        match self {
-            Step::Member(key) => {
-                let name = key.name();
-                write!(f, "/{name}")
-            }
-            Step::Element(index) => write!(f, "/{index}"),
+/// Prints a step, where there is one.
+fn write_step<W: fmt::Write>(step: &Option<Step>, f: &mut fmt::Formatter<W>) -> fmt::Result
+    ensures { DisplaysOnOk W.write_str_gives f.old result (Some (step_text step.now)) f.new }
+{
+    match step {
+        Some(Step::Member(key)) => {
+            let name = key.name();
+            write!(f, "/{name}")
         }
+        Some(Step::Element(index)) => write!(f, "/{index}"),
+        None => Ok(()),
     }
 }
 
+/// Prints three steps, where they are there.
+fn write_three<W: fmt::Write>(
+    a: &Option<Step>,
+    b: &Option<Step>,
+    c: &Option<Step>,
+    f: &mut fmt::Formatter<W>,
+) -> fmt::Result
+    ensures { DisplaysOnOk W.write_str_gives f.old result (Some (three_text a.now b.now c.now)) f.new }
+{
+    write_step(a, f)?;
+    write_step(b, f)?;
+    write_step(c, f)
+}
+
 impl fmt::Display for Path {
+    ghost output = { λ path. Some (path_text path) };
+
     fn fmt<W: fmt::Write>(&self, f: &mut fmt::Formatter<W>) -> fmt::Result {
-        write!(f, "$")?;
-        let steps = [
-            self.first,
-            self.second,
-            self.third,
-            self.fourth,
-            self.fifth,
-            self.sixth,
-        ];
-        for step in steps.iter().flatten() {
-            write!(f, "{step}")?;
-        }
-        Ok(())
+        f.write_str("$")?;
+        write_three(&self.first, &self.second, &self.third, f)?;
+        write_three(&self.fourth, &self.fifth, &self.sixth, f)
     }
 }

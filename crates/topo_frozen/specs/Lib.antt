@@ -1,3 +1,4 @@
+pub mod FaultTexts
 pub mod Flats
 pub mod Ids
 pub mod Loading

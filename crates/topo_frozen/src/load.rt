@@ -3,40 +3,84 @@
 use crate::faults::{are_crossings_good, are_paths_good, are_rotations_good, within_limits};
 use crate::flat::turns_of;
 use std::alloc::{AllocError, Global};
-use thiserror::Error;
+use std::error::Error;
+use std::fmt;
 use topo_core::limits::Limits;
 use topo_core::listed::Listed;
 use topo_core::rows::Rows;
 use topo_perm::{cycles, is_connected};
 
 /// Why rows are not loaded.
-#[derive(Clone, Copy, Debug, Drop, PartialEq, Eq, Error)]
+#[derive(Clone, Copy, Debug, Drop, PartialEq, Eq)]
 pub enum LoadFault {
     /// There are more vertices than the limit, or a counter is above its limit.
-    #[error("20 TooMany")]
     TooMany,
     /// Edge ids do not rise or are not below the next, an end is no vertex, the ends are equal, a
     /// kind is above 63, or a path names a crossing that is not there.
-    #[error("21 BadPath")]
     BadPath,
     /// Crossing ids do not rise or are not below the next, the two edges are equal or not there, or a
     /// crossing does not stand once in each of their paths and in no other.
-    #[error("22 BadCrossing")]
     BadCrossing,
     /// An end does not stand once in its vertex's list, something else stands there, or the list does
     /// not begin with its least id.
-    #[error("23 BadRotation")]
     BadRotation,
     /// A point has no dart, or two darts are not joined.
-    #[error("24 NotConnected")]
     NotConnected,
     /// Euler's formula does not give 2.
-    #[error("25 NotPlanar")]
     NotPlanar,
     /// A growth of memory was refused.
-    #[error("8 Memory")]
     Memory,
 }
+
+impl LoadFault {
+    ghost use Rattle.std.specs.Prelude.{◌≡◌};
+    ghost use Rattle.topo_frozen.specs.FaultTexts.{fault_name, fault_number};
+
+    /// The number that stands before the name of the fault.
+    pub fn number(&self) -> u32
+        ensures { result ≡ fault_number self.now }
+    {
+        match self {
+            LoadFault::TooMany => 20,
+            LoadFault::BadPath => 21,
+            LoadFault::BadCrossing => 22,
+            LoadFault::BadRotation => 23,
+            LoadFault::NotConnected => 24,
+            LoadFault::NotPlanar => 25,
+            LoadFault::Memory => 8,
+        }
+    }
+
+    /// The name of the fault.
+    pub fn name(&self) -> &'static str
+        ensures { result.now ≡ fault_name self.now }
+    {
+        match self {
+            LoadFault::TooMany => "TooMany",
+            LoadFault::BadPath => "BadPath",
+            LoadFault::BadCrossing => "BadCrossing",
+            LoadFault::BadRotation => "BadRotation",
+            LoadFault::NotConnected => "NotConnected",
+            LoadFault::NotPlanar => "NotPlanar",
+            LoadFault::Memory => "Memory",
+        }
+    }
+}
+
+impl fmt::Display for LoadFault {
+    ghost use Rattle.std.specs.Prelude.{Some};
+    ghost use Rattle.topo_frozen.specs.FaultTexts.{fault_text};
+
+    ghost output = { λ fault. Some (fault_text fault) };
+
+    fn fmt<W: fmt::Write>(&self, f: &mut fmt::Formatter<W>) -> fmt::Result {
+        let number = self.number();
+        let name = self.name();
+        write!(f, "{number} {name}")
+    }
+}
+
+impl Error for LoadFault {}
 
 ghost use Rattle.std.specs.Prelude.{◌≡◌, ◌≢◌, ◌==◌, ◌+◌, ◌%◌, ◌<◌, ◌≤◌, ◌*◌, ◌^◌, ◌↔◌, IfOk, IsTrue, MatchOption, Some, length, sum_by};
 ghost use Rattle.std.specs.List.{list_any};

@@ -1,1 +1,2 @@
+pub mod FaultTexts
 pub mod Prices

@@ -3,18 +3,56 @@
 ghost use Rattle.std.specs.Prelude.{◌≡◌, ◌<◌, ◌≤◌, Some, None, Err, IfSome, IsSomeAnd, MatchResult, slice_get, length};
 ghost use Rattle.topo_price.specs.Prices.{first_bad, is_good};
 
+use std::error::Error;
+use std::fmt;
 use std::marker::Model;
-use thiserror::Error;
 
 /// The kinds of edges are below this number.
 pub const KINDS: usize = 64;
 
-#[derive(Clone, Copy, Debug, Drop, PartialEq, Eq, Error)]
+#[derive(Clone, Copy, Debug, Drop, PartialEq, Eq)]
 pub enum PriceFault {
     /// The least kind whose price is 0 or above 1000.
-    #[error("10 BadPrice {0}")]
     BadPrice(u8),
 }
+
+impl PriceFault {
+    ghost use Rattle.topo_price.specs.FaultTexts.{fault_name, fault_number};
+
+    /// The number that stands before the name of the fault.
+    pub fn number(&self) -> u32
+        ensures { result ≡ fault_number self.now }
+    {
+        match self {
+            PriceFault::BadPrice(_) => 10,
+        }
+    }
+
+    /// The name of the fault.
+    pub fn name(&self) -> &'static str
+        ensures { result.now ≡ fault_name self.now }
+    {
+        match self {
+            PriceFault::BadPrice(_) => "BadPrice",
+        }
+    }
+}
+
+impl fmt::Display for PriceFault {
+    ghost use Rattle.topo_price.specs.FaultTexts.{fault_text};
+
+    ghost output = { λ fault. Some (fault_text fault) };
+
+    fn fmt<W: fmt::Write>(&self, f: &mut fmt::Formatter<W>) -> fmt::Result {
+        let number = self.number();
+        let name = self.name();
+        match self {
+            PriceFault::BadPrice(kind) => write!(f, "{number} {name} {kind}"),
+        }
+    }
+}
+
+impl Error for PriceFault {}
 
 /// Whether an entry may stand in a table.
 fn is_good_price(entry: Option<u32>) -> bool

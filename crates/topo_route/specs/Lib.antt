@@ -1,5 +1,6 @@
 pub mod Chains
 pub mod Descents
+pub mod FaultTexts
 pub mod Names
 pub mod Numbers
 pub mod Plans

@@ -1,6 +1,7 @@
 //! Plans: a route with its price and the heights that certify it.
 
-use thiserror::Error;
+use std::error::Error;
+use std::fmt;
 use topo_core::listed::Listed;
 use topo_core::routes::Route;
 
@@ -21,27 +22,70 @@ pub struct Plan {
 }
 
 /// The first test that a plan fails.
-#[derive(Clone, Copy, Debug, Drop, PartialEq, Eq, Error)]
+#[derive(Clone, Copy, Debug, Drop, PartialEq, Eq)]
 pub enum PlanFault {
     /// There is not one height for each dart.
-    #[error("30 WrongLength")]
     WrongLength,
     /// A dart's height differs from that of the next along its face.
-    #[error("31 UnevenFace")]
     UnevenFace,
     /// A dart's height exceeds its price and the height of its twin together.
-    #[error("32 TooSteep")]
     TooSteep,
     /// A corner at the target has a height other than 0.
-    #[error("33 TargetNotZero")]
     TargetNotZero,
     /// The route is none from start to target, or the price is not its sum.
-    #[error("34 NotARoute")]
     NotARoute,
     /// The price is not the least height of a corner at the start.
-    #[error("35 NotLeast")]
     NotLeast,
     /// Another start, crossed dart or end comes before the route's own.
-    #[error("36 NotFirst")]
     NotFirst,
 }
+
+impl PlanFault {
+    ghost use Rattle.std.specs.Prelude.{◌≡◌};
+    ghost use Rattle.topo_route.specs.FaultTexts.{fault_name, fault_number};
+
+    /// The number that stands before the name of the fault.
+    pub fn number(&self) -> u32
+        ensures { result ≡ fault_number self.now }
+    {
+        match self {
+            PlanFault::WrongLength => 30,
+            PlanFault::UnevenFace => 31,
+            PlanFault::TooSteep => 32,
+            PlanFault::TargetNotZero => 33,
+            PlanFault::NotARoute => 34,
+            PlanFault::NotLeast => 35,
+            PlanFault::NotFirst => 36,
+        }
+    }
+
+    /// The name of the fault.
+    pub fn name(&self) -> &'static str
+        ensures { result.now ≡ fault_name self.now }
+    {
+        match self {
+            PlanFault::WrongLength => "WrongLength",
+            PlanFault::UnevenFace => "UnevenFace",
+            PlanFault::TooSteep => "TooSteep",
+            PlanFault::TargetNotZero => "TargetNotZero",
+            PlanFault::NotARoute => "NotARoute",
+            PlanFault::NotLeast => "NotLeast",
+            PlanFault::NotFirst => "NotFirst",
+        }
+    }
+}
+
+impl fmt::Display for PlanFault {
+    ghost use Rattle.std.specs.Prelude.{Some};
+    ghost use Rattle.topo_route.specs.FaultTexts.{fault_text};
+
+    ghost output = { λ fault. Some (fault_text fault) };
+
+    fn fmt<W: fmt::Write>(&self, f: &mut fmt::Formatter<W>) -> fmt::Result {
+        let number = self.number();
+        let name = self.name();
+        write!(f, "{number} {name}")
+    }
+}
+
+impl Error for PlanFault {}

@@ -1,56 +1,95 @@
 //! What can go wrong with a command.
 
-use thiserror::Error;
+ghost use Rattle.std.specs.Prelude.{◌≡◌, Some};
+ghost use Rattle.topo_settings.specs.Statuses.{fault_name, fault_number, fault_text, status_of};
+
+use std::error::Error;
+use std::fmt;
 use topo_forms::ScriptFault;
 use topo_frozen::LoadFault;
 use topo_price::table::PriceFault;
 
 /// Why a command has no answer. Each fault is printed as its number, its name and its value.
-#[derive(Clone, Copy, Debug, PartialEq, Eq, Error)]
+#[derive(Clone, Copy, Debug, PartialEq, Eq)]
 pub enum RunFault {
     /// A growth of memory was refused.
-    #[error("8 Memory")]
     Memory,
     /// The bytes are not of the form that the command reads.
-    #[error(transparent)]
     Script(ScriptFault),
     /// A limit of the script or report lies outside its range.
-    #[error("11 BadLimits")]
     BadLimits,
     /// A price of the script or report lies outside its range.
-    #[error(transparent)]
     Price(PriceFault),
     /// The rows are no picture within the limits.
-    #[error(transparent)]
     Load(LoadFault),
     /// The entry of the report's history at this place, counted from 0, is the first whose reply is not
     /// the one due.
-    #[error("60 WrongReply {0}")]
     WrongReply(usize),
     /// The history of the report leads to another picture than the report's.
-    #[error("61 WrongPicture")]
     WrongPicture,
     /// The reader failed, or gave neither its end nor enough bytes in the turns that it has.
-    #[error("55 ReadFault")]
     ReadFault,
     /// The writer failed. Part of the text may have been written.
-    #[error("56 WriteFault")]
     WriteFault,
 }
 
 impl RunFault {
-    ghost use Rattle.std.specs.Prelude.{◌≡◌};
-    ghost use Rattle.topo_settings.specs.Statuses.{status_of};
+    /// The number that stands before the name of the fault.
+    pub fn number(&self) -> u32
+        ensures { result ≡ fault_number self.now }
+    {
+        match self {
+            RunFault::Memory => 8,
+            RunFault::Script(fault) => fault.number(),
+            RunFault::BadLimits => 11,
+            RunFault::Price(fault) => fault.number(),
+            RunFault::Load(fault) => fault.number(),
+            RunFault::WrongReply(_) => 60,
+            RunFault::WrongPicture => 61,
+            RunFault::ReadFault => 55,
+            RunFault::WriteFault => 56,
+        }
+    }
 
-    /// The status that the program ends with: 3 for want of memory, and else 1.
+    /// The name of the fault.
+    pub fn name(&self) -> &'static str
+        ensures { result.now ≡ fault_name self.now }
+    {
+        match self {
+            RunFault::Memory => "Memory",
+            RunFault::Script(fault) => fault.name(),
+            RunFault::BadLimits => "BadLimits",
+            RunFault::Price(fault) => fault.name(),
+            RunFault::Load(fault) => fault.name(),
+            RunFault::WrongReply(_) => "WrongReply",
+            RunFault::WrongPicture => "WrongPicture",
+            RunFault::ReadFault => "ReadFault",
+            RunFault::WriteFault => "WriteFault",
+        }
+    }
+
+    /// The status that the program ends with: 3 for want of memory, in each of its forms, and else 1.
     pub fn status(&self) -> u8
         ensures { result ≡ status_of self.now }
     {
+        if self.number() == 8 { 3 } else { 1 }
+    }
+}
+
+impl fmt::Display for RunFault {
+    ghost output = { λ fault. Some (fault_text fault) };
+
+    fn fmt<W: fmt::Write>(&self, f: &mut fmt::Formatter<W>) -> fmt::Result {
+        let number = self.number();
+        let name = self.name();
         match self {
-            RunFault::Memory
-            | RunFault::Script(ScriptFault::Memory)
-            | RunFault::Load(LoadFault::Memory) => 3,
-            _ => 1,
+            RunFault::Script(fault) => write!(f, "{fault}"),
+            RunFault::Price(fault) => write!(f, "{fault}"),
+            RunFault::Load(fault) => write!(f, "{fault}"),
+            RunFault::WrongReply(place) => write!(f, "{number} {name} {place}"),
+            _ => write!(f, "{number} {name}"),
         }
     }
 }
+
+impl Error for RunFault {}
