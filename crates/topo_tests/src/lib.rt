@@ -25,8 +25,6 @@ mod plans;
 #[cfg(test)]
 mod prices;
 #[cfg(test)]
-mod replicas;
-#[cfg(test)]
 mod searches;
 #[cfg(test)]
 mod seen_rows;
