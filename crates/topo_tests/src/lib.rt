@@ -13,8 +13,6 @@ mod faults;
 #[cfg(test)]
 mod first_routes;
 #[cfg(test)]
-mod generated;
-#[cfg(test)]
 mod permutations;
 #[cfg(test)]
 mod pictures;
@@ -24,8 +22,6 @@ mod plans;
 mod prices;
 #[cfg(test)]
 mod searches;
-#[cfg(test)]
-mod seen_rows;
 #[cfg(test)]
 mod streams;
 #[cfg(test)]
