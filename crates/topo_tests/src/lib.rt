@@ -1,5 +1,5 @@
 //! Tests of what no row of a script, a report or a picture can show: calls of the libraries, streams that
-//! fail, counted questions, generated calls. The rows are those of `topo_examples`.
+//! fail, counted questions. The rows are those of `topo_examples`.
 #![tactic(auto)]
 
 #[cfg(test)]
