@@ -1,65 +1,41 @@
-//! The program `planar`: it reads the words of the command line, and then runs the command on
-//! standard input and standard output. A fault is one line on standard error.
+//! The program `planar`: it hands the words of the command line and the three standard streams to
+//! `topo_cli::perform`, and ends with the status that comes back.
 #![tactic(auto)]
 
-use clap::error::ErrorKind;
 use std::process::ExitCode;
 use std::rt::Env;
 use std::{env, io};
-use topo_cli::answer;
-use topo_settings::RunFault;
-use topo_words::Verb;
-use topo_words::verbs::verb;
+use topo_cli::program::WordsFault;
+use topo_cli::{perform, refuse};
 
-/// The status of a run without a fault.
-const DONE: u8 = 0;
-
-/// The status where the words were refused or asked for help.
-const REFUSED: u8 = 2;
-
+/// A failed write to standard error is passed over: there is nowhere left to tell it.
 fn main(rt: HostRuntime) -> ExitCode {
-    let status = match read_verb(&rt) {
-        Ok(verb) => carry_out(&rt, verb),
-        Err(status) => status,
+    let mut err = rt.stderr();
+    let outcome = match read_words(&rt) {
+        Ok(words) => perform(
+            rt.alloc(),
+            words.as_slice(),
+            &mut rt.reader(),
+            &mut io::writer(&rt),
+            &mut err,
+        ),
+        Err(fault) => refuse(fault, &mut err),
     };
-    ExitCode::from(status)
+    ExitCode::from(outcome.status)
 }
 
-/// The command that the words of the command line ask for, or the status where they are refused.
-fn read_verb<R: Env + Eprint + AllocGlobal>(rt: &R) -> Result<Verb, u8> {
+/// The words of the command line, of which the first is the program's name.
+fn read_words<R: Env + AllocGlobal>(rt: &R) -> Result<Vec<String>, WordsFault> {
     let words = match env::args(rt) {
         Ok(words) => words,
         Err(error) => if error.kind() == io::ErrorKind::OutOfMemory {
-            return Err(tell(rt, &RunFault::Memory));
+            return Err(WordsFault::Memory);
         } else {
-            let _ = eprintln!(rt; "error: the words of the command line are not UTF-8");
-            return Err(REFUSED);
+            return Err(WordsFault::NotText);
         },
     };
-    let Ok(words) = words.collect::<Vec<String>>(rt.alloc()) else {
-        return Err(tell(rt, &RunFault::Memory));
-    };
-    match verb(rt.alloc(), words.as_slice()) {
-        Ok(verb) => Ok(verb),
-        Err(error) => if error.kind() == ErrorKind::OutOfMemory {
-            Err(tell(rt, &RunFault::Memory))
-        } else {
-            let _ = rt.eprint(&error);
-            Err(REFUSED)
-        },
+    match words.collect::<Vec<String>>(rt.alloc()) {
+        Ok(words) => Ok(words),
+        Err(_) => Err(WordsFault::Memory),
     }
-}
-
-/// Carries out a command on standard input and standard output.
-fn carry_out<R: Input + Print + Eprint + AllocGlobal>(rt: &R, verb: Verb) -> u8 {
-    match answer(rt.alloc(), verb, &mut rt.reader(), &mut io::writer(rt)) {
-        Ok(()) => DONE,
-        Err(fault) => tell(rt, &fault),
-    }
-}
-
-/// Prints a fault, and gives the status that goes with it.
-fn tell<R: Eprint>(rt: &R, fault: &RunFault) -> u8 {
-    let _ = eprintln!(rt; "planar: {fault}");
-    fault.status()
 }

@@ -1,7 +1,9 @@
 //! The commands on readers and writers that are slow, fail, or have no end, and at the greatest length.
 
 use crate::pictures::JOINED;
-use crate::streams::{EndlessReader, FailingWriter, NeverReader, SlowReader};
+use crate::streams::{
+    BreakingReader, EndlessReader, FailingWriter, FullWriter, NeverReader, SlowReader, SlowWriter,
+};
 use std::alloc::Global;
 use std::test::Fail;
 use topo_check::{check_io, replay_io};
@@ -12,18 +14,18 @@ use topo_settings::RunFault;
 /// The greatest number of bytes that a script may have.
 const LONGEST: usize = 1_048_576;
 
-const SCRIPT: &str = "{\"version\":1,\"workers\":[[[\"grow\",1,0,0],[\"grow\",1,1,7]]]}";
+pub(crate) const SCRIPT: &str = "{\"version\":1,\"workers\":[[[\"grow\",1,0,0],[\"grow\",1,1,7]]]}";
 
 /// The report of the script, and the line of its replay.
-const REPORT: &str = concat!(
+pub(crate) const REPORT: &str = concat!(
     r#"{"history":[{"call":["grow",1,0,0],"caller":0,"reply":{"edge":1,"vertex":2}},{"call":["grow",1,1,7],"caller":0,"reply":{"edge":2,"vertex":3}}],"limits":{"crossings":1048576,"edges":65536,"vertices":65536},"picture":{"crossings":[],"edges":[{"a":0,"b":1,"crossings":[],"id":0,"kind":0},{"a":1,"b":2,"crossings":[],"id":1,"kind":0},{"a":1,"b":3,"crossings":[],"id":2,"kind":7}],"next_crossing":0,"next_edge":3,"rotations":[[0],[0,2,1],[1],[2]]},"prices":[],"start":{"crossings":[],"edges":[{"a":0,"b":1,"crossings":[],"id":0,"kind":0}],"next_crossing":0,"next_edge":1,"rotations":[[0],[0]]},"version":1}"#,
     "\n"
 );
 
-const REPLAYED: &str = "replayed 2 calls\n";
+pub(crate) const REPLAYED: &str = "replayed 2 calls\n";
 
 /// The line of the picture with a crossing.
-const SIZE: &str = "lawful vertices=5 crossings=1 edges=10 segments=12 faces=8\n";
+pub(crate) const SIZE: &str = "lawful vertices=5 crossings=1 edges=10 segments=12 faces=8\n";
 
 /// The script with spaces after it, up to a length.
 fn padded(alloc: Global, len: usize) -> Result<Vec<u8>, Fail> {
@@ -132,5 +134,62 @@ fn writers_with_just_enough_room(rt: HostRuntime) -> Result<(), Fail> {
     let mut writer = FailingWriter::new(alloc, REPORT.len());
     assert!(rt; run_io(alloc, &mut reader, &mut writer) == Ok(()));
     assert!(rt; writer.kept.as_slice() == REPORT.as_bytes());
+    Ok(())
+}
+
+#[test]
+fn readers_that_break(rt: HostRuntime) -> Result<(), Fail> {
+    let alloc = rt.alloc();
+    let mut written: Vec<u8> = Vec::new(alloc);
+    for turns in 0..SCRIPT.len() + 1 {
+        let mut reader = BreakingReader::new(SCRIPT.as_bytes(), turns);
+        assert!(rt; run_io(alloc, &mut reader, &mut written) == Err(RunFault::ReadFault));
+    }
+    for turns in 0..REPORT.len() + 1 {
+        let mut reader = BreakingReader::new(REPORT.as_bytes(), turns);
+        assert!(rt; replay_io(alloc, &mut reader, &mut written) == Err(RunFault::ReadFault));
+    }
+    for turns in 0..JOINED.len() + 1 {
+        let mut reader = BreakingReader::new(JOINED.as_bytes(), turns);
+        assert!(rt; check_io(alloc, &mut reader, &mut written) == Err(RunFault::ReadFault));
+    }
+    assert!(rt; written.is_empty());
+    let mut reader = BreakingReader::new(SCRIPT.as_bytes(), SCRIPT.len() + 1);
+    assert!(rt; run_io(alloc, &mut reader, &mut written) == Ok(()));
+    assert!(rt; written.as_slice() == REPORT.as_bytes());
+    Ok(())
+}
+
+#[test]
+fn slow_writers(rt: HostRuntime) -> Result<(), Fail> {
+    let alloc = rt.alloc();
+    let mut writer = SlowWriter::new(alloc);
+    assert!(rt; run_io(alloc, &mut SCRIPT.as_bytes(), &mut writer) == Ok(()));
+    assert!(rt; writer.kept.as_slice() == REPORT.as_bytes());
+    assert_eq!(rt; writer.passed_on, REPORT.len());
+    let mut writer = SlowWriter::new(alloc);
+    assert!(rt; replay_io(alloc, &mut REPORT.as_bytes(), &mut writer) == Ok(()));
+    assert!(rt; writer.kept.as_slice() == REPLAYED.as_bytes());
+    assert_eq!(rt; writer.passed_on, REPLAYED.len());
+    let mut writer = SlowWriter::new(alloc);
+    assert!(rt; check_io(alloc, &mut JOINED.as_bytes(), &mut writer) == Ok(()));
+    assert!(rt; writer.kept.as_slice() == SIZE.as_bytes());
+    assert_eq!(rt; writer.passed_on, SIZE.len());
+    Ok(())
+}
+
+#[test]
+fn writers_that_take_nothing(rt: HostRuntime) -> Result<(), Fail> {
+    let alloc = rt.alloc();
+    let told = run_io(alloc, &mut SCRIPT.as_bytes(), &mut FullWriter);
+    assert!(rt; told == Err(RunFault::WriteFault));
+    let told = replay_io(alloc, &mut REPORT.as_bytes(), &mut FullWriter);
+    assert!(rt; told == Err(RunFault::WriteFault));
+    let told = check_io(alloc, &mut JOINED.as_bytes(), &mut FullWriter);
+    assert!(rt; told == Err(RunFault::WriteFault));
+    let mut stuck = SlowWriter::stuck(alloc);
+    let told = run_io(alloc, &mut SCRIPT.as_bytes(), &mut stuck);
+    assert!(rt; told == Err(RunFault::WriteFault));
+    assert!(rt; stuck.kept.as_slice() == REPORT.as_bytes());
     Ok(())
 }

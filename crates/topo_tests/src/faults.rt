@@ -1,31 +1,35 @@
-//! The texts of faults, each with its number.
+//! The number and the text of each fault.
 
 use std::alloc::Global;
-use std::fmt::Display;
 use std::process::Abort;
 use std::test::Fail;
 use topo_book::ReplayFault;
+use topo_forms::ScriptFault;
+use topo_forms::path::{Key, Path};
 use topo_frozen::LoadFault;
 use topo_price::table::PriceFault;
 use topo_route::plan::PlanFault;
-use topo_script::ScriptFault;
 use topo_settings::RunFault;
 
-/// Each fault of a table prints the text beside it.
-fn check_table<F: Display>(
-    rt: &impl Abort,
-    alloc: Global,
-    table: &[(F, &str)],
-) -> Result<(), Fail> {
-    for (fault, text) in table {
-        let printed = format!(in alloc; "{fault}")?;
-        assert!(rt; printed.as_str() == *text, "{printed}");
-    }
+/// A text begins with a number and a space.
+fn begins(alloc: Global, text: &str, number: u32) -> Result<bool, Fail> {
+    let front = format!(in alloc; "{number} ")?;
+    Ok(text.starts_with(front.as_str()))
+}
+
+/// A fault is printed as this text, which begins with its number.
+fn check_fault(rt: &impl Abort, alloc: Global, fault: &RunFault, text: &str) -> Result<(), Fail> {
+    let printed = format!(in alloc; "{fault}")?;
+    assert!(rt; printed.as_str() == text, "{printed}");
+    assert!(rt; begins(alloc, text, fault.number())?, "{printed}");
     Ok(())
 }
 
 #[test]
 fn faults_of_commands(rt: HostRuntime) -> Result<(), Fail> {
+    let workers = Path::WHOLE.member(Key::Workers);
+    let deep = workers.element(0).element(3).element(1);
+    let sixth = deep.member(Key::Call).member(Key::NextEdge);
     let table = [
         (RunFault::Memory, "8 Memory"),
         (RunFault::Price(PriceFault::BadPrice(7)), "10 BadPrice 7"),
@@ -39,14 +43,35 @@ fn faults_of_commands(rt: HostRuntime) -> Result<(), Fail> {
         (RunFault::Load(LoadFault::Memory), "8 Memory"),
         (RunFault::Script(ScriptFault::NotJson), "50 NotJson"),
         (RunFault::Script(ScriptFault::TooLong), "51 TooLong"),
+        (
+            RunFault::Script(ScriptFault::BadShape(Path::WHOLE)),
+            "52 BadShape $",
+        ),
+        (
+            RunFault::Script(ScriptFault::BadShape(workers)),
+            "52 BadShape $/workers",
+        ),
         (RunFault::Script(ScriptFault::BadVersion), "53 BadVersion"),
+        (
+            RunFault::Script(ScriptFault::BadNumber(deep)),
+            "54 BadNumber $/workers/0/3/1",
+        ),
+        (
+            RunFault::Script(ScriptFault::BadNumber(sixth)),
+            "54 BadNumber $/workers/0/3/1/call/next_edge",
+        ),
         (RunFault::Script(ScriptFault::Memory), "8 Memory"),
         (RunFault::ReadFault, "55 ReadFault"),
         (RunFault::WriteFault, "56 WriteFault"),
         (RunFault::WrongReply(17), "60 WrongReply 17"),
         (RunFault::WrongPicture, "61 WrongPicture"),
     ];
-    check_table(&rt, rt.alloc(), table.as_slice())
+    for (fault, text) in &table {
+        check_fault(&rt, rt.alloc(), fault, text)?;
+        let wanted = if text.ends_with("Memory") { 3 } else { 1 };
+        assert_eq!(rt; fault.status(), wanted);
+    }
+    Ok(())
 }
 
 #[test]
@@ -55,7 +80,11 @@ fn faults_of_replays(rt: HostRuntime) -> Result<(), Fail> {
         (ReplayFault::WrongReply(17), "60 WrongReply 17"),
         (ReplayFault::Memory, "8 Memory"),
     ];
-    check_table(&rt, rt.alloc(), table.as_slice())
+    for (fault, text) in &table {
+        let printed = format!(in rt.alloc(); "{fault}")?;
+        assert!(rt; printed.as_str() == *text, "{printed}");
+    }
+    Ok(())
 }
 
 #[test]
@@ -69,5 +98,10 @@ fn faults_of_plans(rt: HostRuntime) -> Result<(), Fail> {
         (PlanFault::NotLeast, "35 NotLeast"),
         (PlanFault::NotFirst, "36 NotFirst"),
     ];
-    check_table(&rt, rt.alloc(), table.as_slice())
+    for (fault, text) in &table {
+        let printed = format!(in rt.alloc(); "{fault}")?;
+        assert!(rt; printed.as_str() == *text, "{printed}");
+        assert!(rt; begins(rt.alloc(), text, fault.number())?, "{printed}");
+    }
+    Ok(())
 }

@@ -21,6 +21,8 @@ mod plans;
 #[cfg(test)]
 mod prices;
 #[cfg(test)]
+mod program;
+#[cfg(test)]
 mod searches;
 #[cfg(test)]
 mod streams;

@@ -120,3 +120,108 @@ impl Write for FailingWriter {
         Ok(())
     }
 }
+
+/// Gives its bytes one at a time, and fails at a turn, counted from 0.
+#[derive(Drop)]
+pub(crate) struct BreakingReader<'a> {
+    bytes: &'a [u8],
+    turns: usize,
+}
+
+impl<'a> BreakingReader<'a> {
+    /// A reader that answers so many calls, and fails at the next.
+    pub(crate) fn new(bytes: &'a [u8], turns: usize) -> Self {
+        BreakingReader { bytes, turns }
+    }
+}
+
+impl Read for BreakingReader<'_> {
+    fn read(&mut self, buf: &mut [u8]) -> io::Result<usize> {
+        if self.turns == 0 {
+            return Err(io::Error::from(ErrorKind::BrokenPipe));
+        }
+        self.turns -= 1;
+        match self.bytes.split_first() {
+            Some((first, rest)) => {
+                if buf.is_empty() {
+                    return Ok(0);
+                }
+                buf[0] = *first;
+                self.bytes = rest;
+                Ok(1)
+            }
+            None => Ok(0),
+        }
+    }
+}
+
+/// A writer that takes nothing, and never fails.
+#[derive(Drop)]
+pub(crate) struct FullWriter;
+
+impl Write for FullWriter {
+    fn write(&mut self, _buf: &[u8]) -> io::Result<usize> {
+        Ok(0)
+    }
+
+    fn flush(&mut self) -> io::Result<()> {
+        Ok(())
+    }
+}
+
+/// Takes one byte a turn, each after an interrupted call, and keeps what it was given; what it passed on
+/// is what it held when it was last flushed.
+#[derive(Drop)]
+pub(crate) struct SlowWriter {
+    was_interrupted: bool,
+    fails_to_flush: bool,
+    pub(crate) kept: Vec<u8>,
+    pub(crate) passed_on: usize,
+}
+
+impl SlowWriter {
+    /// A writer that holds nothing.
+    pub(crate) fn new(alloc: Global) -> Self {
+        SlowWriter {
+            was_interrupted: false,
+            fails_to_flush: false,
+            kept: Vec::new(alloc),
+            passed_on: 0,
+        }
+    }
+
+    /// A writer that cannot pass on what it holds.
+    pub(crate) fn stuck(alloc: Global) -> Self {
+        SlowWriter {
+            was_interrupted: false,
+            fails_to_flush: true,
+            kept: Vec::new(alloc),
+            passed_on: 0,
+        }
+    }
+}
+
+impl Write for SlowWriter {
+    fn write(&mut self, buf: &[u8]) -> io::Result<usize> {
+        if !self.was_interrupted {
+            self.was_interrupted = true;
+            return Err(io::Error::from(ErrorKind::Interrupted));
+        }
+        self.was_interrupted = false;
+        match buf.first() {
+            Some(byte) => {
+                self.kept.push(*byte)?;
+                Ok(1)
+            }
+            None => Ok(0),
+        }
+    }
+
+    fn flush(&mut self) -> io::Result<()> {
+        if self.fails_to_flush {
+            return Err(io::Error::from(ErrorKind::BrokenPipe));
+        }
+        self.passed_on = self.kept.len();
+        Ok(())
+    }
+}

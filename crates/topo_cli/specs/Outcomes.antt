@@ -1,0 +1,97 @@
+-- How the program ends, and what it writes to standard output and standard error.
+use Rattle.std.specs.Prelude.{◌≡◌, ◌≢◌, ◌⊎◌, ℕ, List, [], Option, Some, IsTrue, codes, true}
+use Rattle.std.specs.Io.KnownBytes.{Appends, Keeps}
+use Rattle.std.specs.Prelude.{string_bytes, ⊤}
+use Rattle.topo_settings.specs.declared.fault.RunFault.{RunFault}
+use Rattle.topo_settings.specs.declared.fault.RunFault.TheVariants.{Memory as NoMemory}
+use Rattle.topo_settings.specs.Statuses.{fault_line, status_of}
+use Rattle.topo_words.specs.declared.Verb.{Verb}
+use Rattle.topo_words.specs.Words.{asked_verb, word_faults}
+use Rattle.topo_cli.specs.declared.program.Outcome.{Outcome}
+use Rattle.topo_cli.specs.declared.program.Unread.{Unread}
+use Rattle.topo_cli.specs.declared.program.Unread.TheVariants.{Refused, Memory}
+use Rattle.topo_cli.specs.declared.program.WordsFault.{WordsFault}
+use Rattle.topo_cli.specs.declared.program.WordsFault.TheVariants.{NotText, Memory as WordsMemory}
+use Rattle.topo_cli.specs.Commands.{CommandFailsBy, IsAnswered}
+
+-- ---- The words
+
+-- the words are a command line of the program, and ask for this command
+pub record IsCommand (words : List (List ℕ)) (verb : Verb) : Type 0 where
+  pub whole : word_faults words ≡ []
+  pub asked : asked_verb words ≡ Some verb
+
+-- the words are no command line of the program, or ask for help
+abbrev pub AreRefused : List (List ℕ) → Type 0
+AreRefused words = word_faults words ≢ []
+
+-- why words name no command
+abbrev pub IsUnread : List (List ℕ) → Unread → Type 0
+IsUnread words (Refused text) = AreRefused words
+IsUnread words Memory = ⊤
+
+-- ---- Standard error
+
+-- where standard error took what it was given, this text and nothing else was added
+abbrev pub IsToldBy : List ℕ → Outcome → Option (List ℕ) → Option (List ℕ) → Type 0
+IsToldBy text outcome old_told new_told = IsTrue outcome.is_told → Appends old_told new_told text
+
+-- the program ends by a fault: with its status, and its line
+pub record EndsBy (fault : RunFault) (outcome : Outcome) (old_told new_told : Option (List ℕ)) : Type 0 where
+  pub status : outcome.status ≡ status_of fault
+  pub line : IsToldBy (fault_line fault) outcome old_told new_told
+
+-- the words are turned down with this text
+pub record TurnsDown (text : List ℕ) (outcome : Outcome) (old_told new_told : Option (List ℕ)) : Type 0 where
+  pub status : outcome.status ≡ 2
+  pub told : IsToldBy text outcome old_told new_told
+
+-- what is said of words that name no command
+abbrev pub Tells : Unread → Outcome → Option (List ℕ) → Option (List ℕ) → Type 0
+Tells (Refused text) outcome old_told new_told = TurnsDown (string_bytes text) outcome old_told new_told
+Tells Memory outcome old_told new_told = EndsBy NoMemory outcome old_told new_told
+
+-- what is said of words that cannot be read
+abbrev pub Refuses : WordsFault → Outcome → Option (List ℕ) → Option (List ℕ) → Type 0
+Refuses NotText outcome old_told new_told = TurnsDown (codes "planar: the words of the command line are not UTF-8\n") outcome old_told new_told
+Refuses WordsMemory outcome old_told new_told = EndsBy NoMemory outcome old_told new_told
+
+-- ---- A command
+
+-- the command is done: standard output has just its answer more, and standard error nothing
+pub record IsCarriedOut (verb : Verb) (outcome : Outcome) (old_left new_left old_held new_held old_told new_told : Option (List ℕ)) : Type 0 where
+  pub status : outcome.status ≡ 0
+  pub answered : IsAnswered verb old_left new_left old_held new_held
+  pub silent : Keeps old_told new_told
+  pub told : outcome.is_told ≡ true
+
+-- the command has no answer, by a fault that is told
+pub record IsGivenUp (verb : Verb) (outcome : Outcome) (old_left new_left old_held new_held old_told new_told : Option (List ℕ)) : Type 0 where
+  pub fault : RunFault
+  pub fails : CommandFailsBy verb fault old_left new_left old_held new_held
+  pub ends : EndsBy fault outcome old_told new_told
+
+abbrev pub CarriesOut : Verb → Outcome → Option (List ℕ) → Option (List ℕ) → Option (List ℕ) → Option (List ℕ) → Option (List ℕ) → Option (List ℕ) → Type 0
+CarriesOut verb outcome old_left new_left old_held new_held old_told new_told =
+    IsCarriedOut verb outcome old_left new_left old_held new_held old_told new_told ⊎ IsGivenUp verb outcome old_left new_left old_held new_held old_told new_told
+
+-- ---- The program
+
+-- the words are a command line, and the command that they ask for is carried out
+pub record PerformsCommand (words : List (List ℕ)) (outcome : Outcome) (old_left new_left old_held new_held old_told new_told : Option (List ℕ)) : Type 0 where
+  pub verb : Verb
+  pub command : IsCommand words verb
+  pub carried : CarriesOut verb outcome old_left new_left old_held new_held old_told new_told
+
+-- The words are none, and are turned down with a text, or there is no memory to read them. Nothing is read, and nothing
+-- is written to standard output.
+pub record PerformsNone (words : List (List ℕ)) (outcome : Outcome) (old_left new_left old_held new_held old_told new_told : Option (List ℕ)) : Type 0 where
+  pub unread : Unread
+  pub is_unread : IsUnread words unread
+  pub told : Tells unread outcome old_told new_told
+  pub unconsumed : Keeps old_left new_left
+  pub unwritten : Keeps old_held new_held
+
+abbrev pub Performs : List (List ℕ) → Outcome → Option (List ℕ) → Option (List ℕ) → Option (List ℕ) → Option (List ℕ) → Option (List ℕ) → Option (List ℕ) → Type 0
+Performs words outcome old_left new_left old_held new_held old_told new_told =
+    PerformsCommand words outcome old_left new_left old_held new_held old_told new_told ⊎ PerformsNone words outcome old_left new_left old_held new_held old_told new_told

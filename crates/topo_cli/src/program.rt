@@ -1,0 +1,145 @@
+//! What the program does with the words of a command line.
+
+ghost use Rattle.std.specs.Io.KnownBytes.{Appends, Keeps};
+ghost use Rattle.std.specs.Prelude.{◌≡◌, IfErr, IfOk, IsTrue, codes, map};
+ghost use Rattle.topo_cli.specs.Outcomes.{CarriesOut, IsCommand, IsUnread, Performs, Refuses, Tells};
+ghost use Rattle.topo_settings.specs.Statuses.{fault_line, status_of};
+
+use crate::answers::answer;
+use crate::telling::{tell, tell_fault};
+use clap::error::ErrorKind;
+use std::alloc::Global;
+use std::convert::AsStr;
+use std::io::{Read, Write};
+use topo_settings::RunFault;
+use topo_words::Verb;
+use topo_words::verbs::verb;
+
+/// The status of a command that is done.
+const DONE: u8 = 0;
+
+/// The status where the words are refused, or ask for help.
+const REFUSED: u8 = 2;
+
+/// What is said of words that are no text.
+const NOT_TEXT: &str = "planar: the words of the command line are not UTF-8\n";
+
+/// How the program ends.
+#[derive(Clone, Copy, Debug, PartialEq, Eq)]
+pub struct Outcome {
+    /// The exit status: 0 done, 1 a fault other than 8, 2 where the words are refused or ask for help,
+    /// 3 for want of memory.
+    pub status: u8,
+    /// Whether standard error took all that it was given; so too where it was given nothing.
+    pub is_told: bool,
+}
+
+/// Why the words of a command line cannot be read.
+#[derive(Clone, Copy, Debug, PartialEq, Eq)]
+pub enum WordsFault {
+    /// They are no UTF-8.
+    NotText,
+    /// A growth of memory was refused.
+    Memory,
+}
+
+/// Why words name no command.
+#[derive(Debug, Drop)]
+enum Unread {
+    /// `clap` refuses them, or they ask for help: its text for the user.
+    Refused(String),
+    /// A growth of memory was refused.
+    Memory,
+}
+
+/// Reads the words, of which the first is the program's name, and carries out the command that they ask
+/// for, on the reader and `out`. A fault is one line on `err`. Where `clap` refuses the words, or they ask
+/// for help, its text goes to `err`, and nothing is read. A write to `err` that fails changes no status.
+pub fn perform<'a, S: AsStr, R: Read, W: Write, E: Write>(
+    alloc: Global,
+    words: &'a [S],
+    reader: &mut R,
+    out: &mut W,
+    err: &mut E,
+) -> Outcome
+    ensures { Performs (map S.text words.entry.now) result (R.remaining reader.old) (R.remaining reader.new) (W.contents out.old) (W.contents out.new) (E.contents err.old) (E.contents err.new) }
+{
+    match read_verb(alloc, words) {
+        Ok(verb) => carry_out(alloc, verb, reader, out, err),
+        Err(unread) => turn_down(&unread, err),
+    }
+}
+
+/// What the program does where the words of the command line cannot be read: it says so on `err`.
+pub fn refuse<E: Write>(fault: WordsFault, err: &mut E) -> Outcome
+    ensures { Refuses fault result (E.contents err.old) (E.contents err.new) }
+{
+    match fault {
+        WordsFault::NotText => Outcome {
+            status: REFUSED,
+            is_told: tell(NOT_TEXT, err),
+        },
+        WordsFault::Memory => end_by(&RunFault::Memory, err),
+    }
+}
+
+/// The command that the words ask for, or why they name none.
+fn read_verb<'a, S: AsStr>(alloc: Global, words: &'a [S]) -> Result<Verb, Unread>
+    ensures command { IfOk result (IsCommand (map S.text words.entry.now)) }
+    ensures none { IfErr result (IsUnread (map S.text words.entry.now)) }
+{
+    match verb(alloc, words) {
+        Ok(verb) => Ok(verb),
+        Err(error) => if error.kind() == ErrorKind::OutOfMemory {
+            Err(Unread::Memory)
+        } else {
+            match format!(in alloc; "{error}") {
+                Ok(text) => Err(Unread::Refused(text)),
+                Err(_) => Err(Unread::Memory),
+            }
+        },
+    }
+}
+
+/// Carries out a command. A fault is told on `err`.
+fn carry_out<R: Read, W: Write, E: Write>(
+    alloc: Global,
+    verb: Verb,
+    reader: &mut R,
+    out: &mut W,
+    err: &mut E,
+) -> Outcome
+    ensures { CarriesOut verb result (R.remaining reader.old) (R.remaining reader.new) (W.contents out.old) (W.contents out.new) (E.contents err.old) (E.contents err.new) }
+{
+    match answer(alloc, verb, reader, out) {
+        Ok(()) => Outcome {
+            status: DONE,
+            is_told: true,
+        },
+        Err(fault) => end_by(&fault, err),
+    }
+}
+
+/// Says on `err` why words name no command.
+fn turn_down<E: Write>(unread: &Unread, err: &mut E) -> Outcome
+    ensures { Tells unread.now result (E.contents err.old) (E.contents err.new) }
+{
+    match unread {
+        Unread::Refused(text) => Outcome {
+            status: REFUSED,
+            is_told: tell(text.as_str(), err),
+        },
+        Unread::Memory => end_by(&RunFault::Memory, err),
+    }
+}
+
+/// Tells a fault, and ends with its status.
+fn end_by<E: Write>(fault: &RunFault, err: &mut E) -> Outcome
+    ensures status { result.status ≡ status_of fault.now }
+    ensures line { IsTrue result.is_told → Appends (E.contents err.old) (E.contents err.new) (fault_line fault.now) }
+{
+    Outcome {
+        status: fault.status(),
+        is_told: tell_fault(fault, err),
+    }
+}

@@ -1,0 +1,179 @@
+//! What the program does with the words of a command line: its status, and which bytes go where.
+
+use crate::failing::{REPLAYED, REPORT, SCRIPT, SIZE};
+use crate::pictures::JOINED;
+use crate::streams::{BreakingReader, EndlessReader, FailingWriter, FullWriter, SlowWriter};
+use std::alloc::Global;
+use std::process::Abort;
+use std::test::Fail;
+use topo_cli::program::WordsFault;
+use topo_cli::{Outcome, perform, refuse};
+
+/// What is said of a command that is not known.
+const NO_COMMAND: &str = "\
+error: unrecognized subcommand 'walk'
+
+Usage: planar <COMMAND>
+
+For more information, try '--help'.
+";
+
+/// What is said of an option that is not known.
+const NO_OPTION: &str = "\
+error: unexpected argument '--fast' found
+
+Usage: planar run
+
+For more information, try '--help'.
+";
+
+/// The summary of one command.
+const HELP: &str = "\
+Reads a picture and prints how large it is, where it is a lawful one
+
+Usage: planar check
+
+Options:
+  -h, --help  Print help (see more with '--help')
+";
+
+/// A program that ends with this status, where standard error took all that it was given.
+fn ends(status: u8) -> Outcome {
+    Outcome {
+        status,
+        is_told: true,
+    }
+}
+
+/// The words on this input end the program with this status, and write just these texts.
+fn check_row(
+    rt: &impl Abort,
+    alloc: Global,
+    words: &[&str],
+    input: &str,
+    wanted: (u8, &str, &str),
+) -> Result<(), Fail> {
+    let (status, written, told) = wanted;
+    let mut out: Vec<u8> = Vec::new(alloc);
+    let mut err: Vec<u8> = Vec::new(alloc);
+    let outcome = perform(alloc, words, &mut input.as_bytes(), &mut out, &mut err);
+    assert!(rt; outcome == ends(status));
+    assert!(rt; out.as_slice() == written.as_bytes());
+    assert!(rt; err.as_slice() == told.as_bytes());
+    Ok(())
+}
+
+#[test]
+fn commands(rt: HostRuntime) -> Result<(), Fail> {
+    let alloc = rt.alloc();
+    check_row(&rt, alloc, &["planar", "run"], SCRIPT, (0, REPORT, ""))?;
+    check_row(&rt, alloc, &["planar", "replay"], REPORT, (0, REPLAYED, ""))?;
+    check_row(&rt, alloc, &["planar", "check"], JOINED, (0, SIZE, ""))
+}
+
+#[test]
+fn faults(rt: HostRuntime) -> Result<(), Fail> {
+    let alloc = rt.alloc();
+    let rows = [
+        (["planar", "run"], "{", "planar: 50 NotJson\n"),
+        (["planar", "run"], "{}", "planar: 52 BadShape $/version\n"),
+        (["planar", "replay"], SCRIPT, "planar: 52 BadShape $\n"),
+        (
+            ["planar", "check"],
+            "{}",
+            "planar: 52 BadShape $/crossings\n",
+        ),
+    ];
+    for (words, input, told) in rows {
+        check_row(&rt, alloc, &words, input, (1, "", told))?;
+    }
+    Ok(())
+}
+
+#[test]
+fn words_that_are_refused(rt: HostRuntime) -> Result<(), Fail> {
+    let alloc = rt.alloc();
+    check_row(&rt, alloc, &["planar", "walk"], SCRIPT, (2, "", NO_COMMAND))?;
+    let words = ["planar", "run", "--fast"];
+    check_row(&rt, alloc, &words, SCRIPT, (2, "", NO_OPTION))?;
+    check_row(
+        &rt,
+        alloc,
+        &["planar", "check", "-h"],
+        JOINED,
+        (2, "", HELP),
+    )?;
+    for fault in [WordsFault::NotText, WordsFault::Memory] {
+        let (status, told) = match fault {
+            WordsFault::NotText => (2, "planar: the words of the command line are not UTF-8\n"),
+            WordsFault::Memory => (3, "planar: 8 Memory\n"),
+        };
+        let mut err: Vec<u8> = Vec::new(alloc);
+        assert!(rt; refuse(fault, &mut err) == ends(status));
+        assert!(rt; err.as_slice() == told.as_bytes());
+    }
+    Ok(())
+}
+
+#[test]
+fn broken_readers(rt: HostRuntime) -> Result<(), Fail> {
+    let alloc = rt.alloc();
+    for turns in 0..SCRIPT.len() + 1 {
+        let mut reader = BreakingReader::new(SCRIPT.as_bytes(), turns);
+        let mut out: Vec<u8> = Vec::new(alloc);
+        let mut err: Vec<u8> = Vec::new(alloc);
+        let outcome = perform(alloc, &["planar", "run"], &mut reader, &mut out, &mut err);
+        assert!(rt; outcome == ends(1));
+        assert!(rt; out.is_empty());
+        assert!(rt; err.as_slice() == "planar: 55 ReadFault\n".as_bytes());
+    }
+    let mut endless = EndlessReader { given: 0 };
+    let mut out: Vec<u8> = Vec::new(alloc);
+    let mut err: Vec<u8> = Vec::new(alloc);
+    let outcome = perform(alloc, &["planar", "run"], &mut endless, &mut out, &mut err);
+    assert!(rt; outcome == ends(1));
+    assert!(rt; out.is_empty());
+    assert!(rt; err.as_slice() == "planar: 51 TooLong\n".as_bytes());
+    Ok(())
+}
+
+#[test]
+fn broken_writers(rt: HostRuntime) -> Result<(), Fail> {
+    let alloc = rt.alloc();
+    let words = ["planar", "run"];
+    for room in [0, 1, 100] {
+        let mut out = FailingWriter::new(alloc, room);
+        let mut err = SlowWriter::new(alloc);
+        let outcome = perform(alloc, &words, &mut SCRIPT.as_bytes(), &mut out, &mut err);
+        assert!(rt; outcome == ends(1));
+        assert!(rt; out.kept.as_slice() == &REPORT.as_bytes()[..room]);
+        assert!(rt; err.kept.as_slice() == "planar: 56 WriteFault\n".as_bytes());
+        assert_eq!(rt; err.passed_on, err.kept.len());
+    }
+    let untold = Outcome {
+        status: 1,
+        is_told: false,
+    };
+    let mut err = FailingWriter::new(alloc, 10);
+    let outcome = perform(
+        alloc,
+        &words,
+        &mut SCRIPT.as_bytes(),
+        &mut FullWriter,
+        &mut err,
+    );
+    assert!(rt; outcome == untold);
+    assert!(rt; err.kept.as_slice() == "planar: 56".as_bytes());
+    let mut out = SlowWriter::new(alloc);
+    let outcome = perform(
+        alloc,
+        &words,
+        &mut SCRIPT.as_bytes(),
+        &mut out,
+        &mut FullWriter,
+    );
+    assert!(rt; outcome == ends(0));
+    assert!(rt; out.kept.as_slice() == REPORT.as_bytes());
+    assert_eq!(rt; out.passed_on, REPORT.len());
+    Ok(())
+}
