@@ -28,12 +28,13 @@ pub fn check_io<R: Read, W: Write>(
     ensures fault { IfErr result (λ fault. CheckFailsBy fault (R.remaining reader.old) (R.remaining reader.new) (W.contents writer.old) (W.contents writer.new)) }
 {
     let bytes = read_bytes(alloc, MAX_PICTURE_BYTES as u32, reader)?;
-    let line = bytes_line(alloc, bytes.as_slice())?;
+    let line = check_bytes(alloc, bytes.as_slice())?;
     write_text(writer, line.as_str())
 }
 
-/// The line that says how large the picture is that bytes spell, or the first fault.
-fn bytes_line(alloc: Global, bytes: &[u8]) -> Result<String, RunFault>
+/// The line that says how large the picture is that bytes spell, where it is a lawful one under the
+/// greatest limits, or the first fault.
+pub fn check_bytes(alloc: Global, bytes: &[u8]) -> Result<String, RunFault>
     ensures line { IfOk result (λ line. IsSizeOfBytes bytes.now (string_bytes line)) }
     ensures fault { IfErr result (IsUnlawful bytes.now) }
 {

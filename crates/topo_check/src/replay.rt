@@ -37,13 +37,13 @@ pub fn replay_io<R: Read, W: Write>(
     ensures fault { IfErr result (λ fault. ReplayFailsBy fault (R.remaining reader.old) (R.remaining reader.new) (W.contents writer.old) (W.contents writer.new)) }
 {
     let bytes = read_bytes(alloc, MAX_PICTURE_BYTES as u32, reader)?;
-    let line = bytes_line(alloc, bytes.as_slice())?;
+    let line = replay_bytes(alloc, bytes.as_slice())?;
     write_text(writer, line.as_str())
 }
 
 /// The line that says how many calls the report has that bytes spell, where it is true, or the first
 /// fault.
-fn bytes_line(alloc: Global, bytes: &[u8]) -> Result<String, RunFault>
+pub fn replay_bytes(alloc: Global, bytes: &[u8]) -> Result<String, RunFault>
     ensures line { IfOk result (λ line. TellsCalls bytes.now (string_bytes line)) }
     ensures fault { IfErr result (TellsUntrue bytes.now) }
 {

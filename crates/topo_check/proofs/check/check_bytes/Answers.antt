@@ -1,7 +1,7 @@
 use Rattle.std.proofs.Common.{rules, subst}
 use Rattle.topo_core.specs.declared.rows.Rows.{Rows}
 use Rattle.topo_picture.specs.Totals.{AreCountsOf}
-use Rattle.topo_check.proofs.check.bytes_line.Goals as goal
+use Rattle.topo_check.proofs.check.check_bytes.Goals as goal
 
 pub returns-in-Ok-size_line-clause-line : goal.returns-in-Ok-size_line-clause-line
 returns-in-Ok-size_line-clause-line c = record {
