@@ -1,0 +1,52 @@
+/* Judges a picture or a report: judge check|replay < FILE. It prints what `planar` prints, by the static library. */
+#include <stdio.h>
+#include <stdlib.h>
+#include <string.h>
+
+#include "fezdrok.h"
+
+/* Reads standard input to its end; NULL where memory is wanted. */
+static uint8_t *read_all(size_t *length) {
+    size_t room = 1 << 16, had = 0, got;
+    uint8_t *bytes = malloc(room);
+    while (bytes && (got = fread(bytes + had, 1, room - had, stdin)) > 0) {
+        had += got;
+        if (had == room) {
+            uint8_t *larger = realloc(bytes, room *= 2);
+            if (!larger)
+                free(bytes);
+            bytes = larger;
+        }
+    }
+    *length = had;
+    return bytes;
+}
+
+int main(int count, char **words) {
+    if (count != 2 || (strcmp(words[1], "check") && strcmp(words[1], "replay"))) {
+        fputs("usage: judge check|replay < FILE\n", stderr);
+        return 2;
+    }
+    size_t length, size;
+    uint8_t *input = read_all(&length);
+    if (!input) {
+        fputs("judge: no memory\n", stderr);
+        return FEZDROK_NO_MEMORY;
+    }
+    uint8_t few[16], *text = few;
+    int is_check = !strcmp(words[1], "check");
+    uint8_t status = is_check ? fezdrok_check(input, length, few, sizeof few, &size) : fezdrok_replay(input, length, few, sizeof few, &size);
+    if (status == FEZDROK_TOO_SMALL) { /* now the size is known */
+        text = malloc(size);
+        if (!text) {
+            fputs("judge: no memory\n", stderr);
+            return FEZDROK_NO_MEMORY;
+        }
+        status = is_check ? fezdrok_check(input, length, text, size, &size) : fezdrok_replay(input, length, text, size, &size);
+    }
+    fwrite(text, 1, size, status == FEZDROK_DONE ? stdout : stderr);
+    if (text != few)
+        free(text);
+    free(input);
+    return status;
+}
