@@ -1,38 +1,100 @@
-"""The examples of docs/USING.md, run as they stand there."""
+"""The examples of README.md and docs/USING.md, run as they are written there."""
 
 import doctest
 import os
+import re
+import shutil
+import subprocess
+import sys
 import tempfile
 import unittest
 from importlib.util import find_spec
+from typing import List, Tuple
 
 from .support import ROOT, needs_networkx, needs_program
+
+PAGES = ("README.md", "docs/USING.md")
+MARK = "-- the next command --"
+
+
+def python_examples(page: str) -> doctest.DocTest:
+    """The examples in Python; without matplotlib those that draw are left out."""
+    found = doctest.DocTestParser().get_doctest((ROOT / page).read_text(), {}, page, page, 0)
+    if find_spec("matplotlib") is None:
+        found.examples = [example for example in found.examples if "draw" not in example.source]
+    return found
+
+
+def commands(page: str) -> List[Tuple[str, str]]:
+    """The commands of a page, which begin with `$`, each with what it prints; `./test` itself is left out.
+
+    Lines that begin with `>` go on with a command. The lines below it, up to an empty one, are what it prints; where
+    there are none, nothing is said of what it prints.
+    """
+    found: List[Tuple[List[str], List[str]]] = []
+    is_open = False
+    for line in (ROOT / page).read_text().splitlines():
+        if line.startswith("    $ "):
+            found.append(([line[6:]], []))
+        elif is_open and (line.startswith("    > ") or line == "    >"):
+            found[-1][0].append(line[6:])
+        elif is_open and line.startswith("    "):
+            found[-1][1].append(line[4:])
+        is_open = line.startswith("    $ ") or is_open and line.startswith("    ")
+    joined = [("\n".join(lines), "\n".join(printed)) for lines, printed in found]
+    return [it for it in joined if not it[0].startswith("./test")]
+
+
+def pattern_of(printed: str) -> str:
+    """A pattern of what a command prints, in which two dots behind a space are any text."""
+    return re.escape(printed).replace(re.escape(" .."), " .*")
 
 
 @needs_networkx
 @needs_program
-class Using(unittest.TestCase):
+class Examples(unittest.TestCase):
     def setUp(self):
         folder = tempfile.TemporaryDirectory()
         self.addCleanup(folder.cleanup)
-        self.addCleanup(os.chdir, os.getcwd())
-        os.chdir(folder.name)
+        self.folder = folder.name
 
-    def examples(self, page: str):
-        """The examples of a page; without matplotlib those that draw are left out."""
-        found = doctest.DocTestParser().get_doctest((ROOT / page).read_text(), {}, page, page, 0)
-        if find_spec("matplotlib") is None:
-            found.examples = [example for example in found.examples if "draw" not in example.source]
-        return found
-
-    def test_examples(self):
+    def test_python(self):
         os.environ.setdefault("MPLBACKEND", "Agg")
-        told = []
-        runner = doctest.DocTestRunner(optionflags=doctest.ELLIPSIS, verbose=False)
-        examples = self.examples("docs/USING.md")
-        self.assertGreater(len(examples.examples), 40)
-        result = runner.run(examples, out=told.append)
-        self.assertEqual(result.failed, 0, "".join(told))
+        self.addCleanup(os.chdir, os.getcwd())
+        os.chdir(self.folder)
+        for page in PAGES:
+            told = []
+            examples = python_examples(page)
+            self.assertTrue(examples.examples, page)
+            result = doctest.DocTestRunner(optionflags=doctest.ELLIPSIS, verbose=False).run(examples, out=told.append)
+            self.assertEqual(result.failed, 0, "".join(told))
+
+    def check_commands(self, page: str):
+        todo = commands(page)
+        self.assertTrue(todo, page)
+        script = "\n".join(f"{{ {command}\n}} 2>&1\necho '{MARK}'" for command, _ in todo)
+        words = {"HOME": self.folder, "PATH": os.path.dirname(sys.executable) + os.pathsep + os.environ["PATH"]}
+        ran = subprocess.run(["bash", "-c", script], cwd=ROOT, env={**os.environ, **words}, stdout=subprocess.PIPE, universal_newlines=True)
+        told = ran.stdout.split(MARK + "\n")
+        self.assertEqual(len(told), len(todo) + 1, ran.stdout)
+        for (command, printed), text in zip(todo, told):
+            if printed:
+                self.assertRegex(text.rstrip("\n"), re.compile(rf"\A{pattern_of(printed)}\Z", re.DOTALL), command)
+
+    def test_readme_commands(self):
+        self.check_commands("README.md")
+
+    @unittest.skipUnless(shutil.which("parallel"), "left out: GNU parallel is not there")
+    def test_using_commands(self):
+        self.check_commands("docs/USING.md")
+
+    def test_readme_script(self):
+        """The script that is shown with words beside it is the example file that the commands below it name."""
+        page = (ROOT / "README.md").read_text()
+        shown = page[page.index('    {"prices":') :].split("\n\n")[0]
+        script = "".join(line.strip().split("   ")[0] for line in shown.splitlines())
+        file = ROOT / "crates" / "topo_examples" / "data" / "across_the_cheap_side.json"
+        self.assertEqual("".join(script.split()), "".join(file.read_text().split()))
 
 
 if __name__ == "__main__":
