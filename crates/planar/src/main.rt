@@ -5,6 +5,8 @@
 use clap::error::ErrorKind;
 use std::process::ExitCode;
 use std::rt::Env;
+use std::sync::Wait;
+use std::thread::Threads;
 use std::{env, io};
 use topo_cli::answer;
 use topo_settings::RunFault;
@@ -51,8 +53,12 @@ fn read_verb<R: Env + Eprint + AllocGlobal>(rt: &R) -> Result<Verb, u8> {
 }
 
 /// Carries out a command on standard input and standard output.
-fn carry_out<R: Input + Print + Eprint + AllocGlobal>(rt: &R, verb: Verb) -> u8 {
-    match answer(rt.alloc(), verb, &mut rt.reader(), &mut io::writer(rt)) {
+fn carry_out<R: Input + Print + Eprint + AllocGlobal + Threads + Wait + Sync>(
+    rt: &R,
+    verb: Verb,
+) -> u8 {
+    let (mut reader, mut writer) = (rt.reader(), io::writer(rt));
+    match answer(rt, rt.alloc(), verb, &mut reader, &mut writer) {
         Ok(()) => DONE,
         Err(fault) => tell(rt, &fault),
     }

@@ -5,7 +5,7 @@ use crate::streams::{EndlessReader, FailingWriter, NeverReader, SlowReader};
 use std::alloc::Global;
 use std::test::Fail;
 use topo_check::{check_io, replay_io};
-use topo_run::run_io;
+use topo_run::{OpenGate, run_io};
 use topo_script::ScriptFault;
 use topo_settings::RunFault;
 
@@ -40,13 +40,13 @@ fn lengths(rt: HostRuntime) -> Result<(), Fail> {
     let mut written: Vec<u8> = Vec::new(alloc);
     let longest = padded(alloc, LONGEST)?;
     let mut slow = SlowReader::new(longest.as_slice());
-    assert!(rt; run_io(alloc, &mut slow, &mut written) == Ok(()));
+    assert!(rt; run_io(&rt, alloc, &mut slow, &mut written, &OpenGate) == Ok(()));
     assert_eq!(rt; slow.calls, 2 * 1_048_576 + 2);
     assert!(rt; written.as_slice() == REPORT.as_bytes());
     let mut written: Vec<u8> = Vec::new(alloc);
     let too_long = padded(alloc, LONGEST + 1)?;
     let mut reader = too_long.as_slice();
-    let told = run_io(alloc, &mut reader, &mut written);
+    let told = run_io(&rt, alloc, &mut reader, &mut written, &OpenGate);
     assert!(rt; told == Err(RunFault::Script(ScriptFault::TooLong)));
     assert!(rt; written.is_empty());
     Ok(())
@@ -57,10 +57,10 @@ fn readers_without_an_end(rt: HostRuntime) -> Result<(), Fail> {
     let alloc = rt.alloc();
     let mut written: Vec<u8> = Vec::new(alloc);
     let mut never = NeverReader { calls: 0 };
-    assert!(rt; run_io(alloc, &mut never, &mut written) == Err(RunFault::ReadFault));
+    assert!(rt; run_io(&rt, alloc, &mut never, &mut written, &OpenGate) == Err(RunFault::ReadFault));
     assert_eq!(rt; never.calls, 2 * 1_048_576 + 2);
     let mut endless = EndlessReader { given: 0 };
-    let told = run_io(alloc, &mut endless, &mut written);
+    let told = run_io(&rt, alloc, &mut endless, &mut written, &OpenGate);
     assert!(rt; told == Err(RunFault::Script(ScriptFault::TooLong)));
     assert_eq!(rt; endless.given, LONGEST + 1);
     assert!(rt; written.is_empty());
@@ -86,7 +86,7 @@ fn failing_readers(rt: HostRuntime) -> Result<(), Fail> {
     let alloc = rt.alloc();
     let mut written: Vec<u8> = Vec::new(alloc);
     let mut broken = SlowReader::broken(SCRIPT.as_bytes());
-    assert!(rt; run_io(alloc, &mut broken, &mut written) == Err(RunFault::ReadFault));
+    assert!(rt; run_io(&rt, alloc, &mut broken, &mut written, &OpenGate) == Err(RunFault::ReadFault));
     let mut broken = SlowReader::broken(REPORT.as_bytes());
     assert!(rt; replay_io(alloc, &mut broken, &mut written) == Err(RunFault::ReadFault));
     let mut broken = SlowReader::broken(JOINED.as_bytes());
@@ -107,7 +107,7 @@ fn failing_writers(rt: HostRuntime) -> Result<(), Fail> {
     for room in [0, 1, 100] {
         let mut reader = SCRIPT.as_bytes();
         let mut writer = FailingWriter::new(alloc, room);
-        assert!(rt; run_io(alloc, &mut reader, &mut writer) == Err(RunFault::WriteFault));
+        assert!(rt; run_io(&rt, alloc, &mut reader, &mut writer, &OpenGate) == Err(RunFault::WriteFault));
         assert!(rt; is_cut(&writer, REPORT, room));
     }
     for room in [0, 1, 16] {
@@ -130,7 +130,7 @@ fn writers_with_just_enough_room(rt: HostRuntime) -> Result<(), Fail> {
     let alloc = rt.alloc();
     let mut reader = SCRIPT.as_bytes();
     let mut writer = FailingWriter::new(alloc, REPORT.len());
-    assert!(rt; run_io(alloc, &mut reader, &mut writer) == Ok(()));
+    assert!(rt; run_io(&rt, alloc, &mut reader, &mut writer, &OpenGate) == Ok(()));
     assert!(rt; writer.kept.as_slice() == REPORT.as_bytes());
     Ok(())
 }
