@@ -1,6 +1,7 @@
 -- Passes that have carried lists out, and whose receipts are the whole history, make a run of the lists.
-use Rattle.std.proofs.Common.{◌≡◌, ℕ, zero, suc, ◌+◌, ◌<◌, ◌≤◌, ◌⊎◌, List, [], ◌∷◌, ◌++◌, All, Option, map, length, take, get_or, slice_index_or, refl, sym, ap, subst, ◌∙◌, inl, inr, arith, length-append}
+use Rattle.std.proofs.Common.{◌≡◌, ℕ, zero, suc, ◌+◌, ◌<◌, ◌≤◌, ◌⊎◌, List, [], ◌∷◌, ◌++◌, All, Option, map, length, take, get_or, slice_get, slice_index_or, Some, refl, sym, ap, subst, ◌∙◌, inl, inr, arith, length-append}
 use Rattle.std.proofs.lemmas.List.{get_or_append_left, get_or-append-add, take_all}
+use Rattle.topo_core.specs.declared.rows.Facts.{Facts}
 use Rattle.topo_core.specs.declared.rows.Rows.{Rows}
 use Rattle.topo_core.specs.declared.limits.Limits.{Limits}
 use Rattle.topo_core.specs.declared.calls.Call.{Call}
@@ -17,8 +18,8 @@ use Rattle.topo_service.specs.Passes.{PassState}
 use Rattle.topo_service.specs.Receipts.{AreWhole, HasNumber, receipt_in, receipts_due}
 use Rattle.topo_service.proofs.Numbers.{number_at}
 use Rattle.topo_price.specs.Prices.{Asking, prices_of}
-use Rattle.topo_settings.specs.Settings.{priced}
-use Rattle.topo_settings.proofs.Pricing.{run_so}
+use Rattle.topo_settings.specs.Settings.{price_table, priced}
+use Rattle.topo_settings.proofs.Pricing.{back, run_so, there}
 use Rattle.topo_run.specs.Runs.{AnswersPrices}
 use Rattle.topo_run.specs.Working.{AreSeated, HasWorked, HaveWorked}
 
@@ -71,13 +72,18 @@ has_number lists passes n worked below = number_at n passes n no_pass below (wor
 
 -- ---- Seats
 
+-- a place in a list with one more element is before the last, or the last
+place_cases : (i n : ℕ) → i < n + 1 → (i < n) ⊎ (i ≡ n + 0)
+place_cases zero zero h = inr refl
+place_cases zero (suc n) h = inl (omega arith)
+place_cases (suc i) zero h = absurd (omega arith)
+place_cases (suc i) (suc n) h = elim (place_cases i n (omega arith)) [ inl e ↦ inl (omega arith) | inr e ↦ inr (omega arith) ]
+
 pub seated_push : (passes : List PassState) (pass : PassState) → AreSeated passes → pass.number ≡ length passes → pass.receipts ≡ [] → AreSeated (passes ++ pass ∷ [])
-seated_push passes pass seated number receipts i d below = at (i_cases i (length passes) (omega (arith, length-append passes (pass ∷ [])))) where
-  i_cases : (i n : ℕ) → i < n + 1 → (i < n) ⊎ (i ≡ n + 0)
-  i_cases i n h = omega arith
-  at : (i < length passes) ⊎ (i ≡ length passes + 0) → ((get_or (passes ++ pass ∷ []) i d).number ≡ i) × ((get_or (passes ++ pass ∷ []) i d).receipts ≡ [])
-  at (inl before) = rw (get_or_append_left passes (pass ∷ []) d i before) (seated i d before)
-  at (inr last) = rw (last, get_or-append-add passes (pass ∷ []) 0 d) (omega (arith, number), receipts)
+seated_push passes pass seated number receipts i d below = elim (place_cases i (length passes) (omega (arith, length-append passes (pass ∷ [])))) [
+    inl before ↦ rw (get_or_append_left passes (pass ∷ []) d i before) (seated i d before)
+  | inr last ↦ rw (last, get_or-append-add passes (pass ∷ []) 0 d) (omega (arith, number), receipts)
+]
 
 -- ---- Workers
 
@@ -103,7 +109,18 @@ all_worked old new lists ends seated as_many still one_each done ended = record 
 
 -- ---- Prices
 
--- a run at the prices that a closure answers is one at the script's, where it answers those
-pub own_run : (answers : Asking) (prices : List (Option ℕ)) (limits : Limits) (p q : Rows) (lists : List (List Command)) (history : List Entry) → AnswersPrices answers prices
-    → IsRun (prices_of answers) limits p lists history q → IsRun (priced prices) limits p lists history q
-own_run answers prices limits p q lists history own run = run_so (prices_of answers) (priced prices) own.only own.each limits p lists history q run
+-- a run of copies of the lists, at the prices that a closure answers, is one of the lists at the script's prices, where it
+-- answers those
+pub own_run : (answers : Asking) (prices : List (Option ℕ)) (limits : Limits) (p q : Rows) (lists copies : List (List Command)) (history : List Entry) → AnswersPrices answers prices
+    → copies ≡ lists → IsRun (prices_of answers) limits p copies history q → IsRun (priced prices) limits p lists history q
+own_run answers prices limits p q lists copies history own same run =
+    subst (λ (ls : List (List Command)). IsRun (priced prices) limits p ls history q) same (run_so (prices_of answers) (priced prices) own.only own.each limits p copies history q run)
+
+-- a closure that answers what a table of the script's prices has
+pub own_prices : (answers : Asking) (prices table : List (Option ℕ)) → table ≡ price_table prices
+    → ((facts : Facts) (n : ℕ) → answers facts (Some n) → slice_get table facts.kind ≡ Some (Some n))
+    → ((facts : Facts) (n : ℕ) → slice_get table facts.kind ≡ Some (Some n) → answers facts (Some n)) → AnswersPrices answers prices
+own_prices answers prices table is tells told = record {
+  only = there (prices_of answers) prices table is tells told;
+  each = back (prices_of answers) prices table is tells told;
+}

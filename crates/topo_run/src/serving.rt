@@ -84,8 +84,9 @@ fn are_done(ends: &[WorkerEnd]) -> bool
     ensures { result ≡ true → All (λ end. end ≡ WorkerEnd.Done) ends.now }
 {
     for end in ends {
-        if !matches!(end, WorkerEnd::Done) {
-            return false;
+        match end {
+            WorkerEnd::Done => {}
+            WorkerEnd::OutOfMemory(_) => return false,
         }
     }
     true

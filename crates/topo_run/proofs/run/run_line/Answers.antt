@@ -1,8 +1,9 @@
 use Rattle.std.proofs.Common.{◌≡◌, ap, rules, subst, ◌∙◌}
 use Rattle.topo_core.specs.declared.rows.Rows.{Rows}
-use Rattle.topo_settings.proofs.Pricing.{ok_so}
+use Rattle.topo_settings.proofs.Pricing.{err_so, ok_so}
 use Rattle.topo_settings.proofs.Setting.{sound_so}
-use Rattle.topo_settings.specs.Settings.{start_of}
+use Rattle.topo_settings.specs.Settings.{IsSound, start_of}
+use Rattle.topo_run.proofs.Telling.{service_fails}
 use Rattle.topo_run.specs.Runs.{IsReportFrom}
 use Rattle.topo_run.proofs.run.run_line.Goals as goal
 
@@ -22,3 +23,11 @@ returns-clause-line g c = ok_so c.priced_line.result _ _
         line = shown.line;
       })
     c.priced_line.ensures.line
+
+pub returns-clause-fault : goal.returns-clause-fault
+returns-clause-fault g c =
+    let script = c.args.script.now in
+    let limits = c.in_ok-table.start.limits in
+    let begun : _ ≡ script.start = search rules in
+    let sound : IsSound script.limits script.prices script.start limits = sound_so script.limits _ script.prices _ script.start limits c.as_slice-prices.ensures begun c.in_ok-table.ensures.sound in
+    err_so c.priced_line.result _ _ (λ fault is. service_fails script fault (record { limits = limits; sound = sound }) is) c.priced_line.ensures.fault
