@@ -1,5 +1,5 @@
 -- Passes that have carried lists out, and whose receipts are the whole history, make a run of the lists.
-use Rattle.std.proofs.Common.{◌≡◌, ℕ, zero, suc, ◌+◌, ◌<◌, ◌≤◌, ◌⊎◌, List, [], ◌∷◌, ◌++◌, All, Option, map, length, take, get_or, slice_get, slice_index_or, Some, refl, sym, ap, subst, ◌∙◌, inl, inr, arith, length-append}
+use Rattle.std.proofs.Common.{◌≡◌, ℕ, zero, suc, ◌+◌, ◌<◌, ◌≤◌, ◌⊎◌, List, [], ◌∷◌, ◌++◌, All, Option, Result, Ok, Err, IfOk, map, length, take, get_or, slice_get, slice_index_or, Some, refl, sym, ap, subst, ◌∙◌, inl, inr, arith, length-append}
 use Rattle.std.proofs.lemmas.List.{get_or_append_left, get_or-append-add, take_all}
 use Rattle.topo_core.specs.declared.rows.Facts.{Facts}
 use Rattle.topo_core.specs.declared.rows.Rows.{Rows}
@@ -10,6 +10,7 @@ use Rattle.topo_core.specs.declared.calls.Entry.{Entry}
 use Rattle.topo_core.specs.Items.{IsIn}
 use Rattle.topo_core.specs.Routes.{Pricing}
 use Rattle.topo_core.specs.History.{IsRun, Replays, call_of, entries_of}
+use Rattle.topo_frozen.specs.Shown.{Shown}
 use Rattle.topo_service.specs.declared.pass.Receipt.{Receipt}
 use Rattle.topo_service.specs.declared.workers.WorkerEnd.{WorkerEnd}
 use Rattle.topo_service.specs.declared.workers.WorkerEnd.TheVariants.{Done, OutOfMemory}
@@ -106,6 +107,30 @@ all_worked old new lists ends seated as_many still one_each done ended = record 
     worked_one i (get_or old i p) (get_or new i p) (slice_index_or lists i []) seat.0 seat.1
     (done_so (get_or old i p) (get_or new i p) (slice_index_or lists i []) (get_or ends i Done) (done i Done (omega (arith, one_each))) (ended i p Done below));
 }
+
+pub take_before : (passes rest : List PassState) (n : ℕ) → n ≡ length passes → take n (passes ++ rest) ≡ passes
+take_before [] rest zero is = refl
+take_before [] rest (suc n) is = absurd (omega arith)
+take_before (pass ∷ passes) rest zero is = absurd (omega arith)
+take_before (pass ∷ passes) rest (suc n) is = ap (λ (ps : List PassState). pass ∷ ps) (take_before passes rest n (omega arith))
+
+-- ---- The end of a service
+
+-- what a service that was closed has made of the lists
+pub served : {F : Type 0} (answers : F → Asking) (closure own : F) (first start : Shown) (picture : Rows) (lists : List (List Command)) (passes : List PassState) (history : List Entry)
+    → closure ≡ own → first ≡ start → HaveWorked lists passes → AreWhole history passes → Replays (prices_of (answers closure)) first.limits first.rows history picture
+    → IsRun (prices_of (answers own)) start.limits start.rows lists history picture
+served {F} answers closure own first start picture lists passes history same_closure same_start worked whole replayed =
+    let begun : Replays (prices_of (answers closure)) start.limits start.rows history picture =
+    subst (λ (s : Shown). Replays (prices_of (answers closure)) s.limits s.rows history picture) same_start replayed in
+    let asked : Replays (prices_of (answers own)) start.limits start.rows history picture =
+    subst (λ (f : F). Replays (prices_of (answers f)) start.limits start.rows history picture) same_closure begun in
+    run_of_passes (prices_of (answers own)) start.limits start.rows picture lists passes history worked whole asked
+
+-- what holds of a result's value and follows from two facts of it
+pub ok_both : {A E : Type 0} (r : Result A E) (P Q R : A → Type 0) → ((a : A) → P a → Q a → R a) → IfOk r P → IfOk r Q → IfOk r R
+ok_both (Ok a) P Q R f p q = f a p q
+ok_both (Err e) P Q R f p q = p
 
 -- ---- Prices
 
