@@ -1,5 +1,5 @@
 -- Passes that have carried lists out, and whose receipts are the whole history, make a run of the lists.
-use Rattle.std.proofs.Common.{◌≡◌, ℕ, zero, suc, ◌+◌, ◌<◌, ◌≤◌, ◌⊎◌, List, [], ◌∷◌, ◌++◌, All, Option, Result, Ok, Err, IfOk, map, length, take, get_or, slice_get, slice_index_or, Some, refl, sym, ap, subst, ◌∙◌, inl, inr, arith, length-append}
+use Rattle.std.proofs.Common.{◌≡◌, ℕ, zero, suc, ◌+◌, ◌<◌, ◌⊎◌, List, [], ◌∷◌, ◌++◌, All, Option, Result, Ok, Err, IfOk, map, length, take, get_or, slice_get, slice_index_or, Some, refl, sym, ap, subst, ◌∙◌, inl, inr, arith, length-append}
 use Rattle.std.proofs.lemmas.List.{get_or_append_left, get_or-append-add, take_all}
 use Rattle.topo_core.specs.declared.rows.Facts.{Facts}
 use Rattle.topo_core.specs.declared.rows.Rows.{Rows}
@@ -13,7 +13,7 @@ use Rattle.topo_core.specs.History.{IsRun, Replays, call_of, entries_of}
 use Rattle.topo_frozen.specs.Shown.{Shown}
 use Rattle.topo_service.specs.declared.pass.Receipt.{Receipt}
 use Rattle.topo_service.specs.declared.workers.WorkerEnd.{WorkerEnd}
-use Rattle.topo_service.specs.declared.workers.WorkerEnd.TheVariants.{Done, OutOfMemory}
+use Rattle.topo_service.specs.declared.workers.WorkerEnd.TheVariants.{Done}
 use Rattle.topo_service.specs.Commands.{HasDone, HasEnded}
 use Rattle.topo_service.specs.Passes.{PassState}
 use Rattle.topo_service.specs.Receipts.{AreWhole, HasNumber, receipt_in, receipts_due}
@@ -82,7 +82,7 @@ place_cases (suc i) (suc n) h = elim (place_cases i n (omega arith)) [ inl e ↦
 
 pub seated_push : (passes : List PassState) (pass : PassState) → AreSeated passes → pass.number ≡ length passes → pass.receipts ≡ [] → AreSeated (passes ++ pass ∷ [])
 seated_push passes pass seated number receipts i d below = elim (place_cases i (length passes) (omega (arith, length-append passes (pass ∷ [])))) [
-    inl before ↦ rw (get_or_append_left passes (pass ∷ []) d i before) (seated i d before)
+  | inl before ↦ rw (get_or_append_left passes (pass ∷ []) d i before) (seated i d before)
   | inr last ↦ rw (last, get_or-append-add passes (pass ∷ []) 0 d) (omega (arith, number), receipts)
 ]
 
@@ -103,9 +103,9 @@ pub all_worked : (old new : List PassState) (lists : List (List Command)) (ends 
 all_worked old new lists ends seated as_many still one_each done ended = record {
   count = still;
   each = λ i p below.
-    let seat = seated i p (omega (arith, as_many)) in
-    worked_one i (get_or old i p) (get_or new i p) (slice_index_or lists i []) seat.0 seat.1
-    (done_so (get_or old i p) (get_or new i p) (slice_index_or lists i []) (get_or ends i Done) (done i Done (omega (arith, one_each))) (ended i p Done below));
+      let seat = seated i p (omega (arith, as_many)) in
+      worked_one i (get_or old i p) (get_or new i p) (slice_index_or lists i []) seat.0 seat.1
+      (done_so (get_or old i p) (get_or new i p) (slice_index_or lists i []) (get_or ends i Done) (done i Done (omega (arith, one_each))) (ended i p Done below));
 }
 
 pub take_before : (passes rest : List PassState) (n : ℕ) → n ≡ length passes → take n (passes ++ rest) ≡ passes

@@ -1,5 +1,5 @@
 -- What is told of a script, of bytes, and of what was read and written.
-use Rattle.std.proofs.Common.{◌≡◌, ℕ, List, Option, Ok, subst}
+use Rattle.std.proofs.Common.{◌≡◌, ℕ, List, Option, Ok}
 use Rattle.std.specs.Io.KnownBytes.{Keeps}
 use Rattle.topo_forms.specs.declared.scripts.Script.{Script}
 use Rattle.topo_forms.specs.Scripts.{script_of}

@@ -10,18 +10,18 @@ use Rattle.topo_run.proofs.run.run_line.Goals as goal
 pub returns-clause-line : goal.returns-clause-line
 returns-clause-line g c = ok_so c.priced_line.result _ _
     (λ line shown.
-      let script = c.args.script.now in
-      let limits = c.in_ok-table.start.limits in
-      let begun : _ ≡ script.start = search rules in
-      record {
-        report = shown.report;
-        made = record {
-          limits = limits;
-          sound = sound_so script.limits _ script.prices _ script.start limits c.as_slice-prices.ensures begun c.in_ok-table.ensures.sound;
-          made = subst (λ (p : Rows). IsReportFrom script limits p shown.report) (c.in_ok-table.ensures.rows ∙ ap start_of begun) shown.made;
-        };
-        line = shown.line;
-      })
+    let script = c.args.script.now in
+    let limits = c.in_ok-table.start.limits in
+    let begun : _ ≡ script.start = search rules in
+    record {
+      report = shown.report;
+      made = record {
+        limits = limits;
+        sound = sound_so script.limits _ script.prices _ script.start limits c.as_slice-prices.ensures begun c.in_ok-table.ensures.sound;
+        made = subst (λ (p : Rows). IsReportFrom script limits p shown.report) (c.in_ok-table.ensures.rows ∙ ap start_of begun) shown.made;
+      };
+      line = shown.line;
+    })
     c.priced_line.ensures.line
 
 pub returns-clause-fault : goal.returns-clause-fault

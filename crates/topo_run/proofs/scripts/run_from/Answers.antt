@@ -1,4 +1,4 @@
-use Rattle.std.proofs.Common.{◌≡◌, map, rules, ◌∙◌, ap}
+use Rattle.std.proofs.Common.{◌≡◌, map, ◌∙◌, ap}
 use Rattle.std.specs.Arc.{arc_value}
 use Rattle.topo_service.specs.Commands.{commands}
 use Rattle.topo_run.proofs.Passing.{own_run}
@@ -15,5 +15,5 @@ returns-clause-report g c =
       same_prices = heading.prices;
       same_start = heading.start;
       run = own_run (g.F.Asks.answers (arc_value c.args.tariff)) script.prices c.args.start.limits c.args.start.rows course.picture script.workers (map commands c.as_slice-2.result.now) course.history
-      c.requires same c.in_ok-course.ensures.run;
+          c.requires same c.in_ok-course.ensures.run;
     }

@@ -10,14 +10,14 @@ use Rattle.topo_run.proofs.scripts.run_script.Goals as goal
 pub returns-clause-report : goal.returns-clause-report
 returns-clause-report g c = ok_so c.run_from.result _ _
     (λ report made.
-      let script = c.args.script.now in
-      let limits = c.in_ok-_table.start.limits in
-      let begun : _ ≡ script.start = search rules in
-      record {
-        limits = limits;
-        sound = sound_so script.limits _ script.prices _ script.start limits c.as_slice-prices.ensures begun c.in_ok-_table.ensures.sound;
-        made = subst (λ (p : Rows). IsReportFrom script limits p report) (c.in_ok-_table.ensures.rows ∙ ap start_of begun) made;
-      })
+    let script = c.args.script.now in
+    let limits = c.in_ok-_table.start.limits in
+    let begun : _ ≡ script.start = search rules in
+    record {
+      limits = limits;
+      sound = sound_so script.limits _ script.prices _ script.start limits c.as_slice-prices.ensures begun c.in_ok-_table.ensures.sound;
+      made = subst (λ (p : Rows). IsReportFrom script limits p report) (c.in_ok-_table.ensures.rows ∙ ap start_of begun) made;
+    })
     c.run_from.ensures.report
 
 pub returns-clause-fault : goal.returns-clause-fault

@@ -1,4 +1,4 @@
-use Rattle.std.proofs.Common.{◌≡◌, List, ◌++◌, ◌∷◌, [], arith, length, length-append, rules, subst, sym}
+use Rattle.std.proofs.Common.{◌≡◌, List, ◌++◌, ◌∷◌, [], arith, length-append, rules, subst, sym}
 use Rattle.topo_run.proofs.Passing.{seated_push}
 use Rattle.topo_run.specs.Working.{AreSeated}
 use Rattle.topo_service.specs.Passes.{PassState}

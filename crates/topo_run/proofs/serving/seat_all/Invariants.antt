@@ -1,4 +1,4 @@
-use Rattle.std.proofs.Common.{◌≡◌, ◌≤◌, length}
+use Rattle.std.proofs.Common.{◌≡◌, length}
 use Rattle.topo_run.specs.Working.{AreSeated}
 use Rattle.topo_run.proofs.serving.seat_all.Given as goal
 

@@ -1,11 +1,10 @@
-use Rattle.std.proofs.Common.{◌≡◌, ◌<◌, List, arith, length, map, rules, subst, sym, ◌∙◌}
+use Rattle.std.proofs.Common.{List, arith, map, subst, sym, ◌∙◌}
 use Rattle.std.specs.Arc.{arc_value}
 use Rattle.topo_core.specs.declared.calls.Entry.{Entry}
 use Rattle.topo_core.specs.declared.rows.Rows.{Rows}
 use Rattle.topo_core.specs.History.{IsRun}
 use Rattle.topo_price.specs.Prices.{prices_of}
 use Rattle.topo_service.specs.declared.faults.EndFault.{EndFault}
-use Rattle.topo_service.specs.declared.faults.EndFault.TheVariants.{PassMissing}
 use Rattle.topo_service.specs.Commands.{commands}
 use Rattle.topo_service.specs.Faults.{IsEndFault}
 use Rattle.topo_service.specs.Passes.{PassState}
@@ -29,5 +28,5 @@ returns-in-Ok-close-clause-run g c =
     c.in-Ok-work_all.passes.items book.history (closed.tariff ∙ c.in-Ok-work_all.ensures.same ∙ c.in-Ok.ensures.tariff) (closed.start ∙ sym c.requires.start) c.in-Ok-work_all.ensures.worked closed.whole closed.legal in
     ok_both c.course_of.result _ _ _
     (λ course history picture. subst (λ (es : List Entry). IsRun (prices_of (g.F.Asks.answers own)) start.limits start.rows lists es course.picture) (sym history)
-      (subst (λ (p : Rows). IsRun (prices_of (g.F.Asks.answers own)) start.limits start.rows lists book.history p) (sym picture) run))
+    (subst (λ (p : Rows). IsRun (prices_of (g.F.Asks.answers own)) start.limits start.rows lists book.history p) (sym picture) run))
     c.course_of.ensures.history c.course_of.ensures.picture

@@ -1,4 +1,4 @@
-use Rattle.std.proofs.Common.{◌≡◌, ◌<◌, ℕ, All, List, ap, arith, drop, length, map, rules, subst, sym, ◌∙◌}
+use Rattle.std.proofs.Common.{◌≡◌, ◌<◌, All, List, ap, arith, drop, length, map, rules, subst, sym, ◌∙◌}
 use Rattle.std.proofs.lemmas.List.{length-map}
 use Rattle.topo_core.specs.declared.calls.Command.{Command}
 use Rattle.topo_service.specs.declared.workers.WorkerEnd.{WorkerEnd}
@@ -24,6 +24,6 @@ returns-then-are_done-clause-worked g c =
     let done : All (λ (end : WorkerEnd). end ≡ Done) ends = subst (λ (es : List WorkerEnd). All (λ (end : WorkerEnd). end ≡ Done) es) c.as_slice.ensures.value (c.are_done.ensures c.if-are_done.true) in
     let len : c.in_ok-passes.passes.len ≡ length new = search (rules, arith) in
     let worked : HaveWorked lists new = all_worked old new lists ends seated as_many (still ∙ as_many) one_each done (λ i p e below.
-      let here : i < length c.args.lists.now = omega (arith, count, below) in
-      c.in-Ok.ensures.ended i p e here) in
+    let here : i < length c.args.lists.now = omega (arith, count, below) in
+    c.in-Ok.ensures.ended i p e here) in
     subst (λ (ps : List PassState). HaveWorked lists ps) (sym (take_before new (drop (length new) c.in_ok-passes.passes.items) c.in_ok-passes.passes.len len)) worked
