@@ -13,6 +13,7 @@ fn main(rt: HostRuntime) -> ExitCode {
     let mut err = rt.stderr();
     let outcome = match read_words(&rt) {
         Ok(words) => perform(
+            &rt,
             rt.alloc(),
             words.as_slice(),
             &mut rt.reader(),

@@ -2,7 +2,7 @@
 use Rattle.std.proofs.Common.{◌≡◌, ℕ, List, Option, subst}
 use Rattle.std.specs.Io.KnownBytes.{Appends, Keeps}
 use Rattle.topo_settings.specs.declared.fault.RunFault.{RunFault}
-use Rattle.topo_settings.specs.declared.fault.RunFault.TheVariants.{Memory, Script, BadLimits, Price, Load, WrongReply, WrongPicture, ReadFault, WriteFault}
+use Rattle.topo_settings.specs.declared.fault.RunFault.TheVariants.{Memory, Script, BadLimits, Price, Load, NoSeat, Mismatch, WrongReply, WrongPicture, ReadFault, WriteFault}
 use Rattle.topo_settings.specs.Reading.{IsRead}
 use Rattle.topo_settings.specs.Writing.{AppendsPart, IsOfWriting}
 use Rattle.topo_settings.proofs.Faults.{by_writing}
@@ -28,6 +28,8 @@ module _ (old_left new_left old_held new_held : Option (List ℕ)) where
     replay_fails BadLimits is kept = (untrue BadLimits is, kept)
     replay_fails (Price fault) is kept = (untrue (Price fault) is, kept)
     replay_fails (Load fault) is kept = (untrue (Load fault) is, kept)
+    replay_fails NoSeat is kept = absurd is
+    replay_fails (Mismatch list i) is kept = absurd is
     replay_fails (WrongReply i) is kept = (untrue (WrongReply i) is, kept)
     replay_fails WrongPicture is kept = (untrue WrongPicture is, kept)
     replay_fails ReadFault is kept = absurd is
@@ -53,6 +55,8 @@ module _ (old_left new_left old_held new_held : Option (List ℕ)) where
     check_fails BadLimits is kept = absurd is
     check_fails (Price fault) is kept = absurd is
     check_fails (Load fault) is kept = (record { rows = is.rows; spelled = record { input = bytes; read = read; spelled = is.spelled }; limits = is.limits; greatest = is.greatest; first = is.first }, kept)
+    check_fails NoSeat is kept = absurd is
+    check_fails (Mismatch list i) is kept = absurd is
     check_fails (WrongReply i) is kept = absurd is
     check_fails WrongPicture is kept = absurd is
     check_fails ReadFault is kept = absurd is

@@ -11,7 +11,7 @@ use Rattle.topo_picture.specs.Totals.{AreCountsOf}
 use Rattle.topo_forms.specs.Reads.{IsFirstFault}
 use Rattle.topo_forms.specs.RowForms.{rows_of}
 use Rattle.topo_settings.specs.declared.fault.RunFault.{RunFault}
-use Rattle.topo_settings.specs.declared.fault.RunFault.TheVariants.{Memory, Script, BadLimits, Price, Load, WrongReply, WrongPicture, ReadFault, WriteFault}
+use Rattle.topo_settings.specs.declared.fault.RunFault.TheVariants.{Memory, Script, BadLimits, Price, Load, NoSeat, Mismatch, WrongReply, WrongPicture, ReadFault, WriteFault}
 use Rattle.topo_settings.specs.Limiting.{AreGreatest}
 use Rattle.topo_settings.specs.Reading.{Spells, SpellsNone}
 use Rattle.topo_settings.specs.Writing.{AppendsPart}
@@ -49,6 +49,8 @@ IsUnlawful bytes (Script fault) = IsFirstFault (rows_of bytes) fault
 IsUnlawful bytes BadLimits = ⊥
 IsUnlawful bytes (Price fault) = ⊥
 IsUnlawful bytes (Load fault) = IsUnlawfulAt bytes fault
+IsUnlawful bytes NoSeat = ⊥
+IsUnlawful bytes (Mismatch list i) = ⊥
 IsUnlawful bytes (WrongReply i) = ⊥
 IsUnlawful bytes WrongPicture = ⊥
 IsUnlawful bytes ReadFault = ⊥
@@ -95,6 +97,8 @@ CheckFailsBy (Script fault) old_left new_left old_held new_held = SpellsNone row
 CheckFailsBy BadLimits old_left new_left old_held new_held = ⊥
 CheckFailsBy (Price fault) old_left new_left old_held new_held = ⊥
 CheckFailsBy (Load fault) old_left new_left old_held new_held = IsUnlawfulInput old_left new_left fault × Keeps old_held new_held
+CheckFailsBy NoSeat old_left new_left old_held new_held = ⊥
+CheckFailsBy (Mismatch list i) old_left new_left old_held new_held = ⊥
 CheckFailsBy (WrongReply i) old_left new_left old_held new_held = ⊥
 CheckFailsBy WrongPicture old_left new_left old_held new_held = ⊥
 CheckFailsBy ReadFault old_left new_left old_held new_held = Keeps old_held new_held

@@ -9,7 +9,7 @@ use Rattle.topo_forms.specs.Reads.{IsFirstFault}
 use Rattle.topo_forms.specs.Scripts.{report_of}
 use Rattle.topo_forms.specs.declared.reports.Report.{Report}
 use Rattle.topo_settings.specs.declared.fault.RunFault.{RunFault}
-use Rattle.topo_settings.specs.declared.fault.RunFault.TheVariants.{Memory, Script, BadLimits, Price, Load, WrongReply, WrongPicture, ReadFault, WriteFault}
+use Rattle.topo_settings.specs.declared.fault.RunFault.TheVariants.{Memory, Script, BadLimits, Price, Load, NoSeat, Mismatch, WrongReply, WrongPicture, ReadFault, WriteFault}
 use Rattle.topo_settings.specs.Reading.{Spells, SpellsNone}
 use Rattle.topo_settings.specs.Settings.{IsSound, IsUnsound, priced}
 use Rattle.topo_settings.specs.Writing.{AppendsPart}
@@ -79,6 +79,8 @@ TellsUntrue bytes (Script fault) = IsFirstFault (report_of bytes) fault
 TellsUntrue bytes BadLimits = IsUntrueReport bytes BadLimits
 TellsUntrue bytes (Price fault) = IsUntrueReport bytes (Price fault)
 TellsUntrue bytes (Load fault) = IsUntrueReport bytes (Load fault)
+TellsUntrue bytes NoSeat = ⊥
+TellsUntrue bytes (Mismatch list i) = ⊥
 TellsUntrue bytes (WrongReply i) = IsUntrueReport bytes (WrongReply i)
 TellsUntrue bytes WrongPicture = IsUntrueReport bytes WrongPicture
 TellsUntrue bytes ReadFault = ⊥
@@ -119,6 +121,8 @@ ReplayFailsBy (Script fault) old_left new_left old_held new_held = SpellsNone re
 ReplayFailsBy BadLimits old_left new_left old_held new_held = ReportsUntruly old_left new_left BadLimits × Keeps old_held new_held
 ReplayFailsBy (Price fault) old_left new_left old_held new_held = ReportsUntruly old_left new_left (Price fault) × Keeps old_held new_held
 ReplayFailsBy (Load fault) old_left new_left old_held new_held = ReportsUntruly old_left new_left (Load fault) × Keeps old_held new_held
+ReplayFailsBy NoSeat old_left new_left old_held new_held = ⊥
+ReplayFailsBy (Mismatch list i) old_left new_left old_held new_held = ⊥
 ReplayFailsBy (WrongReply i) old_left new_left old_held new_held = ReportsUntruly old_left new_left (WrongReply i) × Keeps old_held new_held
 ReplayFailsBy WrongPicture old_left new_left old_held new_held = ReportsUntruly old_left new_left WrongPicture × Keeps old_held new_held
 ReplayFailsBy ReadFault old_left new_left old_held new_held = Keeps old_held new_held

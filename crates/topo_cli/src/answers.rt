@@ -5,23 +5,26 @@ ghost use Rattle.topo_cli.specs.Commands.{CommandFailsBy, IsAnswered};
 
 use std::alloc::Global;
 use std::io::{Read, Write};
+use std::sync::Wait;
+use std::thread::Threads;
 use topo_check::{check_io, replay_io};
-use topo_run::run_io;
+use topo_run::{OpenGate, run_io};
 use topo_settings::RunFault;
 use topo_words::Verb;
 
 /// Carries out a command: it reads its input from the reader and writes its answer to the writer.
-pub fn answer<R: Read, W: Write>(
+pub fn answer<R: Threads + Wait + Sync, I: Read, O: Write>(
+    rt: &R,
     alloc: Global,
     verb: Verb,
-    reader: &mut R,
-    writer: &mut W,
+    reader: &mut I,
+    writer: &mut O,
 ) -> Result<(), RunFault>
-    ensures done { IfOk result (λ _. IsAnswered verb (R.remaining reader.old) (R.remaining reader.new) (W.contents writer.old) (W.contents writer.new)) }
-    ensures fault { IfErr result (λ fault. CommandFailsBy verb fault (R.remaining reader.old) (R.remaining reader.new) (W.contents writer.old) (W.contents writer.new)) }
+    ensures done { IfOk result (λ _. IsAnswered verb (I.remaining reader.old) (I.remaining reader.new) (O.contents writer.old) (O.contents writer.new)) }
+    ensures fault { IfErr result (λ fault. CommandFailsBy verb fault (I.remaining reader.old) (I.remaining reader.new) (O.contents writer.old) (O.contents writer.new)) }
 {
     match verb {
-        Verb::Run => run_io(alloc, reader, writer),
+        Verb::Run => run_io(rt, alloc, reader, writer, &OpenGate),
         Verb::Replay => replay_io(alloc, reader, writer),
         Verb::Check => check_io(alloc, reader, writer),
     }

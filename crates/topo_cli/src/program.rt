@@ -11,6 +11,8 @@ use clap::error::ErrorKind;
 use std::alloc::Global;
 use std::convert::AsStr;
 use std::io::{Read, Write};
+use std::sync::Wait;
+use std::thread::Threads;
 use topo_settings::RunFault;
 use topo_words::Verb;
 use topo_words::verbs::verb;
@@ -55,17 +57,18 @@ enum Unread {
 /// Reads the words, of which the first is the program's name, and carries out the command that they ask
 /// for, on the reader and `out`. A fault is one line on `err`. Where `clap` refuses the words, or they ask
 /// for help, its text goes to `err`, and nothing is read. A write to `err` that fails changes no status.
-pub fn perform<'a, S: AsStr, R: Read, W: Write, E: Write>(
+pub fn perform<'a, R: Threads + Wait + Sync, S: AsStr, I: Read, O: Write, E: Write>(
+    rt: &R,
     alloc: Global,
     words: &'a [S],
-    reader: &mut R,
-    out: &mut W,
+    reader: &mut I,
+    out: &mut O,
     err: &mut E,
 ) -> Outcome
-    ensures { Performs (map S.text words.entry.now) result (R.remaining reader.old) (R.remaining reader.new) (W.contents out.old) (W.contents out.new) (E.contents err.old) (E.contents err.new) }
+    ensures { Performs (map S.text words.entry.now) result (I.remaining reader.old) (I.remaining reader.new) (O.contents out.old) (O.contents out.new) (E.contents err.old) (E.contents err.new) }
 {
     match read_verb(alloc, words) {
-        Ok(verb) => carry_out(alloc, verb, reader, out, err),
+        Ok(verb) => carry_out(rt, alloc, verb, reader, out, err),
         Err(unread) => turn_down(&unread, err),
     }
 }
@@ -102,16 +105,17 @@ fn read_verb<'a, S: AsStr>(alloc: Global, words: &'a [S]) -> Result<Verb, Unread
 }
 
 /// Carries out a command. A fault is told on `err`.
-fn carry_out<R: Read, W: Write, E: Write>(
+fn carry_out<R: Threads + Wait + Sync, I: Read, O: Write, E: Write>(
+    rt: &R,
     alloc: Global,
     verb: Verb,
-    reader: &mut R,
-    out: &mut W,
+    reader: &mut I,
+    out: &mut O,
     err: &mut E,
 ) -> Outcome
-    ensures { CarriesOut verb result (R.remaining reader.old) (R.remaining reader.new) (W.contents out.old) (W.contents out.new) (E.contents err.old) (E.contents err.new) }
+    ensures { CarriesOut verb result (I.remaining reader.old) (I.remaining reader.new) (O.contents out.old) (O.contents out.new) (E.contents err.old) (E.contents err.new) }
 {
-    match answer(alloc, verb, reader, out) {
+    match answer(rt, alloc, verb, reader, out) {
         Ok(()) => Outcome {
             status: DONE,
             is_told: true,

@@ -2,9 +2,12 @@
 
 use std::alloc::{AllocError, Global};
 use std::fmt::Display;
+use std::sync::Wait;
+use std::thread::Threads;
 use topo_check::{check_io, replay_io};
 use topo_core::rows::Rows;
-use topo_run::run_io;
+use topo_forms::Report;
+use topo_run::{OpenGate, run_io};
 use topo_script::{ScriptFault, picture_text, read_report, read_rows, read_script, report};
 
 /// What is done with the bytes of a row.
@@ -12,6 +15,12 @@ use topo_script::{ScriptFault, picture_text, read_report, read_rows, read_script
 pub(crate) enum Command {
     /// The script is run.
     Run,
+    /// The script is run, and its report is replayed.
+    RunAndReplay,
+    /// The script is run, and the calls of each caller in its report are counted.
+    RunAndCount,
+    /// The script is run, and the picture at the end of its report is checked.
+    RunAndCheck,
     /// The report is replayed.
     Replay,
     /// The picture is checked.
@@ -35,6 +44,9 @@ impl Command {
     pub(crate) fn from_name(name: &str) -> Option<Self> {
         match name {
             "run" => Some(Command::Run),
+            "run and replay" => Some(Command::RunAndReplay),
+            "run and count" => Some(Command::RunAndCount),
+            "run and check" => Some(Command::RunAndCheck),
             "replay" => Some(Command::Replay),
             "check" => Some(Command::Check),
             "check start" => Some(Command::CheckStart),
@@ -48,9 +60,17 @@ impl Command {
     }
 
     /// What the command prints on these bytes: what it writes, or its fault.
-    pub(crate) fn printed(self, alloc: Global, bytes: &[u8]) -> Result<Vec<u8>, AllocError> {
+    pub(crate) fn printed<R: Threads + Wait + Sync>(
+        self,
+        rt: &R,
+        alloc: Global,
+        bytes: &[u8],
+    ) -> Result<Vec<u8>, AllocError> {
         match self {
-            Command::Run => run(alloc, bytes),
+            Command::Run => run(rt, alloc, bytes),
+            Command::RunAndReplay => replay(alloc, run(rt, alloc, bytes)?.as_slice()),
+            Command::RunAndCount => count_calls(alloc, run(rt, alloc, bytes)?.as_slice()),
+            Command::RunAndCheck => check_end(alloc, run(rt, alloc, bytes)?.as_slice()),
             Command::Replay => replay(alloc, bytes),
             Command::Check => check(alloc, bytes),
             Command::CheckStart => check_start(alloc, bytes),
@@ -83,10 +103,14 @@ fn told<E: Display + Drop>(
     }
 }
 
-fn run(alloc: Global, bytes: &[u8]) -> Result<Vec<u8>, AllocError> {
+fn run<R: Threads + Wait + Sync>(
+    rt: &R,
+    alloc: Global,
+    bytes: &[u8],
+) -> Result<Vec<u8>, AllocError> {
     let mut reader = bytes;
     let mut written: Vec<u8> = Vec::new(alloc);
-    let ended = run_io(alloc, &mut reader, &mut written);
+    let ended = run_io(rt, alloc, &mut reader, &mut written, &OpenGate);
     told(alloc, ended, written)
 }
 
@@ -102,6 +126,33 @@ fn check(alloc: Global, bytes: &[u8]) -> Result<Vec<u8>, AllocError> {
     let mut written: Vec<u8> = Vec::new(alloc);
     let ended = check_io(alloc, &mut reader, &mut written);
     told(alloc, ended, written)
+}
+
+/// How many calls a caller has in a report.
+fn calls_of(made: &Report, caller: u32) -> usize {
+    made.history
+        .as_slice()
+        .iter()
+        .filter(|entry| entry.caller == caller)
+        .count()
+}
+
+/// The numbers of calls of the callers of a report, from caller 0 to the last that has any.
+fn count_calls(alloc: Global, bytes: &[u8]) -> Result<Vec<u8>, AllocError> {
+    let made = match read_report(alloc, bytes) {
+        Ok(made) => made,
+        Err(fault) => return line_of(format!(in alloc; "{fault}")?),
+    };
+    let mut line = String::from_str(alloc, "calls")?;
+    let mut counted = 0;
+    for caller in 0..16 {
+        if counted < made.history.as_slice().len() {
+            let calls = calls_of(&made, caller);
+            counted = calls.saturating_add(counted);
+            line.push_str(format!(in alloc; " {calls}")?.as_str())?;
+        }
+    }
+    line_of(line)
 }
 
 fn check_start(alloc: Global, bytes: &[u8]) -> Result<Vec<u8>, AllocError> {

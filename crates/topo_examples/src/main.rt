@@ -7,6 +7,8 @@
 use anyhow::Result;
 use std::io;
 use std::rt::Files;
+use std::sync::Wait;
+use std::thread::Threads;
 
 mod commands;
 mod rows;
@@ -15,7 +17,7 @@ mod texts;
 use rows::judge_table;
 
 /// Each table that standard input names.
-fn run<R: Input + Print + Files + AllocGlobal>(rt: &R) -> Result<()> {
+fn run<R: Input + Print + Files + AllocGlobal + Threads + Wait + Sync>(rt: &R) -> Result<()> {
     let names = io::read_to_string(rt.alloc(), rt.reader())?;
     for name in names.split_whitespace() {
         judge_table(rt, name)?;

@@ -10,6 +10,8 @@ use crate::texts::{bytes_of, changed};
 use anyhow::{Context, Result};
 use std::alloc::Global;
 use std::rt::Files;
+use std::sync::Wait;
+use std::thread::Threads;
 
 /// Whether a line of a table is a row: an empty one and a remark, which begins with `#`, are not.
 fn is_row(line: &str) -> bool {
@@ -17,7 +19,10 @@ fn is_row(line: &str) -> bool {
 }
 
 /// Counts the rows of a table, and those that print what is wanted.
-pub(crate) fn judge_table<R: Print + Files + AllocGlobal>(rt: &R, name: &str) -> Result<()> {
+pub(crate) fn judge_table<R: Print + Files + AllocGlobal + Threads + Wait + Sync>(
+    rt: &R,
+    name: &str,
+) -> Result<()> {
     let table = std::fs::read_to_string(rt, name).context("a table")?;
     let (mut rows, mut right) = (0u32, 0u32);
     for row in table.lines().filter(|line| is_row(line)) {
@@ -31,7 +36,10 @@ pub(crate) fn judge_table<R: Print + Files + AllocGlobal>(rt: &R, name: &str) ->
 }
 
 /// Whether a row prints what is wanted. If not, it is printed with what it prints.
-fn is_right<R: Print + Files + AllocGlobal>(rt: &R, row: &str) -> Result<bool> {
+fn is_right<R: Print + Files + AllocGlobal + Threads + Wait + Sync>(
+    rt: &R,
+    row: &str,
+) -> Result<bool> {
     let alloc = rt.alloc();
     let fields: Vec<&str> = row.split(" | ").collect(alloc)?;
     let [name, read, changes @ .., wanted] = fields.as_slice() else {
@@ -40,7 +48,7 @@ fn is_right<R: Print + Files + AllocGlobal>(rt: &R, row: &str) -> Result<bool> {
     };
     let bytes = changed(alloc, bytes_of(rt, *read)?, changes)?;
     let due = bytes_of(rt, *wanted)?;
-    match other(alloc, *name, bytes.as_slice(), due.as_slice())? {
+    match other(rt, alloc, *name, bytes.as_slice(), due.as_slice())? {
         None => Ok(true),
         Some(text) => {
             let got = String::from_utf8_lossy(alloc, text.as_slice())?;
@@ -51,14 +59,20 @@ fn is_right<R: Print + Files + AllocGlobal>(rt: &R, row: &str) -> Result<bool> {
 }
 
 /// What a command prints on these bytes, or on the first of their prefixes, that is not what is due.
-fn other(alloc: Global, name: &str, bytes: &[u8], due: &[u8]) -> Result<Option<Vec<u8>>> {
+fn other<R: Threads + Wait + Sync>(
+    rt: &R,
+    alloc: Global,
+    name: &str,
+    bytes: &[u8],
+    due: &[u8],
+) -> Result<Option<Vec<u8>>> {
     match name.strip_prefix("cut ") {
-        None => other_than(alloc, command(name)?, bytes, due),
+        None => other_than(rt, alloc, command(name)?, bytes, due),
         Some(whole) => {
             let command = command(whole)?;
             let line = bytes.strip_suffix(b"\n").unwrap_or(bytes);
             for end in 0..line.len() {
-                if let Some(text) = other_than(alloc, command, &line[..end], due)? {
+                if let Some(text) = other_than(rt, alloc, command, &line[..end], due)? {
                     return Ok(Some(text));
                 }
             }
@@ -73,13 +87,14 @@ fn command(name: &str) -> Result<Command> {
 }
 
 /// What a command prints on these bytes, if that is not what is due.
-fn other_than(
+fn other_than<R: Threads + Wait + Sync>(
+    rt: &R,
     alloc: Global,
     command: Command,
     bytes: &[u8],
     due: &[u8],
 ) -> Result<Option<Vec<u8>>> {
-    let text = command.printed(alloc, bytes)?;
+    let text = command.printed(rt, alloc, bytes)?;
     if text.as_slice() == due {
         Ok(None)
     } else {

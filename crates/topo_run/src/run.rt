@@ -1,84 +1,101 @@
 //! The command `run`.
 
-ghost use Rattle.std.specs.Prelude.{◌≡◌, IfOk, IfErr, None, ◌++◌, ◌∷◌, [], length, string_bytes};
+ghost use Rattle.std.specs.Prelude.{◌≡◌, IfErr, IfOk, None, ◌++◌, ◌∷◌, [], string_bytes};
 ghost use Rattle.topo_price.specs.Prices.{first_bad};
-ghost use Rattle.topo_run.specs.Runs.{FailsBy, IsDone, IsFaultOfBytes, IsLineOfBytes, IsRunLine, ShowsRun};
+ghost use Rattle.topo_run.specs.Runs.{FailsBy, FailsRun, IsDone, IsFaultOfBytes, IsLineOfBytes, IsRunLine, ShowsRun};
+ghost use Rattle.topo_run.specs.Working.{IsOfService};
 ghost use Rattle.topo_script.specs.ReportTexts.{report_text};
-ghost use Rattle.topo_settings.specs.Settings.{IsUnsound, price_table};
+ghost use Rattle.topo_settings.specs.Settings.{price_table};
 
-use crate::lists::read_one_list;
 use crate::scripts::priced_report;
 use std::alloc::{AllocError, Global};
 use std::io::{Read, Write};
+use std::sync::Wait;
+use std::thread::Threads;
 use topo_forms::script_forms::MAX_SCRIPT_BYTES;
-use topo_forms::{Report, Script};
+use topo_forms::{Report, Script, read_script};
 use topo_picture::Picture;
 use topo_price::table::PriceTable;
 use topo_script::report;
+use topo_service::Gate;
 use topo_settings::RunFault;
 use topo_settings::reading::read_bytes;
 use topo_settings::settings::setting;
 use topo_settings::writing::write_text;
 
-/// Reads a script, carries out its commands on its start under its limits and at its prices, and
-/// writes the text of the report and a line feed. A refused command is entered and changes nothing,
-/// and the run goes on. So far a script has one list: more lists are a fault of shape. The reader is
-/// read until its end, or until it has given one byte more than a script may have: in at most twice as
-/// many calls as a script may have bytes, and two; an interrupted call is one of them. ReadFault comes
-/// where a call fails otherwise or there are too few of them, WriteFault where a call of the writer
-/// fails.
-pub fn run_io<R: Read, W: Write>(
+/// Reads a script, carries out its lists on its start under its limits and at its prices, each list in a
+/// thread of its own or in its turn where no thread can be made, and writes the text of the report and a
+/// line feed. A command is carried out between the gate's calls for it. A refused command is entered and
+/// changes nothing, and the run goes on. The reader is read until its end, or until it has given one byte
+/// more than a script may have: in at most twice as many calls as a script may have bytes, and two; an
+/// interrupted call is one of them. ReadFault comes where a call fails otherwise or there are too few of
+/// them, WriteFault where a call of the writer fails.
+pub fn run_io<R: Threads + Wait + Sync, I: Read, O: Write, T: Gate>(
+    rt: &R,
     alloc: Global,
-    reader: &mut R,
-    writer: &mut W,
+    reader: &mut I,
+    writer: &mut O,
+    gate: &T,
 ) -> Result<(), RunFault>
-    ensures done { IfOk result (λ _. IsDone (R.remaining reader.old) (R.remaining reader.new) (W.contents writer.old) (W.contents writer.new)) }
-    ensures fault { IfErr result (λ fault. FailsBy fault (R.remaining reader.old) (R.remaining reader.new) (W.contents writer.old) (W.contents writer.new)) }
+    ensures done { IfOk result (λ _. IsDone (I.remaining reader.old) (I.remaining reader.new) (O.contents writer.old) (O.contents writer.new)) }
+    ensures fault { IfErr result (λ fault. FailsBy fault (I.remaining reader.old) (I.remaining reader.new) (O.contents writer.old) (O.contents writer.new)) }
 {
     let bytes = read_bytes(alloc, MAX_SCRIPT_BYTES as u32, reader)?;
-    let line = bytes_line(alloc, bytes.as_slice())?;
+    let line = bytes_line(rt, alloc, bytes.as_slice(), gate)?;
     write_text(writer, line.as_str())
 }
 
 /// The line that shows the run of the script that bytes spell, or the first fault.
-fn bytes_line(alloc: Global, bytes: &[u8]) -> Result<String, RunFault>
+fn bytes_line<R: Threads + Wait + Sync, T: Gate>(
+    rt: &R,
+    alloc: Global,
+    bytes: &[u8],
+    gate: &T,
+) -> Result<String, RunFault>
     ensures line { IfOk result (λ line. IsLineOfBytes bytes.now (string_bytes line)) }
     ensures fault { IfErr result (IsFaultOfBytes bytes.now) }
 {
-    match read_one_list(alloc, bytes) {
-        Ok(script) => run_line(alloc, &script),
+    match read_script(alloc, bytes) {
+        Ok(script) => run_line(rt, alloc, &script, gate),
         Err(fault) => Err(RunFault::Script(fault)),
     }
 }
 
-/// The line that shows the run of a script, or the first fault of its limits, its prices and its start.
-fn run_line(alloc: Global, script: &Script) -> Result<String, RunFault>
-    requires { length script.now.workers ≡ 1 }
+/// The line that shows the run of a script, or the first fault of its limits, its prices, its start and
+/// its service.
+fn run_line<R: Threads + Wait + Sync, T: Gate>(
+    rt: &R,
+    alloc: Global,
+    script: &Script,
+    gate: &T,
+) -> Result<String, RunFault>
     ensures line { IfOk result (λ line. IsRunLine script.now (string_bytes line)) }
-    ensures fault { IfErr result (IsUnsound script.now.limits script.now.prices script.now.start) }
+    ensures fault { IfErr result (FailsRun script.now) }
 {
     let prices = script.prices.as_slice();
     let (table, start) = setting(alloc, script.limits, prices, script.start.as_ref())?;
-    match priced_line(alloc, script, start, &table) {
-        Ok(line) => Ok(line),
-        Err(_) => Err(RunFault::Memory),
-    }
+    priced_line(rt, alloc, script, start, &table, gate)
 }
 
 /// The line that shows the run of a script at its own prices.
-fn priced_line(
+fn priced_line<R: Threads + Wait + Sync, T: Gate>(
+    rt: &R,
     alloc: Global,
     script: &Script,
     start: Picture,
     table: &PriceTable,
-) -> Result<String, AllocError>
-    requires one_list { length script.now.workers ≡ 1 }
+    gate: &T,
+) -> Result<String, RunFault>
     requires own { table.now ≡ price_table script.now.prices }
     requires good { first_bad (price_table script.now.prices) ≡ None }
-    ensures { IfOk result (λ line. ShowsRun script.now start.limits start.rows (string_bytes line)) }
+    ensures line { IfOk result (λ line. ShowsRun script.now start.limits start.rows (string_bytes line)) }
+    ensures fault { IfErr result IsOfService }
 {
-    let report = priced_report(alloc, script, start, table)?;
-    report_line(alloc, &report)
+    let report = priced_report(rt, alloc, script, start, table, gate)?;
+    match report_line(alloc, &report) {
+        Ok(line) => Ok(line),
+        Err(_) => Err(RunFault::Memory),
+    }
 }
 
 /// The text of a report and a line feed.

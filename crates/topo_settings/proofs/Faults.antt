@@ -1,7 +1,7 @@
 -- What follows of results, and of the fault of writing.
 use Rattle.std.proofs.Common.{Result, Ok, Err, IfErr, IfOk, OnErr, OnOk}
 use Rattle.topo_settings.specs.declared.fault.RunFault.{RunFault}
-use Rattle.topo_settings.specs.declared.fault.RunFault.TheVariants.{Memory, Script, BadLimits, Price, Load, WrongReply, WrongPicture, ReadFault, WriteFault}
+use Rattle.topo_settings.specs.declared.fault.RunFault.TheVariants.{Memory, Script, BadLimits, Price, Load, NoSeat, Mismatch, WrongReply, WrongPicture, ReadFault, WriteFault}
 use Rattle.topo_settings.specs.Writing.{IsOfWriting}
 
 -- what holds of the fault of writing holds of each
@@ -11,6 +11,8 @@ by_writing P (Script fault) is write = absurd is
 by_writing P BadLimits is write = absurd is
 by_writing P (Price fault) is write = absurd is
 by_writing P (Load fault) is write = absurd is
+by_writing P NoSeat is write = absurd is
+by_writing P (Mismatch list i) is write = absurd is
 by_writing P (WrongReply i) is write = absurd is
 by_writing P WrongPicture is write = absurd is
 by_writing P ReadFault is write = absurd is

@@ -14,7 +14,7 @@ use Rattle.topo_price.specs.declared.table.PriceFault.TheVariants.{BadPrice}
 use Rattle.topo_price.specs.Prices.{first_bad}
 use Rattle.topo_forms.specs.declared.scripts.LimitRows.{LimitRows}
 use Rattle.topo_settings.specs.declared.fault.RunFault.{RunFault}
-use Rattle.topo_settings.specs.declared.fault.RunFault.TheVariants.{Memory, Script, BadLimits, Price, Load, WrongReply, WrongPicture, ReadFault, WriteFault}
+use Rattle.topo_settings.specs.declared.fault.RunFault.TheVariants.{Memory, Script, BadLimits, Price, Load, NoSeat, Mismatch, WrongReply, WrongPicture, ReadFault, WriteFault}
 use Rattle.topo_settings.specs.Limiting.{AreLimits}
 
 -- ---- Prices
@@ -68,6 +68,8 @@ IsUnsound numbers prices start BadLimits = HasLimits numbers → ⊥
 IsUnsound numbers prices start (Price fault) = HasLimits numbers × IsBadPrice prices fault
 IsUnsound numbers prices start (Load fault) = (first_bad (price_table prices) ≡ None) × HasBadStart numbers start fault
 IsUnsound numbers prices start (Script fault) = ⊥
+IsUnsound numbers prices start NoSeat = ⊥
+IsUnsound numbers prices start (Mismatch list i) = ⊥
 IsUnsound numbers prices start (WrongReply i) = ⊥
 IsUnsound numbers prices start WrongPicture = ⊥
 IsUnsound numbers prices start ReadFault = ⊥

@@ -4,7 +4,7 @@ use Rattle.topo_forms.specs.FaultTexts.{fault_name as script_name, fault_number 
 use Rattle.topo_frozen.specs.FaultTexts.{fault_name as load_name, fault_number as load_number, fault_text as load_text}
 use Rattle.topo_price.specs.FaultTexts.{fault_name as price_name, fault_number as price_number, fault_text as price_text}
 use Rattle.topo_settings.specs.declared.fault.RunFault.{RunFault}
-use Rattle.topo_settings.specs.declared.fault.RunFault.TheVariants.{Memory, Script, BadLimits, Price, Load, WrongReply, WrongPicture, ReadFault, WriteFault}
+use Rattle.topo_settings.specs.declared.fault.RunFault.TheVariants.{Memory, Script, BadLimits, Price, Load, NoSeat, Mismatch, WrongReply, WrongPicture, ReadFault, WriteFault}
 
 abbrev pub fault_number : RunFault → ℕ
 fault_number Memory = 8
@@ -12,6 +12,8 @@ fault_number (Script fault) = script_number fault
 fault_number BadLimits = 11
 fault_number (Price fault) = price_number fault
 fault_number (Load fault) = load_number fault
+fault_number NoSeat = 41
+fault_number (Mismatch list place) = 40
 fault_number (WrongReply place) = 60
 fault_number WrongPicture = 61
 fault_number ReadFault = 55
@@ -23,6 +25,8 @@ fault_name (Script fault) = script_name fault
 fault_name BadLimits = codes "BadLimits"
 fault_name (Price fault) = price_name fault
 fault_name (Load fault) = load_name fault
+fault_name NoSeat = codes "NoSeat"
+fault_name (Mismatch list place) = codes "Mismatch"
 fault_name (WrongReply place) = codes "WrongReply"
 fault_name WrongPicture = codes "WrongPicture"
 fault_name ReadFault = codes "ReadFault"
@@ -31,13 +35,15 @@ fault_name WriteFault = codes "WriteFault"
 abbrev pub numbered : RunFault → List ℕ
 numbered fault = decimal (fault_number fault) ++ (codes " " ++ fault_name fault)
 
--- the number, the name, and where the fault has one, its value
+-- the number, the name, and what values the fault has
 abbrev pub fault_text : RunFault → List ℕ
 fault_text Memory = numbered Memory
 fault_text (Script fault) = script_text fault
 fault_text BadLimits = numbered BadLimits
 fault_text (Price fault) = price_text fault
 fault_text (Load fault) = load_text fault
+fault_text NoSeat = numbered NoSeat
+fault_text (Mismatch list place) = decimal (fault_number (Mismatch list place)) ++ (codes " " ++ (fault_name (Mismatch list place) ++ (codes " " ++ (decimal list ++ (codes " " ++ decimal place)))))
 fault_text (WrongReply place) = decimal (fault_number (WrongReply place)) ++ (codes " " ++ (fault_name (WrongReply place) ++ (codes " " ++ decimal place)))
 fault_text WrongPicture = numbered WrongPicture
 fault_text ReadFault = numbered ReadFault

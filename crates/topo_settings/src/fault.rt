@@ -22,6 +22,12 @@ pub enum RunFault {
     Price(PriceFault),
     /// The rows are no picture within the limits.
     Load(LoadFault),
+    /// No place was left for a list of the script: there are more than 16 lists, or the store of versions
+    /// gives no further reader.
+    NoSeat,
+    /// The receipt at this place, counted from 0, of the list at the first place is not the entry of its
+    /// call.
+    Mismatch(u32, usize),
     /// The entry of the report's history at this place, counted from 0, is the first whose reply is not
     /// the one due.
     WrongReply(usize),
@@ -44,6 +50,8 @@ impl RunFault {
             RunFault::BadLimits => 11,
             RunFault::Price(fault) => fault.number(),
             RunFault::Load(fault) => fault.number(),
+            RunFault::NoSeat => 41,
+            RunFault::Mismatch(_, _) => 40,
             RunFault::WrongReply(_) => 60,
             RunFault::WrongPicture => 61,
             RunFault::ReadFault => 55,
@@ -61,6 +69,8 @@ impl RunFault {
             RunFault::BadLimits => "BadLimits",
             RunFault::Price(fault) => fault.name(),
             RunFault::Load(fault) => fault.name(),
+            RunFault::NoSeat => "NoSeat",
+            RunFault::Mismatch(_, _) => "Mismatch",
             RunFault::WrongReply(_) => "WrongReply",
             RunFault::WrongPicture => "WrongPicture",
             RunFault::ReadFault => "ReadFault",
@@ -86,6 +96,7 @@ impl fmt::Display for RunFault {
             RunFault::Script(fault) => write!(f, "{fault}"),
             RunFault::Price(fault) => write!(f, "{fault}"),
             RunFault::Load(fault) => write!(f, "{fault}"),
+            RunFault::Mismatch(list, place) => write!(f, "{number} {name} {list} {place}"),
             RunFault::WrongReply(place) => write!(f, "{number} {name} {place}"),
             _ => write!(f, "{number} {name}"),
         }

@@ -7,7 +7,7 @@ use crate::streams::{
 use std::alloc::Global;
 use std::test::Fail;
 use topo_check::{check_io, replay_io};
-use topo_run::run_io;
+use topo_run::{OpenGate, run_io};
 use topo_script::ScriptFault;
 use topo_settings::RunFault;
 
@@ -42,13 +42,13 @@ fn lengths(rt: HostRuntime) -> Result<(), Fail> {
     let mut written: Vec<u8> = Vec::new(alloc);
     let longest = padded(alloc, LONGEST)?;
     let mut slow = SlowReader::new(longest.as_slice());
-    assert!(rt; run_io(alloc, &mut slow, &mut written) == Ok(()));
+    assert!(rt; run_io(&rt, alloc, &mut slow, &mut written, &OpenGate) == Ok(()));
     assert_eq!(rt; slow.calls, 2 * 1_048_576 + 2);
     assert!(rt; written.as_slice() == REPORT.as_bytes());
     let mut written: Vec<u8> = Vec::new(alloc);
     let too_long = padded(alloc, LONGEST + 1)?;
     let mut reader = too_long.as_slice();
-    let told = run_io(alloc, &mut reader, &mut written);
+    let told = run_io(&rt, alloc, &mut reader, &mut written, &OpenGate);
     assert!(rt; told == Err(RunFault::Script(ScriptFault::TooLong)));
     assert!(rt; written.is_empty());
     Ok(())
@@ -59,10 +59,10 @@ fn readers_without_an_end(rt: HostRuntime) -> Result<(), Fail> {
     let alloc = rt.alloc();
     let mut written: Vec<u8> = Vec::new(alloc);
     let mut never = NeverReader { calls: 0 };
-    assert!(rt; run_io(alloc, &mut never, &mut written) == Err(RunFault::ReadFault));
+    assert!(rt; run_io(&rt, alloc, &mut never, &mut written, &OpenGate) == Err(RunFault::ReadFault));
     assert_eq!(rt; never.calls, 2 * 1_048_576 + 2);
     let mut endless = EndlessReader { given: 0 };
-    let told = run_io(alloc, &mut endless, &mut written);
+    let told = run_io(&rt, alloc, &mut endless, &mut written, &OpenGate);
     assert!(rt; told == Err(RunFault::Script(ScriptFault::TooLong)));
     assert_eq!(rt; endless.given, LONGEST + 1);
     assert!(rt; written.is_empty());
@@ -88,7 +88,7 @@ fn failing_readers(rt: HostRuntime) -> Result<(), Fail> {
     let alloc = rt.alloc();
     let mut written: Vec<u8> = Vec::new(alloc);
     let mut broken = SlowReader::broken(SCRIPT.as_bytes());
-    assert!(rt; run_io(alloc, &mut broken, &mut written) == Err(RunFault::ReadFault));
+    assert!(rt; run_io(&rt, alloc, &mut broken, &mut written, &OpenGate) == Err(RunFault::ReadFault));
     let mut broken = SlowReader::broken(REPORT.as_bytes());
     assert!(rt; replay_io(alloc, &mut broken, &mut written) == Err(RunFault::ReadFault));
     let mut broken = SlowReader::broken(JOINED.as_bytes());
@@ -109,7 +109,7 @@ fn failing_writers(rt: HostRuntime) -> Result<(), Fail> {
     for room in [0, 1, 100] {
         let mut reader = SCRIPT.as_bytes();
         let mut writer = FailingWriter::new(alloc, room);
-        assert!(rt; run_io(alloc, &mut reader, &mut writer) == Err(RunFault::WriteFault));
+        assert!(rt; run_io(&rt, alloc, &mut reader, &mut writer, &OpenGate) == Err(RunFault::WriteFault));
         assert!(rt; is_cut(&writer, REPORT, room));
     }
     for room in [0, 1, 16] {
@@ -132,7 +132,7 @@ fn writers_with_just_enough_room(rt: HostRuntime) -> Result<(), Fail> {
     let alloc = rt.alloc();
     let mut reader = SCRIPT.as_bytes();
     let mut writer = FailingWriter::new(alloc, REPORT.len());
-    assert!(rt; run_io(alloc, &mut reader, &mut writer) == Ok(()));
+    assert!(rt; run_io(&rt, alloc, &mut reader, &mut writer, &OpenGate) == Ok(()));
     assert!(rt; writer.kept.as_slice() == REPORT.as_bytes());
     Ok(())
 }
@@ -143,7 +143,7 @@ fn readers_that_break(rt: HostRuntime) -> Result<(), Fail> {
     let mut written: Vec<u8> = Vec::new(alloc);
     for turns in 0..SCRIPT.len() + 1 {
         let mut reader = BreakingReader::new(SCRIPT.as_bytes(), turns);
-        assert!(rt; run_io(alloc, &mut reader, &mut written) == Err(RunFault::ReadFault));
+        assert!(rt; run_io(&rt, alloc, &mut reader, &mut written, &OpenGate) == Err(RunFault::ReadFault));
     }
     for turns in 0..REPORT.len() + 1 {
         let mut reader = BreakingReader::new(REPORT.as_bytes(), turns);
@@ -155,7 +155,7 @@ fn readers_that_break(rt: HostRuntime) -> Result<(), Fail> {
     }
     assert!(rt; written.is_empty());
     let mut reader = BreakingReader::new(SCRIPT.as_bytes(), SCRIPT.len() + 1);
-    assert!(rt; run_io(alloc, &mut reader, &mut written) == Ok(()));
+    assert!(rt; run_io(&rt, alloc, &mut reader, &mut written, &OpenGate) == Ok(()));
     assert!(rt; written.as_slice() == REPORT.as_bytes());
     Ok(())
 }
@@ -164,7 +164,7 @@ fn readers_that_break(rt: HostRuntime) -> Result<(), Fail> {
 fn slow_writers(rt: HostRuntime) -> Result<(), Fail> {
     let alloc = rt.alloc();
     let mut writer = SlowWriter::new(alloc);
-    assert!(rt; run_io(alloc, &mut SCRIPT.as_bytes(), &mut writer) == Ok(()));
+    assert!(rt; run_io(&rt, alloc, &mut SCRIPT.as_bytes(), &mut writer, &OpenGate) == Ok(()));
     assert!(rt; writer.kept.as_slice() == REPORT.as_bytes());
     assert_eq!(rt; writer.passed_on, REPORT.len());
     let mut writer = SlowWriter::new(alloc);
@@ -181,14 +181,14 @@ fn slow_writers(rt: HostRuntime) -> Result<(), Fail> {
 #[test]
 fn writers_that_take_nothing(rt: HostRuntime) -> Result<(), Fail> {
     let alloc = rt.alloc();
-    let told = run_io(alloc, &mut SCRIPT.as_bytes(), &mut FullWriter);
+    let told = run_io(&rt, alloc, &mut SCRIPT.as_bytes(), &mut FullWriter, &OpenGate);
     assert!(rt; told == Err(RunFault::WriteFault));
     let told = replay_io(alloc, &mut REPORT.as_bytes(), &mut FullWriter);
     assert!(rt; told == Err(RunFault::WriteFault));
     let told = check_io(alloc, &mut JOINED.as_bytes(), &mut FullWriter);
     assert!(rt; told == Err(RunFault::WriteFault));
     let mut stuck = SlowWriter::stuck(alloc);
-    let told = run_io(alloc, &mut SCRIPT.as_bytes(), &mut stuck);
+    let told = run_io(&rt, alloc, &mut SCRIPT.as_bytes(), &mut stuck, &OpenGate);
     assert!(rt; told == Err(RunFault::WriteFault));
     assert!(rt; stuck.kept.as_slice() == REPORT.as_bytes());
     Ok(())

@@ -63,6 +63,8 @@ fn faults_of_commands(rt: HostRuntime) -> Result<(), Fail> {
         (RunFault::Script(ScriptFault::Memory), "8 Memory"),
         (RunFault::ReadFault, "55 ReadFault"),
         (RunFault::WriteFault, "56 WriteFault"),
+        (RunFault::NoSeat, "41 NoSeat"),
+        (RunFault::Mismatch(1, 2), "40 Mismatch 1 2"),
         (RunFault::WrongReply(17), "60 WrongReply 17"),
         (RunFault::WrongPicture, "61 WrongPicture"),
     ];

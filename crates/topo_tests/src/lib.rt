@@ -13,6 +13,8 @@ mod faults;
 #[cfg(test)]
 mod first_routes;
 #[cfg(test)]
+mod gates;
+#[cfg(test)]
 mod permutations;
 #[cfg(test)]
 mod pictures;

@@ -5,7 +5,9 @@ use crate::pictures::JOINED;
 use crate::streams::{BreakingReader, EndlessReader, FailingWriter, FullWriter, SlowWriter};
 use std::alloc::Global;
 use std::process::Abort;
+use std::sync::Wait;
 use std::test::Fail;
+use std::thread::Threads;
 use topo_cli::program::WordsFault;
 use topo_cli::{Outcome, perform, refuse};
 
@@ -46,8 +48,8 @@ fn ends(status: u8) -> Outcome {
 }
 
 /// The words on this input end the program with this status, and write just these texts.
-fn check_row(
-    rt: &impl Abort,
+fn check_row<R: Threads + Wait + Abort + Sync>(
+    rt: &R,
     alloc: Global,
     words: &[&str],
     input: &str,
@@ -56,7 +58,7 @@ fn check_row(
     let (status, written, told) = wanted;
     let mut out: Vec<u8> = Vec::new(alloc);
     let mut err: Vec<u8> = Vec::new(alloc);
-    let outcome = perform(alloc, words, &mut input.as_bytes(), &mut out, &mut err);
+    let outcome = perform(rt, alloc, words, &mut input.as_bytes(), &mut out, &mut err);
     assert!(rt; outcome == ends(status));
     assert!(rt; out.as_slice() == written.as_bytes());
     assert!(rt; err.as_slice() == told.as_bytes());
@@ -122,7 +124,7 @@ fn broken_readers(rt: HostRuntime) -> Result<(), Fail> {
         let mut reader = BreakingReader::new(SCRIPT.as_bytes(), turns);
         let mut out: Vec<u8> = Vec::new(alloc);
         let mut err: Vec<u8> = Vec::new(alloc);
-        let outcome = perform(alloc, &["planar", "run"], &mut reader, &mut out, &mut err);
+        let outcome = perform(&rt, alloc, &["planar", "run"], &mut reader, &mut out, &mut err);
         assert!(rt; outcome == ends(1));
         assert!(rt; out.is_empty());
         assert!(rt; err.as_slice() == "planar: 55 ReadFault\n".as_bytes());
@@ -130,7 +132,7 @@ fn broken_readers(rt: HostRuntime) -> Result<(), Fail> {
     let mut endless = EndlessReader { given: 0 };
     let mut out: Vec<u8> = Vec::new(alloc);
     let mut err: Vec<u8> = Vec::new(alloc);
-    let outcome = perform(alloc, &["planar", "run"], &mut endless, &mut out, &mut err);
+    let outcome = perform(&rt, alloc, &["planar", "run"], &mut endless, &mut out, &mut err);
     assert!(rt; outcome == ends(1));
     assert!(rt; out.is_empty());
     assert!(rt; err.as_slice() == "planar: 51 TooLong\n".as_bytes());
@@ -144,7 +146,7 @@ fn broken_writers(rt: HostRuntime) -> Result<(), Fail> {
     for room in [0, 1, 100] {
         let mut out = FailingWriter::new(alloc, room);
         let mut err = SlowWriter::new(alloc);
-        let outcome = perform(alloc, &words, &mut SCRIPT.as_bytes(), &mut out, &mut err);
+        let outcome = perform(&rt, alloc, &words, &mut SCRIPT.as_bytes(), &mut out, &mut err);
         assert!(rt; outcome == ends(1));
         assert!(rt; out.kept.as_slice() == &REPORT.as_bytes()[..room]);
         assert!(rt; err.kept.as_slice() == "planar: 56 WriteFault\n".as_bytes());
@@ -156,6 +158,7 @@ fn broken_writers(rt: HostRuntime) -> Result<(), Fail> {
     };
     let mut err = FailingWriter::new(alloc, 10);
     let outcome = perform(
+        &rt,
         alloc,
         &words,
         &mut SCRIPT.as_bytes(),
@@ -166,6 +169,7 @@ fn broken_writers(rt: HostRuntime) -> Result<(), Fail> {
     assert!(rt; err.kept.as_slice() == "planar: 56".as_bytes());
     let mut out = SlowWriter::new(alloc);
     let outcome = perform(
+        &rt,
         alloc,
         &words,
         &mut SCRIPT.as_bytes(),

@@ -32,19 +32,23 @@ Statuses:
 const RUN: &str = "Reads a script and prints the report of its run";
 
 const RUN_LONG: &str = "\
-Reads a script from standard input, carries out its commands one after another,
-and prints the report on one line of standard output: the start, each call with
-its reply, and the picture at the end.
+Reads a script from standard input, carries out each of its lists of commands in
+a thread of its own, and prints the report on one line of standard output: the
+start, each call with its list and its reply, and the picture at the end.
 
-A script is a JSON object with a version and one list of commands:
+A script is a JSON object with a version and one to sixteen lists of commands:
 
-  {\"version\":1,\"workers\":[[[\"grow\",1,0,0],[\"insert\",0,2,7],[\"delete\",0]]]}
+  {\"version\":1,\"workers\":[[[\"grow\",1,0,0],[\"insert\",0,2,7]],[[\"delete\",0]]]}
 
 [\"grow\",U,POSITION,KIND] puts a new vertex on a new edge, of a kind from 0 to
 63, into a corner of vertex U: the one before the edge at POSITION of its
 clockwise list. [\"insert\",U,V,KIND] draws a new edge from U to V along the first
-of the cheapest routes, and [\"delete\",E] takes edge E out. A command that is
-refused changes nothing, and the run goes on.
+of the cheapest routes, and [\"delete\",E] takes edge E out. [\"planned\",U,V,KIND]
+is an insertion that looks for its route while other calls go on. A command that
+is refused changes nothing, and the run goes on.
+
+The commands of a list are carried out in its order, those of several lists in
+any order: a script of several lists may have another report in each run.
 
 A script may also have \"start\", a picture; without it the run begins with the
 vertices 0 and 1, and edge 0 between them. \"limits\" says how large the picture

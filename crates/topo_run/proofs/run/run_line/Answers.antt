@@ -1,25 +1,33 @@
-use Rattle.std.proofs.Common.{◌≡◌, ap, rules, subst, sym, ◌∙◌}
+use Rattle.std.proofs.Common.{◌≡◌, ap, rules, subst, ◌∙◌}
 use Rattle.topo_core.specs.declared.rows.Rows.{Rows}
-use Rattle.topo_core.specs.History.{IsRun}
+use Rattle.topo_settings.proofs.Pricing.{err_so, ok_so}
 use Rattle.topo_settings.proofs.Setting.{sound_so}
-use Rattle.topo_settings.specs.Settings.{priced, start_of}
+use Rattle.topo_settings.specs.Settings.{IsSound, start_of}
+use Rattle.topo_run.proofs.Telling.{service_fails}
+use Rattle.topo_run.specs.Runs.{IsReportFrom}
 use Rattle.topo_run.proofs.run.run_line.Goals as goal
 
-pub returns-in-Ok-clause-line : goal.returns-in-Ok-clause-line
-returns-in-Ok-clause-line c =
+pub returns-clause-line : goal.returns-clause-line
+returns-clause-line g c = ok_so c.priced_line.result _ _
+    (λ line shown.
     let script = c.args.script.now in
     let limits = c.in_ok-table.start.limits in
-    let shown = c.in-Ok.ensures in
     let begun : _ ≡ script.start = search rules in
     record {
       report = shown.report;
       made = record {
         limits = limits;
         sound = sound_so script.limits _ script.prices _ script.start limits c.as_slice-prices.ensures begun c.in_ok-table.ensures.sound;
-        same_limits = shown.same_limits;
-        same_prices = shown.same_prices;
-        same_start = shown.same_start ∙ c.in_ok-table.ensures.rows ∙ ap start_of begun;
-        run = subst (λ (p : Rows). IsRun (priced script.prices) limits p script.workers shown.report.history shown.report.picture) (sym shown.same_start) shown.run;
+        made = subst (λ (p : Rows). IsReportFrom script limits p shown.report) (c.in_ok-table.ensures.rows ∙ ap start_of begun) shown.made;
       };
       line = shown.line;
-    }
+    })
+    c.priced_line.ensures.line
+
+pub returns-clause-fault : goal.returns-clause-fault
+returns-clause-fault g c =
+    let script = c.args.script.now in
+    let limits = c.in_ok-table.start.limits in
+    let begun : _ ≡ script.start = search rules in
+    let sound : IsSound script.limits script.prices script.start limits = sound_so script.limits _ script.prices _ script.start limits c.as_slice-prices.ensures begun c.in_ok-table.ensures.sound in
+    err_so c.priced_line.result _ _ (λ fault is. service_fails script fault (record { limits = limits; sound = sound }) is) c.priced_line.ensures.fault

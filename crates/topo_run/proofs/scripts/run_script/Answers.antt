@@ -1,13 +1,29 @@
-use Rattle.std.proofs.Common.{List, ap, get_or, ◌∙◌}
-use Rattle.std.specs.Arc.{arc_value}
-use Rattle.topo_core.specs.declared.calls.Command.{Command}
-use Rattle.topo_price.specs.Prices.{prices_of}
-use Rattle.topo_run.proofs.Leading.{run_of_list}
+use Rattle.std.proofs.Common.{◌≡◌, ap, rules, subst, ◌∙◌}
+use Rattle.topo_core.specs.declared.rows.Rows.{Rows}
+use Rattle.topo_settings.proofs.Pricing.{err_so, ok_so}
+use Rattle.topo_settings.proofs.Setting.{sound_so}
+use Rattle.topo_settings.specs.Settings.{IsSound, start_of}
+use Rattle.topo_run.proofs.Telling.{service_fails}
+use Rattle.topo_run.specs.Runs.{IsReportFrom}
 use Rattle.topo_run.proofs.scripts.run_script.Goals as goal
 
-pub returns-clause-run : goal.returns-clause-run
-returns-clause-run g c =
-    let course = c.in_ok-course.course in
-    run_of_list (prices_of (g.F.Asks.answers (arc_value c.args.tariff))) c.args.start.limits c.args.start.rows course.picture c.args.script.now.workers c.index-as_slice-0.result c.as_slice-commands.result.now
-    course.history c.requires.one_list (c.index-as_slice-0.is ∙ ap (λ (ls : List (List Command)). get_or ls 0 c.index-as_slice-0.result) c.as_slice.ensures) c.as_slice-commands.ensures
-    c.in_ok-course.ensures.entered c.in_ok-course.ensures.led
+pub returns-clause-report : goal.returns-clause-report
+returns-clause-report g c = ok_so c.run_from.result _ _
+    (λ report made.
+    let script = c.args.script.now in
+    let limits = c.in_ok-_table.start.limits in
+    let begun : _ ≡ script.start = search rules in
+    record {
+      limits = limits;
+      sound = sound_so script.limits _ script.prices _ script.start limits c.as_slice-prices.ensures begun c.in_ok-_table.ensures.sound;
+      made = subst (λ (p : Rows). IsReportFrom script limits p report) (c.in_ok-_table.ensures.rows ∙ ap start_of begun) made;
+    })
+    c.run_from.ensures.report
+
+pub returns-clause-fault : goal.returns-clause-fault
+returns-clause-fault g c =
+    let script = c.args.script.now in
+    let limits = c.in_ok-_table.start.limits in
+    let begun : _ ≡ script.start = search rules in
+    let sound : IsSound script.limits script.prices script.start limits = sound_so script.limits _ script.prices _ script.start limits c.as_slice-prices.ensures begun c.in_ok-_table.ensures.sound in
+    err_so c.run_from.result _ _ (λ fault is. service_fails script fault (record { limits = limits; sound = sound }) is) c.run_from.ensures.fault

@@ -1,0 +1,18 @@
+use Rattle.std.proofs.Common.{◌≡◌, List, ◌++◌, ◌∷◌, [], arith, length-append, rules, subst, sym}
+use Rattle.topo_run.proofs.Passing.{seated_push}
+use Rattle.topo_run.specs.Working.{AreSeated}
+use Rattle.topo_service.specs.Passes.{PassState}
+use Rattle.topo_run.proofs.serving.seat_all.Goals as goal
+
+pub loop-i-preserved : goal.loop-i-preserved
+loop-i-preserved g c =
+    let pass : PassState = c.in_ok-pass.pass in
+    let passes : List PassState = c.loop-i.passes.items in
+    let pushed : c.push.new.self.items ≡ passes ++ pass ∷ [] = search rules in
+    let inv = c.loop-i.invariant in
+    record {
+      seated = subst (λ (ps : List PassState). AreSeated ps) (sym pushed) (seated_push passes pass inv.seated (omega (arith, inv.count, inv.given, c.in_ok-pass.ensures.number)) c.in_ok-pass.ensures.receipts);
+      count = rw pushed (omega (arith, length-append passes (pass ∷ []), inv.count));
+      given = omega (arith, c.in_ok-pass.ensures.given, inv.given);
+      same = search rules;
+    }

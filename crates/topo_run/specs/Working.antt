@@ -1,0 +1,28 @@
+-- What the passes of a run have done of its lists.
+use Rattle.std.specs.Prelude.{◌≡◌, ◌<◌, ℕ, List, [], length, map, slice_index_or, ⊤}
+use Rattle.topo_core.specs.declared.calls.Command.{Command}
+use Rattle.topo_core.specs.History.{call_of}
+use Rattle.topo_service.specs.Passes.{PassState}
+use Rattle.topo_settings.specs.declared.fault.RunFault.{RunFault}
+use Rattle.topo_settings.specs.declared.fault.RunFault.TheVariants.{Memory, NoSeat, Mismatch}
+
+-- the pass at each place has this place as its number, and no receipt
+abbrev pub AreSeated : List PassState → Type 0
+AreSeated passes = (i : ℕ) (p : PassState) → i < length passes → ((slice_index_or passes i p).number ≡ i) × ((slice_index_or passes i p).receipts ≡ [])
+
+-- the pass has this number, and a receipt for each command of the list, in order
+pub record HasWorked (number : ℕ) (list : List Command) (pass : PassState) : Type 0 where
+  pub is_numbered : pass.number ≡ number
+  pub calls : map (λ receipt. receipt.call) pass.receipts ≡ map call_of list
+
+-- there is a pass for each list, with its place as its number, and it has carried the list out
+pub record HaveWorked (lists : List (List Command)) (passes : List PassState) : Type 0 where
+  pub count : length passes ≡ length lists
+  pub each : (i : ℕ) (p : PassState) → i < length lists → HasWorked i (slice_index_or lists i []) (slice_index_or passes i p)
+
+-- a fault of the service: want of memory, no place for a list, or a receipt that differs
+abbrev pub IsOfService : RunFault → Type 0
+IsOfService Memory = ⊤
+IsOfService NoSeat = ⊤
+IsOfService (Mismatch list i) = ⊤
+IsOfService _ = ⊥

@@ -1,0 +1,195 @@
+//! Lists of commands, carried out by the passes of one service.
+
+ghost use Rattle.std.specs.Prelude.{◌≡◌, ◌+◌, ◌<◌, ℕ, List, [], All, IfErr, IfOk, Some, length, map, true};
+ghost use Rattle.std.specs.Arc.{arc_value};
+ghost use Rattle.topo_core.specs.History.{IsRun};
+ghost use Rattle.topo_price.specs.Prices.{prices_of};
+ghost use Rattle.topo_run.specs.Working.{AreSeated, HaveWorked, IsOfService};
+ghost use Rattle.topo_service.specs.Commands.{commands};
+
+use std::alloc::{AllocError, Global};
+use std::marker::Brand;
+use std::sync::{Arc, Wait};
+use std::thread::Threads;
+use topo_book::Book;
+use topo_core::calls::{Command, Entry};
+use topo_core::listed::Listed;
+use topo_core::rows::Rows;
+use topo_picture::Picture;
+use topo_price::tariff::{Asks, Tariff};
+use topo_service::{EndFault, Gate, Pass, Service, Unopened, WorkerEnd, run_workers};
+use topo_settings::RunFault;
+use topo_versions::{Naming, StoreReader};
+
+/// A history, and the picture at its end.
+#[derive(Drop)]
+pub(crate) struct Course {
+    pub(crate) history: Listed<Entry>,
+    pub(crate) picture: Rows,
+}
+
+/// Copies of lists of commands.
+pub(crate) fn lists_of(
+    alloc: Global,
+    lists: &[Listed<Command>],
+) -> Result<Vec<Vec<Command>>, AllocError>
+    ensures { IfOk result (λ copies. map commands copies.items ≡ lists.now) }
+{
+    let mut copies = Vec::new(alloc);
+    for list in lists {
+        copies.push(Vec::from_slice(alloc, list.as_slice())?)?;
+    }
+    Ok(copies)
+}
+
+/// The next pass of a service.
+fn seat<F: Asks + Drop, K: Naming<F>>(service: &mut Service<F, K>) -> Result<Pass<F, K>, RunFault>
+    ensures number { IfOk result (λ p. p.number ≡ service.old.given) }
+    ensures receipts { IfOk result (λ p. p.receipts ≡ []) }
+    ensures given { IfOk result (λ p. service.new.given ≡ service.old.given + 1) }
+    ensures same { service.new.tariff ≡ service.old.tariff }
+    ensures fault { IfErr result IsOfService }
+{
+    match service.pass::<StoreReader<F, K>>() {
+        Ok(pass) => Ok(pass),
+        Err(_) => Err(RunFault::NoSeat),
+    }
+}
+
+/// The first passes of a service, so many of them.
+fn seat_all<F: Asks + Drop, K: Naming<F>>(
+    alloc: Global,
+    service: &mut Service<F, K>,
+    count: usize,
+) -> Result<Vec<Pass<F, K>>, RunFault>
+    requires { service.old.given ≡ 0 }
+    ensures seated { IfOk result (λ passes. AreSeated passes.items) }
+    ensures count { IfOk result (λ passes. length passes.items ≡ count) }
+    ensures given { IfOk result (λ passes. service.new.given ≡ count) }
+    ensures same { service.new.tariff ≡ service.old.tariff }
+    ensures fault { IfErr result IsOfService }
+{
+    let mut passes = Vec::new(alloc);
+    for _i in 0..count {
+        let pass = seat(service)?;
+        if passes.push(pass).is_err() {
+            return Err(RunFault::Memory);
+        }
+    }
+    Ok(passes)
+}
+
+/// Whether each list was carried out to its end.
+fn are_done(ends: &[WorkerEnd]) -> bool
+    ensures { result ≡ true → All (λ end. end ≡ WorkerEnd.Done) ends.now }
+{
+    for end in ends {
+        match end {
+            WorkerEnd::Done => {}
+            WorkerEnd::OutOfMemory(_) => return false,
+        }
+    }
+    true
+}
+
+/// Carries the lists out, each with a pass of its own.
+fn work_all<
+    F: Asks + Drop + Send + Sync,
+    K: Naming<F> + Send + Sync,
+    R: Threads + Wait + Sync,
+    T: Gate,
+>(
+    rt: &R,
+    alloc: Global,
+    service: &mut Service<F, K>,
+    lists: &[Vec<Command>],
+    gate: &T,
+) -> Result<Vec<Pass<F, K>>, RunFault>
+    requires { service.old.given ≡ 0 }
+    ensures worked { IfOk result (λ passes. HaveWorked (map commands lists.now) passes.items) }
+    ensures given { IfOk result (λ passes. service.new.given ≡ length passes.items) }
+    ensures same { service.new.tariff ≡ service.old.tariff }
+    ensures fault { IfErr result IsOfService }
+{
+    let mut passes = seat_all(alloc, service, lists.len())?;
+    let ran = run_workers(rt, alloc, &*service, passes.as_mut_slice(), lists, gate);
+    let Ok(ends) = ran else {
+        return Err(RunFault::Memory);
+    };
+    if are_done(ends.as_slice()) {
+        Ok(passes)
+    } else {
+        Err(RunFault::Memory)
+    }
+}
+
+/// The history of a book, and its picture.
+fn course_of<F: Asks + Drop>(alloc: Global, book: Book<F>) -> Result<Course, RunFault>
+    ensures history { IfOk result (λ course. course.history ≡ book.history) }
+    ensures picture { IfOk result (λ course. course.picture ≡ book.picture.rows) }
+    ensures fault { IfErr result IsOfService }
+{
+    let Ok(picture) = book.picture().rows(alloc) else {
+        return Err(RunFault::Memory);
+    };
+    Ok(Course {
+        history: Listed::from_vec(book.into_history()),
+        picture,
+    })
+}
+
+/// What the lists lead to from the start that K names, by a service of its own.
+fn serve<
+    F: Asks + Drop + Send + Sync,
+    K: Naming<F> + Send + Sync,
+    R: Threads + Wait + Sync,
+    T: Gate,
+>(
+    rt: &R,
+    alloc: Global,
+    unopened: Unopened,
+    start: Picture,
+    tariff: Arc<Tariff<F>>,
+    lists: &[Vec<Command>],
+    gate: &T,
+) -> Result<Course, RunFault>
+    requires ledger { (unopened.blank.name ≡ K.name) × (unopened.blank.parts ≡ K.parts) }
+    requires parts { K.parts ≡ 16 }
+    requires list { unopened.opened.seen.book ≡ K.book }
+    requires start { start ≡ K.start }
+    requires prices { K.closure ≡ Some (arc_value tariff) }
+    ensures run { IfOk result (λ course. IsRun (prices_of (F.answers (arc_value tariff))) start.limits start.rows (map commands lists.now) course.history course.picture) }
+    ensures fault { IfErr result IsOfService }
+{
+    let Ok(mut service) = Service::<F, K>::new(alloc, unopened, start, tariff) else {
+        return Err(RunFault::Memory);
+    };
+    match work_all(rt, alloc, &mut service, lists, gate) {
+        Ok(passes) => match service.close(rt, passes) {
+            Ok(book) => course_of(alloc, book),
+            Err(end) => match end.fault {
+                EndFault::PassMissing(_) => unreachable!(),
+                EndFault::Mismatch(number, k) => Err(RunFault::Mismatch(number, k)),
+            },
+        },
+        Err(fault) => {
+            let _ = service.close::<StoreReader<F, K>, R>(rt, Vec::new(alloc));
+            Err(fault)
+        }
+    }
+}
+
+/// What the lists lead to from a start, each carried out by a thread of its own.
+pub(crate) fn course_from<F: Asks + Drop + Send + Sync, R: Threads + Wait + Sync, T: Gate>(
+    rt: &R,
+    alloc: Global,
+    start: Picture,
+    tariff: Arc<Tariff<F>>,
+    lists: &[Vec<Command>],
+    gate: &T,
+) -> Result<Course, RunFault>
+    ensures run { IfOk result (λ course. IsRun (prices_of (F.answers (arc_value tariff))) start.limits start.rows (map commands lists.now) course.history course.picture) }
+    ensures fault { IfErr result IsOfService }
+{
+    serve::<F, Brand, R, T>(rt, alloc, Unopened::new(), start, tariff, lists, gate)
+}
