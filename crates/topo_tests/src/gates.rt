@@ -58,7 +58,8 @@ const TWO_LISTS: &str = "{\"version\":1,\"workers\":[[[\"insert\",0,1,0]],[[\"in
 
 /// Whether an entry is the insertion of this edge by this caller.
 fn is_insertion(entry: &Entry, caller: u32, edge: u32) -> bool {
-    entry.caller == caller && matches!(&entry.reply, Reply::Inserted(made) if made.id.number() == edge)
+    entry.caller == caller
+        && matches!(&entry.reply, Reply::Inserted(made) if made.id.number() == edge)
 }
 
 #[test]

@@ -124,7 +124,14 @@ fn broken_readers(rt: HostRuntime) -> Result<(), Fail> {
         let mut reader = BreakingReader::new(SCRIPT.as_bytes(), turns);
         let mut out: Vec<u8> = Vec::new(alloc);
         let mut err: Vec<u8> = Vec::new(alloc);
-        let outcome = perform(&rt, alloc, &["planar", "run"], &mut reader, &mut out, &mut err);
+        let outcome = perform(
+            &rt,
+            alloc,
+            &["planar", "run"],
+            &mut reader,
+            &mut out,
+            &mut err,
+        );
         assert!(rt; outcome == ends(1));
         assert!(rt; out.is_empty());
         assert!(rt; err.as_slice() == "planar: 55 ReadFault\n".as_bytes());
@@ -132,7 +139,14 @@ fn broken_readers(rt: HostRuntime) -> Result<(), Fail> {
     let mut endless = EndlessReader { given: 0 };
     let mut out: Vec<u8> = Vec::new(alloc);
     let mut err: Vec<u8> = Vec::new(alloc);
-    let outcome = perform(&rt, alloc, &["planar", "run"], &mut endless, &mut out, &mut err);
+    let outcome = perform(
+        &rt,
+        alloc,
+        &["planar", "run"],
+        &mut endless,
+        &mut out,
+        &mut err,
+    );
     assert!(rt; outcome == ends(1));
     assert!(rt; out.is_empty());
     assert!(rt; err.as_slice() == "planar: 51 TooLong\n".as_bytes());
@@ -146,7 +160,14 @@ fn broken_writers(rt: HostRuntime) -> Result<(), Fail> {
     for room in [0, 1, 100] {
         let mut out = FailingWriter::new(alloc, room);
         let mut err = SlowWriter::new(alloc);
-        let outcome = perform(&rt, alloc, &words, &mut SCRIPT.as_bytes(), &mut out, &mut err);
+        let outcome = perform(
+            &rt,
+            alloc,
+            &words,
+            &mut SCRIPT.as_bytes(),
+            &mut out,
+            &mut err,
+        );
         assert!(rt; outcome == ends(1));
         assert!(rt; out.kept.as_slice() == &REPORT.as_bytes()[..room]);
         assert!(rt; err.kept.as_slice() == "planar: 56 WriteFault\n".as_bytes());
