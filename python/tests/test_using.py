@@ -46,8 +46,8 @@ def commands(page: str) -> List[Tuple[str, str]]:
 
 
 def pattern_of(printed: str) -> str:
-    """A pattern of what a command prints, in which two dots behind a space are any text."""
-    return re.escape(printed).replace(re.escape(" .."), " .*")
+    """A pattern of what a command prints, in which two dots and the space before them are any text."""
+    return re.escape(printed).replace(re.escape(" .."), ".*")
 
 
 @needs_networkx
