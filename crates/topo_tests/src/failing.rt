@@ -57,7 +57,9 @@ fn readers_without_an_end(rt: HostRuntime) -> Result<(), Fail> {
     let alloc = rt.alloc();
     let mut written: Vec<u8> = Vec::new(alloc);
     let mut never = NeverReader { calls: 0 };
-    assert!(rt; run_io(&rt, alloc, &mut never, &mut written, &OpenGate) == Err(RunFault::ReadFault));
+    assert!(rt;
+        run_io(&rt, alloc, &mut never, &mut written, &OpenGate) == Err(RunFault::ReadFault)
+    );
     assert_eq!(rt; never.calls, 2 * 1_048_576 + 2);
     let mut endless = EndlessReader { given: 0 };
     let told = run_io(&rt, alloc, &mut endless, &mut written, &OpenGate);
@@ -86,7 +88,9 @@ fn failing_readers(rt: HostRuntime) -> Result<(), Fail> {
     let alloc = rt.alloc();
     let mut written: Vec<u8> = Vec::new(alloc);
     let mut broken = SlowReader::broken(SCRIPT.as_bytes());
-    assert!(rt; run_io(&rt, alloc, &mut broken, &mut written, &OpenGate) == Err(RunFault::ReadFault));
+    assert!(rt;
+        run_io(&rt, alloc, &mut broken, &mut written, &OpenGate) == Err(RunFault::ReadFault)
+    );
     let mut broken = SlowReader::broken(REPORT.as_bytes());
     assert!(rt; replay_io(alloc, &mut broken, &mut written) == Err(RunFault::ReadFault));
     let mut broken = SlowReader::broken(JOINED.as_bytes());
@@ -107,7 +111,9 @@ fn failing_writers(rt: HostRuntime) -> Result<(), Fail> {
     for room in [0, 1, 100] {
         let mut reader = SCRIPT.as_bytes();
         let mut writer = FailingWriter::new(alloc, room);
-        assert!(rt; run_io(&rt, alloc, &mut reader, &mut writer, &OpenGate) == Err(RunFault::WriteFault));
+        assert!(rt;
+            run_io(&rt, alloc, &mut reader, &mut writer, &OpenGate) == Err(RunFault::WriteFault)
+        );
         assert!(rt; is_cut(&writer, REPORT, room));
     }
     for room in [0, 1, 16] {
