@@ -2,15 +2,17 @@
 
 use std::sync::atomic::{AtomicBool, Ordering};
 use std::test::Fail;
+use std::thread;
 use topo_core::calls::{Entry, Reply};
 use topo_run::run_io;
 use topo_script::read_report;
 use topo_service::Gate;
 
 /// How often a call of the gate looks for a flag at most.
-const LOOKS: u32 = 100_000_000;
+const LOOKS: u32 = 10_000_000;
 
 /// Lets the first call of worker 1 pass between the two calls of the gate for the first call of worker 0.
+#[derive(Drop)]
 struct Turns {
     has_begun: AtomicBool,
     has_ended: AtomicBool,
@@ -26,12 +28,13 @@ impl Turns {
         }
     }
 
-    /// Looks for a flag, and marks the run late where it does not see it.
+    /// Looks for a flag, leaving the processor to others between, and marks the run late where it does not see it.
     fn look_for(&self, flag: &AtomicBool) {
         for _ in 0..LOOKS {
             if flag.load(Ordering::SeqCst) {
                 return;
             }
+            thread::yield_now();
         }
         self.is_late.store(true, Ordering::SeqCst);
     }
