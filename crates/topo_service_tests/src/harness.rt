@@ -1,0 +1,150 @@
+//! A service that is begun, used by a story and closed.
+
+ghost use Rattle.std.specs.Prelude.{◌≡◌, Some};
+ghost use Rattle.std.specs.Arc.{arc_value};
+ghost use Rattle.topo_price.specs.Prices.{IsPromise};
+
+use std::alloc::{AllocError, Global};
+use std::marker::Brand;
+use std::process::Abort;
+use std::sync::{Arc, Wait};
+use std::test::Fail;
+use std::thread::Threads;
+use topo_book::replay;
+use topo_core::limits::Limits;
+use topo_core::listed::Listed;
+use topo_core::rows::{EdgeRow, Rows};
+use topo_picture::Picture;
+use topo_price::tariff::{Asks, Tariff};
+use topo_service::{Pass, Service, Unopened};
+use topo_versions::{Naming, StoreReader};
+
+/// What a story leaves: its passes, and what it saw.
+pub(crate) struct Told<F: Asks + Drop, K: Naming<F>> {
+    pub(crate) passes: Vec<Pass<F, K>>,
+    pub(crate) text: String,
+}
+
+/// What is done with a service.
+pub(crate) trait Story {
+    fn tell<
+        F: Asks + Drop + Send + Sync,
+        K: Naming<F> + Send + Sync,
+        R: Threads + Wait + Abort + Sync,
+    >(&self, rt: &R, alloc: Global, service: &mut Service<F, K>) -> Result<Told<F, K>, Fail>;
+}
+
+/// The text of the story, and how the service ended.
+pub(crate) fn run<F: Asks + Drop + Send + Sync, S: Story, R: Threads + Wait + Abort + Sync>(
+    rt: &R,
+    alloc: Global,
+    ask: F,
+    start: Picture,
+    story: &S,
+) -> Result<String, Fail>
+    requires callable { F.can_ask ask }
+    requires promise { IsPromise (F.answers ask) }
+{
+    let tariff = Arc::new(alloc, Tariff::new(ask))?;
+    named::<F, Brand, S, R>(rt, alloc, Unopened::new(), start, tariff, story)
+}
+
+fn named<
+    F: Asks + Drop + Send + Sync,
+    K: Naming<F> + Send + Sync,
+    S: Story,
+    R: Threads + Wait + Abort + Sync,
+>(
+    rt: &R,
+    alloc: Global,
+    unopened: Unopened,
+    start: Picture,
+    tariff: Arc<Tariff<F>>,
+    story: &S,
+) -> Result<String, Fail>
+    requires ledger { (unopened.blank.name ≡ K.name) × (unopened.blank.parts ≡ K.parts) }
+    requires parts { K.parts ≡ 16 }
+    requires list { unopened.opened.seen.book ≡ K.book }
+    requires start { start ≡ K.start }
+    requires prices { K.closure ≡ Some (arc_value tariff) }
+{
+    let mut service = Service::<F, K>::new(alloc, unopened, start, tariff)?;
+    let Told { passes, text } = match story.tell(rt, alloc, &mut service) {
+        Ok(told) => told,
+        Err(error) => {
+            let _ = service.close::<StoreReader<F, K>, R>(rt, Vec::new(alloc));
+            return Err(error);
+        }
+    };
+    match service.close(rt, passes) {
+        Ok(book) => {
+            let again = replay(alloc, book.start(), book.history(), book.tariff());
+            let calls = book.history().len();
+            Ok(format!(in alloc; "{text}; {calls} calls, replayed: {}", again.is_ok())?)
+        }
+        Err(end) => {
+            let number = end.fault.number();
+            Ok(format!(in alloc;
+                "{text}; {number} {:?}, {} passes",
+                end.fault,
+                end.passes.len()
+            )?)
+        }
+    }
+}
+
+/// The seed within these limits.
+pub(crate) fn seed(rt: &impl Abort, alloc: Global) -> Result<Picture, AllocError> {
+    let limits = Limits::new(65_536, 65_536, 1_048_576).expect(rt, "the greatest limits");
+    Picture::seed(alloc, limits)
+}
+
+/// A triangle between two apexes, 3 and 4; the edges of the triangle are of kinds 1, 2 and 3.
+pub(crate) fn bipyramid(rt: &impl Abort, alloc: Global) -> Result<Picture, AllocError> {
+    let limits = Limits::new(65_536, 65_536, 1_048_576).expect(rt, "the greatest limits");
+    let lists: [&[u32]; 5] = [
+        &[0, 3, 2, 6],
+        &[0, 7, 1, 4],
+        &[1, 8, 2, 5],
+        &[3, 4, 5],
+        &[6, 8, 7],
+    ];
+    let mut rotations = Vec::new(alloc);
+    for list in lists {
+        rotations.push(Listed::from_vec(Vec::from_slice(alloc, list)?))?;
+    }
+    let ends: [(u32, u32, u32); 9] = [
+        (0, 1, 1),
+        (1, 2, 2),
+        (2, 0, 3),
+        (3, 0, 0),
+        (3, 1, 0),
+        (3, 2, 0),
+        (4, 0, 0),
+        (4, 1, 0),
+        (4, 2, 0),
+    ];
+    let mut edges = Vec::new(alloc);
+    let mut id = 0;
+    for (a, b, kind) in ends {
+        edges.push(EdgeRow {
+            id,
+            a,
+            b,
+            kind,
+            crossings: Listed::new(alloc),
+        })?;
+        id += 1;
+    }
+    let rows = Rows {
+        rotations: Listed::from_vec(rotations),
+        edges: Listed::from_vec(edges),
+        crossings: Listed::new(alloc),
+        next_edge: 9,
+        next_crossing: 0,
+    };
+    match Picture::load(alloc, limits, &rows) {
+        Ok(picture) => Ok(picture),
+        Err(_) => Err(AllocError),
+    }
+}
