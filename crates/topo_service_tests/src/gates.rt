@@ -1,7 +1,7 @@
 //! Two workers at one time, in an order that a gate sets.
 
-use crate::harness::{Story, Told, run, seed};
-use crate::views::pass_of;
+use crate::harness::{Story, run, run_lists, seed};
+use crate::views::{edges_of, view_of};
 use std::alloc::Global;
 use std::process::Abort;
 use std::sync::Wait;
@@ -12,7 +12,7 @@ use topo_core::calls::{Call, Command};
 use topo_core::rows::Facts;
 use topo_price::table::PriceTable;
 use topo_price::tariff::Asks;
-use topo_service::{Gate, Service, run_workers};
+use topo_service::{Gate, Pass, Service};
 use topo_versions::Naming;
 
 /// How often a gate looks for a flag before the run is late.
@@ -58,41 +58,56 @@ impl Gate for Turn {
 #[derive(Drop)]
 struct Pair;
 
+/// How many receipts each pass has, and how many edges it sees.
+fn seen_of<F: Asks + Drop, K: Naming<F>>(
+    alloc: Global,
+    passes: &mut [Pass<F, K>],
+) -> Result<Vec<(usize, u32)>, Fail> {
+    let mut seen = Vec::new(alloc);
+    for pass in passes {
+        let edges = edges_of(&view_of(pass)?);
+        seen.push((pass.receipts().len(), edges))?;
+    }
+    Ok(seen)
+}
+
 impl Story for Pair {
+    fn seats(&self) -> usize {
+        2
+    }
+
     fn tell<
         F: Asks + Drop + Send + Sync,
         K: Naming<F> + Send + Sync,
         R: Threads + Wait + Abort + Sync,
-    >(&self, rt: &R, alloc: Global, service: &mut Service<F, K>) -> Result<Told<F, K>, Fail> {
+    >(
+        &self,
+        rt: &R,
+        alloc: Global,
+        service: &Service<F, K>,
+        passes: &mut Vec<Pass<F, K>>,
+    ) -> Result<String, Fail> {
         let gate = Turn {
             begun: AtomicBool::new(false),
             made: AtomicBool::new(false),
             late: AtomicBool::new(false),
         };
-        let mut passes = Vec::new(alloc);
-        passes.push(pass_of(service)?)?;
-        passes.push(pass_of(service)?)?;
         let mut lists = Vec::new(alloc);
         for kind in 0..2 {
             let insert = Command::Plain(Call::Insert { u: 0, v: 1, kind });
             lists.push(vec![in alloc; insert]?)?;
         }
-        let ends = run_workers(
+        let ends = run_lists(
             rt,
             alloc,
-            &*service,
+            service,
             passes.as_mut_slice(),
             lists.as_slice(),
             &gate,
         )?;
+        let seen = seen_of(alloc, passes.as_mut_slice())?;
         let late = gate.late.load(Ordering::SeqCst);
-        let mut seen = Vec::new(alloc);
-        for pass in passes.as_mut_slice() {
-            let edges = pass.view().ok().ok_or("a view")?.picture().counts().edges;
-            seen.push((pass.receipts().len(), edges))?;
-        }
-        let text = format!(in alloc; "{late} {ends:?} {seen:?}")?;
-        Ok(Told { passes, text })
+        Ok(format!(in alloc; "{late} {ends:?} {seen:?}")?)
     }
 }
 

@@ -10,28 +10,35 @@ use std::process::Abort;
 use std::sync::{Arc, Wait};
 use std::test::Fail;
 use std::thread::Threads;
-use topo_book::replay;
+use topo_book::{Book, replay};
+use topo_core::calls::Command;
 use topo_core::limits::Limits;
 use topo_core::listed::Listed;
 use topo_core::rows::{EdgeRow, Rows};
 use topo_picture::Picture;
 use topo_price::tariff::{Asks, Tariff};
-use topo_service::{Pass, Service, Unopened};
+use topo_service::close::CloseFault;
+use topo_service::{Gate, Pass, Service, Unopened, WorkerEnd, run_workers};
 use topo_versions::{Naming, StoreReader};
-
-/// What a story leaves: its passes, and what it saw.
-pub(crate) struct Told<F: Asks + Drop, K: Naming<F>> {
-    pub(crate) passes: Vec<Pass<F, K>>,
-    pub(crate) text: String,
-}
 
 /// What is done with a service.
 pub(crate) trait Story {
+    /// How many passes it asks for.
+    fn seats(&self) -> usize;
+
+    /// Uses the service by its passes, of which there are fewer than asked for where the service gave no
+    /// more, and says what it saw. The passes that it leaves are those that the service is closed with.
     fn tell<
         F: Asks + Drop + Send + Sync,
         K: Naming<F> + Send + Sync,
         R: Threads + Wait + Abort + Sync,
-    >(&self, rt: &R, alloc: Global, service: &mut Service<F, K>) -> Result<Told<F, K>, Fail>;
+    >(
+        &self,
+        rt: &R,
+        alloc: Global,
+        service: &Service<F, K>,
+        passes: &mut Vec<Pass<F, K>>,
+    ) -> Result<String, Fail>;
 }
 
 /// The text of the story, and how the service ended.
@@ -49,6 +56,8 @@ pub(crate) fn run<F: Asks + Drop + Send + Sync, S: Story, R: Threads + Wait + Ab
     named::<F, Brand, S, R>(rt, alloc, Unopened::new(), start, tariff, story)
 }
 
+/// The same, over the service that K names. The service and its passes are owned here alone, and nothing
+/// returns early while they are.
 fn named<
     F: Asks + Drop + Send + Sync,
     K: Naming<F> + Send + Sync,
@@ -69,28 +78,83 @@ fn named<
     requires prices { K.closure ≡ Some (arc_value tariff) }
 {
     let mut service = Service::<F, K>::new(alloc, unopened, start, tariff)?;
-    let Told { passes, text } = match story.tell(rt, alloc, &mut service) {
-        Ok(told) => told,
-        Err(error) => {
-            let _ = service.close::<StoreReader<F, K>, R>(rt, Vec::new(alloc));
-            return Err(error);
-        }
-    };
-    match service.close(rt, passes) {
+    let mut passes = Vec::new(alloc);
+    let told = tell(rt, alloc, &mut service, &mut passes, story);
+    let end = service.close(rt, passes);
+    finish(alloc, told, &end)
+}
+
+/// Gives out the passes that the story asks for, and tells it.
+fn tell<
+    F: Asks + Drop + Send + Sync,
+    K: Naming<F> + Send + Sync,
+    S: Story,
+    R: Threads + Wait + Abort + Sync,
+>(
+    rt: &R,
+    alloc: Global,
+    service: &mut Service<F, K>,
+    passes: &mut Vec<Pass<F, K>>,
+    story: &S,
+) -> Result<String, Fail> {
+    give_out(service, passes, story.seats())?;
+    story.tell(rt, alloc, service, passes)
+}
+
+/// Gives out so many passes, or as many as there are.
+fn give_out<F: Asks + Drop, K: Naming<F>>(
+    service: &mut Service<F, K>,
+    passes: &mut Vec<Pass<F, K>>,
+    seats: usize,
+) -> Result<(), AllocError> {
+    for _ in 0..seats {
+        let Ok(pass) = service.pass() else {
+            return Ok(());
+        };
+        passes.push(pass)?;
+    }
+    Ok(())
+}
+
+/// What the story told, and how the service ended.
+fn finish<F: Asks + Drop, K: Naming<F>>(
+    alloc: Global,
+    told: Result<String, Fail>,
+    end: &Result<Book<F>, CloseFault<F, K, StoreReader<F, K>>>,
+) -> Result<String, Fail> {
+    let text = told?;
+    match end {
         Ok(book) => {
-            let again = replay(alloc, book.start(), book.history(), book.tariff());
             let calls = book.history().len();
-            Ok(format!(in alloc; "{text}; {calls} calls, replayed: {}", again.is_ok())?)
+            let again = replay(alloc, book.start(), book.history(), book.tariff()).is_ok();
+            Ok(format!(in alloc; "{text}; {calls} calls, replayed: {again}")?)
         }
         Err(end) => {
             let number = end.fault.number();
-            Ok(format!(in alloc;
-                "{text}; {number} {:?}, {} passes",
-                end.fault,
-                end.passes.len()
-            )?)
+            let left = end.passes.len();
+            Ok(format!(in alloc; "{text}; {number} {:?}, {left} passes", end.fault)?)
         }
     }
+}
+
+/// Runs each list with the pass at its place, in a thread of its own.
+pub(crate) fn run_lists<
+    F: Asks + Drop + Send + Sync,
+    K: Naming<F> + Send + Sync,
+    R: Threads + Wait + Abort + Sync,
+    T: Gate,
+>(
+    rt: &R,
+    alloc: Global,
+    service: &Service<F, K>,
+    passes: &mut [Pass<F, K>],
+    lists: &[Vec<Command>],
+    gate: &T,
+) -> Result<Vec<WorkerEnd>, Fail> {
+    if passes.len() != lists.len() {
+        return Err("a pass for each list".into());
+    }
+    Ok(run_workers(rt, alloc, service, passes, lists, gate)?)
 }
 
 /// The seed within these limits.
