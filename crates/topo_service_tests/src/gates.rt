@@ -1,6 +1,6 @@
 //! Two workers at one time, in an order that a gate sets.
 
-use crate::harness::{Story, run, run_lists, seed};
+use crate::harness::{Story, bipyramid, run, run_lists, seed, uneven_prices};
 use crate::views::{edges_of, view_of};
 use std::alloc::Global;
 use std::process::Abort;
@@ -26,24 +26,23 @@ struct Turn {
     late: AtomicBool,
 }
 
-impl Turn {
-    fn look_for(&self, flag: &AtomicBool) {
-        for _ in 0..LOOKS {
-            if flag.load(Ordering::SeqCst) {
-                return;
-            }
+/// Looks for the flag, and notes where it looks in vain.
+fn look_for(flag: &AtomicBool, late: &AtomicBool) {
+    for _ in 0..LOOKS {
+        if flag.load(Ordering::SeqCst) {
+            return;
         }
-        self.late.store(true, Ordering::SeqCst);
     }
+    late.store(true, Ordering::SeqCst);
 }
 
 impl Gate for Turn {
     fn before(&self, worker: usize, _index: usize) {
         if worker == 0 {
             self.begun.store(true, Ordering::SeqCst);
-            self.look_for(&self.made);
+            look_for(&self.made, &self.late);
         } else {
-            self.look_for(&self.begun);
+            look_for(&self.begun, &self.late);
         }
     }
 
@@ -125,6 +124,125 @@ fn workers_run_at_one_time(rt: HostRuntime) -> Result<(), Fail> {
     assert_eq!(rt;
         told.as_str(),
         "false [Done, Done] [(1, 3), (1, 3)]; 2 calls, replayed: true"
+    );
+    Ok(())
+}
+
+/// Worker 0 plans, and its search waits at the first price that it asks for until worker 1 has changed the
+/// picture; worker 1 waits for that search. Bounded looks stand for waiting.
+#[derive(Drop)]
+struct Between {
+    planning: AtomicBool,
+    changed: AtomicBool,
+    late: AtomicBool,
+}
+
+impl Between {
+    fn new() -> Between {
+        Between {
+            planning: AtomicBool::new(false),
+            changed: AtomicBool::new(false),
+            late: AtomicBool::new(false),
+        }
+    }
+
+    /// What goes before each price that is asked for.
+    fn ask(&self) {
+        if !self.planning.swap(true, Ordering::SeqCst) {
+            look_for(&self.changed, &self.late);
+        }
+    }
+}
+
+impl Gate for &Between {
+    fn before(&self, worker: usize, _index: usize) {
+        if worker == 1 {
+            look_for(&self.planning, &self.late);
+        }
+    }
+
+    fn after(&self, worker: usize, _index: usize) {
+        if worker == 1 {
+            self.changed.store(true, Ordering::SeqCst);
+        }
+    }
+}
+
+/// A planned insertion between the apexes, and a deletion of the edge that the plan is to cross.
+#[derive(Drop)]
+struct PlanAndDelete<'a> {
+    between: &'a Between,
+}
+
+/// What the first call of the first pass was answered.
+fn first_reply<F: Asks + Drop, K: Naming<F>>(
+    alloc: Global,
+    passes: &[Pass<F, K>],
+) -> Result<String, Fail> {
+    let [pass, ..] = passes else {
+        return Err("no pass".into());
+    };
+    let [receipt, ..] = pass.receipts() else {
+        return Err("no receipt".into());
+    };
+    Ok(format!(in alloc; "{:?}", receipt.reply)?)
+}
+
+impl Story for PlanAndDelete<'_> {
+    fn seats(&self) -> usize {
+        2
+    }
+
+    fn tell<
+        F: Asks + Drop + Send + Sync,
+        K: Naming<F> + Send + Sync,
+        R: Threads + Wait + Abort + Sync,
+    >(
+        &self,
+        rt: &R,
+        alloc: Global,
+        service: &Service<F, K>,
+        passes: &mut Vec<Pass<F, K>>,
+    ) -> Result<String, Fail> {
+        let planned = Command::Planned {
+            u: 3,
+            v: 4,
+            kind: 0,
+        };
+        let deletion = Command::Plain(Call::Delete { edge: 1 });
+        let mut lists = Vec::new(alloc);
+        for command in [planned, deletion] {
+            lists.push(vec![in alloc; command]?)?;
+        }
+        let gate = self.between;
+        let ends = run_lists(
+            rt,
+            alloc,
+            service,
+            passes.as_mut_slice(),
+            lists.as_slice(),
+            &gate,
+        )?;
+        let late = gate.late.load(Ordering::SeqCst);
+        let reply = first_reply(alloc, passes.as_slice())?;
+        Ok(format!(in alloc; "{late} {ends:?} {reply}")?)
+    }
+}
+
+#[test]
+fn a_plan_is_made_anew_where_the_picture_changed_meanwhile(rt: HostRuntime) -> Result<(), Fail> {
+    let start = bipyramid(&rt, rt.alloc())?;
+    let table = uneven_prices(&rt);
+    let between = Between::new();
+    let ask = |facts: &Facts| {
+        between.ask();
+        table.price(facts.kind)
+    };
+    let story = PlanAndDelete { between: &between };
+    let told = run(&rt, rt.alloc(), ask, start, &story)?;
+    assert_eq!(rt;
+        told.as_str(),
+        "false [Done, Done] Inserted(Inserted { id: EdgeId(9), route: Route { start: 2, crossed: Listed { items: [] }, end: 2 }, price: 0 }); 2 calls, replayed: true"
     );
     Ok(())
 }

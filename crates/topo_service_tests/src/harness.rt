@@ -16,6 +16,7 @@ use topo_core::limits::Limits;
 use topo_core::listed::Listed;
 use topo_core::rows::{EdgeRow, Rows};
 use topo_picture::Picture;
+use topo_price::table::PriceTable;
 use topo_price::tariff::{Asks, Tariff};
 use topo_service::close::CloseFault;
 use topo_service::{Gate, Pass, Service, Unopened, WorkerEnd, run_workers};
@@ -211,4 +212,14 @@ pub(crate) fn bipyramid(rt: &impl Abort, alloc: Global) -> Result<Picture, Alloc
         Ok(picture) => Ok(picture),
         Err(_) => Err(AllocError),
     }
+}
+
+/// Prices at which the edges of the triangle cost 5, 2 and 9, so that the cheapest way from one apex to the
+/// other crosses edge 1.
+pub(crate) fn uneven_prices(rt: &impl Abort) -> PriceTable {
+    let mut prices = [Some(1); 64];
+    prices[1] = Some(5);
+    prices[2] = Some(2);
+    prices[3] = Some(9);
+    PriceTable::new(prices).expect(rt, "a table")
 }

@@ -1,6 +1,6 @@
 //! Views on one thread, passes that are missing, and plans.
 
-use crate::harness::{Story, bipyramid, run, seed};
+use crate::harness::{Story, bipyramid, run, seed, uneven_prices};
 use std::alloc::{AllocError, Global};
 use std::process::Abort;
 use std::sync::Wait;
@@ -325,11 +325,7 @@ fn a_good_plan_spares_the_search_and_a_stale_one_does_not_harm(
     rt: HostRuntime,
 ) -> Result<(), Fail> {
     let start = bipyramid(&rt, rt.alloc())?;
-    let mut prices = [Some(1); 64];
-    prices[1] = Some(5);
-    prices[2] = Some(2);
-    prices[3] = Some(9);
-    let table = PriceTable::new(prices).expect(&rt, "a table");
+    let table = uneven_prices(&rt);
     let asked = AtomicU64::new(0);
     let ask = |facts: &Facts| {
         let _ = asked.fetch_add(1, Ordering::SeqCst);
