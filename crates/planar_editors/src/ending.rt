@@ -13,12 +13,12 @@ use topo_versions::{Naming, StoreReader};
 /// How the service ended: with a book, whose history is that of one thread, or with a fault.
 pub(crate) fn tell<F: Asks + Drop, K: Naming<F>, R: Print + AllocGlobal>(
     rt: &R,
-    well: bool,
+    served: Result<()>,
     end: &Result<Book<F>, CloseFault<F, K, StoreReader<F, K>>>,
 ) -> Result<()> {
+    served?;
     match end {
-        Ok(book) if well => tell_book(rt, rt.alloc(), book),
-        Ok(_) => Err(Error::msg("an editor or the viewer stopped early")),
+        Ok(book) => tell_book(rt, rt.alloc(), book),
         Err(end) => Err(Error::msg(end.fault.number())),
     }
 }

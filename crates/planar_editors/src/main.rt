@@ -74,11 +74,24 @@ fn share<
 {
     let mut service = Service::<F, K>::new(alloc, unopened, start, tariff)?;
     let mut passes = Vec::new(alloc);
-    let given = give_out(&mut service, &mut passes);
-    let well = work(rt, alloc, &service, passes.as_mut_slice());
+    let served = serve(rt, alloc, &mut service, &mut passes);
     let end = service.close(rt, passes);
-    given?;
-    tell(rt, well, &end)
+    tell(rt, served, &end)
+}
+
+/// Gives the passes out, and lets everybody do their work.
+fn serve<F: Asks + Drop + Send + Sync, K: Naming<F> + Send + Sync, R: Threads + Wait + Sync>(
+    rt: &R,
+    alloc: Global,
+    service: &mut Service<F, K>,
+    passes: &mut Vec<Pass<F, K>>,
+) -> Result<()> {
+    give_out(service, passes)?;
+    if work(rt, alloc, &*service, passes.as_mut_slice()) {
+        Ok(())
+    } else {
+        Err(Error::msg("an editor or the viewer stopped early"))
+    }
 }
 
 /// A pass for each editor and one for the viewer.
