@@ -1,62 +1,40 @@
 //! Many workers, with calls that meet one another.
 
-use crate::harness::{Story, bipyramid, run, run_lists};
+use crate::harness::{Still, Story, bipyramid, run_lists};
 use std::alloc::{AllocError, Global};
 use std::process::Abort;
 use std::sync::Wait;
 use std::test::Fail;
-use std::thread::Threads;
 use topo_core::calls::{Call, Command};
 use topo_core::limits::Limits;
 use topo_core::rows::Facts;
 use topo_picture::Picture;
 use topo_price::table::PriceTable;
 use topo_price::tariff::Asks;
-use topo_service::{Gate, Pass, Service, WorkerEnd};
+use topo_service::{Pass, Service, WorkerEnd};
 use topo_versions::Naming;
 
-/// Nothing is done round a command.
+/// So many workers, and whether all came to their ends.
 #[derive(Drop)]
-struct Still;
-
-impl Gate for Still {
-    fn before(&self, _worker: usize, _index: usize) {}
-
-    fn after(&self, _worker: usize, _index: usize) {}
+struct Workers {
+    number: usize,
 }
 
-/// A list of commands for each worker.
-#[derive(Drop)]
-struct Lists<'a> {
-    lists: &'a [Vec<Command>],
-}
-
-impl Story for Lists<'_> {
+impl Story for Workers {
     fn seats(&self) -> usize {
-        self.lists.len()
+        self.number
     }
 
-    fn tell<
-        F: Asks + Drop + Send + Sync,
-        K: Naming<F> + Send + Sync,
-        R: Threads + Wait + Abort + Sync,
-    >(
+    fn tell<F: Asks + Drop, K: Naming<F>, R: Wait>(
         &self,
-        rt: &R,
+        _rt: &R,
         alloc: Global,
-        service: &Service<F, K>,
-        passes: &mut Vec<Pass<F, K>>,
+        _service: &Service<F, K>,
+        _passes: &mut Vec<Pass<F, K>>,
+        ends: &[WorkerEnd],
     ) -> Result<String, Fail> {
-        let ends = run_lists(
-            rt,
-            alloc,
-            service,
-            passes.as_mut_slice(),
-            self.lists,
-            &Still,
-        )?;
-        let done = ends.as_slice().iter().all(|end| *end == WorkerEnd::Done);
-        Ok(format!(in alloc; "{done}")?)
+        let done = ends.iter().all(|end| *end == WorkerEnd::Done);
+        Ok(format!(in alloc; "{} ended, all done: {done}", ends.len())?)
     }
 }
 
@@ -74,17 +52,18 @@ fn four_workers_plan_between_the_apexes(rt: HostRuntime) -> Result<(), Fail> {
         };
         lists.push(vec![in alloc; planned, Command::Plain(Call::Delete { edge: i })]?)?;
     }
-    let story = Lists {
-        lists: lists.as_slice(),
-    };
-    let told = run(
+    let told = run_lists(
         &rt,
         alloc,
         |facts: &Facts| table.price(facts.kind),
         start,
-        &story,
+        (lists.as_slice(), &Still),
+        &Workers { number: 4 },
     )?;
-    assert_eq!(rt; told.as_str(), "true; 8 calls, replayed: true");
+    assert_eq!(rt;
+        told.as_str(),
+        "4 ended, all done: true; 8 calls, replayed: true"
+    );
     Ok(())
 }
 
@@ -136,16 +115,17 @@ fn sixteen_workers_make_thousands_of_calls(rt: HostRuntime) -> Result<(), Fail> 
         }
         lists.push(list)?;
     }
-    let story = Lists {
-        lists: lists.as_slice(),
-    };
-    let told = run(
+    let told = run_lists(
         &rt,
         alloc,
         |facts: &Facts| table.price(facts.kind),
         start,
-        &story,
+        (lists.as_slice(), &Still),
+        &Workers { number: 16 },
     )?;
-    assert_eq!(rt; told.as_str(), "true; 320 calls, replayed: true");
+    assert_eq!(rt;
+        told.as_str(),
+        "16 ended, all done: true; 320 calls, replayed: true"
+    );
     Ok(())
 }

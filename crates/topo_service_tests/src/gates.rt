@@ -1,18 +1,16 @@
 //! Two workers at one time, in an order that a gate sets.
 
-use crate::harness::{Story, bipyramid, run, run_lists, seed, uneven_prices};
+use crate::harness::{Story, bipyramid, run_lists, seed, uneven_prices};
 use crate::views::{edges_of, view_of};
 use std::alloc::Global;
-use std::process::Abort;
 use std::sync::Wait;
 use std::sync::atomic::{AtomicBool, Ordering};
 use std::test::Fail;
-use std::thread::Threads;
 use topo_core::calls::{Call, Command};
 use topo_core::rows::Facts;
 use topo_price::table::PriceTable;
 use topo_price::tariff::Asks;
-use topo_service::{Gate, Pass, Service};
+use topo_service::{Gate, Pass, Service, WorkerEnd};
 use topo_versions::Naming;
 
 /// How often a gate looks for a flag before the run is late.
@@ -55,7 +53,9 @@ impl Gate for Turn {
 
 /// Two workers with an insertion each.
 #[derive(Drop)]
-struct Pair;
+struct Pair<'a> {
+    turn: &'a Turn,
+}
 
 /// How many receipts each pass has, and how many edges it sees.
 fn seen_of<F: Asks + Drop, K: Naming<F>>(
@@ -70,42 +70,21 @@ fn seen_of<F: Asks + Drop, K: Naming<F>>(
     Ok(seen)
 }
 
-impl Story for Pair {
+impl Story for Pair<'_> {
     fn seats(&self) -> usize {
         2
     }
 
-    fn tell<
-        F: Asks + Drop + Send + Sync,
-        K: Naming<F> + Send + Sync,
-        R: Threads + Wait + Abort + Sync,
-    >(
+    fn tell<F: Asks + Drop, K: Naming<F>, R: Wait>(
         &self,
-        rt: &R,
+        _rt: &R,
         alloc: Global,
-        service: &Service<F, K>,
+        _service: &Service<F, K>,
         passes: &mut Vec<Pass<F, K>>,
+        ends: &[WorkerEnd],
     ) -> Result<String, Fail> {
-        let gate = Turn {
-            begun: AtomicBool::new(false),
-            made: AtomicBool::new(false),
-            late: AtomicBool::new(false),
-        };
-        let mut lists = Vec::new(alloc);
-        for kind in 0..2 {
-            let insert = Command::Plain(Call::Insert { u: 0, v: 1, kind });
-            lists.push(vec![in alloc; insert]?)?;
-        }
-        let ends = run_lists(
-            rt,
-            alloc,
-            service,
-            passes.as_mut_slice(),
-            lists.as_slice(),
-            &gate,
-        )?;
         let seen = seen_of(alloc, passes.as_mut_slice())?;
-        let late = gate.late.load(Ordering::SeqCst);
+        let late = self.turn.late.load(Ordering::SeqCst);
         Ok(format!(in alloc; "{late} {ends:?} {seen:?}")?)
     }
 }
@@ -114,12 +93,23 @@ impl Story for Pair {
 fn workers_run_at_one_time(rt: HostRuntime) -> Result<(), Fail> {
     let start = seed(&rt, rt.alloc())?;
     let table = PriceTable::new([Some(1); 64]).expect(&rt, "a table");
-    let told = run(
+    let turn = Turn {
+        begun: AtomicBool::new(false),
+        made: AtomicBool::new(false),
+        late: AtomicBool::new(false),
+    };
+    let mut lists = Vec::new(rt.alloc());
+    for kind in 0..2 {
+        let insert = Command::Plain(Call::Insert { u: 0, v: 1, kind });
+        lists.push(vec![in rt.alloc(); insert]?)?;
+    }
+    let told = run_lists(
         &rt,
         rt.alloc(),
         |facts: &Facts| table.price(facts.kind),
         start,
-        &Pair,
+        (lists.as_slice(), &turn),
+        &Pair { turn: &turn },
     )?;
     assert_eq!(rt;
         told.as_str(),
@@ -154,7 +144,7 @@ impl Between {
     }
 }
 
-impl Gate for &Between {
+impl Gate for Between {
     fn before(&self, worker: usize, _index: usize) {
         if worker == 1 {
             look_for(&self.planning, &self.late);
@@ -193,37 +183,15 @@ impl Story for PlanAndDelete<'_> {
         2
     }
 
-    fn tell<
-        F: Asks + Drop + Send + Sync,
-        K: Naming<F> + Send + Sync,
-        R: Threads + Wait + Abort + Sync,
-    >(
+    fn tell<F: Asks + Drop, K: Naming<F>, R: Wait>(
         &self,
-        rt: &R,
+        _rt: &R,
         alloc: Global,
-        service: &Service<F, K>,
+        _service: &Service<F, K>,
         passes: &mut Vec<Pass<F, K>>,
+        ends: &[WorkerEnd],
     ) -> Result<String, Fail> {
-        let planned = Command::Planned {
-            u: 3,
-            v: 4,
-            kind: 0,
-        };
-        let deletion = Command::Plain(Call::Delete { edge: 1 });
-        let mut lists = Vec::new(alloc);
-        for command in [planned, deletion] {
-            lists.push(vec![in alloc; command]?)?;
-        }
-        let gate = self.between;
-        let ends = run_lists(
-            rt,
-            alloc,
-            service,
-            passes.as_mut_slice(),
-            lists.as_slice(),
-            &gate,
-        )?;
-        let late = gate.late.load(Ordering::SeqCst);
+        let late = self.between.late.load(Ordering::SeqCst);
         let reply = first_reply(alloc, passes.as_slice())?;
         Ok(format!(in alloc; "{late} {ends:?} {reply}")?)
     }
@@ -238,8 +206,25 @@ fn a_plan_is_made_anew_where_the_picture_changed_meanwhile(rt: HostRuntime) -> R
         between.ask();
         table.price(facts.kind)
     };
+    let planned = Command::Planned {
+        u: 3,
+        v: 4,
+        kind: 0,
+    };
+    let deletion = Command::Plain(Call::Delete { edge: 1 });
+    let mut lists = Vec::new(rt.alloc());
+    for command in [planned, deletion] {
+        lists.push(vec![in rt.alloc(); command]?)?;
+    }
     let story = PlanAndDelete { between: &between };
-    let told = run(&rt, rt.alloc(), ask, start, &story)?;
+    let told = run_lists(
+        &rt,
+        rt.alloc(),
+        ask,
+        start,
+        (lists.as_slice(), &between),
+        &story,
+    )?;
     assert_eq!(rt;
         told.as_str(),
         "false [Done, Done] Inserted(Inserted { id: EdgeId(9), route: Route { start: 2, crossed: Listed { items: [] }, end: 2 }, price: 0 }); 2 calls, replayed: true"

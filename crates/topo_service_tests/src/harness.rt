@@ -28,22 +28,30 @@ pub(crate) trait Story {
     fn seats(&self) -> usize;
 
     /// Uses the service by its passes, of which there are fewer than asked for where the service gave no
-    /// more, and says what it saw. The passes that it leaves are those that the service is closed with.
-    fn tell<
-        F: Asks + Drop + Send + Sync,
-        K: Naming<F> + Send + Sync,
-        R: Threads + Wait + Abort + Sync,
-    >(
+    /// more, and says what it saw. It is told how the workers' lists ended. The passes that it leaves are
+    /// those that the service is closed with.
+    fn tell<F: Asks + Drop, K: Naming<F>, R: Wait>(
         &self,
         rt: &R,
         alloc: Global,
         service: &Service<F, K>,
         passes: &mut Vec<Pass<F, K>>,
+        ends: &[WorkerEnd],
     ) -> Result<String, Fail>;
 }
 
+/// Nothing is done round a command.
+#[derive(Drop)]
+pub(crate) struct Still;
+
+impl Gate for Still {
+    fn before(&self, _worker: usize, _index: usize) {}
+
+    fn after(&self, _worker: usize, _index: usize) {}
+}
+
 /// The text of the story, and how the service ended.
-pub(crate) fn run<F: Asks + Drop + Send + Sync, S: Story, R: Threads + Wait + Abort + Sync>(
+pub(crate) fn run<F: Asks + Drop + Send + Sync, S: Story, R: Threads + Wait + Sync>(
     rt: &R,
     alloc: Global,
     ask: F,
@@ -53,8 +61,23 @@ pub(crate) fn run<F: Asks + Drop + Send + Sync, S: Story, R: Threads + Wait + Ab
     requires callable { F.can_ask ask }
     requires promise { IsPromise (F.answers ask) }
 {
+    run_lists(rt, alloc, ask, start, (&[], &Still), story)
+}
+
+/// The same, where workers carry out a list each before the story is told, with its first passes.
+pub(crate) fn run_lists<F: Asks + Drop + Send + Sync, S: Story, T: Gate, R: Threads + Wait + Sync>(
+    rt: &R,
+    alloc: Global,
+    ask: F,
+    start: Picture,
+    work: (&[Vec<Command>], &T),
+    story: &S,
+) -> Result<String, Fail>
+    requires callable { F.can_ask ask }
+    requires promise { IsPromise (F.answers ask) }
+{
     let tariff = Arc::new(alloc, Tariff::new(ask))?;
-    named::<F, Brand, S, R>(rt, alloc, Unopened::new(), start, tariff, story)
+    named::<F, Brand, S, T, R>(rt, alloc, Unopened::new(), start, tariff, work, story)
 }
 
 /// The same, over the service that K names. The service and its passes are owned here alone, and nothing
@@ -63,13 +86,15 @@ fn named<
     F: Asks + Drop + Send + Sync,
     K: Naming<F> + Send + Sync,
     S: Story,
-    R: Threads + Wait + Abort + Sync,
+    T: Gate,
+    R: Threads + Wait + Sync,
 >(
     rt: &R,
     alloc: Global,
     unopened: Unopened,
     start: Picture,
     tariff: Arc<Tariff<F>>,
+    work: (&[Vec<Command>], &T),
     story: &S,
 ) -> Result<String, Fail>
     requires ledger { (unopened.blank.name ≡ K.name) × (unopened.blank.parts ≡ K.parts) }
@@ -80,26 +105,29 @@ fn named<
 {
     let mut service = Service::<F, K>::new(alloc, unopened, start, tariff)?;
     let mut passes = Vec::new(alloc);
-    let told = tell(rt, alloc, &mut service, &mut passes, story);
+    let told = tell(rt, alloc, &mut service, &mut passes, work, story);
     let end = service.close(rt, passes);
     finish(alloc, told, &end)
 }
 
-/// Gives out the passes that the story asks for, and tells it.
+/// Gives out the passes that the story asks for, lets the workers do their work, and tells the story.
 fn tell<
     F: Asks + Drop + Send + Sync,
     K: Naming<F> + Send + Sync,
     S: Story,
-    R: Threads + Wait + Abort + Sync,
+    T: Gate,
+    R: Threads + Wait + Sync,
 >(
     rt: &R,
     alloc: Global,
     service: &mut Service<F, K>,
     passes: &mut Vec<Pass<F, K>>,
+    work: (&[Vec<Command>], &T),
     story: &S,
 ) -> Result<String, Fail> {
     give_out(service, passes, story.seats())?;
-    story.tell(rt, alloc, service, passes)
+    let ends = carry_out(rt, alloc, &*service, passes.as_mut_slice(), work)?;
+    story.tell(rt, alloc, &*service, passes, ends.as_slice())
 }
 
 /// Gives out so many passes, or as many as there are.
@@ -138,20 +166,22 @@ fn finish<F: Asks + Drop, K: Naming<F>>(
     }
 }
 
-/// Runs each list with the pass at its place, in a thread of its own.
-pub(crate) fn run_lists<
+/// Runs each list with the pass at its place, in a thread of its own. Where there is no list, no pass is used.
+fn carry_out<
     F: Asks + Drop + Send + Sync,
     K: Naming<F> + Send + Sync,
-    R: Threads + Wait + Abort + Sync,
     T: Gate,
+    R: Threads + Wait + Sync,
 >(
     rt: &R,
     alloc: Global,
     service: &Service<F, K>,
     passes: &mut [Pass<F, K>],
-    lists: &[Vec<Command>],
-    gate: &T,
+    (lists, gate): (&[Vec<Command>], &T),
 ) -> Result<Vec<WorkerEnd>, Fail> {
+    if lists.is_empty() {
+        return Ok(Vec::new(alloc));
+    }
     if passes.len() != lists.len() {
         return Err("a pass for each list".into());
     }
@@ -190,8 +220,8 @@ pub(crate) fn bipyramid(rt: &impl Abort, alloc: Global) -> Result<Picture, Alloc
         (4, 2, 0),
     ];
     let mut edges = Vec::new(alloc);
-    let mut id = 0;
-    for (a, b, kind) in ends {
+    for id in 0..9u32 {
+        let (a, b, kind) = ends[id as usize];
         edges.push(EdgeRow {
             id,
             a,
@@ -199,7 +229,6 @@ pub(crate) fn bipyramid(rt: &impl Abort, alloc: Global) -> Result<Picture, Alloc
             kind,
             crossings: Listed::new(alloc),
         })?;
-        id += 1;
     }
     let rows = Rows {
         rotations: Listed::from_vec(rotations),

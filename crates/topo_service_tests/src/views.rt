@@ -1,19 +1,20 @@
 //! Views on one thread, passes that are missing, and plans.
 
+ghost use Rattle.std.specs.Prelude.{◌<◌, IsTrue, length};
+
 use crate::harness::{Story, bipyramid, run, seed, uneven_prices};
 use std::alloc::{AllocError, Global};
-use std::process::Abort;
 use std::sync::Wait;
 use std::sync::atomic::{AtomicU64, Ordering};
 use std::test::Fail;
-use std::thread::Threads;
 use topo_core::calls::Reply;
 use topo_core::rows::Facts;
+use topo_frozen::Frozen;
 use topo_price::table::PriceTable;
 use topo_price::tariff::Asks;
 use topo_route::check::check;
 use topo_route::plan::Plan;
-use topo_service::{Pass, Service};
+use topo_service::{Pass, Service, WorkerEnd};
 use topo_versions::{Naming, Version};
 
 /// The version of now.
@@ -52,7 +53,10 @@ fn take_turns<F: Asks + Drop, K: Naming<F>, R: Wait>(
     passes: &mut [Pass<F, K>],
     views: &mut Vec<Version<F, K>>,
 ) -> Result<(u64, u64, Reply), Fail> {
-    let [a, b] = passes else {
+    let Some((a, rest)) = passes.split_first_mut() else {
+        return Err("two passes".into());
+    };
+    let Some((b, _)) = rest.split_first_mut() else {
         return Err("two passes".into());
     };
     keep(a, views)?;
@@ -99,16 +103,13 @@ impl Story for Turns {
         2
     }
 
-    fn tell<
-        F: Asks + Drop + Send + Sync,
-        K: Naming<F> + Send + Sync,
-        R: Threads + Wait + Abort + Sync,
-    >(
+    fn tell<F: Asks + Drop, K: Naming<F>, R: Wait>(
         &self,
         rt: &R,
         alloc: Global,
         service: &Service<F, K>,
         passes: &mut Vec<Pass<F, K>>,
+        _ends: &[WorkerEnd],
     ) -> Result<String, Fail> {
         let mut views = Vec::new(alloc);
         let taken = take_turns(rt, service, passes.as_mut_slice(), &mut views);
@@ -157,16 +158,13 @@ impl Story for Seats {
         20
     }
 
-    fn tell<
-        F: Asks + Drop + Send + Sync,
-        K: Naming<F> + Send + Sync,
-        R: Threads + Wait + Abort + Sync,
-    >(
+    fn tell<F: Asks + Drop, K: Naming<F>, R: Wait>(
         &self,
         _rt: &R,
         alloc: Global,
         _service: &Service<F, K>,
         passes: &mut Vec<Pass<F, K>>,
+        _ends: &[WorkerEnd],
     ) -> Result<String, Fail> {
         let given = passes.len();
         passes.retain(|pass| pass.number() == 1);
@@ -198,16 +196,13 @@ impl Story for Nobody {
         0
     }
 
-    fn tell<
-        F: Asks + Drop + Send + Sync,
-        K: Naming<F> + Send + Sync,
-        R: Threads + Wait + Abort + Sync,
-    >(
+    fn tell<F: Asks + Drop, K: Naming<F>, R: Wait>(
         &self,
         _rt: &R,
         alloc: Global,
         _service: &Service<F, K>,
         passes: &mut Vec<Pass<F, K>>,
+        _ends: &[WorkerEnd],
     ) -> Result<String, Fail> {
         Ok(format!(in alloc; "{} passes", passes.len())?)
     }
@@ -244,6 +239,9 @@ impl Plans<'_> {
         plan: &Plan,
     ) -> Result<(u64, bool), Fail> {
         let frozen = view_of(pass)?.picture().freeze(alloc)?;
+        if !has_apexes(&frozen) {
+            return Err("two apexes".into());
+        }
         let before = self.asked.load(Ordering::SeqCst);
         let good = check(&frozen, service.tariff(), 3, 4, plan).is_ok();
         let after = self.asked.load(Ordering::SeqCst);
@@ -263,6 +261,14 @@ impl Plans<'_> {
         let after = self.asked.load(Ordering::SeqCst);
         Ok((after.wrapping_sub(before), reply))
     }
+}
+
+/// Whether the apexes are vertices of the picture.
+fn has_apexes(frozen: &Frozen) -> bool
+    ensures u_there { IsTrue result → 3 < length frozen.now.rows.rotations }
+    ensures v_there { IsTrue result → 4 < length frozen.now.rows.rotations }
+{
+    frozen.rows().rotations.as_slice().len() > 4
 }
 
 /// A plan between the apexes.
@@ -296,18 +302,18 @@ impl Story for Plans<'_> {
         2
     }
 
-    fn tell<
-        F: Asks + Drop + Send + Sync,
-        K: Naming<F> + Send + Sync,
-        R: Threads + Wait + Abort + Sync,
-    >(
+    fn tell<F: Asks + Drop, K: Naming<F>, R: Wait>(
         &self,
         rt: &R,
         alloc: Global,
         service: &Service<F, K>,
         passes: &mut Vec<Pass<F, K>>,
+        _ends: &[WorkerEnd],
     ) -> Result<String, Fail> {
-        let [a, b] = passes.as_mut_slice() else {
+        let Some((a, rest)) = passes.as_mut_slice().split_first_mut() else {
+            return Err("two passes".into());
+        };
+        let Some((b, _)) = rest.split_first_mut() else {
             return Err("two passes".into());
         };
         let plan = plan_of(alloc, service, a)?;
