@@ -109,7 +109,7 @@ fn sixteen_workers_make_thousands_of_calls(rt: HostRuntime) -> Result<(), Fail> 
     let mut x = 1;
     for _ in 0..16 {
         let mut list = Vec::new(alloc);
-        for _ in 0..100 {
+        for _ in 0..2_000 {
             x = stir(x);
             list.push(command_of(x))?;
         }
@@ -125,7 +125,7 @@ fn sixteen_workers_make_thousands_of_calls(rt: HostRuntime) -> Result<(), Fail> 
     )?;
     assert_eq!(rt;
         told.as_str(),
-        "16 ended, all done: true; 1600 calls, replayed: true"
+        "16 ended, all done: true; 32000 calls, replayed: true"
     );
     Ok(())
 }
