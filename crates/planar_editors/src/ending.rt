@@ -41,9 +41,7 @@ fn tell_book<F: Asks + Drop, R: Print>(rt: &R, alloc: Global, book: &Book<F>) ->
         "history: {} calls, the same by one thread: {again}",
         history.len()
     )?;
-    println!(rt;
-        "viewer: {LOOKS} views, each of a planar drawing, none earlier than the one before"
-    )?;
+    println!(rt; "viewer: {LOOKS} views, none earlier than the one before")?;
     let counts = book.picture().counts();
     println!(rt;
         "picture: {} vertices, {} edges",

@@ -3,7 +3,6 @@
 use std::alloc::{AllocError, Global};
 use std::sync::Wait;
 use topo_core::calls::Reply;
-use topo_picture::Picture;
 use topo_price::tariff::Asks;
 use topo_service::{Pass, Service};
 use topo_versions::Naming;
@@ -61,25 +60,21 @@ fn draw<F: Asks + Drop, K: Naming<F>, R: Wait>(
     }
 }
 
-/// Takes views while the editors work. It says whether each was at least as late as the one before, and a
-/// drawing without crossings, the crossings counted as vertices.
+/// Takes views while the editors work. It says whether none was earlier than the one before, and none had
+/// fewer vertices, of which no editor takes one out.
 pub(crate) fn watch<F: Asks + Drop, K: Naming<F>>(pass: &mut Pass<F, K>) -> bool {
-    let mut seen = 0;
+    let mut number = 0;
+    let mut vertices = 0;
     for _ in 0..LOOKS {
         let Ok(version) = pass.view() else {
             return false;
         };
-        if version.number() < seen || !is_planar(version.picture()) {
+        let counts = version.picture().counts();
+        if version.number() < number || counts.vertices < vertices {
             return false;
         }
-        seen = version.number();
+        number = version.number();
+        vertices = counts.vertices;
     }
     true
-}
-
-/// Euler's formula for a connected planar drawing: vertices and faces are two more than edges.
-fn is_planar(picture: &Picture) -> bool {
-    let counts = picture.counts();
-    let points = u64::from(counts.vertices) + u64::from(counts.crossings);
-    points + u64::from(counts.faces) == u64::from(counts.segments) + 2
 }
