@@ -1,0 +1,135 @@
+//! Two editors and a viewer on one picture, each in a thread of its own.
+//!
+//! A service keeps the picture under one lock. Whoever wants to call it is given a pass: the editors change
+//! the picture by calls of the service, the viewer only looks at versions of it, for which nobody waits. At
+//! the end the service is closed with all passes, which compares every receipt with the history. What is
+//! printed is the same whichever thread is faster.
+#![tactic(auto)]
+
+ghost use Rattle.std.specs.Prelude.{◌≡◌, Some};
+ghost use Rattle.std.specs.Arc.{arc_value};
+ghost use Rattle.topo_price.specs.Prices.{IsPromise};
+
+mod ending;
+mod people;
+
+use anyhow::{Error, Result};
+use ending::tell;
+use people::{edit, watch};
+use std::alloc::Global;
+use std::marker::Brand;
+use std::sync::atomic::{AtomicBool, Ordering};
+use std::sync::{Arc, Wait};
+use std::thread;
+use std::thread::Threads;
+use topo_core::limits::Limits;
+use topo_core::rows::Facts;
+use topo_picture::Picture;
+use topo_price::tariff::{Asks, Tariff};
+use topo_service::{Pass, Service, Unopened};
+use topo_versions::Naming;
+
+/// How many editors there are. Their passes have the numbers from 0 on, the viewer's comes after them.
+const EDITORS: u32 = 2;
+
+fn main(rt: HostRuntime) -> Result<()> {
+    // What it costs to cross an edge: those of the second editor, of kind 1, are dear.
+    begin(
+        &rt,
+        |facts: &Facts| Some(if facts.kind == 1 { 5 } else { 1 }),
+    )
+}
+
+/// Makes what a service begins with: an empty ledger of receipts, a picture and the prices. `Brand` is the
+/// type that stands for this one service, so that a pass of another cannot be handed in.
+fn begin<F: Asks + Drop + Send + Sync, R: Threads + Wait + Print + AllocGlobal + Sync>(
+    rt: &R,
+    prices: F,
+) -> Result<()>
+    requires callable { F.can_ask prices }
+    requires promise { IsPromise (F.answers prices) }
+{
+    let alloc = rt.alloc();
+    let Ok(limits) = Limits::new(1_000, 1_000, 10_000) else {
+        return Err(Error::msg("limits that are out of range"));
+    };
+    // two vertices, 0 and 1, with an edge between them
+    let start = Picture::seed(alloc, limits)?;
+    let tariff = Arc::new(alloc, Tariff::new(prices))?;
+    share::<F, Brand, R>(rt, alloc, Unopened::new(), start, tariff)
+}
+
+/// Two editors and a viewer at one service. The service and the passes are owned here, and handed back to it
+/// whatever happened: it has to be closed.
+fn share<
+    F: Asks + Drop + Send + Sync,
+    K: Naming<F> + Send + Sync,
+    R: Threads + Wait + Print + AllocGlobal + Sync,
+>(rt: &R, alloc: Global, unopened: Unopened, start: Picture, tariff: Arc<Tariff<F>>) -> Result<()>
+    requires ledger { (unopened.blank.name ≡ K.name) × (unopened.blank.parts ≡ K.parts) }
+    requires parts { K.parts ≡ 16 }
+    requires list { unopened.opened.seen.book ≡ K.book }
+    requires start { start ≡ K.start }
+    requires prices { K.closure ≡ Some (arc_value tariff) }
+{
+    let mut service = Service::<F, K>::new(alloc, unopened, start, tariff)?;
+    let mut passes = Vec::new(alloc);
+    let served = serve(rt, alloc, &mut service, &mut passes);
+    let end = service.close(rt, passes);
+    tell(rt, served, &end)
+}
+
+/// Gives the passes out, and lets everybody do their work.
+fn serve<F: Asks + Drop + Send + Sync, K: Naming<F> + Send + Sync, R: Threads + Wait + Sync>(
+    rt: &R,
+    alloc: Global,
+    service: &mut Service<F, K>,
+    passes: &mut Vec<Pass<F, K>>,
+) -> Result<()> {
+    give_out(service, passes)?;
+    if work(rt, alloc, &*service, passes.as_mut_slice()) {
+        Ok(())
+    } else {
+        Err(Error::msg("an editor or the viewer stopped early"))
+    }
+}
+
+/// A pass for each editor and one for the viewer.
+fn give_out<F: Asks + Drop, K: Naming<F>>(
+    service: &mut Service<F, K>,
+    passes: &mut Vec<Pass<F, K>>,
+) -> Result<()> {
+    for _ in 0..EDITORS + 1 {
+        match service.pass() {
+            Ok(pass) => passes.push(pass)?,
+            Err(fault) => return Err(Error::msg(fault.number())),
+        }
+    }
+    Ok(())
+}
+
+/// A thread for each pass: the first ones edit, the last one looks. It says whether each came to its end.
+fn work<F: Asks + Drop + Send + Sync, K: Naming<F> + Send + Sync, R: Threads + Wait + Sync>(
+    rt: &R,
+    alloc: Global,
+    service: &Service<F, K>,
+    passes: &mut [Pass<F, K>],
+) -> bool {
+    let well = AtomicBool::new(true);
+    thread::for_each_mut(
+        rt,
+        passes,
+        EDITORS as usize + 1,
+        &|_at, pass: &mut Pass<F, K>| {
+            let ended = if pass.number() < EDITORS {
+                edit(rt, alloc, service, pass).is_ok()
+            } else {
+                watch(pass)
+            };
+            if !ended {
+                well.store(false, Ordering::SeqCst);
+            }
+        },
+    );
+    well.load(Ordering::SeqCst)
+}

@@ -1,0 +1,11 @@
+//! Tests of the locked service: views, plans, passes and workers.
+#![tactic(auto)]
+
+#[cfg(test)]
+mod crowds;
+#[cfg(test)]
+mod gates;
+#[cfg(test)]
+mod harness;
+#[cfg(test)]
+mod views;

@@ -1,0 +1,347 @@
+//! Views on one thread, passes that are missing, and plans.
+
+ghost use Rattle.std.specs.Prelude.{◌<◌, IsTrue, length};
+
+use crate::harness::{Story, bipyramid, run, seed, uneven_prices};
+use std::alloc::{AllocError, Global};
+use std::sync::Wait;
+use std::sync::atomic::{AtomicU64, Ordering};
+use std::test::Fail;
+use topo_core::calls::Reply;
+use topo_core::rows::Facts;
+use topo_frozen::Frozen;
+use topo_price::table::PriceTable;
+use topo_price::tariff::Asks;
+use topo_route::check::check;
+use topo_route::plan::Plan;
+use topo_service::{Pass, Service, WorkerEnd};
+use topo_versions::{Naming, Version};
+
+/// The version of now.
+pub(crate) fn view_of<F: Asks + Drop, K: Naming<F>>(
+    pass: &mut Pass<F, K>,
+) -> Result<Version<F, K>, Fail> {
+    match pass.view() {
+        Ok(version) => Ok(version),
+        Err(_) => Err("no view".into()),
+    }
+}
+
+/// How many edges the picture of a version has.
+pub(crate) fn edges_of<F: Asks + Drop, K: Naming<F>>(version: &Version<F, K>) -> u32 {
+    version.picture().counts().edges
+}
+
+/// Two passes in turn, and what they see.
+#[derive(Drop)]
+struct Turns;
+
+/// Takes a further view and keeps it.
+fn keep<F: Asks + Drop, K: Naming<F>>(
+    pass: &mut Pass<F, K>,
+    views: &mut Vec<Version<F, K>>,
+) -> Result<(), Fail> {
+    views.push(view_of(pass)?)?;
+    Ok(())
+}
+
+/// Calls by two passes in turn, with five views that are all kept. It says how many accepted calls the
+/// first pass had seen after its first call and after its second, and how a call was refused.
+fn take_turns<F: Asks + Drop, K: Naming<F>, R: Wait>(
+    rt: &R,
+    service: &Service<F, K>,
+    passes: &mut [Pass<F, K>],
+    views: &mut Vec<Version<F, K>>,
+) -> Result<(u64, u64, Reply), Fail> {
+    let Some((a, rest)) = passes.split_first_mut() else {
+        return Err("two passes".into());
+    };
+    let Some((b, _)) = rest.split_first_mut() else {
+        return Err("two passes".into());
+    };
+    keep(a, views)?;
+    let _ = service.insert(rt, a, 0, 1, 0)?;
+    keep(a, views)?;
+    let seen = a.seen();
+    let _ = service.insert(rt, b, 0, 1, 0)?;
+    keep(b, views)?;
+    let refused = service.insert(rt, b, 0, 0, 0)?;
+    keep(b, views)?;
+    let _ = service.insert(rt, a, 0, 0, 0)?;
+    let told = a.seen();
+    let _ = service.insert(rt, b, 0, 1, 0)?;
+    keep(a, views)?;
+    Ok((seen, told, refused))
+}
+
+/// The numbers of views and how many edges their pictures have, in turn.
+fn numbers_of<F: Asks + Drop, K: Naming<F>>(
+    alloc: Global,
+    views: &[Version<F, K>],
+) -> Result<Vec<(u64, u32)>, AllocError> {
+    let mut numbers = Vec::new(alloc);
+    for view in views {
+        numbers.push((view.number(), edges_of(view)))?;
+    }
+    Ok(numbers)
+}
+
+/// How many receipts each pass has.
+fn receipts_of<F: Asks + Drop, K: Naming<F>>(
+    alloc: Global,
+    passes: &[Pass<F, K>],
+) -> Result<Vec<usize>, AllocError> {
+    let mut counts = Vec::new(alloc);
+    for pass in passes {
+        counts.push(pass.receipts().len())?;
+    }
+    Ok(counts)
+}
+
+impl Story for Turns {
+    fn seats(&self) -> usize {
+        2
+    }
+
+    fn tell<F: Asks + Drop, K: Naming<F>, R: Wait>(
+        &self,
+        rt: &R,
+        alloc: Global,
+        service: &Service<F, K>,
+        passes: &mut Vec<Pass<F, K>>,
+        _ends: &[WorkerEnd],
+    ) -> Result<String, Fail> {
+        let mut views = Vec::new(alloc);
+        let taken = take_turns(rt, service, passes.as_mut_slice(), &mut views);
+        let numbers = numbers_of(alloc, views.as_slice());
+        let receipts = receipts_of(alloc, passes.as_slice());
+        told_of(alloc, taken, numbers, receipts)
+    }
+}
+
+/// The text of what was seen.
+fn told_of(
+    alloc: Global,
+    taken: Result<(u64, u64, Reply), Fail>,
+    numbers: Result<Vec<(u64, u32)>, AllocError>,
+    receipts: Result<Vec<usize>, AllocError>,
+) -> Result<String, Fail> {
+    let (seen, told, refused) = taken?;
+    let (numbers, receipts) = (numbers?, receipts?);
+    Ok(format!(in alloc; "{numbers:?} {seen} {told} {refused:?} {receipts:?}")?)
+}
+
+#[test]
+fn views_follow_the_calls(rt: HostRuntime) -> Result<(), Fail> {
+    let start = seed(&rt, rt.alloc())?;
+    let table = PriceTable::new([Some(1); 64]).expect(&rt, "a table");
+    let told = run(
+        &rt,
+        rt.alloc(),
+        |facts: &Facts| table.price(facts.kind),
+        start,
+        &Turns,
+    )?;
+    assert_eq!(rt;
+        told.as_str(),
+        "[(0, 1), (1, 2), (2, 3), (2, 3), (3, 4)] 1 2 Refused(SameEnds) [2, 3]; 5 calls, replayed: true"
+    );
+    Ok(())
+}
+
+/// As many passes as are given out; the second alone is handed back.
+#[derive(Drop)]
+struct Seats;
+
+impl Story for Seats {
+    fn seats(&self) -> usize {
+        20
+    }
+
+    fn tell<F: Asks + Drop, K: Naming<F>, R: Wait>(
+        &self,
+        _rt: &R,
+        alloc: Global,
+        _service: &Service<F, K>,
+        passes: &mut Vec<Pass<F, K>>,
+        _ends: &[WorkerEnd],
+    ) -> Result<String, Fail> {
+        let given = passes.len();
+        passes.retain(|pass| pass.number() == 1);
+        Ok(format!(in alloc; "{given}")?)
+    }
+}
+
+#[test]
+fn the_seventeenth_pass_is_refused_and_missing_ones_are_told(rt: HostRuntime) -> Result<(), Fail> {
+    let start = seed(&rt, rt.alloc())?;
+    let table = PriceTable::new([Some(1); 64]).expect(&rt, "a table");
+    let told = run(
+        &rt,
+        rt.alloc(),
+        |facts: &Facts| table.price(facts.kind),
+        start,
+        &Seats,
+    )?;
+    assert_eq!(rt; told.as_str(), "16; 43 PassMissing(0), 1 passes");
+    Ok(())
+}
+
+/// No pass at all.
+#[derive(Drop)]
+struct Nobody;
+
+impl Story for Nobody {
+    fn seats(&self) -> usize {
+        0
+    }
+
+    fn tell<F: Asks + Drop, K: Naming<F>, R: Wait>(
+        &self,
+        _rt: &R,
+        alloc: Global,
+        _service: &Service<F, K>,
+        passes: &mut Vec<Pass<F, K>>,
+        _ends: &[WorkerEnd],
+    ) -> Result<String, Fail> {
+        Ok(format!(in alloc; "{} passes", passes.len())?)
+    }
+}
+
+#[test]
+fn a_service_without_passes_ends_with_an_empty_history(rt: HostRuntime) -> Result<(), Fail> {
+    let start = seed(&rt, rt.alloc())?;
+    let table = PriceTable::new([Some(1); 64]).expect(&rt, "a table");
+    let told = run(
+        &rt,
+        rt.alloc(),
+        |facts: &Facts| table.price(facts.kind),
+        start,
+        &Nobody,
+    )?;
+    assert_eq!(rt; told.as_str(), "0 passes; 0 calls, replayed: true");
+    Ok(())
+}
+
+/// A plan that is still good, and one that another call made stale.
+#[derive(Drop)]
+struct Plans<'a> {
+    asked: &'a AtomicU64,
+}
+
+impl Plans<'_> {
+    /// How many prices a check of the plan on the version of now asks for, and whether the plan passes.
+    fn checked<F: Asks + Drop, K: Naming<F>>(
+        &self,
+        alloc: Global,
+        service: &Service<F, K>,
+        pass: &mut Pass<F, K>,
+        plan: &Plan,
+    ) -> Result<(u64, bool), Fail> {
+        let frozen = view_of(pass)?.picture().freeze(alloc)?;
+        if !has_apexes(&frozen) {
+            return Err("two apexes".into());
+        }
+        let before = self.asked.load(Ordering::SeqCst);
+        let good = check(&frozen, service.tariff(), 3, 4, plan).is_ok();
+        let after = self.asked.load(Ordering::SeqCst);
+        Ok((after.wrapping_sub(before), good))
+    }
+
+    /// An insertion by the good plan, with the number of prices that it asked for.
+    fn insert<F: Asks + Drop, K: Naming<F>, R: Wait>(
+        &self,
+        rt: &R,
+        service: &Service<F, K>,
+        pass: &mut Pass<F, K>,
+        plan: &Plan,
+    ) -> Result<(u64, Reply), AllocError> {
+        let before = self.asked.load(Ordering::SeqCst);
+        let reply = service.insert_planned(rt, pass, 3, 4, 0, plan)?;
+        let after = self.asked.load(Ordering::SeqCst);
+        Ok((after.wrapping_sub(before), reply))
+    }
+}
+
+/// Whether the apexes are vertices of the picture.
+fn has_apexes(frozen: &Frozen) -> bool
+    ensures u_there { IsTrue result → 3 < length frozen.now.rows.rotations }
+    ensures v_there { IsTrue result → 4 < length frozen.now.rows.rotations }
+{
+    frozen.rows().rotations.as_slice().len() > 4
+}
+
+/// A plan between the apexes.
+fn plan_of<F: Asks + Drop, K: Naming<F>>(
+    alloc: Global,
+    service: &Service<F, K>,
+    pass: &mut Pass<F, K>,
+) -> Result<Plan, Fail> {
+    match pass.plan(alloc, service.tariff(), 3, 4) {
+        Ok(plan) => Ok(plan),
+        Err(_) => Err("no plan".into()),
+    }
+}
+
+/// Takes out the first inserted edge and the edge that it crossed, and then inserts by a plan that was
+/// made before all this.
+fn insert_late<F: Asks + Drop, K: Naming<F>, R: Wait>(
+    rt: &R,
+    service: &Service<F, K>,
+    early: &mut Pass<F, K>,
+    late: &mut Pass<F, K>,
+    stale: &Plan,
+) -> Result<Reply, AllocError> {
+    let _ = service.delete(rt, early, 9)?;
+    let _ = service.delete(rt, early, 1)?;
+    service.insert_planned(rt, late, 3, 4, 0, stale)
+}
+
+impl Story for Plans<'_> {
+    fn seats(&self) -> usize {
+        2
+    }
+
+    fn tell<F: Asks + Drop, K: Naming<F>, R: Wait>(
+        &self,
+        rt: &R,
+        alloc: Global,
+        service: &Service<F, K>,
+        passes: &mut Vec<Pass<F, K>>,
+        _ends: &[WorkerEnd],
+    ) -> Result<String, Fail> {
+        let Some((a, rest)) = passes.as_mut_slice().split_first_mut() else {
+            return Err("two passes".into());
+        };
+        let Some((b, _)) = rest.split_first_mut() else {
+            return Err("two passes".into());
+        };
+        let plan = plan_of(alloc, service, a)?;
+        let stale = plan_of(alloc, service, b)?;
+        let (checked, good) = self.checked(alloc, service, a, &plan)?;
+        let (asked, first) = self.insert(rt, service, a, &plan)?;
+        let second = insert_late(rt, service, a, b, &stale)?;
+        let spared = asked == checked;
+        Ok(format!(in alloc; "{good} {spared} {first:?} {second:?}")?)
+    }
+}
+
+#[test]
+fn a_good_plan_spares_the_search_and_a_stale_one_does_not_harm(
+    rt: HostRuntime,
+) -> Result<(), Fail> {
+    let start = bipyramid(&rt, rt.alloc())?;
+    let table = uneven_prices(&rt);
+    let asked = AtomicU64::new(0);
+    let ask = |facts: &Facts| {
+        let _ = asked.fetch_add(1, Ordering::SeqCst);
+        table.price(facts.kind)
+    };
+    let told = run(&rt, rt.alloc(), ask, start, &Plans { asked: &asked })?;
+    assert_eq!(rt;
+        told.as_str(),
+        "true true Inserted(Inserted { id: EdgeId(9), route: Route { start: 2, crossed: Listed { items: [Dart { edge: EdgeId(1), seg: 0, way: Back }] }, end: 2 }, price: 2 }) \
+         Inserted(Inserted { id: EdgeId(10), route: Route { start: 2, crossed: Listed { items: [] }, end: 2 }, price: 0 }); 4 calls, replayed: true"
+    );
+    Ok(())
+}
