@@ -15,6 +15,8 @@ mod faults;
 #[cfg(test)]
 mod first_routes;
 #[cfg(test)]
+mod generated;
+#[cfg(test)]
 mod permutations;
 #[cfg(test)]
 mod pictures;
@@ -24,6 +26,8 @@ mod plans;
 mod prices;
 #[cfg(test)]
 mod searches;
+#[cfg(test)]
+mod seen_rows;
 #[cfg(test)]
 mod streams;
 #[cfg(test)]
