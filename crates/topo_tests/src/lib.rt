@@ -25,6 +25,8 @@ mod plans;
 #[cfg(test)]
 mod prices;
 #[cfg(test)]
+mod replicas;
+#[cfg(test)]
 mod searches;
 #[cfg(test)]
 mod seen_rows;
