@@ -3,6 +3,8 @@
 #![tactic(auto)]
 
 #[cfg(test)]
+mod books;
+#[cfg(test)]
 mod calls;
 #[cfg(test)]
 mod embeddings;
@@ -15,6 +17,8 @@ mod first_routes;
 #[cfg(test)]
 mod gates;
 #[cfg(test)]
+mod generated;
+#[cfg(test)]
 mod permutations;
 #[cfg(test)]
 mod pictures;
@@ -25,7 +29,11 @@ mod prices;
 #[cfg(test)]
 mod program;
 #[cfg(test)]
+mod replicas;
+#[cfg(test)]
 mod searches;
+#[cfg(test)]
+mod seen_rows;
 #[cfg(test)]
 mod streams;
 #[cfg(test)]

@@ -1,0 +1,253 @@
+//! A long run of calls that a small generator makes.
+
+ghost use Rattle.topo_price.specs.Prices.{IsPromise};
+
+use crate::calls::{book_of, made};
+use crate::pictures::SEED;
+use crate::searches::table_of;
+use crate::seen_rows::{falls_apart, is_loaded_again};
+use std::alloc::{AllocError, Global};
+use std::process::Abort;
+use std::test::Fail;
+use topo_book::{Book, replay};
+use topo_check::replay_io;
+use topo_core::calls::{Call, Entry, Refusal, Reply};
+use topo_core::listed::Listed;
+use topo_core::rows::{Facts, Rows};
+use topo_picture::Picture;
+use topo_price::tariff::Asks;
+use topo_script::{LimitRows, Report, report};
+
+/// The prices of kinds 0 to 3, which are those that the calls have.
+const PRICES: [Option<u32>; 4] = [Some(1), Some(5), Some(2), None];
+
+/// The numbers of a linear congruence modulo 2^32.
+#[derive(Drop)]
+pub(crate) struct Numbers {
+    pub state: u32,
+}
+
+impl Numbers {
+    /// A number below a bound, and 0 where that is 0.
+    pub(crate) fn below(&mut self, bound: u32) -> u32 {
+        self.state = self
+            .state
+            .wrapping_mul(1_664_525)
+            .wrapping_add(1_013_904_223);
+        (self.state / 65_536).checked_rem(bound).unwrap_or(0)
+    }
+}
+
+/// A growth, an edge between vertices whose numbers are near, or a deletion.
+pub(crate) fn next_call(numbers: &mut Numbers, vertices: u32, edges: u32) -> Call {
+    let kind = numbers.below(4);
+    let u = numbers.below(vertices);
+    let near = numbers.below(5);
+    let edge = numbers.below(edges);
+    match numbers.below(6) {
+        0 => Call::Grow {
+            u,
+            position: near,
+            kind,
+        },
+        1 => Call::Grow {
+            u,
+            position: 0,
+            kind,
+        },
+        2 => Call::Delete { edge },
+        _ => Call::Insert {
+            u,
+            v: u.wrapping_add(near),
+            kind,
+        },
+    }
+}
+
+/// Whether the rows are those from before an insertion once its edge is taken out of a copy, but for
+/// the ids that are used.
+fn is_taken_back(alloc: Global, picture: &Picture, edge: u32, before: Rows) -> Result<bool, Fail> {
+    let mut wanted = before;
+    let now = picture.rows(alloc)?;
+    wanted.next_edge = now.next_edge;
+    wanted.next_crossing = now.next_crossing;
+    let mut copy = picture.copy(alloc)?;
+    let deleted = copy.delete(alloc, edge).is_ok();
+    let left = copy.rows(alloc)?;
+    Ok(deleted && left.equals(&wanted))
+}
+
+/// Whether the picture is what the reply says, where that is seen without knowing the routes. A cut is
+/// an edge without which the rows are not connected.
+fn is_meant(
+    alloc: Global,
+    picture: &Picture,
+    call: Call,
+    reply: &Reply,
+    before: Rows,
+) -> Result<bool, Fail> {
+    if let (Call::Delete { edge }, Reply::Refused(Refusal::Cut(_))) = (call, reply) {
+        if !falls_apart(alloc, picture.limits(), &before, edge)? {
+            return Ok(false);
+        }
+    }
+    match reply {
+        Reply::Inserted(made) => is_taken_back(alloc, picture, made.id.number(), before),
+        Reply::Refused(_) => {
+            let now = picture.rows(alloc)?;
+            Ok(now.equals(&before))
+        }
+        _ => Ok(true),
+    }
+}
+
+/// Makes one call, and looks at what comes of it.
+fn go_on<F: Asks>(
+    rt: &impl Abort,
+    alloc: Global,
+    book: &mut Book<F>,
+    numbers: &mut Numbers,
+) -> Result<(), Fail> {
+    let before = book.picture().rows(alloc)?;
+    let vertices = book.picture().counts().vertices;
+    let call = next_call(numbers, vertices, before.next_edge);
+    let reply = made(alloc, book, call)?;
+    assert!(rt;
+        is_loaded_again(alloc, book.picture())?,
+        "{call:?}: {reply:?}"
+    );
+    let meant = is_meant(alloc, book.picture(), call, &reply, before)?;
+    assert!(rt; meant, "{call:?}: {reply:?}");
+    Ok(())
+}
+
+/// Whether a reply is of the sort with this number: grown, put in across no edge, put in across some,
+/// deleted, cut, full.
+fn is_of(reply: &Reply, sort: u32) -> bool {
+    match reply {
+        Reply::Grown { .. } => sort == 0,
+        Reply::Inserted(made) => {
+            let crosses = !made.route.crossed.as_slice().is_empty();
+            sort == 1 && !crosses || sort == 2 && crosses
+        }
+        Reply::Deleted(_) => sort == 3,
+        Reply::Refused(Refusal::Cut(_)) => sort == 4,
+        Reply::Refused(Refusal::Full) => sort == 5,
+        Reply::Refused(_) => false,
+    }
+}
+
+/// How many replies of a sort a history has.
+fn count_of(history: &[Entry], sort: u32) -> usize {
+    history
+        .iter()
+        .filter(|entry| is_of(&entry.reply, sort))
+        .count()
+}
+
+/// Copies of entries.
+fn copies_of(alloc: Global, entries: &[Entry]) -> Result<Listed<Entry>, AllocError> {
+    let mut copies = Vec::new(alloc);
+    for entry in entries {
+        copies.push(entry.copy(alloc)?)?;
+    }
+    Ok(Listed::from_vec(copies))
+}
+
+/// The text of the report that a book is.
+fn text_of<F: Asks>(alloc: Global, book: &Book<F>) -> Result<String, Fail> {
+    let limits = book.start().limits();
+    let start = book.start().rows(alloc)?;
+    let picture = book.picture().rows(alloc)?;
+    let made = Report {
+        limits: LimitRows {
+            vertices: limits.vertices,
+            edges: limits.edges,
+            crossings: limits.crossings,
+        },
+        prices: Listed::from_vec(Vec::from_slice(alloc, &PRICES)?),
+        start,
+        history: copies_of(alloc, book.history())?,
+        picture,
+    };
+    Ok(report(alloc, &made)?)
+}
+
+/// The replay of a book's history is its picture, in which no vertex is missing.
+fn is_replayed<F: Asks>(rt: &impl Abort, alloc: Global, book: &Book<F>) -> Result<(), Fail> {
+    let again = replay(alloc, book.start(), book.history(), book.tariff())?;
+    let rows = book.picture().rows(alloc)?;
+    let replayed = again.rows(alloc)?;
+    assert!(rt; replayed.equals(&rows));
+    assert_eq!(rt; again.counts().vertices, 40);
+    Ok(())
+}
+
+/// There are replies of each sort.
+fn has_each_sort(rt: &impl Abort, history: &[Entry]) {
+    for sort in 0..6 {
+        let had = count_of(history, sort);
+        assert!(rt; had >= 3, "sort {sort}: {had}");
+    }
+}
+
+/// The report that a book is passes the command `replay`, which counts its calls.
+fn is_reported<F: Asks>(
+    rt: &impl Abort,
+    alloc: Global,
+    book: &Book<F>,
+    calls: u32,
+) -> Result<(), Fail> {
+    let text = text_of(alloc, book)?;
+    let mut written: Vec<u8> = Vec::new(alloc);
+    let mut reader = text.as_bytes();
+    replay_io(alloc, &mut reader, &mut written)?;
+    let wanted = format!(in alloc; "replayed {calls} calls\n")?;
+    assert!(rt; written.as_slice() == wanted.as_bytes());
+    Ok(())
+}
+
+/// A run of calls, its replay, and the replay of its report.
+fn run<F: Asks>(
+    rt: &impl Abort,
+    alloc: Global,
+    book: &mut Book<F>,
+    state: u32,
+    calls: u32,
+) -> Result<(), Fail> {
+    let mut numbers = Numbers { state };
+    for _ in 0..calls {
+        go_on(rt, alloc, book, &mut numbers)?;
+    }
+    is_replayed(rt, alloc, book)?;
+    has_each_sort(rt, book.history());
+    is_reported(rt, alloc, book, calls)
+}
+
+/// The run of a book that begins with the seed.
+fn run_from_seed<F: Asks + Drop>(
+    rt: &impl Abort,
+    alloc: Global,
+    state: u32,
+    calls: u32,
+    ask: F,
+) -> Result<(), Fail>
+    requires callable { F.can_ask ask }
+    requires promise { IsPromise (F.answers ask) }
+{
+    let mut book = book_of(alloc, SEED, (40, 1_000, 2_000), ask)?;
+    run(rt, alloc, &mut book, state, calls)
+}
+
+#[test]
+fn a_run_of_generated_calls(rt: HostRuntime) -> Result<(), Fail> {
+    let entries = [(1, PRICES[1]), (2, PRICES[2]), (3, PRICES[3])];
+    let table = table_of(&rt, PRICES[0], &entries);
+    run_from_seed(
+        &rt,
+        rt.alloc(),
+        7,
+        250,
+        |facts: &Facts| table.price(facts.kind),
+    )
+}
