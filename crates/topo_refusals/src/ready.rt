@@ -30,6 +30,33 @@ fn prepared<F: Asks>(
     }
 }
 
+/// What the call that makes ready is named.
+fn name_of(plan: Option<&Plan>) -> &'static str {
+    match plan {
+        Some(_) => "Book::prepare_planned",
+        None => "Book::prepare",
+    }
+}
+
+/// Makes a call ready, again where that wants memory.
+fn ready<R: Print + Eprint + AllocGlobal, F: Asks>(
+    rt: &R,
+    book: &mut Book<F>,
+    call: Call,
+    plan: Option<&Plan>,
+    before: &str,
+) -> Result<Next>
+    ensures ready { IfOk result (CanFollow (prices_of (F.answers book.new.tariff)) book.new) }
+{
+    match prepared(rt.alloc(), book, call, plan) {
+        Ok(next) => Ok(next),
+        Err(_) => {
+            compare_book(rt, name_of(plan), before, book)?;
+            Ok(prepared(rt.alloc(), book, call, plan)?)
+        }
+    }
+}
+
 /// Prints a call that is ready, with the picture after it.
 fn print_ready<R: Print + Eprint + AllocGlobal>(rt: &R, next: &Next) -> Result<()> {
     let entry = next.entry();
@@ -38,6 +65,20 @@ fn print_ready<R: Print + Eprint + AllocGlobal>(rt: &R, next: &Next) -> Result<(
         let state = picture_state(rt, picture)?;
         println!(rt; "to come:{state}")?;
     }
+    Ok(())
+}
+
+/// Prints a call that is ready, and compares the book with its state before.
+fn show_ready<R: Print + Eprint + AllocGlobal, F: Asks>(
+    rt: &R,
+    book: &Book<F>,
+    next: &Next,
+    name: &str,
+    before: &str,
+) -> Result<()> {
+    print_ready(rt, next)?;
+    let after = book_state(rt, book)?;
+    compare(rt, name, before, after.as_str())?;
     Ok(())
 }
 
@@ -50,20 +91,8 @@ pub(crate) fn enter_ready<R: Print + Eprint + AllocGlobal, F: Asks>(
     plan: Option<&Plan>,
     before: &str,
 ) -> Result<()> {
-    let name = match plan {
-        Some(_) => "Book::prepare_planned",
-        None => "Book::prepare",
-    };
-    let next = match prepared(rt.alloc(), book, call, plan) {
-        Ok(next) => next,
-        Err(_) => {
-            compare_book(rt, name, before, book)?;
-            prepared(rt.alloc(), book, call, plan)?
-        }
-    };
-    print_ready(rt, &next)?;
-    let after = book_state(rt, book)?;
-    compare(rt, name, before, after.as_str())?;
+    let next = ready(rt, book, call, plan, before)?;
+    let shown = show_ready(rt, book, &next, name_of(plan), before);
     book.commit(next);
-    Ok(())
+    shown
 }

@@ -24,23 +24,41 @@ mod stories;
 
 use ballast::taken;
 use changes::{Changes, change};
-use named::{BARRIER, BIPYRAMID, HEXAGON};
+use named::{BARRIER, BIPYRAMID, HEXAGON, Named};
 use seen::{loaded, read};
-use stories::{APEXES, BASE, CHORDS, tell_story};
+use stories::{APEXES, BASE, CHORDS, Story, tell_story};
+use topo_picture::Picture;
+
+/// The calls on a picture.
+fn call<R: Print + Eprint + AllocGlobal>(
+    rt: &R,
+    picture: &Picture,
+    changes: Option<Changes>,
+    story: &Story,
+) -> Result<()> {
+    read(rt, picture)?;
+    if let Some(changes) = changes {
+        change(rt, changes, picture)?;
+    }
+    tell_story(rt, story, picture)
+}
+
+/// Loads a named picture, and makes the calls on it.
+fn run_on<R: Print + Eprint + AllocGlobal>(
+    rt: &R,
+    named: &Named,
+    changes: Option<Changes>,
+    story: &Story,
+) -> Result<()> {
+    let picture = loaded(rt, named)?;
+    call(rt, &picture, changes, story)
+}
 
 /// The calls on one picture after the other.
 fn run<R: Print + Eprint + AllocGlobal>(rt: &R) -> Result<()> {
-    let bipyramid = loaded(rt, &BIPYRAMID)?;
-    read(rt, &bipyramid)?;
-    change(rt, Changes::OfBipyramid, &bipyramid)?;
-    tell_story(rt, &APEXES, &bipyramid)?;
-    let barrier = loaded(rt, &BARRIER)?;
-    read(rt, &barrier)?;
-    change(rt, Changes::OfBarrier, &barrier)?;
-    tell_story(rt, &BASE, &barrier)?;
-    let hexagon = loaded(rt, &HEXAGON)?;
-    read(rt, &hexagon)?;
-    tell_story(rt, &CHORDS, &hexagon)
+    run_on(rt, &BIPYRAMID, Some(Changes::OfBipyramid), &APEXES)?;
+    run_on(rt, &BARRIER, Some(Changes::OfBarrier), &BASE)?;
+    run_on(rt, &HEXAGON, None, &CHORDS)
 }
 
 /// The allocations before the first call, and then the calls.

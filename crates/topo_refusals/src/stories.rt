@@ -2,15 +2,17 @@
 
 ghost use Rattle.topo_price.specs.Prices.{IsPromise};
 
-use crate::books::{Step, book_of, take};
+use crate::books::{Step, book_of, print_new, shared, take};
 use crate::prices::table_of;
 use crate::replays::replay_from;
 use crate::seen::planned;
 use anyhow::Result;
+use std::sync::Arc;
+use topo_book::Book;
 use topo_core::calls::Call;
 use topo_core::rows::Facts;
 use topo_picture::Picture;
-use topo_price::tariff::Asks;
+use topo_price::tariff::{Asks, Tariff};
 
 /// Prices of the kinds 0 to 3, the ends of a planned edge, and the calls.
 pub(crate) struct Story {
@@ -105,6 +107,32 @@ pub(crate) const CHORDS: Story = Story {
     ],
 };
 
+/// A story of a book that begins with a picture.
+fn tell_of<R: Print + Eprint + AllocGlobal, F: Asks>(
+    rt: &R,
+    story: &Story,
+    start: &Picture,
+    book: &mut Book<F>,
+) -> Result<()> {
+    print_new(rt, book)?;
+    let (u, v) = story.ends;
+    let plan = planned(rt, start, book.tariff(), u, v)?;
+    take(rt, book, &plan, story.steps)?;
+    replay_from(rt, book, start)?;
+    replay_from(rt, book, book.picture())
+}
+
+/// A story with the prices of a tariff.
+fn tell_at<R: Print + Eprint + AllocGlobal, F: Asks + Drop>(
+    rt: &R,
+    story: &Story,
+    start: &Picture,
+    tariff: Arc<Tariff<F>>,
+) -> Result<()> {
+    let mut book = book_of(rt, start, tariff)?;
+    tell_of(rt, story, start, &mut book)
+}
+
 /// A story with the prices of a closure.
 fn tell_with<R: Print + Eprint + AllocGlobal, F: Asks + Drop>(
     rt: &R,
@@ -115,12 +143,7 @@ fn tell_with<R: Print + Eprint + AllocGlobal, F: Asks + Drop>(
     requires callable { F.can_ask ask }
     requires promise { IsPromise (F.answers ask) }
 {
-    let (u, v) = story.ends;
-    let mut book = book_of(rt, start, ask)?;
-    let plan = planned(rt, start, book.tariff(), u, v)?;
-    take(rt, &mut book, &plan, story.steps)?;
-    replay_from(rt, &book, start)?;
-    replay_from(rt, &book, book.picture())
+    tell_at(rt, story, start, shared(rt, ask)?)
 }
 
 /// A story on a picture.

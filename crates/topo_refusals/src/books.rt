@@ -31,7 +31,10 @@ pub(crate) enum Step {
 }
 
 /// The prices of a closure, to be shared.
-fn shared<R: Eprint + AllocGlobal, F: Asks + Drop>(rt: &R, ask: F) -> Result<Arc<Tariff<F>>>
+pub(crate) fn shared<R: Eprint + AllocGlobal, F: Asks + Drop>(
+    rt: &R,
+    ask: F,
+) -> Result<Arc<Tariff<F>>>
     requires callable { F.can_ask ask }
     requires promise { IsPromise (F.answers ask) }
 {
@@ -44,31 +47,43 @@ fn shared<R: Eprint + AllocGlobal, F: Asks + Drop>(rt: &R, ask: F) -> Result<Arc
     }
 }
 
+/// The book that begins with a picture, once more. The picture is compared with its state before.
+fn book_again<R: Print + Eprint + AllocGlobal, F: Asks + Drop>(
+    rt: &R,
+    start: &Picture,
+    tariff: Arc<Tariff<F>>,
+    before: &str,
+) -> Result<Book<F>> {
+    tell(rt, "Book::new");
+    let after = picture_state(rt, start)?;
+    compare(rt, "Book::new", before, after.as_str())?;
+    let copy = start.copy(rt.alloc())?;
+    Ok(Book::new(rt.alloc(), copy, tariff)?)
+}
+
 /// The book that begins with a picture.
 pub(crate) fn book_of<R: Print + Eprint + AllocGlobal, F: Asks + Drop>(
     rt: &R,
     start: &Picture,
-    ask: F,
-) -> Result<Book<F>>
-    requires callable { F.can_ask ask }
-    requires promise { IsPromise (F.answers ask) }
-{
+    tariff: Arc<Tariff<F>>,
+) -> Result<Book<F>> {
     let alloc = rt.alloc();
-    let tariff = shared(rt, ask)?;
     let before = picture_state(rt, start)?;
     let copy = again(rt, || start.copy(alloc))?;
-    let book = match Book::new(alloc, copy, Arc::try_clone(&tariff)?) {
-        Ok(book) => book,
-        Err(_) => {
-            tell(rt, "Book::new");
-            let after = picture_state(rt, start)?;
-            compare(rt, "Book::new", before.as_str(), after.as_str())?;
-            Book::new(alloc, start.copy(alloc)?, tariff)?
-        }
-    };
-    let state = book_state(rt, &book)?;
+    match Book::new(alloc, copy, Arc::try_clone(&tariff)?) {
+        Ok(book) => Ok(book),
+        Err(_) => book_again(rt, start, tariff, before.as_str()),
+    }
+}
+
+/// Prints a new book.
+pub(crate) fn print_new<R: Print + Eprint + AllocGlobal, F: Asks>(
+    rt: &R,
+    book: &Book<F>,
+) -> Result<()> {
+    let state = book_state(rt, book)?;
     println!(rt; "new book:{state}")?;
-    Ok(book)
+    Ok(())
 }
 
 /// Compares a book with its state before a call that wants memory.
