@@ -1,6 +1,7 @@
 //! Many workers, with calls that meet one another.
 
 use crate::harness::{Still, Story, bipyramid, run_lists};
+use crate::views::view_of;
 use std::alloc::{AllocError, Global};
 use std::process::Abort;
 use std::sync::Wait;
@@ -14,10 +15,11 @@ use topo_price::tariff::Asks;
 use topo_service::{Pass, Service, WorkerEnd};
 use topo_versions::Naming;
 
-/// So many workers, and whether all came to their ends.
+/// So many workers, whether all came to their ends, and whether at least so many calls were accepted.
 #[derive(Drop)]
 struct Workers {
     number: usize,
+    accepted: u64,
 }
 
 impl Story for Workers {
@@ -30,11 +32,16 @@ impl Story for Workers {
         _rt: &R,
         alloc: Global,
         _service: &Service<F, K>,
-        _passes: &mut Vec<Pass<F, K>>,
+        passes: &mut Vec<Pass<F, K>>,
         ends: &[WorkerEnd],
     ) -> Result<String, Fail> {
         let done = ends.iter().all(|end| *end == WorkerEnd::Done);
-        Ok(format!(in alloc; "{} ended, all done: {done}", ends.len())?)
+        let accepted = match passes.as_mut_slice().first_mut() {
+            Some(pass) => view_of(pass)?.number(),
+            None => 0,
+        };
+        let many = accepted >= self.accepted;
+        Ok(format!(in alloc; "{} ended, all done: {done}, accepted: {many}", ends.len())?)
     }
 }
 
@@ -58,11 +65,14 @@ fn four_workers_plan_between_the_apexes(rt: HostRuntime) -> Result<(), Fail> {
         |facts: &Facts| table.price(facts.kind),
         start,
         (lists.as_slice(), &Still),
-        &Workers { number: 4 },
+        &Workers {
+            number: 4,
+            accepted: 8,
+        },
     )?;
     assert_eq!(rt;
         told.as_str(),
-        "4 ended, all done: true; 8 calls, replayed: true"
+        "4 ended, all done: true, accepted: true; 8 calls, replayed: true"
     );
     Ok(())
 }
@@ -73,24 +83,39 @@ fn stir(x: u32) -> u32 {
     y ^ (y >> 15)
 }
 
-/// A command by such a number, on some hundred vertices.
-fn command_of(x: u32) -> Command {
-    let (u, v) = (x % 211, (x / 256) % 223);
-    match x % 61 {
+/// The command at a place of all lists, were they carried out in turn, by such a number. Of 64 sixteen
+/// insert, one grows, and the others take out one of the last few hundred edges, or ask for one that is not
+/// there.
+fn command_of(place: u32, x: u32) -> Command {
+    let (u, v) = (x % 202, (x / 256) % 202);
+    match (x >> 20) % 64 {
         0 => Command::Planned { u, v, kind: 0 },
-        1..=9 => Command::Plain(Call::Grow {
+        1..=15 => Command::Plain(Call::Insert { u, v, kind: 0 }),
+        16 => Command::Plain(Call::Grow {
             u,
             position: 0,
             kind: 0,
         }),
-        10..=19 => Command::Plain(Call::Delete { edge: x % 997 }),
-        _ => Command::Plain(Call::Insert { u, v, kind: 0 }),
+        _ => Command::Plain(Call::Delete {
+            edge: (201 + place / 4).saturating_sub((x / 64) % 400),
+        }),
     }
 }
 
-/// The seed with two hundred vertices more, and room for some hundred edges.
+/// The list of one of sixteen workers.
+fn list_of(alloc: Global, worker: u32) -> Result<Vec<Command>, AllocError> {
+    let mut list = Vec::new(alloc);
+    let mut x = worker;
+    for turn in 0..1_000u32 {
+        x = stir(x);
+        list.push(command_of(turn.wrapping_mul(16).wrapping_add(worker), x))?;
+    }
+    Ok(list)
+}
+
+/// The seed with two hundred vertices more.
 fn tree(rt: &impl Abort, alloc: Global) -> Result<Picture, AllocError> {
-    let limits = Limits::new(65_536, 600, 4_096).expect(rt, "limits");
+    let limits = Limits::new(65_536, 65_536, 65_536).expect(rt, "limits");
     let mut picture = Picture::seed(alloc, limits)?;
     for i in 0..200u32 {
         if picture.grow(alloc, stir(i) % (i + 2), 0, 0).is_err() {
@@ -106,14 +131,8 @@ fn sixteen_workers_make_thousands_of_calls(rt: HostRuntime) -> Result<(), Fail> 
     let start = tree(&rt, alloc)?;
     let table = PriceTable::new([Some(1); 64]).expect(&rt, "a table");
     let mut lists = Vec::new(alloc);
-    let mut x = 1;
-    for _ in 0..16 {
-        let mut list = Vec::new(alloc);
-        for _ in 0..2_000 {
-            x = stir(x);
-            list.push(command_of(x))?;
-        }
-        lists.push(list)?;
+    for worker in 0..16 {
+        lists.push(list_of(alloc, worker)?)?;
     }
     let told = run_lists(
         &rt,
@@ -121,11 +140,14 @@ fn sixteen_workers_make_thousands_of_calls(rt: HostRuntime) -> Result<(), Fail> 
         |facts: &Facts| table.price(facts.kind),
         start,
         (lists.as_slice(), &Still),
-        &Workers { number: 16 },
+        &Workers {
+            number: 16,
+            accepted: 1_000,
+        },
     )?;
     assert_eq!(rt;
         told.as_str(),
-        "16 ended, all done: true; 32000 calls, replayed: true"
+        "16 ended, all done: true, accepted: true; 16000 calls, replayed: true"
     );
     Ok(())
 }
