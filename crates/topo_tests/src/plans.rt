@@ -56,17 +56,17 @@ fn is_first(reply: &Reply) -> bool {
 }
 
 /// The reply to an insertion between the apexes by a plan.
-fn replied<F: Asks + Drop>(
-    rt: &impl Abort,
-    alloc: Global,
-    ask: F,
-    plan: &Plan,
-) -> Result<Reply, Fail>
+fn joined<F: Asks>(alloc: Global, book: &mut Book<F>, plan: &Plan) -> Result<Reply, Fail> {
+    Ok(book.insert_planned(alloc, 0, 3, 4, 0, plan)?)
+}
+
+/// The same of a book that begins with the bipyramid.
+fn replied<F: Asks + Drop>(alloc: Global, ask: F, plan: &Plan) -> Result<Reply, Fail>
     requires callable { F.can_ask ask }
     requires promise { IsPromise (F.answers ask) }
 {
     let mut book = book_of(alloc, BIPYRAMID, WIDE, ask)?;
-    Ok(book.insert_planned(alloc, 0, 3, 4, 0, plan)?)
+    joined(alloc, &mut book, plan)
 }
 
 #[test]
@@ -74,12 +74,7 @@ fn any_plan_gives_the_first_route(rt: HostRuntime) -> Result<(), Fail> {
     let table = table_of(&rt, Some(1), FIVE_TWO_NINE);
     for (at, (route, heights)) in PLANS.iter().enumerate() {
         let plan = plan_of(rt.alloc(), route, heights)?;
-        let reply = replied(
-            &rt,
-            rt.alloc(),
-            |facts: &Facts| table.price(facts.kind),
-            &plan,
-        )?;
+        let reply = replied(rt.alloc(), |facts: &Facts| table.price(facts.kind), &plan)?;
         assert!(rt; is_first(&reply), "line {at}: {reply:?}");
     }
     Ok(())
@@ -106,7 +101,24 @@ fn passes<F: Asks>(
 }
 
 /// How often the prices are asked for in a check of the plan, and then in an insertion by it.
-fn counted<F: Asks + Drop>(
+fn counted<F: Asks>(
+    rt: &impl Abort,
+    alloc: Global,
+    asked: &Cell<u32>,
+    book: &mut Book<F>,
+    plan: &Plan,
+) -> Result<(u32, u32), Fail> {
+    asked.set(0);
+    assert!(rt; passes(rt, alloc, book, plan)?);
+    let checked = asked.get();
+    asked.set(0);
+    let reply = joined(alloc, book, plan)?;
+    assert!(rt; is_first(&reply), "{reply:?}");
+    Ok((checked, asked.get()))
+}
+
+/// The same of a book that begins with the bipyramid.
+fn counted_from_start<F: Asks + Drop>(
     rt: &impl Abort,
     alloc: Global,
     asked: &Cell<u32>,
@@ -117,13 +129,7 @@ fn counted<F: Asks + Drop>(
     requires promise { IsPromise (F.answers ask) }
 {
     let mut book = book_of(alloc, BIPYRAMID, WIDE, ask)?;
-    asked.set(0);
-    assert!(rt; passes(rt, alloc, &book, plan)?);
-    let checked = asked.get();
-    asked.set(0);
-    let reply = book.insert_planned(alloc, 0, 3, 4, 0, plan)?;
-    assert!(rt; is_first(&reply), "{reply:?}");
-    Ok((checked, asked.get()))
+    counted(rt, alloc, asked, &mut book, plan)
 }
 
 #[test]
@@ -131,7 +137,7 @@ fn a_plan_that_passes_spares_the_search(rt: HostRuntime) -> Result<(), Fail> {
     let table = table_of(&rt, Some(1), FIVE_TWO_NINE);
     let asked = Cell::new(0u32);
     let plan = plan_of(rt.alloc(), &(2, 1, Way::Back, 2, 2), &LEAST)?;
-    let (checked, inserted) = counted(
+    let (checked, inserted) = counted_from_start(
         &rt,
         rt.alloc(),
         &asked,
