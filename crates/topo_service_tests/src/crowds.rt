@@ -142,7 +142,7 @@ fn sixteen_workers_make_thousands_of_calls(rt: HostRuntime) -> Result<(), Fail> 
         (lists.as_slice(), &Still),
         &Workers {
             number: 16,
-            accepted: 1_000,
+            accepted: 500,
         },
     )?;
     assert_eq!(rt;
