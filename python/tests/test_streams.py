@@ -46,7 +46,7 @@ class Streams(unittest.TestCase):
         """With less and less memory a run has its report or none, and then says why; its output is never a part."""
         script = json.dumps({"version": 1, "workers": [[["grow", place % 2, 0, 0] for place in range(2000)] for _ in range(4)]}).encode()
         ends = set()
-        for kibibytes in range(200_000, 0, -4_000):
+        for kibibytes in range(200_000, 4_000, -4_000):
             limit = kibibytes * 1024
             done = subprocess.run([find_program(), "run"], input=script, stdout=subprocess.PIPE, stderr=subprocess.PIPE, timeout=60, preexec_fn=lambda: resource.setrlimit(resource.RLIMIT_AS, (limit, limit)))
             ends.add(done.returncode)
