@@ -1,5 +1,6 @@
-//! Tests of what no row of a script, a report or a picture can show: calls of the libraries, streams that
-//! fail, counted questions. The rows are those of `topo_examples`.
+//! Tests of what no row of a script, a report or a picture can show: calls of the libraries, invented plans,
+//! counted questions. The rows are those of `topo_examples`; the program's streams are those of
+//! `topo_cli_tests`.
 #![tactic(auto)]
 
 #[cfg(test)]
@@ -9,13 +10,9 @@ mod calls;
 #[cfg(test)]
 mod embeddings;
 #[cfg(test)]
-mod failing;
-#[cfg(test)]
 mod faults;
 #[cfg(test)]
 mod first_routes;
-#[cfg(test)]
-mod gates;
 #[cfg(test)]
 mod generated;
 #[cfg(test)]
@@ -27,15 +24,11 @@ mod plans;
 #[cfg(test)]
 mod prices;
 #[cfg(test)]
-mod program;
-#[cfg(test)]
 mod replicas;
 #[cfg(test)]
 mod searches;
 #[cfg(test)]
 mod seen_rows;
-#[cfg(test)]
-mod streams;
 #[cfg(test)]
 mod types;
 #[cfg(test)]

@@ -1,6 +1,5 @@
 //! The commands on readers and writers that are slow, fail, or have no end, and at the greatest length.
 
-use crate::pictures::JOINED;
 use crate::streams::{
     BreakingReader, EndlessReader, FailingWriter, FullWriter, NeverReader, SlowReader, SlowWriter,
 };
@@ -24,8 +23,12 @@ pub(crate) const REPORT: &str = concat!(
 
 pub(crate) const REPLAYED: &str = "replayed 2 calls\n";
 
-/// The line of the picture with a crossing.
-pub(crate) const SIZE: &str = "lawful vertices=5 crossings=1 edges=10 segments=12 faces=8\n";
+/// Two edges that cross.
+pub(crate) const CROSSED: &str =
+    r#"{"crossings":[{"crossed":0,"id":0,"newcomer":1,"sign":"ltr"}],"edges":[{"a":0,"b":1,"crossings":[0],"id":0,"kind":0},{"a":2,"b":3,"crossings":[0],"id":1,"kind":0}],"next_crossing":1,"next_edge":2,"rotations":[[0],[0],[1],[1]]}"#;
+
+/// The line of that picture.
+pub(crate) const SIZE: &str = "lawful vertices=4 crossings=1 edges=2 segments=4 faces=1\n";
 
 /// The script with spaces after it, up to a length.
 fn padded(alloc: Global, len: usize) -> Result<Vec<u8>, Fail> {
@@ -79,7 +82,7 @@ fn slow_readers(rt: HostRuntime) -> Result<(), Fail> {
     assert!(rt; replay_io(alloc, &mut slow, &mut written) == Ok(()));
     assert!(rt; written.as_slice() == REPLAYED.as_bytes());
     let mut written: Vec<u8> = Vec::new(alloc);
-    let mut slow = SlowReader::new(JOINED.as_bytes());
+    let mut slow = SlowReader::new(CROSSED.as_bytes());
     assert!(rt; check_io(alloc, &mut slow, &mut written) == Ok(()));
     assert!(rt; written.as_slice() == SIZE.as_bytes());
     Ok(())
@@ -95,7 +98,7 @@ fn failing_readers(rt: HostRuntime) -> Result<(), Fail> {
     );
     let mut broken = SlowReader::broken(REPORT.as_bytes());
     assert!(rt; replay_io(alloc, &mut broken, &mut written) == Err(RunFault::ReadFault));
-    let mut broken = SlowReader::broken(JOINED.as_bytes());
+    let mut broken = SlowReader::broken(CROSSED.as_bytes());
     assert!(rt; check_io(alloc, &mut broken, &mut written) == Err(RunFault::ReadFault));
     assert!(rt; written.is_empty());
     Ok(())
@@ -125,7 +128,7 @@ fn failing_writers(rt: HostRuntime) -> Result<(), Fail> {
         assert!(rt; is_cut(&writer, REPLAYED, room));
     }
     for room in [0, 1, 58] {
-        let mut reader = JOINED.as_bytes();
+        let mut reader = CROSSED.as_bytes();
         let mut writer = FailingWriter::new(alloc, room);
         assert!(rt; check_io(alloc, &mut reader, &mut writer) == Err(RunFault::WriteFault));
         assert!(rt; is_cut(&writer, SIZE, room));
@@ -157,8 +160,8 @@ fn readers_that_break(rt: HostRuntime) -> Result<(), Fail> {
         let mut reader = BreakingReader::new(REPORT.as_bytes(), turns);
         assert!(rt; replay_io(alloc, &mut reader, &mut written) == Err(RunFault::ReadFault));
     }
-    for turns in 0..JOINED.len() + 1 {
-        let mut reader = BreakingReader::new(JOINED.as_bytes(), turns);
+    for turns in 0..CROSSED.len() + 1 {
+        let mut reader = BreakingReader::new(CROSSED.as_bytes(), turns);
         assert!(rt; check_io(alloc, &mut reader, &mut written) == Err(RunFault::ReadFault));
     }
     assert!(rt; written.is_empty());
@@ -180,7 +183,7 @@ fn slow_writers(rt: HostRuntime) -> Result<(), Fail> {
     assert!(rt; writer.kept.as_slice() == REPLAYED.as_bytes());
     assert_eq!(rt; writer.passed_on, REPLAYED.len());
     let mut writer = SlowWriter::new(alloc);
-    assert!(rt; check_io(alloc, &mut JOINED.as_bytes(), &mut writer) == Ok(()));
+    assert!(rt; check_io(alloc, &mut CROSSED.as_bytes(), &mut writer) == Ok(()));
     assert!(rt; writer.kept.as_slice() == SIZE.as_bytes());
     assert_eq!(rt; writer.passed_on, SIZE.len());
     Ok(())
@@ -199,7 +202,7 @@ fn writers_that_take_nothing(rt: HostRuntime) -> Result<(), Fail> {
     assert!(rt; told == Err(RunFault::WriteFault));
     let told = replay_io(alloc, &mut REPORT.as_bytes(), &mut FullWriter);
     assert!(rt; told == Err(RunFault::WriteFault));
-    let told = check_io(alloc, &mut JOINED.as_bytes(), &mut FullWriter);
+    let told = check_io(alloc, &mut CROSSED.as_bytes(), &mut FullWriter);
     assert!(rt; told == Err(RunFault::WriteFault));
     let mut stuck = SlowWriter::stuck(alloc);
     let told = run_io(&rt, alloc, &mut SCRIPT.as_bytes(), &mut stuck, &OpenGate);

@@ -1,7 +1,6 @@
 //! What the program does with the words of a command line: its status, and which bytes go where.
 
-use crate::failing::{REPLAYED, REPORT, SCRIPT, SIZE};
-use crate::pictures::JOINED;
+use crate::failing::{CROSSED, REPLAYED, REPORT, SCRIPT, SIZE};
 use crate::streams::{BreakingReader, EndlessReader, FailingWriter, FullWriter, SlowWriter};
 use std::alloc::Global;
 use std::process::Abort;
@@ -70,7 +69,7 @@ fn commands(rt: HostRuntime) -> Result<(), Fail> {
     let alloc = rt.alloc();
     check_row(&rt, alloc, &["planar", "run"], SCRIPT, (0, REPORT, ""))?;
     check_row(&rt, alloc, &["planar", "replay"], REPORT, (0, REPLAYED, ""))?;
-    check_row(&rt, alloc, &["planar", "check"], JOINED, (0, SIZE, ""))
+    check_row(&rt, alloc, &["planar", "check"], CROSSED, (0, SIZE, ""))
 }
 
 #[test]
@@ -102,7 +101,7 @@ fn words_that_are_refused(rt: HostRuntime) -> Result<(), Fail> {
         &rt,
         alloc,
         &["planar", "check", "-h"],
-        JOINED,
+        CROSSED,
         (2, "", HELP),
     )?;
     for fault in [WordsFault::NotText, WordsFault::Memory] {
