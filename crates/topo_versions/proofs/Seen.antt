@@ -1,6 +1,7 @@
 -- Steps of the version store keep its rule.
-use Rattle.std.proofs.Common.{zero, suc, ◌≡◌, ◌≢◌, ℕ, List, [], ◌∷◌, ◌++◌, fold, refl, sym, ap, ◌∙◌, subst, ⊎_elim, append_assoc}
+use Rattle.std.proofs.Common.{length, ◌<◌, zero, suc, ◌≡◌, ◌≢◌, ℕ, List, [], ◌∷◌, ◌++◌, fold, refl, sym, ap, ◌∙◌, subst, ⊎_elim, append_assoc}
 use Rattle.std.specs.Prelude.{Result, Ok, Err, MatchResult, OnOk}
+use Rattle.std.proofs.Math.Nat.{zero-lt-suc}
 use Rattle.std.proofs.lemmas.List.{append-nil}
 use mathlib.Core.Option.{some, some-injective, some-ne-none}
 use lib.ListN.{get_elem?}
@@ -49,3 +50,17 @@ ok_of (Err e) P Q X h f = tt
 pub begins : (x : VersionState) → Keeps x (newcomer ∷ [])
 begins x zero v at = subst (λ (u : Seen). IsPrefix u.entries x.entries) (some-injective _ _ at) (x.entries, refl)
 begins x (suc k) v at = absurd (some-ne-none v (sym at))
+
+-- where nothing is pending, what is shown next is what is shown
+same_next : (s next : VersionState) (ps : List VersionState) → (0 < length ps → ⊥) → next ≡ fold (λ s o. o) s ps → next ≡ s
+same_next s next [] none is = is
+same_next s next (p ∷ ps) none is = absurd (none (zero-lt-suc (length ps)))
+
+pub settles : (s next : VersionState) (ps : List VersionState) → (0 < length ps → ⊥) → next ≡ fold (λ s o. o) s ps → IsPrefix s.entries next.entries
+settles s next ps none is = subst (λ (y : VersionState). IsPrefix s.entries y.entries) (sym (same_next s next ps none is)) (starts_self s.entries)
+
+-- whether it was shown anew or not
+pub settled : {E : Type 0} (r : Result (Unit {0}) E) (after s : VersionState) (ps rest : List VersionState) → (0 < length ps → ⊥)
+    → MatchResult r (λ _. (after ≡ fold (λ s o. o) s ps) × (rest ≡ [])) (λ _. (after ≡ s) × (rest ≡ ps)) → after ≡ s
+settled (Ok u) after s ps rest none h = same_next s after ps none h.0
+settled (Err e) after s ps rest none h = h.0

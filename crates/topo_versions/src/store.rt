@@ -95,6 +95,35 @@ fn publish<F: Asks + Drop, K: Naming<F>, R: Wait>(
     writer.publish_as::<Sees, R>(rt)
 }
 
+// Puts the version of now into the copy that readers have left as well, so that the store keeps no version
+// before it.
+fn settle<F: Asks + Drop, K: Naming<F>, R: Wait>(
+    rt: &R,
+    writer: StoreWriter<F, K>,
+) -> StoreWriter<F, K>
+    ensures { result.desk.shown.value ≡ writer.desk.shown.value }
+{
+    if writer.has_pending_operations() {
+        return writer;
+    }
+    let (settled, _) = writer.publish_as::<Sees, R>(rt);
+    settled
+}
+
+// Publishes a version, and settles.
+fn publish_whole<F: Asks + Drop, K: Naming<F>, R: Wait>(
+    rt: &R,
+    writer: StoreWriter<F, K>,
+    next: Version<F, K>,
+) -> (StoreWriter<F, K>, Result<(), AllocError>)
+    requires { IsPrefix writer.desk.shown.value.entries next.entries }
+    ensures ok { OnOk result.1 (result.0.desk.shown.value ≡ next) }
+    ensures err { OnErr result.1 (result.0.desk.shown.value ≡ writer.desk.shown.value) }
+{
+    let (writer, made) = publish(rt, writer, next);
+    (settle(rt, writer), made)
+}
+
 impl<F: Asks + Drop, K: Naming<F>> Shelf<F, K> for StoreWriter<F, K> {
     ghost published = { λ w. w.desk.shown.value.entries };
 
@@ -108,7 +137,7 @@ impl<F: Asks + Drop, K: Naming<F>> Shelf<F, K> for StoreWriter<F, K> {
         ensures err { OnErr result (self.new.desk.shown.value.entries ≡ self.old.desk.shown.value.entries) }
     {
         let next = next.again()?;
-        replace_with(self, next, |writer, next| publish(rt, writer, next))
+        replace_with(self, next, |writer, next| publish_whole(rt, writer, next))
     }
 
     fn end<R: Wait>(self, rt: &R) {
