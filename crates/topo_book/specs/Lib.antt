@@ -1,3 +1,4 @@
 pub mod Books
+pub mod FaultTexts
 pub mod Faults
 pub mod Replicas

@@ -10,22 +10,64 @@ ghost use Rattle.topo_book.specs.Faults.{IsFaultOf, IsIllegalAt};
 
 use crate::steps::{advance, decide};
 use std::alloc::{AllocError, Global};
-use thiserror::Error;
+use std::error::Error;
+use std::fmt;
 use topo_core::calls::Entry;
 use topo_picture::Picture;
 use topo_price::tariff::{Asks, Tariff};
 use topo_route::workspace::Workspace;
 
 /// Why a list of entries has no replay.
-#[derive(Clone, Copy, Debug, Drop, PartialEq, Eq, Error)]
+#[derive(Clone, Copy, Debug, Drop, PartialEq, Eq)]
 pub enum ReplayFault {
     /// The entry at this place, counted from 0, is the first whose reply is not the one due.
-    #[error("60 WrongReply {0}")]
     WrongReply(usize),
     /// A growth of memory was refused.
-    #[error("8 Memory")]
     Memory,
 }
+
+impl ReplayFault {
+    ghost use Rattle.std.specs.Prelude.{◌≡◌};
+    ghost use Rattle.topo_book.specs.FaultTexts.{fault_name, fault_number};
+
+    /// The number that stands before the name of the fault.
+    pub fn number(&self) -> u32
+        ensures { result ≡ fault_number self.now }
+    {
+        match self {
+            ReplayFault::WrongReply(_) => 60,
+            ReplayFault::Memory => 8,
+        }
+    }
+
+    /// The name of the fault.
+    pub fn name(&self) -> &'static str
+        ensures { result.now ≡ fault_name self.now }
+    {
+        match self {
+            ReplayFault::WrongReply(_) => "WrongReply",
+            ReplayFault::Memory => "Memory",
+        }
+    }
+}
+
+impl fmt::Display for ReplayFault {
+    ghost use Rattle.std.specs.Prelude.{Some};
+    ghost use Rattle.topo_book.specs.FaultTexts.{fault_text};
+
+    ghost output = { λ fault. Some (fault_text fault) };
+
+    fn fmt<W: fmt::Write>(&self, f: &mut fmt::Formatter<W>) -> fmt::Result {
+        let number = self.number();
+        let name = self.name();
+        match self {
+            ReplayFault::WrongReply(place) => write!(f, "{number} {name} {place}"),
+            ReplayFault::Memory => write!(f, "{number} {name}"),
+        }
+    }
+}
+
+impl Error for ReplayFault {}
 
 /// Carries an entry out where its reply is the one due, and answers whether it is.
 fn replay_entry<F: Asks>(

@@ -85,6 +85,7 @@ fn faults_of_replays(rt: HostRuntime) -> Result<(), Fail> {
     for (fault, text) in &table {
         let printed = format!(in rt.alloc(); "{fault}")?;
         assert!(rt; printed.as_str() == *text, "{printed}");
+        assert!(rt; begins(rt.alloc(), text, fault.number())?, "{printed}");
     }
     Ok(())
 }
