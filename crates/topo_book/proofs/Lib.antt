@@ -2,3 +2,4 @@ pub mod Histories
 pub mod Wrong
 pub mod ReplicaLaws
 pub mod Due
+pub mod Hinting

@@ -1,4 +1,5 @@
 pub mod Books
 pub mod FaultTexts
 pub mod Faults
+pub mod Hints
 pub mod Replicas

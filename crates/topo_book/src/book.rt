@@ -2,6 +2,7 @@
 
 ghost use Rattle.std.specs.Arc.{arc_value};
 
+use crate::hint::Hint;
 use crate::next::Next;
 use crate::replicas::{Replica, Replicas};
 use crate::steps::{advance, advance_alone, decide};
@@ -12,7 +13,7 @@ use std::sync::Arc;
 use topo_core::calls::{Call, Entry, Reply};
 use topo_picture::Picture;
 use topo_price::tariff::{Asks, Tariff};
-use topo_route::plan::Plan;
+use topo_route::plan::{Plan, PricedRoute};
 use topo_route::workspace::Workspace;
 
 /// A picture that calls change, with the picture that it began with and every answer since. What its
@@ -52,6 +53,7 @@ impl<F: Asks> Model for Book<F> {
 impl<F: Asks> Book<F> {
     ghost use Rattle.std.specs.Prelude.{◌≡◌, ◌≢◌, ◌<◌, true, IfOk, OnOk, OnErr, [], ◌∷◌, ◌++◌};
     ghost use Rattle.topo_core.specs.History.{Replays, is_accepted};
+    ghost use Rattle.topo_core.specs.Routes.{IsFirst};
     ghost use Rattle.topo_core.specs.Steps.{Step};
     ghost use Rattle.topo_core.specs.declared.calls.Call.TheVariants.{Grow, Insert, Delete};
     ghost use Rattle.topo_core.specs.declared.calls.Refusal.TheVariants.{Memory};
@@ -59,6 +61,7 @@ impl<F: Asks> Book<F> {
     ghost use Rattle.topo_frozen.specs.Shown.{IsPicture};
     ghost use Rattle.topo_price.specs.Prices.{prices_of};
     ghost use Rattle.topo_book.specs.Books.{CanFollow, IsDue, IsReplica, IsSameBook, IsUnchanged, ReplaysLawfully, picture_after};
+    ghost use Rattle.topo_book.specs.Hints.{IsHintFor};
 
     /// The book that begins with this picture and no entry.
     pub fn new(alloc: Global, start: Picture, tariff: Arc<Tariff<F>>) -> Result<Self, AllocError>
@@ -154,7 +157,7 @@ impl<F: Asks> Book<F> {
         ensures unchanged { OnErr result (IsUnchanged self.old self.new) }
         ensures same_book { IsSameBook self.old self.new }
     {
-        self.carry_out(alloc, caller, Call::Insert { u, v, kind }, None)
+        self.carry_out(alloc, caller, Call::Insert { u, v, kind }, Hint::Nothing)
     }
 
     /// As `insert`, whatever the plan: its route is taken where the plan passes the check on the
@@ -174,7 +177,7 @@ impl<F: Asks> Book<F> {
         ensures unchanged { OnErr result (IsUnchanged self.old self.new) }
         ensures same_book { IsSameBook self.old self.new }
     {
-        self.carry_out(alloc, caller, Call::Insert { u, v, kind }, Some(plan))
+        self.carry_out(alloc, caller, Call::Insert { u, v, kind }, Hint::Plan(plan))
     }
 
     /// Takes an edge out, or answers why not. Both are entered. Want of memory may stand in place of
@@ -186,7 +189,7 @@ impl<F: Asks> Book<F> {
         ensures unchanged { OnErr result (IsUnchanged self.old self.new) }
         ensures same_book { IsSameBook self.old self.new }
     {
-        self.carry_out(alloc, caller, Call::Delete { edge }, None)
+        self.carry_out(alloc, caller, Call::Delete { edge }, Hint::Nothing)
     }
 
     /// Puts a new vertex on a new edge of this kind into the corner at `position` of `u`, or answers
@@ -206,11 +209,17 @@ impl<F: Asks> Book<F> {
         ensures unchanged { OnErr result (IsUnchanged self.old self.new) }
         ensures same_book { IsSameBook self.old self.new }
     {
-        self.carry_out(alloc, caller, Call::Grow { u, position, kind }, None)
+        self.carry_out(
+            alloc,
+            caller,
+            Call::Grow { u, position, kind },
+            Hint::Nothing,
+        )
     }
 
     /// Makes a call ready to be entered, on a picture of its own, with the place of its entry
     /// reserved. The book is as it was, whatever the answer.
+    #[tactic(auto, using(crate::proofs::Hinting::nothing_is_owed))]
     pub fn prepare(&mut self, alloc: Global, caller: u32, call: Call) -> Result<Next, AllocError>
         ensures caller { IfOk result (λ n. n.entry.caller ≡ caller) }
         ensures call { IfOk result (λ n. n.entry.call ≡ call) }
@@ -218,7 +227,7 @@ impl<F: Asks> Book<F> {
         ensures unchanged { IsUnchanged self.old self.new }
         ensures same_book { IsSameBook self.old self.new }
     {
-        self.make_ready(alloc, caller, call, None)
+        self.make_ready(alloc, caller, call, Hint::Nothing)
     }
 
     /// As `prepare` of an insertion, whatever the plan: its route is taken where the plan passes the
@@ -238,7 +247,33 @@ impl<F: Asks> Book<F> {
         ensures unchanged { IsUnchanged self.old self.new }
         ensures same_book { IsSameBook self.old self.new }
     {
-        self.make_ready(alloc, caller, Call::Insert { u, v, kind }, Some(plan))
+        self.make_ready(alloc, caller, Call::Insert { u, v, kind }, Hint::Plan(plan))
+    }
+
+    /// As `prepare` of an insertion whose first route is known: nothing is searched, and nothing of the
+    /// route is checked.
+    pub fn prepare_first(
+        &mut self,
+        alloc: Global,
+        caller: u32,
+        u: u32,
+        v: u32,
+        kind: u32,
+        first: &PricedRoute,
+    ) -> Result<Next, AllocError>
+        requires first { IsFirst (prices_of (F.answers self.old.tariff)) self.old.picture.rows u v first.now.route first.now.price }
+        ensures caller { IfOk result (λ n. n.entry.caller ≡ caller) }
+        ensures call { IfOk result (λ n. n.entry.call ≡ Insert u v kind) }
+        ensures ready { IfOk result (CanFollow (prices_of (F.answers self.new.tariff)) self.new) }
+        ensures unchanged { IsUnchanged self.old self.new }
+        ensures same_book { IsSameBook self.old self.new }
+    {
+        self.make_ready(
+            alloc,
+            caller,
+            Call::Insert { u, v, kind },
+            Hint::First(first),
+        )
     }
 
     /// Enters what was made ready. It takes no memory.
@@ -354,8 +389,9 @@ impl<F: Asks> Book<F> {
         alloc: Global,
         caller: u32,
         call: Call,
-        plan: Option<&Plan>,
+        hint: Hint,
     ) -> Result<Next, AllocError>
+        requires { IsHintFor (prices_of (F.answers self.old.tariff)) self.old.picture.rows call hint }
         ensures caller { IfOk result (λ n. n.entry.caller ≡ caller) }
         ensures call { IfOk result (λ n. n.entry.call ≡ call) }
         ensures ready { IfOk result (CanFollow (prices_of (F.answers self.new.tariff)) self.new) }
@@ -368,7 +404,7 @@ impl<F: Asks> Book<F> {
             &self.picture,
             &self.tariff,
             call,
-            plan,
+            hint,
             &mut self.work,
         )?;
         let entry = Entry {
@@ -388,8 +424,9 @@ impl<F: Asks> Book<F> {
         alloc: Global,
         caller: u32,
         call: Call,
-        plan: Option<&Plan>,
+        hint: Hint,
     ) -> Result<Reply, AllocError>
+        requires { IsHintFor (prices_of (F.answers self.old.tariff)) self.old.picture.rows call hint }
         ensures step { IfOk result (λ reply. Step (prices_of (F.answers self.old.tariff)) self.old.picture.limits self.old.picture.rows call reply self.new.picture.rows) }
         ensures entered { IfOk result (λ reply. self.new.history ≡ self.old.history ++ record { caller = caller; call = call; reply = reply } ∷ []) }
         ensures no_memory { IfOk result (λ reply. reply ≢ Refused Memory) }
@@ -397,10 +434,10 @@ impl<F: Asks> Book<F> {
         ensures same_book { IsSameBook self.old self.new }
     {
         let Some(picture) = Arc::get_mut(&mut self.picture) else {
-            return self.carry_out_aside(alloc, caller, call, plan);
+            return self.carry_out_aside(alloc, caller, call, hint);
         };
         self.history.reserve(1)?;
-        let reply = decide(alloc, picture, &self.tariff, call, plan, &mut self.work)?;
+        let reply = decide(alloc, picture, &self.tariff, call, hint, &mut self.work)?;
         let entry = Entry {
             caller,
             call,
@@ -419,15 +456,16 @@ impl<F: Asks> Book<F> {
         alloc: Global,
         caller: u32,
         call: Call,
-        plan: Option<&Plan>,
+        hint: Hint,
     ) -> Result<Reply, AllocError>
+        requires { IsHintFor (prices_of (F.answers self.old.tariff)) self.old.picture.rows call hint }
         ensures step { IfOk result (λ reply. Step (prices_of (F.answers self.old.tariff)) self.old.picture.limits self.old.picture.rows call reply self.new.picture.rows) }
         ensures entered { IfOk result (λ reply. self.new.history ≡ self.old.history ++ record { caller = caller; call = call; reply = reply } ∷ []) }
         ensures no_memory { IfOk result (λ reply. reply ≢ Refused Memory) }
         ensures unchanged { OnErr result (IsUnchanged self.old self.new) }
         ensures same_book { IsSameBook self.old self.new }
     {
-        let next = self.make_ready(alloc, caller, call, plan)?;
+        let next = self.make_ready(alloc, caller, call, hint)?;
         let reply = next.entry().reply.copy(alloc)?;
         self.commit(next);
         Ok(reply)

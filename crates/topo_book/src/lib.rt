@@ -8,11 +8,13 @@
 #![tactic(auto)]
 
 mod book;
+mod hint;
 mod next;
 mod replaying;
 mod replicas;
 mod steps;
 
 pub use book::Book;
+pub use hint::Hint;
 pub use next::Next;
 pub use replaying::{ReplayFault, replay};

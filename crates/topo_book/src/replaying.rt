@@ -8,6 +8,7 @@ ghost use Rattle.topo_price.specs.Prices.{prices_of};
 ghost use Rattle.topo_book.specs.Books.{IsDue};
 ghost use Rattle.topo_book.specs.Faults.{IsFaultOf, IsIllegalAt};
 
+use crate::hint::Hint;
 use crate::steps::{advance, decide};
 use std::alloc::{AllocError, Global};
 use std::error::Error;
@@ -70,6 +71,7 @@ impl fmt::Display for ReplayFault {
 impl Error for ReplayFault {}
 
 /// Carries an entry out where its reply is the one due, and answers whether it is.
+#[tactic(auto, using(crate::proofs::Hinting::nothing_is_owed))]
 fn replay_entry<F: Asks>(
     alloc: Global,
     picture: &mut Picture,
@@ -83,7 +85,7 @@ fn replay_entry<F: Asks>(
     ensures same_limits { picture.new.limits ≡ picture.old.limits }
     ensures lawful { IsPicture picture.new.limits picture.new.rows }
 {
-    let reply = decide(alloc, picture, tariff, entry.call, None, work)?;
+    let reply = decide(alloc, picture, tariff, entry.call, Hint::Nothing, work)?;
     if !reply.equals(&entry.reply) {
         return Ok(false);
     }

@@ -1,6 +1,6 @@
 //! One step of a picture, in two parts: what the reply is, and the change that an accepted reply says.
 
-ghost use Rattle.std.specs.Prelude.{◌≡◌, ◌≢◌, ◌<◌, IfOk, MatchOption, OnErr, OnOk, None, length};
+ghost use Rattle.std.specs.Prelude.{◌≡◌, ◌≢◌, ◌<◌, IfOk, MatchOption, OnErr, OnOk, None, length, true};
 ghost use Rattle.std.specs.Arc.{arc_value};
 ghost use Rattle.topo_core.specs.Routes.{HasNoRoute, IsFirst};
 ghost use Rattle.topo_core.specs.Steps.{Step};
@@ -10,12 +10,14 @@ ghost use Rattle.topo_core.specs.declared.calls.Reply.TheVariants.{Refused};
 ghost use Rattle.topo_price.specs.Prices.{prices_of};
 ghost use Rattle.topo_frozen.specs.Shown.{IsPicture};
 ghost use Rattle.topo_book.specs.Books.{IsDue};
+ghost use Rattle.topo_book.specs.Hints.{IsHintFor, IsTrueOf};
 
+use crate::hint::Hint;
 use std::alloc::{AllocError, Global};
 use std::sync::Arc;
 use topo_core::calls::{Call, Entry, Refusal, Reply};
 use topo_core::ids::EdgeId;
-use topo_core::routes::Inserted;
+use topo_core::routes::{Inserted, Route};
 use topo_picture::Picture;
 use topo_price::tariff::{Asks, Tariff};
 use topo_route::check::check;
@@ -29,16 +31,51 @@ fn has_height_for_each_dart(picture: &Picture, plan: &Plan) -> bool {
     plan.heights.as_slice().len() == 2 * picture.counts().segments as usize
 }
 
-/// The first route: the plan's where it passes the check, and else the one that a search finds.
+/// Whether a plan between these ends passes the check on the picture.
+fn passes<F: Asks>(
+    alloc: Global,
+    picture: &Picture,
+    tariff: &Tariff<F>,
+    ends: (u32, u32),
+    plan: &Plan,
+) -> Result<bool, AllocError>
+    requires u_there { ends.0 < length picture.now.rows.rotations }
+    requires v_there { ends.1 < length picture.now.rows.rotations }
+    requires apart { ends.0 ≢ ends.1 }
+    ensures { IfOk result (λ good. good ≡ true → IsFirst (prices_of (F.answers tariff.now)) picture.now.rows ends.0 ends.1 plan.now.route plan.now.price) }
+{
+    if !has_height_for_each_dart(picture, plan) {
+        return Ok(false);
+    }
+    let frozen = picture.freeze(alloc)?;
+    match check(&frozen, tariff, ends.0, ends.1, plan) {
+        Ok(()) => Ok(true),
+        Err(_) => Ok(false),
+    }
+}
+
+/// A copy of a route with its price.
+fn route_of(alloc: Global, route: &Route, price: u64) -> Result<PricedRoute, AllocError>
+    ensures { IfOk result (λ r. (r.route ≡ route.now) × (r.price ≡ price)) }
+{
+    Ok(PricedRoute {
+        route: route.copy(alloc)?,
+        price,
+    })
+}
+
+/// The first route: the one that is known, the plan's where it passes the check, and else the one that a
+/// search finds.
 fn find_first<F: Asks>(
     alloc: Global,
     picture: &Picture,
     tariff: &Tariff<F>,
     u: u32,
     v: u32,
-    plan: Option<&Plan>,
+    hint: Hint,
     work: &mut Workspace,
 ) -> Result<Option<PricedRoute>, AllocError>
+    requires known { IsTrueOf (prices_of (F.answers tariff.now)) picture.now.rows u v hint }
     requires u_there { u < length picture.now.rows.rotations }
     requires v_there { v < length picture.now.rows.rotations }
     requires apart { u ≢ v }
@@ -46,36 +83,39 @@ fn find_first<F: Asks>(
         (HasNoRoute (prices_of (F.answers tariff.now)) picture.now.rows u v)
         (λ r. IsFirst (prices_of (F.answers tariff.now)) picture.now.rows u v r.route r.price)) }
 {
-    if let Some(plan) = plan
-        && has_height_for_each_dart(picture, plan)
-    {
-        let frozen = picture.freeze(alloc)?;
-        if let Ok(()) = check(&frozen, tariff, u, v, plan) {
-            let route = plan.route.copy(alloc)?;
-            let price = plan.price;
-            return Ok(Some(PricedRoute { route, price }));
+    match hint {
+        Hint::Nothing => {}
+        Hint::Plan(plan) => {
+            if passes(alloc, picture, tariff, (u, v), plan)? {
+                return Ok(Some(route_of(alloc, &plan.route, plan.price)?));
+            }
+        }
+        Hint::First(first) => {
+            return Ok(Some(route_of(alloc, &first.route, first.price)?));
         }
     }
     first_route(alloc, &picture.linked(), tariff, u, v, work)
 }
 
-/// The reply that is due to an insertion from `u` to `v`, for which a plan may spare the search.
+/// The reply that is due to an insertion from `u` to `v`, for which what it brings along may spare the
+/// search.
 fn decide_insertion<F: Asks>(
     alloc: Global,
     picture: &Picture,
     tariff: &Tariff<F>,
     ends: (u32, u32),
     kind: u32,
-    plan: Option<&Plan>,
+    hint: Hint,
     work: &mut Workspace,
 ) -> Result<Reply, AllocError>
+    requires { IsTrueOf (prices_of (F.answers tariff.now)) picture.now.rows ends.0 ends.1 hint }
     ensures { IfOk result (IsDue (prices_of (F.answers tariff.now)) picture.now.limits picture.now.rows (Insert ends.0 ends.1 kind)) }
 {
     let (u, v) = ends;
     if let Err(why) = picture.admit(u, v, kind) {
         return Ok(Reply::Refused(why));
     }
-    let Some(first) = find_first(alloc, picture, tariff, u, v, plan, work)? else {
+    let Some(first) = find_first(alloc, picture, tariff, u, v, hint, work)? else {
         return Ok(Reply::Refused(Refusal::NoRoute));
     };
     match picture.admit_route(&first.route) {
@@ -88,16 +128,18 @@ fn decide_insertion<F: Asks>(
     }
 }
 
-/// The reply that is due to a call. An insertion takes the plan's route where the plan passes the check.
+/// The reply that is due to a call. An insertion takes a first route that is known, and a plan's route where
+/// the plan passes the check.
 /// The picture is only read.
 pub(crate) fn decide<F: Asks>(
     alloc: Global,
     picture: &Picture,
     tariff: &Tariff<F>,
     call: Call,
-    plan: Option<&Plan>,
+    hint: Hint,
     work: &mut Workspace,
 ) -> Result<Reply, AllocError>
+    requires { IsHintFor (prices_of (F.answers tariff.now)) picture.now.rows call hint }
     ensures due { IfOk result (IsDue (prices_of (F.answers tariff.now)) picture.now.limits picture.now.rows call) }
     ensures no_memory { IfOk result (λ reply. reply ≢ Refused Memory) }
 {
@@ -107,7 +149,7 @@ pub(crate) fn decide<F: Asks>(
             Err(why) => Ok(Reply::Refused(why)),
         },
         Call::Insert { u, v, kind } => {
-            decide_insertion(alloc, picture, tariff, (u, v), kind, plan, work)
+            decide_insertion(alloc, picture, tariff, (u, v), kind, hint, work)
         }
         Call::Delete { edge } => match picture.admit_deletion(edge) {
             Ok(()) => Ok(Reply::Deleted(EdgeId::new(edge))),

@@ -7,12 +7,14 @@
 #![tactic(auto)]
 
 pub mod front;
+pub mod mark;
 pub mod naming;
 pub mod shelf;
 pub mod store;
 pub mod version;
 
 pub use front::{Front, Head, Opened};
+pub use mark::Mark;
 pub use naming::{Logged, Naming};
 pub use shelf::{Glass, Lends, Shelf};
 pub use store::{StoreReader, StoreWriter};

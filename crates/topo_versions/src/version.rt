@@ -6,6 +6,7 @@ ghost use Rattle.topo_versions.specs.Names.{prices_named};
 ghost use Rattle.topo_versions.specs.Versions.{IsVersionFrom};
 
 use crate::front::Front;
+use crate::mark::Mark;
 use crate::naming::Naming;
 use left_right::Absorb;
 use std::alloc::{AllocError, Global};
@@ -91,6 +92,16 @@ fn same_last(a: &Option<Entry>, b: &Option<Entry>) -> bool
     }
 }
 
+// A copy of an entry, where there is one.
+fn copy_last(alloc: Global, last: &Option<Entry>) -> Result<Option<Entry>, AllocError>
+    ensures { IfOk result (λ o. o ≡ last.now) }
+{
+    match last {
+        Some(entry) => Ok(Some(entry.copy(alloc)?)),
+        None => Ok(None),
+    }
+}
+
 impl<F: Asks, K: Naming<F>> Version<F, K> {
     /// The version of no entry, the start.
     pub fn first(
@@ -172,5 +183,22 @@ impl<F: Asks, K: Naming<F>> Version<F, K> {
         ensures { result ≡ true → self.now.entries ≡ other.now.entries }
     {
         self.front.is(&other.front) && same_last(&self.stamp.last, &other.stamp.last)
+    }
+
+    /// Which version it is, for later, with no share of its picture.
+    pub fn mark(&self, alloc: Global) -> Result<Mark<K>, AllocError>
+        ensures { IfOk result (λ m. m ≡ self.now.entries) }
+    {
+        Ok(Mark {
+            front: self.front.again(),
+            last: copy_last(alloc, &self.stamp.last)?,
+        })
+    }
+
+    /// Whether it is the version that was marked, and so has the same entries.
+    pub fn is_marked(&self, mark: &Mark<K>) -> bool
+        ensures { result ≡ true → self.now.entries ≡ mark.now }
+    {
+        self.front.is(&mark.front) && same_last(&self.stamp.last, &mark.last)
     }
 }
