@@ -89,12 +89,13 @@ class Examples(unittest.TestCase):
         self.check_commands("docs/USING.md")
 
     def test_shown_code(self):
-        """The code that is shown in USING is that of the program it is from."""
+        """The code that is shown is that of the program it is from."""
         sources = "".join(file.read_text() for file in sorted((ROOT / "crates" / "planar_editors" / "src").glob("*.rt")))
-        shown = re.findall(r"```rust\n(.*?)```", (ROOT / "docs" / "USING.md").read_text(), re.DOTALL)
-        self.assertTrue(shown)
-        for text in shown:
-            self.assertIn(text, sources)
+        for page in PAGES:
+            shown = re.findall(r"```rust\n(.*?)```", (ROOT / page).read_text(), re.DOTALL)
+            self.assertTrue(shown, page)
+            for text in shown:
+                self.assertIn(text, sources)
         stdout = (ROOT / "crates" / "planar_editors" / "stdout").read_text()
         self.assertIn("".join(f"    {line}\n" for line in stdout.splitlines()), (ROOT / "docs" / "USING.md").read_text())
 

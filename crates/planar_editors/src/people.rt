@@ -44,7 +44,7 @@ pub(crate) fn edit<F: Asks + Drop, K: Naming<F>, R: Wait>(
 }
 
 /// A new edge. Where it goes is looked for on a view, while others make their calls. The service takes that
-/// plan if it is still the best under the lock, and looks for another way if not.
+/// route as it is where no call changed the picture meanwhile, and else looks for it under the lock.
 fn draw<F: Asks + Drop, K: Naming<F>, R: Wait>(
     rt: &R,
     alloc: Global,
@@ -54,8 +54,8 @@ fn draw<F: Asks + Drop, K: Naming<F>, R: Wait>(
     to: u32,
 ) -> Result<Reply, AllocError> {
     let kind = pass.number();
-    match pass.plan(alloc, service.tariff(), from, to) {
-        Ok(plan) => service.insert_planned(rt, pass, from, to, kind, &plan),
+    match pass.find(alloc, service.tariff(), from, to) {
+        Ok(found) => service.insert_found(rt, pass, kind, &found),
         Err(_) => service.insert(rt, pass, from, to, kind),
     }
 }
