@@ -197,12 +197,12 @@ impl<F: Asks, K: Naming<F>, W: Shelf<F, K>> ServiceOver<F, K, W> {
     }
 
     /// One call under the lock. The place of its receipt is taken first.
-    pub(crate) fn call<G: Glass<F, K>, R: Wait>(
-        &self,
+    pub(crate) fn call<'a, G: Glass<F, K>, R: Wait>(
+        &'a self,
         rt: &R,
         pass: &mut PassOver<F, K, G>,
         call: Call,
-        brought: Brought<F, K>,
+        brought: Brought<'a, F, K>,
     ) -> Result<Reply, AllocError>
         ensures number { pass.new.number ≡ pass.old.number }
         ensures receipt { IfOk result (λ reply. pass.new.receipts ≡ pass.old.receipts ++ receipt_of call reply ∷ []) }
