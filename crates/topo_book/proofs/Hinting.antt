@@ -1,5 +1,4 @@
 -- Where nothing is brought along.
-use Rattle.std.proofs.Common.{ℕ}
 use Rattle.topo_core.specs.declared.rows.Rows.{Rows}
 use Rattle.topo_core.specs.declared.calls.Call.{Call}
 use Rattle.topo_core.specs.declared.calls.Call.TheVariants.{Delete, Grow, Insert}

@@ -1,3 +1,4 @@
+pub mod FoundRoutes
 pub mod Matching
 pub mod Numbers
 pub mod Versions

@@ -143,6 +143,7 @@ pub(crate) fn gather<F: Asks, K: Naming<F>, W: Shelf<F, K>, G: Glass<F, K>, R: W
             share,
             mut reader,
             mut seen,
+            work: _work,
             of: _,
         } = pass;
         desk.meet(rt, &mut reader, &mut seen);

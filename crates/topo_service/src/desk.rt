@@ -1,26 +1,28 @@
 //! What lies under the lock.
 
-ghost use Rattle.std.specs.Prelude.{◌≡◌, ◌≢◌, ◌+◌, ◌<◌, ◌^◌, ◌∷◌, ◌++◌, [], length, is_ok, if◌then◌else◌, IfOk, IfSome, OnOk, OnErr, Some};
+ghost use Rattle.std.specs.Prelude.{◌≡◌, ◌≢◌, ◌+◌, ◌<◌, ◌^◌, ◌∷◌, ◌++◌, [], length, is_ok, if◌then◌else◌, IfOk, IfSome, OnOk, OnErr, Some, true};
 ghost use Rattle.topo_core.specs.History.{IsPrefix, IsVersion, Replays, is_accepted, versions};
+ghost use Rattle.topo_core.specs.Routes.{IsFirst};
 ghost use Rattle.topo_core.specs.Steps.{Step};
 ghost use Rattle.topo_core.specs.declared.calls.Refusal.TheVariants.{Memory};
 ghost use Rattle.topo_core.specs.declared.calls.Reply.TheVariants.{Refused};
 ghost use Rattle.topo_book.specs.Books.{CanFollow, IsSameBook, IsUnchanged, ReplaysLawfully};
+ghost use Rattle.topo_book.specs.Hints.{IsHintFor};
 ghost use Rattle.topo_price.specs.Prices.{prices_of};
 ghost use Rattle.topo_versions.specs.Names.{prices_named};
 ghost use Rattle.topo_versions.specs.Versions.{IsVersionFrom};
 ghost use Rattle.topo_service.specs.Passes.{entry_of};
 
 use crate::answer::Answer;
+use crate::found::{Brought, FoundRoute};
 use crate::wait::wait_forever;
 use std::alloc::{AllocError, Global};
 use std::marker::Model;
 use std::sync::ledger::{Book as Tally, Share};
 use std::sync::{Arc, Wait};
-use topo_book::{Book, Next};
+use topo_book::{Book, Hint, Next};
 use topo_core::calls::{Call, Entry};
 use topo_price::tariff::Asks;
-use topo_route::plan::Plan;
 use topo_versions::{Front, Glass, Head, Lends, Naming, Shelf, Version};
 
 /// The book, the number of its calls, and the versions. Contracts see the book.
@@ -49,14 +51,16 @@ impl<F: Asks, K: Naming<F>, W: Shelf<F, K>> Model for Desk<F, K, W> {
         × (d.front ≡ versions d.book.history) × (W.published d.writer ≡ versions d.book.history) };
 }
 
-/// Makes a call ready, with its plan where it has one. The rest is what is true of every book.
+/// Makes a call ready, with what is known of its route. The rest is what is true of every book.
+#[tactic(auto, using(topo_book::proofs::Hinting::nothing_is_owed))]
 fn make_ready<F: Asks>(
     book: &mut Book<F>,
     alloc: Global,
     caller: u32,
     call: Call,
-    plan: Option<&Plan>,
+    hint: Hint,
 ) -> Result<Next, AllocError>
+    requires { IsHintFor (prices_of (F.answers book.old.tariff)) book.old.picture.rows call hint }
     ensures caller { IfOk result (λ n. n.entry.caller ≡ caller) }
     ensures call { IfOk result (λ n. n.entry.call ≡ call) }
     ensures ready { IfOk result (CanFollow (prices_of (F.answers book.new.tariff)) book.new) }
@@ -68,9 +72,12 @@ fn make_ready<F: Asks>(
 {
     let _more = book.history().len() + 1;
     book.picture();
-    match (call, plan) {
-        (Call::Insert { u, v, kind }, Some(plan)) => {
+    match (call, hint) {
+        (Call::Insert { u, v, kind }, Hint::Plan(plan)) => {
             book.prepare_planned(alloc, caller, u, v, kind, plan)
+        }
+        (Call::Insert { u, v, kind }, Hint::First(first)) => {
+            book.prepare_first(alloc, caller, u, v, kind, first)
         }
         _ => book.prepare(alloc, caller, call),
     }
@@ -128,6 +135,29 @@ impl<F: Asks, K: Naming<F>, W: Shelf<F, K>> Desk<F, K, W> {
         }
     }
 
+    /// Whether the route is the first between these ends on the picture of now, since it was found on the
+    /// version that is published.
+    fn stands(&self, found: &FoundRoute<F, K>, u: u32, v: u32) -> bool
+        ensures { result ≡ true → IsFirst (prices_of (F.answers self.now.tariff)) self.now.picture.rows u v found.now.route found.now.price }
+    {
+        self.book.history();
+        found.first();
+        found.is_of(u, v, self.writer.current())
+    }
+
+    /// What is known of the route of a call, by what the call brings along.
+    fn hint<'a>(&self, call: Call, brought: Brought<'a, F, K>) -> Hint<'a>
+        ensures { IsHintFor (prices_of (F.answers self.now.tariff)) self.now.picture.rows call result }
+    {
+        match (call, brought) {
+            (Call::Insert { .. }, Brought::Plan(plan)) => Hint::Plan(plan),
+            (Call::Insert { u, v, .. }, Brought::Found(found)) if self.stands(found, u, v) => {
+                Hint::First(found.first())
+            }
+            _ => Hint::Nothing,
+        }
+    }
+
     /// One call. An accepted one is published before it is entered. All that can fail comes before
     /// anything changes.
     pub(crate) fn call<R: Wait>(
@@ -137,7 +167,7 @@ impl<F: Asks, K: Naming<F>, W: Shelf<F, K>> Desk<F, K, W> {
         mine: &mut Share<K>,
         caller: u32,
         call: Call,
-        plan: Option<&Plan>,
+        brought: Brought<F, K>,
     ) -> Result<Answer, AllocError>
         requires { 0 < mine.old.parts }
         ensures parts { mine.new.parts ≡ mine.old.parts }
@@ -148,7 +178,8 @@ impl<F: Asks, K: Naming<F>, W: Shelf<F, K>> Desk<F, K, W> {
         ensures no_memory { IfOk result (λ answer. answer.told ≢ Refused Memory) }
         ensures unchanged { OnErr result (IsUnchanged self.old self.new) }
     {
-        let next = make_ready(&mut self.book, alloc, caller, call, plan)?;
+        let hint = self.hint(call, brought);
+        let next = make_ready(&mut self.book, alloc, caller, call, hint)?;
         let answer = Answer::of(alloc, &next.entry().reply)?;
         show::<F, K, W, R>(
             rt,

@@ -2,8 +2,8 @@
 //!
 //! A `Service` holds a book under a lock. Each caller has a `Pass`: a call of the service carries it
 //! through the lock, enters what was answered, publishes the version after an accepted call, and leaves
-//! a receipt in the pass. `Pass::view` takes the version of now and `Pass::plan` searches on it, both
-//! without waiting. `Service::close` takes all passes back, compares every receipt with the history, and
+//! a receipt in the pass. `Pass::view` takes the version of now, and `Pass::find` and `Pass::plan` search on
+//! it, all without waiting. `Service::close` takes all passes back, compares every receipt with the history, and
 //! hands the book out: its Ok says that the history is one thread's, and has as many calls as the passes
 //! have receipts. `run_workers` runs lists of commands, each with a pass in a thread of its own.
 #![tactic(auto)]
@@ -13,6 +13,7 @@ mod checks;
 pub mod close;
 pub mod desk;
 pub mod faults;
+pub mod found;
 pub mod pass;
 mod seats;
 pub mod service;
@@ -21,6 +22,7 @@ pub mod workers;
 
 pub use close::{CloseFault, Service, Unopened};
 pub use faults::{EndFault, PassFault, ServiceFault};
+pub use found::FoundRoute;
 pub use pass::{Pass, PassOver, Receipt};
 pub use service::ServiceOver;
 pub use workers::{Gate, WorkerEnd, run_workers};

@@ -18,6 +18,7 @@ use topo_picture::Picture;
 use topo_price::tariff::{Asks, Tariff};
 use topo_route::plan::Plan;
 use topo_route::search::search;
+use topo_route::workspace::Workspace;
 use topo_versions::{Glass, Naming, StoreReader, Version};
 
 /// A call of a pass, and what it was answered.
@@ -36,6 +37,8 @@ pub struct PassOver<F: Asks, K: Naming<F>, G: Glass<F, K>> {
     pub(crate) share: Share<K>,
     pub(crate) reader: G,
     pub(crate) seen: u64,
+    // What its searches write on, once there was one.
+    pub(crate) work: Option<Workspace>,
     pub(crate) of: PhantomData<F>,
 }
 

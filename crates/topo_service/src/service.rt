@@ -12,6 +12,7 @@ ghost use Rattle.topo_service.specs.Passes.{receipt_of};
 use crate::answer::Answer;
 use crate::desk::Desk;
 use crate::faults::ServiceFault;
+use crate::found::{Brought, FoundRoute};
 use crate::pass::{PassOver, Receipt};
 use crate::seats::Seats;
 use crate::wait::wait_forever;
@@ -85,6 +86,7 @@ impl<F: Asks, K: Naming<F>, W: Shelf<F, K>> ServiceOver<F, K, W> {
             share,
             reader,
             seen: 0,
+            work: None,
             of: PhantomData,
         })
     }
@@ -109,7 +111,7 @@ impl<F: Asks, K: Naming<F>, W: Shelf<F, K>> ServiceOver<F, K, W> {
         ensures no_memory { IfOk result (λ reply. reply ≢ Refused Memory) }
         ensures unchanged { OnErr result (pass.new ≡ pass.old) }
     {
-        self.call(rt, pass, Call::Insert { u, v, kind }, None)
+        self.call(rt, pass, Call::Insert { u, v, kind }, Brought::Nothing)
     }
 
     /// As `insert`, whatever the plan: its route is taken where the plan passes the check on the picture
@@ -131,7 +133,28 @@ impl<F: Asks, K: Naming<F>, W: Shelf<F, K>> ServiceOver<F, K, W> {
         ensures no_memory { IfOk result (λ reply. reply ≢ Refused Memory) }
         ensures unchanged { OnErr result (pass.new ≡ pass.old) }
     {
-        self.call(rt, pass, Call::Insert { u, v, kind }, Some(plan))
+        self.call(rt, pass, Call::Insert { u, v, kind }, Brought::Plan(plan))
+    }
+
+    /// As `insert` between the ends of a route that was found: the route is taken as it is where it was
+    /// found on the version of now, and else the route is looked for.
+    pub fn insert_found<G: Glass<F, K>, R: Wait>(
+        &self,
+        rt: &R,
+        pass: &mut PassOver<F, K, G>,
+        kind: u32,
+        found: &FoundRoute<F, K>,
+    ) -> Result<Reply, AllocError>
+        ensures number { pass.new.number ≡ pass.old.number }
+        ensures receipt { IfOk result (λ reply. pass.new.receipts ≡ pass.old.receipts ++ receipt_of (Insert found.now.u found.now.v kind) reply ∷ []) }
+        ensures later { IsPrefix pass.old.seen pass.new.seen }
+        ensures accepted { IfOk result (λ reply. is_accepted reply ≡ true → HasSeenOwn pass.old pass.new (Insert found.now.u found.now.v kind) reply) }
+        ensures refused { IfOk result (λ reply. is_accepted reply ≡ false → IsDueAfter (prices_named F.answers K.closure) K.start pass.new.seen (Insert found.now.u found.now.v kind) reply) }
+        ensures no_memory { IfOk result (λ reply. reply ≢ Refused Memory) }
+        ensures unchanged { OnErr result (pass.new ≡ pass.old) }
+    {
+        let (u, v) = found.ends();
+        self.call(rt, pass, Call::Insert { u, v, kind }, Brought::Found(found))
     }
 
     /// Takes an edge out, or answers why not; in all else as `insert`.
@@ -149,7 +172,7 @@ impl<F: Asks, K: Naming<F>, W: Shelf<F, K>> ServiceOver<F, K, W> {
         ensures no_memory { IfOk result (λ reply. reply ≢ Refused Memory) }
         ensures unchanged { OnErr result (pass.new ≡ pass.old) }
     {
-        self.call(rt, pass, Call::Delete { edge }, None)
+        self.call(rt, pass, Call::Delete { edge }, Brought::Nothing)
     }
 
     /// Puts a new vertex on a new edge of this kind into the corner at `position` of `u`, or answers the
@@ -170,16 +193,16 @@ impl<F: Asks, K: Naming<F>, W: Shelf<F, K>> ServiceOver<F, K, W> {
         ensures no_memory { IfOk result (λ reply. reply ≢ Refused Memory) }
         ensures unchanged { OnErr result (pass.new ≡ pass.old) }
     {
-        self.call(rt, pass, Call::Grow { u, position, kind }, None)
+        self.call(rt, pass, Call::Grow { u, position, kind }, Brought::Nothing)
     }
 
     /// One call under the lock. The place of its receipt is taken first.
-    pub(crate) fn call<G: Glass<F, K>, R: Wait>(
-        &self,
+    pub(crate) fn call<'a, G: Glass<F, K>, R: Wait>(
+        &'a self,
         rt: &R,
         pass: &mut PassOver<F, K, G>,
         call: Call,
-        plan: Option<&Plan>,
+        brought: Brought<'a, F, K>,
     ) -> Result<Reply, AllocError>
         ensures number { pass.new.number ≡ pass.old.number }
         ensures receipt { IfOk result (λ reply. pass.new.receipts ≡ pass.old.receipts ++ receipt_of call reply ∷ []) }
@@ -192,7 +215,7 @@ impl<F: Asks, K: Naming<F>, W: Shelf<F, K>> ServiceOver<F, K, W> {
         pass.receipts.reserve(1)?;
         let mut guard = self.desk.lock(rt);
         let desk = &mut *guard;
-        let made = desk.call(rt, self.alloc, &mut pass.share, pass.number, call, plan);
+        let made = desk.call(rt, self.alloc, &mut pass.share, pass.number, call, brought);
         let Answer { told, kept } = made?;
         pass.receipts.push_reserved(Receipt { call, reply: kept });
         let seen = pass.seen;

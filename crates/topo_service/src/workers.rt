@@ -50,8 +50,8 @@ fn call<F: Asks, K: Naming<F>, W: Shelf<F, K>, G: Glass<F, K>, R: Wait>(
     }
 }
 
-/// Carries a command out. A planned insertion plans on a view first; where it has no plan, it is an
-/// insertion.
+/// Carries a command out. A planned insertion looks for its route on a view first, without the lock; where
+/// that finds none, it is an insertion.
 fn carry_out<F: Asks, K: Naming<F>, W: Shelf<F, K>, G: Glass<F, K>, R: Wait>(
     rt: &R,
     alloc: Global,
@@ -66,8 +66,8 @@ fn carry_out<F: Asks, K: Naming<F>, W: Shelf<F, K>, G: Glass<F, K>, R: Wait>(
 {
     match command {
         Command::Plain(asked) => call(rt, service, pass, asked),
-        Command::Planned { u, v, kind } => match pass.plan(alloc, service.tariff(), u, v) {
-            Ok(plan) => service.insert_planned(rt, pass, u, v, kind, &plan),
+        Command::Planned { u, v, kind } => match pass.find(alloc, service.tariff(), u, v) {
+            Ok(found) => service.insert_found(rt, pass, kind, &found),
             Err(_) => service.insert(rt, pass, u, v, kind),
         },
     }

@@ -14,7 +14,7 @@ use topo_price::table::PriceTable;
 use topo_price::tariff::Asks;
 use topo_route::check::check;
 use topo_route::plan::Plan;
-use topo_service::{Pass, Service, WorkerEnd};
+use topo_service::{FoundRoute, Pass, PassFault, Service, WorkerEnd};
 use topo_versions::{Naming, Version};
 
 /// The version of now.
@@ -342,6 +342,120 @@ fn a_good_plan_spares_the_search_and_a_stale_one_does_not_harm(
         told.as_str(),
         "true true Inserted(Inserted { id: EdgeId(9), route: Route { start: 2, crossed: Listed { items: [Dart { edge: EdgeId(1), seg: 0, way: Back }] }, end: 2 }, price: 2 }) \
          Inserted(Inserted { id: EdgeId(10), route: Route { start: 2, crossed: Listed { items: [] }, end: 2 }, price: 0 }); 4 calls, replayed: true"
+    );
+    Ok(())
+}
+
+/// A found route that is still of the newest version, and one that other calls came after.
+#[derive(Drop)]
+struct Finds<'a> {
+    asked: &'a AtomicU64,
+}
+
+/// A route between the apexes, as it is found on the version of now.
+fn found_of<F: Asks + Drop, K: Naming<F>>(
+    alloc: Global,
+    service: &Service<F, K>,
+    pass: &mut Pass<F, K>,
+) -> Result<FoundRoute<F, K>, Fail> {
+    match pass.find(alloc, service.tariff(), 3, 4) {
+        Ok(found) => Ok(found),
+        Err(_) => Err("no route".into()),
+    }
+}
+
+/// Why nothing is found from an apex to another vertex, where that is so.
+fn fault_of<F: Asks + Drop, K: Naming<F>>(
+    alloc: Global,
+    service: &Service<F, K>,
+    pass: &mut Pass<F, K>,
+    to: u32,
+) -> Option<PassFault> {
+    pass.find(alloc, service.tariff(), 3, to).err()
+}
+
+impl Finds<'_> {
+    /// An insertion along a found route, with the number of prices that it asked for.
+    fn insert<F: Asks + Drop, K: Naming<F>, R: Wait>(
+        &self,
+        rt: &R,
+        service: &Service<F, K>,
+        pass: &mut Pass<F, K>,
+        found: &FoundRoute<F, K>,
+    ) -> Result<(u64, Reply), AllocError> {
+        let before = self.asked.load(Ordering::SeqCst);
+        let reply = service.insert_found(rt, pass, 0, found)?;
+        let after = self.asked.load(Ordering::SeqCst);
+        Ok((after.wrapping_sub(before), reply))
+    }
+
+    /// As `insert`, after the first inserted edge and the edge that it crossed were taken out.
+    fn insert_late<F: Asks + Drop, K: Naming<F>, R: Wait>(
+        &self,
+        rt: &R,
+        service: &Service<F, K>,
+        early: &mut Pass<F, K>,
+        late: &mut Pass<F, K>,
+        found: &FoundRoute<F, K>,
+    ) -> Result<(u64, Reply), AllocError> {
+        let _ = service.delete(rt, early, 9)?;
+        let _ = service.delete(rt, early, 1)?;
+        self.insert(rt, service, late, found)
+    }
+}
+
+impl Story for Finds<'_> {
+    fn seats(&self) -> usize {
+        2
+    }
+
+    fn tell<F: Asks + Drop, K: Naming<F>, R: Wait>(
+        &self,
+        rt: &R,
+        alloc: Global,
+        service: &Service<F, K>,
+        passes: &mut Vec<Pass<F, K>>,
+        _ends: &[WorkerEnd],
+    ) -> Result<String, Fail> {
+        let Some((a, rest)) = passes.as_mut_slice().split_first_mut() else {
+            return Err("two passes".into());
+        };
+        let Some((b, _)) = rest.split_first_mut() else {
+            return Err("two passes".into());
+        };
+        let found = found_of(alloc, service, a)?;
+        let late = found_of(alloc, service, b)?;
+        let (ends, price) = (found.ends(), found.first().price);
+        let faults = [
+            fault_of(alloc, service, a, 3),
+            fault_of(alloc, service, a, 9),
+        ];
+        let (asked, first) = self.insert(rt, service, a, &found)?;
+        let (again, second) = self.insert_late(rt, service, a, b, &late)?;
+        let searched = again > 0;
+        Ok(format!(in alloc;
+            "{ends:?} {price} {faults:?}; {asked} {first:?}; {searched} {second:?}"
+        )?)
+    }
+}
+
+#[test]
+fn a_found_route_is_taken_as_it_is_and_a_late_one_does_not_harm(
+    rt: HostRuntime,
+) -> Result<(), Fail> {
+    let start = bipyramid(&rt, rt.alloc())?;
+    let table = uneven_prices(&rt);
+    let asked = AtomicU64::new(0);
+    let ask = |facts: &Facts| {
+        let _ = asked.fetch_add(1, Ordering::SeqCst);
+        table.price(facts.kind)
+    };
+    let told = run(&rt, rt.alloc(), ask, start, &Finds { asked: &asked })?;
+    assert_eq!(rt;
+        told.as_str(),
+        "(3, 4) 2 [Some(Refused(SameEnds)), Some(Refused(NoVertex))]; \
+         0 Inserted(Inserted { id: EdgeId(9), route: Route { start: 2, crossed: Listed { items: [Dart { edge: EdgeId(1), seg: 0, way: Back }] }, end: 2 }, price: 2 }); \
+         true Inserted(Inserted { id: EdgeId(10), route: Route { start: 2, crossed: Listed { items: [] }, end: 2 }, price: 0 }); 4 calls, replayed: true"
     );
     Ok(())
 }

@@ -1,0 +1,42 @@
+-- A route that was found on the version that is published is the first on the picture of now.
+use Rattle.std.proofs.Common.{◌≡◌, ℕ, List, [], ◌∷◌, Option, Some, sym, subst, ◌∙◌}
+use Rattle.topo_core.specs.declared.rows.Rows.{Rows}
+use Rattle.topo_core.specs.declared.limits.Limits.{Limits}
+use Rattle.topo_core.specs.declared.calls.Entry.{Entry}
+use Rattle.topo_core.specs.Routes.{IsFirst, Pricing}
+use Rattle.topo_core.specs.History.{IsVersion, Replays, versions}
+use Rattle.topo_core.proofs.Determined.{one_step}
+use Rattle.topo_frozen.specs.Shown.{Shown}
+use Rattle.topo_price.specs.Prices.{Asking, prices_of}
+use Rattle.topo_versions.specs.Names.{prices_named}
+use Rattle.topo_service.specs.Found.{FoundState, IsFoundRoute}
+use Rattle.topo_service.proofs.Versions.{is_version}
+
+-- a list of entries has one replay
+one_replay : (price : Pricing) (limits : Limits) (entries : List Entry) (p q r : Rows) → Replays price limits p entries q → Replays price limits p entries r → q ≡ r
+one_replay price limits [] p q r way other = way ∙ sym other
+one_replay price limits (entry ∷ entries) p q r way other =
+    let same = one_step price limits p entry.call entry.reply entry.reply way.0 other.0 way.1 other.1 in
+    one_replay price limits entries way.0 q r way.2 (subst (λ (s : Rows). Replays price limits s entries r) (sym same.1) other.2)
+
+-- accepted entries lead to one picture
+one_version : (price : Pricing) (limits : Limits) (start q r : Rows) (entries : List Entry) → IsVersion price limits start entries q → IsVersion price limits start entries r → q ≡ r
+one_version price limits start q r entries one other = one_replay price limits entries start q r one.replayed other.replayed
+
+-- at one start and at one pricing
+still_first : (price : Pricing) (start : Shown) (history : List Entry) (picture : Rows) (found : FoundState) → Replays price start.limits start.rows history picture → IsFoundRoute price start found
+    → found.entries ≡ versions history → IsFirst price picture found.u found.v found.route found.price
+still_first price start history picture found way was same =
+    let now = is_version price start.limits start.rows picture history way in
+    let then = subst (λ (es : List Entry). IsVersion price start.limits start.rows es was.picture) same was.replayed in
+    subst (λ (p : Rows). IsFirst price p found.u found.v found.route found.price) (one_version price start.limits start.rows was.picture picture (versions history) then now) was.first
+
+-- at the prices and the start that are named
+pub first_now : {F : Type 0} (answers : F → Asking) (closure : Option F) (start from : Shown) (tariff : F) (history : List Entry) (picture : Rows) (found : FoundState) (u v : ℕ)
+    → closure ≡ Some tariff → from ≡ start → Replays (prices_of (answers tariff)) from.limits from.rows history picture → IsFoundRoute (prices_named answers closure) start found
+    → found.entries ≡ versions history → found.u ≡ u → found.v ≡ v → IsFirst (prices_of (answers tariff)) picture u v found.route found.price
+first_now answers closure start from tariff history picture found u v named begins way was same is_u is_v =
+    let at_tariff = subst (λ (o : Option _). IsFoundRoute (prices_named answers o) start found) named was in
+    let at_start = subst (λ (s : Shown). IsFoundRoute (prices_of (answers tariff)) s found) (sym begins) at_tariff in
+    let first = still_first (prices_of (answers tariff)) from history picture found way at_start same in
+    rw (← is_u, ← is_v) first

@@ -1,0 +1,15 @@
+use Rattle.std.proofs.Common.{◌≡◌, List, sym, ap, subst, ◌∙◌}
+use Rattle.topo_core.specs.declared.calls.Entry.{Entry}
+use Rattle.topo_versions.specs.Names.{prices_named}
+use Rattle.topo_versions.specs.Versions.{IsVersionFrom}
+use Rattle.topo_service.specs.Passes.{PassState}
+use Rattle.topo_service.proofs.pass.PassOver.find.Goals as goal
+
+pub returns-clause-fault : goal.returns-clause-fault
+returns-clause-fault g c =
+    let version = c.in_ok-version.version in
+    let seen : version.entries ≡ g.G.Glass.seen c.self.inside.reader = c.in_ok-version.ensures.seen ∙ sym (ap (λ (p : PassState). p.seen) c.self.view_is) in (
+      version.picture,
+      subst (λ (es : List Entry). IsVersionFrom (prices_named g.F.Asks.answers g.K.Naming.closure) g.K.Naming.start es version.picture) seen c.in_ok-version.ensures.version,
+      c.in-Err.ensures.refused,
+    )
