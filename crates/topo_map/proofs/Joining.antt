@@ -1,5 +1,5 @@
 -- Slabs that are built from a list of turns.
-use Rattle.std.proofs.Common.{◌≡◌, ◌≢◌, ℕ, zero, suc, ◌+◌, ◌/◌, ◌%◌, ◌<◌, Bool, false, inl, inr, refl, sym, ◌∙◌, ap, subst, arith, List, [], ◌∷◌, ◌++◌, length, Option, None, is_some, slice_index_or}
+use Rattle.std.proofs.Common.{◌≡◌, ◌≢◌, ℕ, zero, suc, ◌+◌, ◌/◌, ◌%◌, ◌<◌, Bool, true, false, inl, inr, refl, sym, ◌∙◌, ap, subst, arith, List, [], ◌∷◌, ◌++◌, length, Option, None, is_some, slice_index_or}
 use Rattle.std.proofs.lemmas.Bool.{cases_Bool, cases_eq}
 use Rattle.slab.specs.Slab.{Slab}
 use Rattle.topo_core.specs.Cycles.{map_of, IsPermutation}
@@ -24,6 +24,9 @@ use Rattle.topo_map.proofs.Steps.{whole, same_twin}
 
 none-live : (s : Slab Segment) → s.slots ≡ [] → (a : ℕ) → holds s a ≡ false
 none-live s e a = live_at nexts s a ∙ ap (λ (l : List (Option Segment)). is_some (slice_index_or l (a / 2) None)) e
+
+pub none_held : (s : Slab Segment) → s.slots ≡ [] → (a : ℕ) → holds s a ≡ true → ⊥
+none_held s e a h = true_false (sym h ∙ none-live s e a)
 
 pub empty_alone : (s : Slab Segment) → s.slots ≡ [] → AreAlone s []
 empty_alone s e = record {

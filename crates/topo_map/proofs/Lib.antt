@@ -7,5 +7,10 @@ pub mod Allowed
 pub mod Counted
 pub mod Steps
 pub mod Rounds
+pub mod Painting
+pub mod Walked
+pub mod Attaching
+pub mod LabelledAll
+pub mod FaceEdits
 pub mod Listing
 pub mod Joining

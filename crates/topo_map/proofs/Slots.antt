@@ -11,7 +11,7 @@ use Rattle.topo_core.specs.declared.darts.Way.TheVariants.{Forward, Back}
 use Rattle.topo_map.specs.Halves.{half_number}
 use Rattle.topo_map.proofs.HalfNumbers.{number_key}
 use Rattle.topo_map.specs.Rotation.{Slot, turned, turn_in, labelled, edge_in, live_in}
-use Rattle.topo_map.specs.Segments.{shown, written, holds, next_in, before_in, label_in, nexts, befores, Rewires}
+use Rattle.topo_map.specs.Segments.{shown, written, holds, next_in, before_in, label_in, nexts, befores, sides, face_in, Repaints, Rewires}
 use Rattle.topo_map.specs.declared.segments.Segment.{Segment}
 use Rattle.topo_map.proofs.Maps.{funext, written-at, written-else}
 
@@ -118,6 +118,13 @@ same_labels s s' key seg v g u e = funext (label_in s') (label_in s) (λ a. elim
   | inl same ↦ label-there s' key v a same u.changed ∙ e ∙ sym (label-there s key seg a same g)
 ])
 
+-- the label of a face that the segment at a key has
+pub face-there : (s : Slab Segment) (key : ℕ) (way : Way) (at : ℕ) (seg : Segment) → half_number key way ≡ at → get s key ≡ Some seg → face_in s at ≡ side way (sides seg)
+face-there s key way at seg e g = found sides s key way at seg e g
+
+pub face-else : (s s' : Slab Segment) (key : ℕ) (slot : Option Segment) → Updates s s' key slot → (a : ℕ) → a / 2 ≢ key → face_in s' a ≡ face_in s a
+face-else s s' key slot u a ne = turn_at sides s' a ∙ ap (λ (o : Option Segment). turned a (option_map sides o)) (u.others (a / 2) ne) ∙ sym (turn_at sides s a)
+
 side-edge : (way : Way) (t : Slot) (to : ℕ) → (with_side way t to).edge ≡ t.edge
 side-edge Forward t to = refl
 side-edge Back t to = refl
@@ -151,24 +158,39 @@ same_len s key seg v g =
     let d : f (get s key) ≡ 1 = ap f g in
     omega arith
 
-pub wired_next : (s : Slab Segment) (key : ℕ) (way : Way) (at to : ℕ) (seg v : Segment) → half_number key way ≡ at → get s key ≡ Some seg → nexts v ≡ with_side way (nexts seg) to → befores v ≡ befores seg → Rewires s (with_value s key v) (written (next_in s) at to) (before_in s)
-wired_next s key way at to seg v e g p q =
+pub wired_next : (s : Slab Segment) (key : ℕ) (way : Way) (at to : ℕ) (seg v : Segment) → half_number key way ≡ at → get s key ≡ Some seg → nexts v ≡ with_side way (nexts seg) to → befores v ≡ befores seg → sides v ≡ sides seg → Rewires s (with_value s key v) (written (next_in s) at to) (before_in s)
+wired_next s key way at to seg v e g p q r =
     let u : Updates s (with_value s key v) key (Some v) = updates s key seg v g in
     record {
       next = rewritten nexts s (with_value s key v) key way at to seg v e g u p;
       before = unwritten befores s (with_value s key v) key seg v g u q;
+      faces = unwritten sides s (with_value s key v) key seg v g u r;
       live = same_live s (with_value s key v) key seg v g u;
       edges = same_labels s (with_value s key v) key seg v g u (ap (λ (t : Slot). t.edge) p ∙ side-edge way (nexts seg) to);
       len = same_len s key seg v g;
       capacity = refl;
     }
 
-pub wired_before : (s : Slab Segment) (key : ℕ) (way : Way) (at to : ℕ) (seg v : Segment) → half_number key way ≡ at → get s key ≡ Some seg → befores v ≡ with_side way (befores seg) to → nexts v ≡ nexts seg → Rewires s (with_value s key v) (next_in s) (written (before_in s) at to)
-wired_before s key way at to seg v e g p q =
+pub wired_before : (s : Slab Segment) (key : ℕ) (way : Way) (at to : ℕ) (seg v : Segment) → half_number key way ≡ at → get s key ≡ Some seg → befores v ≡ with_side way (befores seg) to → nexts v ≡ nexts seg → sides v ≡ sides seg → Rewires s (with_value s key v) (next_in s) (written (before_in s) at to)
+wired_before s key way at to seg v e g p q r =
     let u : Updates s (with_value s key v) key (Some v) = updates s key seg v g in
     record {
       next = unwritten nexts s (with_value s key v) key seg v g u q;
       before = rewritten befores s (with_value s key v) key way at to seg v e g u p;
+      faces = unwritten sides s (with_value s key v) key seg v g u r;
+      live = same_live s (with_value s key v) key seg v g u;
+      edges = same_labels s (with_value s key v) key seg v g u (ap (λ (t : Slot). t.edge) q);
+      len = same_len s key seg v g;
+      capacity = refl;
+    }
+
+pub wired_face : (s : Slab Segment) (key : ℕ) (way : Way) (at to : ℕ) (seg v : Segment) → half_number key way ≡ at → get s key ≡ Some seg → sides v ≡ with_side way (sides seg) to → nexts v ≡ nexts seg → befores v ≡ befores seg → Repaints s (with_value s key v) (written (face_in s) at to)
+wired_face s key way at to seg v e g p q r =
+    let u : Updates s (with_value s key v) key (Some v) = updates s key seg v g in
+    record {
+      faces = rewritten sides s (with_value s key v) key way at to seg v e g u p;
+      next = unwritten nexts s (with_value s key v) key seg v g u q;
+      before = unwritten befores s (with_value s key v) key seg v g u r;
       live = same_live s (with_value s key v) key seg v g u;
       edges = same_labels s (with_value s key v) key seg v g u (ap (λ (t : Slot). t.edge) q);
       len = same_len s key seg v g;

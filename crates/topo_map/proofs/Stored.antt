@@ -6,11 +6,13 @@ use Rattle.slab.specs.Slab.{Slab, get, slab_len, with_value, Updates}
 use Rattle.topo_core.specs.Rotations.{twin}
 use Rattle.topo_perm.specs.Joins.{AddsSegment}
 use Rattle.topo_perm.proofs.Walks.{twin-cases}
+use Rattle.topo_core.specs.declared.darts.Way.TheVariants.{Forward, Back}
+use Rattle.topo_map.specs.Halves.{half_number}
 use Rattle.topo_map.specs.Rotation.{AddsLabel, KeepsLabels, Slot, turned, turn_in, half_limit}
-use Rattle.topo_map.specs.Segments.{shown, holds, next_in, before_in, nexts, befores, label_in, limit_of, room_of, isolated_segment, AreInverse, IsKept, IsInserted, IsRemoved}
+use Rattle.topo_map.specs.Segments.{shown, holds, next_in, before_in, nexts, befores, label_in, face_in, limit_of, room_of, isolated_segment, AddsFaces, AreInverse, IsKept, IsInserted, IsRemoved}
 use Rattle.topo_map.specs.declared.segments.Segment.{Segment}
 use Rattle.topo_map.proofs.Maps.{funext}
-use Rattle.topo_map.proofs.Slots.{turn_at, label-there, label-else, live-slot, live_at, updates, same_len}
+use Rattle.topo_map.proofs.Slots.{turn_at, label-there, label-else, face-there, face-else, live-slot, live_at, updates, same_len}
 
 pub limit-is : half_limit ≡ 4294967296
 unfolding half_limit
@@ -129,26 +131,26 @@ inverse-same f b f' b' e d k = subst (λ (g : ℕ → ℕ). AreInverse g b') (sy
 -- ---- The two changes
 
 -- the key of a new segment, and what the slab says of it
-pub record IsNewAt (s new : Slab Segment) (key edge : ℕ) : Type 0 where
+pub record IsNewAt (s new : Slab Segment) (key edge left right : ℕ) : Type 0 where
   pub free : get s key ≡ None
-  pub updates : Updates s new key (Some (isolated_segment key edge))
+  pub updates : Updates s new key (Some (isolated_segment key edge left right))
   pub len : slab_len new ≡ slab_len s + 1
   pub capacity : new.capacity ≡ s.capacity
   pub below : key < s.capacity
 
-pub inserted : (s new : Slab Segment) (key edge x : ℕ) → IsKept s → 0 < room_of s → IsNewAt s new key edge → 2 * key ≡ x → IsInserted s new x
-inserted s new key edge x k room i ex =
+pub inserted : (s new : Slab Segment) (key edge left right x : ℕ) → IsKept s → 0 < room_of s → IsNewAt s new key edge left right → 2 * key ≡ x → IsInserted s new x
+inserted s new key edge left right x k room i ex =
     let kx : x / 2 ≡ key = omega arith in
     let r : HasRoom s.capacity (slab_len s) = has_room s.capacity (slab_len s) room in
     let narrow : s.capacity ≤ 2147483648 = r.narrow in
     let below : key < s.capacity = i.below in
     let lim : half_limit ≡ 4294967296 = limit-is in
-    let f : next_in new ≡ next_in s = same_turn nexts s new key (Some (isolated_segment key edge)) i.updates (λ a e. by_itself a key e) (turn-none nexts s key i.free) in
-    let b : before_in new ≡ before_in s = same_turn befores s new key (Some (isolated_segment key edge)) i.updates (λ a e. by_itself a key e) (turn-none befores s key i.free) in
+    let f : next_in new ≡ next_in s = same_turn nexts s new key (Some (isolated_segment key edge left right)) i.updates (λ a e. by_itself a key e) (turn-none nexts s key i.free) in
+    let b : before_in new ≡ before_in s = same_turn befores s new key (Some (isolated_segment key edge left right)) i.updates (λ a e. by_itself a key e) (turn-none befores s key i.free) in
     record {
       next = f;
       within = omega arith;
-      live = adds (holds s) (holds new) half_limit key x kx (live-was s key None i.free) (live-there s new key (Some (isolated_segment key edge)) i.updates) (live-else s new key (Some (isolated_segment key edge)) i.updates);
+      live = adds (holds s) (holds new) half_limit key x kx (live-was s key None i.free) (live-there s new key (Some (isolated_segment key edge left right)) i.updates) (live-else s new key (Some (isolated_segment key edge left right)) i.updates);
       room = room_less s.capacity (slab_len s) new.capacity (slab_len new) room i.capacity i.len;
       limit = ap (λ (n : ℕ). 2 * min n 2147483648) i.capacity;
       below = (let same : new.capacity ≡ s.capacity = i.capacity in omega arith);
@@ -156,19 +158,33 @@ inserted s new key edge x k room i ex =
         inverse = inverse-same (next_in s) (before_in s) (next_in new) (before_in new) f b k.inverse;
         within = λ a h. elim (cases_eq (a / 2) key) [
           | inl e ↦ let l : a < half_limit = omega arith in l
-          | inr ne ↦ k.within a (sym (live-else s new key (Some (isolated_segment key edge)) i.updates a ne) ∙ h)
+          | inr ne ↦ k.within a (sym (live-else s new key (Some (isolated_segment key edge left right)) i.updates a ne) ∙ h)
         ];
       };
     }
 
 -- its halves have its label, and all others theirs
-pub label_stored : (s new : Slab Segment) (key edge x : ℕ) → IsNewAt s new key edge → 2 * key ≡ x → AddsLabel (holds s) (label_in s) (label_in new) x edge
-label_stored s new key edge x i ex =
+pub label_stored : (s new : Slab Segment) (key edge left right x : ℕ) → IsNewAt s new key edge left right → 2 * key ≡ x → AddsLabel (holds s) (label_in s) (label_in new) x edge
+label_stored s new key edge left right x i ex =
     let kx : x / 2 ≡ key = omega arith in
     record {
-      here = label-there new key (isolated_segment key edge) x kx i.updates.changed;
-      here_twin = label-there new key (isolated_segment key edge) (twin x) (twin-key x ∙ kx) i.updates.changed;
-      others = λ a h. label-else s new key (Some (isolated_segment key edge)) i.updates a (λ e. true_false (sym h ∙ live-was s key None i.free a e));
+      here = label-there new key (isolated_segment key edge left right) x kx i.updates.changed;
+      here_twin = label-there new key (isolated_segment key edge left right) (twin x) (twin-key x ∙ kx) i.updates.changed;
+      others = λ a h. label-else s new key (Some (isolated_segment key edge left right)) i.updates a (λ e. true_false (sym h ∙ live-was s key None i.free a e));
+    }
+
+-- its halves have their labels of faces, and all others theirs
+pub faces_stored : (s new : Slab Segment) (key edge left right x : ℕ) → IsNewAt s new key edge left right → 2 * key ≡ x → AddsFaces (holds s) (face_in s) (face_in new) x left right
+faces_stored s new key edge left right x i ex =
+    let kx : x / 2 ≡ key = omega arith in
+    let t : half_number key Back ≡ twin x = elim (twin-cases x) [
+      | inl w ↦ let e : twin x ≡ x + 1 = w.1 in let v : 2 * key + 1 ≡ twin x = omega arith in v
+      | inr w ↦ absurd (w.0 (let v : x % 2 ≡ 0 = omega arith in v))
+    ] in
+    record {
+      here = face-there new key Forward x (isolated_segment key edge left right) ex i.updates.changed;
+      here_twin = face-there new key Back (twin x) (isolated_segment key edge left right) t i.updates.changed;
+      others = λ a h. face-else s new key (Some (isolated_segment key edge left right)) i.updates a (λ e. true_false (sym h ∙ live-was s key None i.free a e));
     }
 
 pub record IsGoneAt (s new : Slab Segment) (key : ℕ) (seg : Segment) : Type 0 where
@@ -205,9 +221,12 @@ removed s new key x seg k alone twin_alone i kx =
 pub labels_left : (s new : Slab Segment) (key : ℕ) (seg : Segment) → IsGoneAt s new key seg → KeepsLabels (holds new) (label_in s) (label_in new)
 labels_left s new key seg i a h = label-else s new key None i.updates a (λ e. true_false (sym h ∙ live-there s new key None i.updates a e))
 
+pub faces_left : (s new : Slab Segment) (key : ℕ) (seg : Segment) → IsGoneAt s new key seg → KeepsLabels (holds new) (face_in s) (face_in new)
+faces_left s new key seg i a h = face-else s new key None i.updates a (λ e. true_false (sym h ∙ live-there s new key None i.updates a e))
+
 -- stored, and then written again at its key
-pub two_writes : (s mid : Slab Segment) (key edge : ℕ) (blank seg : Segment) → get s key ≡ None → Updates s mid key (Some blank) → seg ≡ isolated_segment key edge → slab_len mid ≡ slab_len s + 1 → mid.capacity ≡ s.capacity → key < mid.capacity → IsNewAt s (with_value mid key seg) key edge
-two_writes s mid key edge blank seg free u e len cap below =
+pub two_writes : (s mid : Slab Segment) (key edge left right : ℕ) (blank seg : Segment) → get s key ≡ None → Updates s mid key (Some blank) → seg ≡ isolated_segment key edge left right → slab_len mid ≡ slab_len s + 1 → mid.capacity ≡ s.capacity → key < mid.capacity → IsNewAt s (with_value mid key seg) key edge left right
+two_writes s mid key edge left right blank seg free u e len cap below =
     let v : Updates mid (with_value mid key seg) key (Some seg) = updates mid key blank seg u.changed in
     record {
       free = free;

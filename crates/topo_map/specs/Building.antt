@@ -5,7 +5,7 @@ use Rattle.topo_core.specs.Cycles.{map_of}
 use Rattle.topo_core.specs.Rotations.{twin}
 use Rattle.topo_perm.specs.Live.{live_segments}
 use Rattle.topo_map.specs.Rotation.{half_limit}
-use Rattle.topo_map.specs.Segments.{holds, next_in, before_in, IsKept}
+use Rattle.topo_map.specs.Segments.{face_in, holds, next_in, before_in, IsKept}
 use Rattle.topo_map.specs.declared.segments.Segment.{Segment}
 
 -- the live halves, each once, with twins side by side
@@ -23,6 +23,10 @@ pub record IsListed (live : ℕ → Bool) (halves : List ℕ) : Type 0 where
 pub record AreAlone (s : Slab Segment) (halves : List ℕ) : Type 0 where
   pub kept : IsKept s
   pub listed : IsListed (holds s) halves
+
+-- no half has a face's label yet, which 0 stands for
+abbrev pub AreBlank : Slab Segment → Type 0
+AreBlank s = (a : ℕ) → holds s a ≡ true → face_in s a ≡ 0
 
 -- the halves before k have their turns
 pub record AreJoinedBelow (s : Slab Segment) (halves turns : List ℕ) (k : ℕ) : Type 0 where

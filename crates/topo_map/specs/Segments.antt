@@ -1,6 +1,7 @@
 -- How segments lie in a slab. No public clause cites this module.
 use Rattle.std.specs.Prelude.{◌≡◌, ℕ, ◌+◌, ◌-◌, ◌*◌, ◌<◌, ◌≤◌, ◌==◌, nat_le, min, Bool, true, cond, List, map, Option, option_map}
 use Rattle.slab.specs.Slab.{Slab, slab_len}
+use Rattle.topo_core.specs.Rotations.{twin}
 use Rattle.topo_perm.specs.Joins.{AddsSegment}
 use Rattle.topo_map.specs.Rotation.{Slot, Rotation, turn_in, edge_in, live_in, half_limit}
 use Rattle.topo_map.specs.declared.segments.Segment.{Segment}
@@ -11,6 +12,9 @@ nexts s = record { forward = s.forward.next; back = s.back.next; edge = s.edge }
 
 abbrev pub befores : Segment → Slot
 befores s = record { forward = s.forward.previous; back = s.back.previous; edge = s.edge }
+
+abbrev pub sides : Segment → Slot
+sides s = record { forward = s.forward.face; back = s.back.face; edge = s.edge }
 
 abbrev pub shown : (Segment → Slot) → Slab Segment → List (Option Slot)
 shown pick s = map (option_map pick) s.slots
@@ -27,6 +31,10 @@ holds s = live_in (shown nexts s)
 abbrev pub label_in : Slab Segment → ℕ → ℕ
 label_in s = edge_in (shown nexts s)
 
+-- the label of the face on the left of a half
+abbrev pub face_in : Slab Segment → ℕ → ℕ
+face_in s = turn_in (shown sides s)
+
 -- above all halves that there is place for
 abbrev pub limit_of : Slab Segment → ℕ
 limit_of s = 2 * min s.capacity 2147483648
@@ -40,10 +48,10 @@ abbrev pub view_of : Slab Segment → Rotation
 view_of s = record { slots = shown nexts s; limit = limit_of s; room = room_of s }
 
 -- a segment by itself
-abbrev pub isolated_segment : ℕ → ℕ → Segment
-isolated_segment key edge = record {
-  forward = record { next = 2 * key; previous = 2 * key };
-  back = record { next = 2 * key + 1; previous = 2 * key + 1 };
+abbrev pub isolated_segment : ℕ → ℕ → ℕ → ℕ → Segment
+isolated_segment key edge left right = record {
+  forward = record { next = 2 * key; previous = 2 * key; face = left };
+  back = record { next = 2 * key + 1; previous = 2 * key + 1; face = right };
   edge = edge;
 }
 
@@ -77,10 +85,27 @@ pub record IsKept (s : Slab Segment) : Type 0 where
 pub record Rewires (old new : Slab Segment) (f b : ℕ → ℕ) : Type 0 where
   pub next : next_in new ≡ f
   pub before : before_in new ≡ b
+  pub faces : face_in new ≡ face_in old
   pub live : holds new ≡ holds old
   pub edges : label_in new ≡ label_in old
   pub len : slab_len new ≡ slab_len old
   pub capacity : new.capacity ≡ old.capacity
+
+-- the same segments with the same turn, and l the labels of their faces
+pub record Repaints (old new : Slab Segment) (l : ℕ → ℕ) : Type 0 where
+  pub faces : face_in new ≡ l
+  pub next : next_in new ≡ next_in old
+  pub before : before_in new ≡ before_in old
+  pub live : holds new ≡ holds old
+  pub edges : label_in new ≡ label_in old
+  pub len : slab_len new ≡ slab_len old
+  pub capacity : new.capacity ≡ old.capacity
+
+-- the halves of x have these labels of faces, and those that were live keep theirs
+pub record AddsFaces (live : ℕ → Bool) (old new : ℕ → ℕ) (x left right : ℕ) : Type 0 where
+  pub here : new x ≡ left
+  pub here_twin : new (twin x) ≡ right
+  pub others : (a : ℕ) → live a ≡ true → new a ≡ old a
 
 -- the same segments, turning by f, with both directions agreeing
 pub record IsTurned (old new : Slab Segment) (f : ℕ → ℕ) : Type 0 where

@@ -7,22 +7,22 @@ ghost use Rattle.topo_core.specs.Rotations.{face_next, twin};
 ghost use Rattle.topo_map.specs.Rotation.{AddsLabel, AreLabelled, CountsFewer, CountsMore, Grows, IsDegree, IsEmbedding, IsMadeFrom, IsOneFace, KeepsLabels, PartsFaces, Shrinks, edge_of, half_limit, is_live, turn};
 
 use crate::build::{isolated_halves, join_turns};
+use crate::faces::{HALF_LIMIT, attach, detach, label_faces};
 use crate::half::Half;
 use crate::segments::{
-    self, Segment, insert_isolated, next, put_before, remove_isolated, take_out,
+    self, Segment, face, insert_isolated, next, put_before, remove_isolated, take_out,
 };
 use slab::Slab;
 use std::alloc::{AllocError, Global};
 use std::marker::Model;
-
-/// Above the numbers of all halves.
-const HALF_LIMIT: u64 = 4_294_967_296;
 
 /// A graph on closed surfaces: segments between points, and round each point its halves in clockwise
 /// order.
 #[derive(Drop)]
 pub struct Embedding {
     segments: Slab<Segment>,
+    // The label that the next new face gets. None where all were given: then labels tell nothing.
+    unused: Option<u64>,
 }
 
 impl Model for Embedding {
@@ -30,11 +30,12 @@ impl Model for Embedding {
 
     ghost Value = { Rotation };
 
-    ghost use Rattle.topo_map.specs.Segments.{IsKept, view_of};
+    ghost use Rattle.topo_map.specs.Labels.{IsSound};
+    ghost use Rattle.topo_map.specs.Segments.{view_of};
 
     ghost view = { λ e. view_of e.segments };
 
-    ghost invariant = { λ e. IsKept e.segments };
+    ghost invariant = { λ e. IsSound e.segments e.unused };
 }
 
 impl Embedding {
@@ -45,8 +46,9 @@ impl Embedding {
     {
         let mut segments = Slab::new(alloc);
         segments::reserve(&mut segments, 1)?;
-        let half = insert_isolated(&mut segments, edge);
-        Ok((Embedding { segments }, half))
+        let half = insert_isolated(&mut segments, edge, 0, 0);
+        let unused = Some(1);
+        Ok((Embedding { segments, unused }, half))
     }
 
     /// The embedding of which `turns` are the turns, where `2i` and `2i + 1` are the two halves of the
@@ -64,7 +66,8 @@ impl Embedding {
         let mut segments = Slab::new(alloc);
         let halves = isolated_halves(alloc, &mut segments, edges)?;
         join_turns(&mut segments, &halves, turns);
-        Ok((Embedding { segments }, halves))
+        let unused = label_faces(&mut segments, &halves);
+        Ok((Embedding { segments, unused }, halves))
     }
 
     /// A length for lists by half: above the numbers of all halves, now and while there is room.
@@ -101,7 +104,8 @@ impl Embedding {
     {
         let mut segments = self.segments.clone()?;
         segments::reserve(&mut segments, self.room())?;
-        Ok(Embedding { segments })
+        let unused = self.unused;
+        Ok(Embedding { segments, unused })
     }
 
     /// What always holds, for a caller that sees the halves and their turn alone. It does nothing.
@@ -154,8 +158,20 @@ impl Embedding {
         segments::edge(&self.segments, h)
     }
 
-    /// Whether `a` and `b` lie in one face. It walks round the face of `a`.
+    /// Whether `a` and `b` lie in one face.
     pub fn same_face(&self, a: Half, b: Half) -> bool
+        requires live { is_live self.now a ≡ true }
+        requires live_other { is_live self.now b ≡ true }
+        ensures { IsTrue result ↔ SameCycle (face_next (turn self.now)) a b }
+    {
+        match self.unused {
+            Some(_) => face(&self.segments, a) == face(&self.segments, b),
+            None => self.walks_to(a, b),
+        }
+    }
+
+    // Whether `a` and `b` lie in one face, by a walk round the face of `a`.
+    fn walks_to(&self, a: Half, b: Half) -> bool
         requires live { is_live self.now a ≡ true }
         requires live_other { is_live self.now b ≡ true }
         ensures { IsTrue result ↔ SameCycle (face_next (turn self.now)) a b }
@@ -200,7 +216,8 @@ impl Embedding {
         ensures label { AddsLabel (is_live self.old) (edge_of self.old) (edge_of self.new) result edge }
         ensures counts { CountsMore self.old self.new 1 0 }
     {
-        let x = insert_isolated(&mut self.segments, edge);
+        let label = face(&self.segments, c);
+        let x = insert_isolated(&mut self.segments, edge, label, label);
         put_before(&mut self.segments, x, c);
         x
     }
@@ -217,9 +234,11 @@ impl Embedding {
         ensures label { AddsLabel (is_live self.old) (edge_of self.old) (edge_of self.new) result edge }
         ensures counts { IsOneFace self.old c d → CountsMore self.old self.new 0 1 }
     {
-        let start = insert_isolated(&mut self.segments, edge);
+        let label = face(&self.segments, c);
+        let start = insert_isolated(&mut self.segments, edge, label, label);
         put_before(&mut self.segments, start, c);
-        put_before(&mut self.segments, start.twin(), d);
+        let unused = attach(&mut self.segments, self.unused, start.twin(), d);
+        self.unused = unused;
         start
     }
 
@@ -235,7 +254,9 @@ impl Embedding {
     {
         let end = h.twin();
         let edge = segments::edge(&self.segments, h);
-        let x = insert_isolated(&mut self.segments, edge);
+        let left = face(&self.segments, h);
+        let right = face(&self.segments, end);
+        let x = insert_isolated(&mut self.segments, edge, left, right);
         put_before(&mut self.segments, x.twin(), end);
         take_out(&mut self.segments, end);
         put_before(&mut self.segments, x, end);
@@ -250,7 +271,8 @@ impl Embedding {
         ensures labels { KeepsLabels (is_live self.new) (edge_of self.old) (edge_of self.new) }
         ensures counts { PartsFaces self.old h → CountsFewer self.old self.new 0 1 }
     {
-        take_out(&mut self.segments, h);
+        let unused = detach(&mut self.segments, self.unused, h);
+        self.unused = unused;
         take_out(&mut self.segments, h.twin());
         remove_isolated(&mut self.segments, h);
     }

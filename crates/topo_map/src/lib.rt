@@ -14,13 +14,15 @@
 //! and keep their labels, and that what hangs together stays together. Where the counts ask that two
 //! corners lie in one face, or that two faces lie beside a segment, the edit itself does not. With room
 //! an edit takes no memory and cannot fail.
-//! Both directions of the turn are kept, so each takes a constant number of steps; `same_face` and
-//! `degree` walk round a face and round a point. Room for a label of the face beside a half is in
-//! its links, which no contract sees.
+//! Both directions of the turn are kept, and with each half a label of the face on its left, which no
+//! contract sees. So `hang`, `split`, `smooth` and `same_face` take a constant number of steps.
+//! `chord` and `unchord` join two faces or part one, and give a new label to the smaller of the two: they
+//! take time by its length. `degree` walks round a point.
 #![tactic(auto)]
 
 mod build;
 pub mod embedding;
+mod faces;
 pub mod half;
 mod segments;
 

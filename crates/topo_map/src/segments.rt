@@ -1,11 +1,12 @@
-//! Segments in a slab, each with the halves after and before its two. Both directions are kept, so
-//! that a half is put in or taken out in a constant number of steps.
+//! Segments in a slab, each with the halves after and before its two, and the labels of the faces
+//! beside it. Both directions are kept, so that a half is put in or taken out in a constant number
+//! of steps.
 
 ghost use Rattle.std.specs.Prelude.{◌≡◌, ◌≢◌, ◌+◌, ◌<◌, ◌≤◌, true, length, OnOk, IsOk};
 ghost use Rattle.slab.specs.Slab.{slab_len};
 ghost use Rattle.topo_core.specs.Rotations.{twin};
 ghost use Rattle.topo_map.specs.Rotation.{AddsLabel, KeepsLabels};
-ghost use Rattle.topo_map.specs.Segments.{IsInserted, IsKept, IsRemoved, IsTurned, Rewires, before_in, holds, isolated_segment, label_in, limit_of, next_in, put, room_of, without, written};
+ghost use Rattle.topo_map.specs.Segments.{AddsFaces, IsInserted, IsKept, IsRemoved, IsTurned, Repaints, Rewires, before_in, face_in, holds, isolated_segment, label_in, limit_of, next_in, put, room_of, without, written};
 
 use crate::half::Half;
 use slab::Slab;
@@ -15,15 +16,15 @@ use topo_core::darts::Way;
 /// A slab of more segments is used for no new one, so that each key fits its type.
 const MOST_SEGMENTS: usize = 2_147_483_648;
 
-/// The halves after and before a half, clockwise at its point.
+/// The halves after and before a half, clockwise at its point, and the label of the face on its left.
 #[derive(Clone, Copy)]
 pub(crate) struct Links {
     next: Half,
     previous: Half,
+    face: u64,
 }
 
-/// What is kept for a segment: the links of its two halves, and the label of its edge. A label of the
-/// face beside a half would stand in its links.
+/// What is kept for a segment: the links of its two halves, and the label of its edge.
 #[derive(Clone, Copy)]
 pub(crate) struct Segment {
     forward: Links,
@@ -33,9 +34,9 @@ pub(crate) struct Segment {
 
 impl Segment {
     // Each half a point by itself.
-    fn isolated(key: u32, edge: u32) -> Self
+    fn isolated(key: u32, edge: u32, left: u64, right: u64) -> Self
         requires { key < 2147483648 }
-        ensures { result ≡ isolated_segment key edge }
+        ensures { result ≡ isolated_segment key edge left right }
     {
         let forward = Half::forward(key);
         let back = forward.twin();
@@ -43,10 +44,12 @@ impl Segment {
             forward: Links {
                 next: forward,
                 previous: forward,
+                face: left,
             },
             back: Links {
                 next: back,
                 previous: back,
+                face: right,
             },
             edge,
         }
@@ -92,6 +95,30 @@ pub(crate) fn edge(segments: &Slab<Segment>, at: Half) -> u32
     segments[at.key()].edge
 }
 
+/// The label of the face on the left of a half.
+pub(crate) fn face(segments: &Slab<Segment>, at: Half) -> u64
+    requires { holds segments.now at ≡ true }
+    ensures { result ≡ face_in segments.now at }
+{
+    let segment = &segments[at.key()];
+    match at.way() {
+        Way::Forward => segment.forward.face,
+        Way::Back => segment.back.face,
+    }
+}
+
+/// The face on the left of a half has this label.
+pub(crate) fn set_face(segments: &mut Slab<Segment>, at: Half, label: u64)
+    requires { holds segments.old at ≡ true }
+    ensures { Repaints segments.old segments.new (written (face_in segments.old) at label) }
+{
+    let segment = &mut segments[at.key()];
+    match at.way() {
+        Way::Forward => segment.forward.face = label,
+        Way::Back => segment.back.face = label,
+    }
+}
+
 fn set_next(segments: &mut Slab<Segment>, at: Half, to: Half)
     requires { holds segments.old at ≡ true }
     ensures { Rewires segments.old segments.new (written (next_in segments.old) at to) (before_in segments.old) }
@@ -131,7 +158,8 @@ pub(crate) fn put_before(segments: &mut Slab<Segment>, x: Half, c: Half)
     requires live_corner { holds segments.old c ≡ true }
     requires alone { next_in segments.old x ≡ x }
     requires different { c ≢ x }
-    ensures { IsTurned segments.old segments.new (put (next_in segments.old) x c) }
+    ensures turned { IsTurned segments.old segments.new (put (next_in segments.old) x c) }
+    ensures faces { face_in segments.new ≡ face_in segments.old }
 {
     let before = previous(segments, c);
     link(segments, before, x);
@@ -142,7 +170,8 @@ pub(crate) fn put_before(segments: &mut Slab<Segment>, x: Half, c: Half)
 pub(crate) fn take_out(segments: &mut Slab<Segment>, x: Half)
     requires kept { IsKept segments.old }
     requires live { holds segments.old x ≡ true }
-    ensures { IsTurned segments.old segments.new (without (next_in segments.old) x) }
+    ensures turned { IsTurned segments.old segments.new (without (next_in segments.old) x) }
+    ensures faces { face_in segments.new ≡ face_in segments.old }
 {
     let before = previous(segments, x);
     let after = next(segments, x);
@@ -150,16 +179,23 @@ pub(crate) fn take_out(segments: &mut Slab<Segment>, x: Half)
     link(segments, x, x);
 }
 
-/// A new segment on an edge, with each half a point by itself. The slab tells the key only as it stores, so
-/// the segment is written a second time.
-pub(crate) fn insert_isolated(segments: &mut Slab<Segment>, edge: u32) -> Half
+/// A new segment on an edge, with each half a point by itself, and these labels of the faces on the left of the
+/// half that is answered and of its twin. The slab tells the key only as it stores, so the segment is
+/// written a second time.
+pub(crate) fn insert_isolated(
+    segments: &mut Slab<Segment>,
+    edge: u32,
+    left: u64,
+    right: u64,
+) -> Half
     requires kept { IsKept segments.old }
     requires room { 0 < room_of segments.old }
     ensures inserted { IsInserted segments.old segments.new result }
     ensures label { AddsLabel (holds segments.old) (label_in segments.old) (label_in segments.new) result edge }
+    ensures faces { AddsFaces (holds segments.old) (face_in segments.old) (face_in segments.new) result left right }
 {
-    let key = segments.insert_reserved(Segment::isolated(0, edge));
-    segments[key] = Segment::isolated(key as u32, edge);
+    let key = segments.insert_reserved(Segment::isolated(0, edge, left, right));
+    segments[key] = Segment::isolated(key as u32, edge, left, right);
     Half::forward(key as u32)
 }
 
@@ -171,6 +207,7 @@ pub(crate) fn remove_isolated(segments: &mut Slab<Segment>, x: Half)
     requires twin_alone { next_in segments.old (twin x) ≡ twin x }
     ensures removed { IsRemoved segments.old segments.new x }
     ensures labels { KeepsLabels (holds segments.new) (label_in segments.old) (label_in segments.new) }
+    ensures faces { KeepsLabels (holds segments.new) (face_in segments.old) (face_in segments.new) }
 {
     segments.remove(x.key());
 }

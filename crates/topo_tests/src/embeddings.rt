@@ -1,7 +1,77 @@
 //! The five edits of an embedding, and what is read off it.
 
+use crate::generated::Numbers;
+use std::process::Abort;
 use std::test::Fail;
-use topo_map::Embedding;
+use topo_map::{Embedding, Half};
+
+/// Whether a walk round the face of `a` meets `b`.
+fn is_met(embedding: &Embedding, a: Half, b: Half) -> bool {
+    let mut at = a;
+    for _ in 0..1000 {
+        if at == b {
+            return true;
+        }
+        if !embedding.contains(at) {
+            return false;
+        }
+        at = embedding.face_next(at);
+        if at == a {
+            return false;
+        }
+    }
+    false
+}
+
+/// Two halves are said to lie in one face exactly where a walk says so.
+fn are_labelled(rt: &impl Abort, embedding: &Embedding, halves: &[Half]) -> Result<(), Fail> {
+    for a in halves {
+        for b in halves {
+            if embedding.contains(*a) && embedding.contains(*b) {
+                assert_eq!(rt; embedding.same_face(*a, *b), is_met(embedding, *a, *b));
+            }
+        }
+    }
+    Ok(())
+}
+
+/// One of the halves. A half that is gone is answered too.
+fn one_of(numbers: &mut Numbers, halves: &[Half], first: Half) -> Half {
+    let place = numbers.below(halves.len().min(1000) as u32) as usize;
+    halves.get(place).copied().unwrap_or(first)
+}
+
+/// One edit, where it can be made. The halves of a new segment are added to the list.
+fn edit(
+    numbers: &mut Numbers,
+    embedding: &mut Embedding,
+    halves: &mut Vec<Half>,
+    first: Half,
+) -> Result<(), Fail> {
+    let c = one_of(numbers, halves, first);
+    let d = one_of(numbers, halves, first);
+    let choice = numbers.below(7);
+    if !embedding.contains(c) || !embedding.contains(d) {
+        return Ok(());
+    }
+    if choice < 4 && embedding.room() > 0 {
+        let x = match choice {
+            0 => embedding.hang(c, 1),
+            1 => embedding.split(c),
+            _ => embedding.chord(c, d, 2),
+        };
+        halves.push(x)?;
+        halves.push(x.twin())?;
+    } else if choice < 6 {
+        embedding.unchord(c);
+    } else {
+        let other = embedding.turn(c);
+        if embedding.turn(other) == c && other != c && other != c.twin() {
+            embedding.smooth(c);
+        }
+    }
+    Ok(())
+}
 
 #[test]
 fn builds_from_turns(rt: HostRuntime) -> Result<(), Fail> {
@@ -116,4 +186,25 @@ fn refuses_what_no_memory_holds(rt: HostRuntime) -> Result<(), Fail> {
     assert!(rt; embedding.contains(h));
     assert_eq!(rt; embedding.turn(h), h);
     Ok(())
+}
+
+#[test]
+fn labels_follow_all_edits(rt: HostRuntime) -> Result<(), Fail> {
+    let (mut embedding, mut halves) = Embedding::from_turns(
+        rt.alloc(),
+        &[2, 3, 4, 5, 0, 1],
+        &[3, 4, 5],
+    )?;
+    are_labelled(&rt, &embedding, &halves)?;
+    embedding.reserve(12)?;
+    let first = halves[0];
+    let mut numbers = Numbers { state: 1 };
+    for step in 0..300 {
+        edit(&mut numbers, &mut embedding, &mut halves, first)?;
+        if step % 3 == 0 {
+            are_labelled(&rt, &embedding, &halves)?;
+        }
+    }
+    let copy = embedding.copy()?;
+    are_labelled(&rt, &copy, &halves)
 }

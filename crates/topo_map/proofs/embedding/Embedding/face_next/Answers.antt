@@ -10,5 +10,5 @@ next-requires c = live_twin c.self.inside.segments c.args.h c.twin.result c.twin
 
 pub returns-clause-live : goal.returns-clause-live
 returns-clause-live c = subst (λ (r : Rotation). is_live r c.next.result ≡ true) c.self.view_is
-    (ap (holds c.self.inside.segments) c.next.ensures ∙ live_next c.self.inside.segments c.twin.result c.self.invariant
+    (ap (holds c.self.inside.segments) c.next.ensures ∙ live_next c.self.inside.segments c.twin.result c.self.invariant.kept
     (live_twin c.self.inside.segments c.args.h c.twin.result c.twin.ensures (ap (λ (r : Rotation). is_live r c.args.h) c.self.view_is ∙ c.requires)))

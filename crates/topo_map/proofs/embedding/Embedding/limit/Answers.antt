@@ -5,4 +5,4 @@ use Rattle.topo_map.proofs.embedding.Embedding.limit.Goals as goal
 
 pub returns-clause-above : goal.returns-clause-above
 returns-clause-above c a h = subst (λ (n : ℕ). a < n) (sym c.limit.ensures.value)
-    (below_limit c.self.inside.segments a c.self.invariant c.limit.ensures.slots (ap (λ (r : Rotation). is_live r a) c.self.view_is ∙ h))
+    (below_limit c.self.inside.segments a c.self.invariant.kept c.limit.ensures.slots (ap (λ (r : Rotation). is_live r a) c.self.view_is ∙ h))

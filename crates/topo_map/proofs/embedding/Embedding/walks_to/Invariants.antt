@@ -2,7 +2,7 @@ use Rattle.std.proofs.Common.{◌≡◌, true, false}
 use Rattle.topo_core.specs.Cycles.{after, is_met}
 use Rattle.topo_core.specs.Rotations.{face_next}
 use Rattle.topo_map.specs.Rotation.{turn, is_live}
-use Rattle.topo_map.proofs.embedding.Embedding.same_face.Given as goal
+use Rattle.topo_map.proofs.embedding.Embedding.walks_to.Given as goal
 
 -- where the walk is, and that it has not met b
 abbrev pub invariant-loop-steps : goal.invariant-loop-steps

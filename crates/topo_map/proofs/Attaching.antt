@@ -1,0 +1,235 @@
+-- A half that is put in or taken out exchanges two images along the faces. The labels before and after.
+use Rattle.std.proofs.Common.{◌≡◌, ◌≢◌, ℕ, ◌+◌, ◌<◌, Bool, true, ◌⊎◌, inl, inr, refl, sym, ◌∙◌, ap, subst, arith, Option}
+use Rattle.slab.specs.Slab.{Slab}
+use Rattle.topo_core.specs.Cycles.{IsPermutation, SameCycle}
+use Rattle.topo_core.specs.Rotations.{twin, face_next}
+use Rattle.topo_core.proofs.Orbits.{SameCycle-refl, SameCycle-trans, SameCycle-sym}
+use Rattle.topo_perm.specs.FaceLabels.{LabelsFaces}
+use Rattle.topo_perm.proofs.Exchange.{IsExchange}
+use Rattle.topo_perm.proofs.Faces.{twin-twin}
+use Rattle.topo_perm.proofs.Walks.{face_next-permutation}
+use Rattle.topo_map.specs.Rotation.{half_limit}
+use Rattle.topo_map.specs.Segments.{put, without, holds, next_in, before_in, face_in, IsKept, IsTurned}
+use Rattle.topo_map.specs.Labels.{painted, AreLabels, IsLabelled, IsPainted, IsTakenLabel}
+use Rattle.topo_map.specs.declared.segments.Segment.{Segment}
+use Rattle.topo_map.proofs.Maps.{IsLone}
+use Rattle.topo_map.proofs.Kept.{live_before}
+use Rattle.topo_map.proofs.Steps.{whole, live_twin}
+use Rattle.topo_map.proofs.Walked.{painted_kept}
+use Rattle.topo_map.proofs.Painting.{IsCoarse, IsScene, AreEnds, parted, joined, part_painted, share_painted, painted_below, put_exchange, without_exchange}
+
+pub faces_permuted : (s : Slab Segment) → IsKept s → IsPermutation (face_next (next_in s)) half_limit
+faces_permuted s k = face_next-permutation (next_in s) half_limit (whole s k).slab.permutation (whole s k).slab.even
+
+pub scene : (s : Slab Segment) (i j : ℕ) → IsKept s → holds s i ≡ true → holds s j ≡ true → IsScene (holds s) (face_next (next_in s)) half_limit i j
+scene s i j k hi hj = record { permutation = faces_permuted s k; below = k.within; first = hi; second = hj }
+
+step : (f : ℕ → ℕ) (i p : ℕ) → f i ≡ p → SameCycle f i p
+step f i p e = record { steps = 1; leads = e }
+
+-- labels of a slab, by equations of what it holds
+pub labelled_by : (s : Slab Segment) (live : ℕ → Bool) (f l : ℕ → ℕ) → holds s ≡ live → next_in s ≡ f → face_in s ≡ l → LabelsFaces live f l → LabelsFaces (holds s) (next_in s) (face_in s)
+labelled_by s live f l eh ef el w =
+    subst (λ (h : ℕ → Bool). LabelsFaces h (next_in s) (face_in s)) (sym eh)
+    (subst (λ (g : ℕ → ℕ). LabelsFaces live g (face_in s)) (sym ef) (subst (λ (m : ℕ → ℕ). LabelsFaces live f m) (sym el) w))
+
+-- ---- A step in one face
+
+-- a step of the turn that exchanges two images along the faces, in which no label changes
+pub record IsStep (s s1 : Slab Segment) (i j : ℕ) : Type 0 where
+  pub kept : IsKept s
+  pub kept_after : IsKept s1
+  pub first : holds s i ≡ true
+  pub second : holds s j ≡ true
+  pub live : holds s1 ≡ holds s
+  pub faces : face_in s1 ≡ face_in s
+  pub exchange : IsExchange (face_next (next_in s)) (face_next (next_in s1)) i j
+
+pub part_labels : (s s1 s2 : Slab Segment) (i j y label : ℕ) (unused rest : Option ℕ) → IsStep s s1 i j → AreLabels s unused → IsTakenLabel unused label rest
+    → ((bound : ℕ) → IsLabelled s bound → face_in s i ≡ face_in s j) → holds s y ≡ true → SameCycle (face_next (next_in s1)) i y ⊎ SameCycle (face_next (next_in s1)) j y → IsPainted s1 s2 y label → AreLabels s2 rest
+part_labels s s1 s2 i j y label unused rest w a taken same hy side p = record {
+  known = λ bound e.
+      let l : ℕ → ℕ = face_in s in
+      let f : ℕ → ℕ = next_in s in
+      let g : ℕ → ℕ = next_in s1 in
+      let n : ℕ = half_limit in
+      let t = taken bound e in
+      let was : IsLabelled s label = a.known label t.0 in
+      let hg : IsPermutation (face_next g) n = faces_permuted s1 w.kept_after in
+      let there : IsScene (holds s) (face_next g) n i j = record { permutation = hg; below = w.kept.within; first = w.first; second = w.second } in
+      let coarse : IsCoarse (holds s) (face_next g) l i j = parted (holds s) f g l n i j (scene s i j w.kept w.first w.second) w.exchange was.labels (same label was) in
+      let ends : SameCycle (face_next g) y i ⊎ SameCycle (face_next g) y j = elim side [
+        | inl v ↦ inl (SameCycle-sym (face_next g) n hg i y (w.kept.within i w.first) v)
+        | inr v ↦ inr (SameCycle-sym (face_next g) n hg j y (w.kept.within j w.second) v)
+      ] in
+      let fresh : (b : ℕ) → holds s b ≡ true → l b ≢ label = λ b t d. (let lb : l b < label = was.below b t in let z : ⊥ = omega arith in z) in
+      let done : LabelsFaces (holds s) g (painted (face_next g) n y label l) = part_painted (holds s) g l n i j y label there coarse hy ends fresh in
+      let el : face_in s2 ≡ painted (face_next g) n y label l = p.faces ∙ ap (λ (m : ℕ → ℕ). painted (face_next g) n y label m) w.faces in
+      let eh : holds s2 ≡ holds s = p.live ∙ w.live in
+      let eb : bound ≡ label + 1 = t.1 in
+      record {
+        labels = labelled_by s2 (holds s) g (painted (face_next g) n y label l) eh p.next el done;
+        below = λ b tb.
+            let hb : holds s b ≡ true = ap (λ (h : ℕ → Bool). h b) (sym eh) ∙ tb in
+            let lb : l b < label = was.below b hb in
+            subst (λ (v : ℕ). v < bound) (ap (λ (m : ℕ → ℕ). m b) (sym el))
+            (painted_below (face_next g) n y label l b bound (let z : label < bound = omega arith in z) (let z : l b < bound = omega arith in z));
+      };
+}
+
+-- ---- A step between two faces
+
+pub join_labels : (s s1 s2 : Slab Segment) (i j y z : ℕ) (unused : Option ℕ) → IsKept s → IsStep s1 s2 i j → AreLabels s unused → holds s y ≡ true → holds s z ≡ true
+    → AreEnds (face_next (next_in s)) i j y z → face_in s y ≢ face_in s z → IsPainted s s1 y (face_in s z) → AreLabels s2 unused
+join_labels s s1 s2 i j y z unused k w a hy hz side apart p = record {
+  known = λ bound e.
+      let l : ℕ → ℕ = face_in s in
+      let f : ℕ → ℕ = next_in s in
+      let g : ℕ → ℕ = next_in s2 in
+      let n : ℕ = half_limit in
+      let was : IsLabelled s bound = a.known bound e in
+      let hf : IsPermutation (face_next f) n = faces_permuted s k in
+      let hi : holds s i ≡ true = ap (λ (h : ℕ → Bool). h i) (sym p.live) ∙ w.first in
+      let hj : holds s j ≡ true = ap (λ (h : ℕ → Bool). h j) (sym p.live) ∙ w.second in
+      let here : IsScene (holds s) (face_next f) n i j = scene s i j k hi hj in
+      let m : ℕ → ℕ = painted (face_next f) n y (l z) l in
+      let coarse : IsCoarse (holds s) (face_next f) m i j = share_painted (holds s) f l n i j y z here was.labels hy hz side in
+      let two : SameCycle (face_next f) i j → ⊥ = λ v. apart (elim side [
+        | inl u ↦ was.labels.same_label y z hy hz (SameCycle-trans (face_next f) y i z u.0 (SameCycle-trans (face_next f) i j z v (SameCycle-sym (face_next f) n hf z j (k.within z hz) u.1)))
+        | inr u ↦ was.labels.same_label y z hy hz (SameCycle-trans (face_next f) y j z u.0 (SameCycle-trans (face_next f) j i z (SameCycle-sym (face_next f) n hf i j (k.within i hi) v) (SameCycle-sym (face_next f) n hf z i (k.within z hz) u.1)))
+      ]) in
+      let x : IsExchange (face_next f) (face_next g) i j = subst (λ (h : ℕ → ℕ). IsExchange (face_next h) (face_next g) i j) p.next w.exchange in
+      let done : LabelsFaces (holds s) g m = joined (holds s) f g m n i j here x coarse two in
+      let eh : holds s2 ≡ holds s = w.live ∙ p.live in
+      let el : face_in s2 ≡ m = w.faces ∙ p.faces in
+      record {
+        labels = labelled_by s2 (holds s) g m eh refl el done;
+        below = λ b tb.
+            let hb : holds s b ≡ true = ap (λ (h : ℕ → Bool). h b) (sym eh) ∙ tb in
+            subst (λ (v : ℕ). v < bound) (ap (λ (h : ℕ → ℕ). h b) (sym el)) (painted_below (face_next f) n y (l z) l b bound (was.below z hz) (was.below b hb));
+      };
+}
+
+-- ---- A half that is put in
+
+lone : (s : Slab Segment) (x c : ℕ) → IsKept s → next_in s x ≡ x → c ≢ x → IsLone (next_in s) (before_in s) x c
+lone s x c k alone ne = record { inverse = k.inverse; alone = alone; different = ne }
+
+put_step : (s s1 : Slab Segment) (x c : ℕ) → IsKept s → holds s x ≡ true → holds s c ≡ true → next_in s x ≡ x → c ≢ x → IsTurned s s1 (put (next_in s) x c) → face_in s1 ≡ face_in s → IsStep s s1 (twin (before_in s c)) (twin x)
+put_step s s1 x c k hx hc alone ne t e = record {
+  kept = k;
+  kept_after = t.kept;
+  first = live_twin s (before_in s c) (twin (before_in s c)) refl (live_before s c k hc);
+  second = live_twin s x (twin x) refl hx;
+  live = t.live;
+  faces = e;
+  exchange = subst (λ (g : ℕ → ℕ). IsExchange (face_next (next_in s)) (face_next g) (twin (before_in s c)) (twin x)) (sym t.next) (put_exchange (next_in s) (before_in s) x c (lone s x c k alone ne));
+}
+
+-- from the half before c along the face comes c, and from the twin of what stands alone that itself
+pub onto : (s : Slab Segment) (c : ℕ) → IsKept s → face_next (next_in s) (twin (before_in s c)) ≡ c
+onto s c k = ap (next_in s) (twin-twin (before_in s c)) ∙ k.inverse.onward c
+
+self : (s : Slab Segment) (x : ℕ) → face_next (next_in s) (twin x) ≡ next_in s x
+self s x = ap (next_in s) (twin-twin x)
+
+pub put_parts : (s s1 s2 : Slab Segment) (x c label : ℕ) (unused rest : Option ℕ) → IsKept s → holds s x ≡ true → holds s c ≡ true → next_in s x ≡ x → c ≢ x → AreLabels s unused → face_in s x ≡ face_in s c
+    → IsTakenLabel unused label rest → IsTurned s s1 (put (next_in s) x c) → face_in s1 ≡ face_in s → IsPainted s1 s2 x label ⊎ IsPainted s1 s2 c label → AreLabels s2 rest
+put_parts s s1 s2 x c label unused rest k hx hc alone ne a same taken t e p =
+    let i : ℕ = twin (before_in s c) in
+    let j : ℕ = twin x in
+    let w : IsStep s s1 i j = put_step s s1 x c k hx hc alone ne t e in
+    let f : ℕ → ℕ = face_next (next_in s) in
+    let g : ℕ → ℕ = face_next (next_in s1) in
+    let equal : (bound : ℕ) → IsLabelled s bound → face_in s i ≡ face_in s j = λ bound b.
+    b.labels.same_label i c w.first hc (step f i c (onto s c k)) ∙ sym same ∙ sym (b.labels.same_label j x w.second hx (step f j x (self s x ∙ alone))) in
+    elim p [
+      | inl v ↦ part_labels s s1 s2 i j x label unused rest w a taken equal hx (inl (step g i x (w.exchange.at_first ∙ self s x ∙ alone))) v
+      | inr v ↦ part_labels s s1 s2 i j c label unused rest w a taken equal hc (inr (step g j c (w.exchange.at_second ∙ onto s c k))) v
+    ]
+
+pub put_joins : (s s1 s2 : Slab Segment) (x c : ℕ) (unused : Option ℕ) → IsKept s → holds s x ≡ true → holds s c ≡ true → next_in s x ≡ x → c ≢ x → AreLabels s unused → face_in s x ≢ face_in s c
+    → IsPainted s s1 x (face_in s c) ⊎ IsPainted s s1 c (face_in s x) → IsTurned s1 s2 (put (next_in s1) x c) → face_in s2 ≡ face_in s1 → AreLabels s2 unused
+put_joins s s1 s2 x c unused k hx hc alone ne a apart p t e = elim p [
+  | inl v ↦
+      let w : IsStep s1 s2 (twin (before_in s1 c)) j = put_step s1 s2 x c (painted_kept s s1 _ k v) (ap (λ (h : ℕ → Bool). h x) v.live ∙ hx) (ap (λ (h : ℕ → Bool). h c) v.live ∙ hc) (ap (λ (h : ℕ → ℕ). h x) v.next ∙ alone) ne t e in
+      let w' : IsStep s1 s2 i j = subst (λ (b : ℕ → ℕ). IsStep s1 s2 (twin (b c)) j) v.before w in
+      join_labels s s1 s2 i j x c unused k w' a hx hc (inr (x_j, c_i)) apart v
+  | inr v ↦
+      let w : IsStep s1 s2 (twin (before_in s1 c)) j = put_step s1 s2 x c (painted_kept s s1 _ k v) (ap (λ (h : ℕ → Bool). h x) v.live ∙ hx) (ap (λ (h : ℕ → Bool). h c) v.live ∙ hc) (ap (λ (h : ℕ → ℕ). h x) v.next ∙ alone) ne t e in
+      let w' : IsStep s1 s2 i j = subst (λ (b : ℕ → ℕ). IsStep s1 s2 (twin (b c)) j) v.before w in
+      join_labels s s1 s2 i j c x unused k w' a hc hx (inl (c_i, x_j)) (λ q. apart (sym q)) v
+]
+  where
+    i : ℕ
+    i = twin (before_in s c)
+
+    j : ℕ
+    j = twin x
+
+    f : ℕ → ℕ
+    f = face_next (next_in s)
+
+    c_i : SameCycle f c i
+    c_i = SameCycle-sym f half_limit (faces_permuted s k) i c (k.within i (live_twin s (before_in s c) i refl (live_before s c k hc))) (step f i c (onto s c k))
+
+    x_j : SameCycle f x j
+    x_j = SameCycle-sym f half_limit (faces_permuted s k) j x (k.within j (live_twin s x j refl hx)) (step f j x (self s x ∙ alone))
+
+-- ---- A half that is taken out
+
+pub without_step : (s s1 : Slab Segment) (x : ℕ) → IsKept s → holds s x ≡ true → IsTurned s s1 (without (next_in s) x) → face_in s1 ≡ face_in s → IsStep s s1 (twin (before_in s x)) (twin x)
+without_step s s1 x k hx t e = record {
+  kept = k;
+  kept_after = t.kept;
+  first = live_twin s (before_in s x) (twin (before_in s x)) refl (live_before s x k hx);
+  second = live_twin s x (twin x) refl hx;
+  live = t.live;
+  faces = e;
+  exchange = subst (λ (g : ℕ → ℕ). IsExchange (face_next (next_in s)) (face_next g) (twin (before_in s x)) (twin x)) (sym t.next) (without_exchange (next_in s) (before_in s) x k.inverse);
+}
+
+pub without_parts : (s s1 s2 : Slab Segment) (x y on label : ℕ) (unused rest : Option ℕ) → IsKept s → holds s x ≡ true → y ≡ twin x → on ≡ next_in s x → holds s on ≡ true → AreLabels s unused → face_in s x ≡ face_in s y
+    → IsTakenLabel unused label rest → IsTurned s s1 (without (next_in s) x) → face_in s1 ≡ face_in s → IsPainted s1 s2 x label ⊎ IsPainted s1 s2 on label → AreLabels s2 rest
+without_parts s s1 s2 x y on label unused rest k hx ey eo ho a same taken t e p =
+    let i : ℕ = twin (before_in s x) in
+    let j : ℕ = twin x in
+    let w : IsStep s s1 i j = without_step s s1 x k hx t e in
+    let f : ℕ → ℕ = face_next (next_in s) in
+    let g : ℕ → ℕ = face_next (next_in s1) in
+    let equal : (bound : ℕ) → IsLabelled s bound → face_in s i ≡ face_in s j = λ bound b. b.labels.same_label i x w.first hx (step f i x (onto s x k)) ∙ same ∙ ap (face_in s) ey in
+    elim p [
+      | inl v ↦ part_labels s s1 s2 i j x label unused rest w a taken equal hx (inr (step g j x (w.exchange.at_second ∙ onto s x k))) v
+      | inr v ↦ part_labels s s1 s2 i j on label unused rest w a taken equal ho (inl (step g i on (w.exchange.at_first ∙ self s x ∙ sym eo))) v
+    ]
+
+pub without_joins : (s s1 s2 : Slab Segment) (x y : ℕ) (unused : Option ℕ) → IsKept s → holds s x ≡ true → y ≡ twin x → AreLabels s unused → face_in s x ≢ face_in s y
+    → IsPainted s s1 x (face_in s y) ⊎ IsPainted s s1 y (face_in s x) → IsTurned s1 s2 (without (next_in s1) x) → face_in s2 ≡ face_in s1 → AreLabels s2 unused
+without_joins s s1 s2 x y unused k hx ey a apart p t e = elim p [
+  | inl v ↦
+      let w : IsStep s1 s2 (twin (before_in s1 x)) j = without_step s1 s2 x (painted_kept s s1 _ k v) (ap (λ (h : ℕ → Bool). h x) v.live ∙ hx) t e in
+      let w' : IsStep s1 s2 i j = subst (λ (b : ℕ → ℕ). IsStep s1 s2 (twin (b x)) j) v.before w in
+      join_labels s s1 s2 i j x y unused k w' a hx hy (inl (x_i, y_j)) apart v
+  | inr v ↦
+      let w : IsStep s1 s2 (twin (before_in s1 x)) j = without_step s1 s2 x (painted_kept s s1 _ k v) (ap (λ (h : ℕ → Bool). h x) v.live ∙ hx) t e in
+      let w' : IsStep s1 s2 i j = subst (λ (b : ℕ → ℕ). IsStep s1 s2 (twin (b x)) j) v.before w in
+      join_labels s s1 s2 i j y x unused k w' a hy hx (inr (y_j, x_i)) (λ q. apart (sym q)) v
+]
+  where
+    i : ℕ
+    i = twin (before_in s x)
+
+    j : ℕ
+    j = twin x
+
+    f : ℕ → ℕ
+    f = face_next (next_in s)
+
+    hy : holds s y ≡ true
+    hy = live_twin s x y ey hx
+
+    x_i : SameCycle f x i
+    x_i = SameCycle-sym f half_limit (faces_permuted s k) i x (k.within i (live_twin s (before_in s x) i refl (live_before s x k hx))) (step f i x (onto s x k))
+
+    y_j : SameCycle f y j
+    y_j = subst (λ (v : ℕ). SameCycle f y v) ey (SameCycle-refl f y)

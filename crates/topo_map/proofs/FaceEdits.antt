@@ -1,0 +1,238 @@
+-- The labels of faces through each edit.
+use Rattle.std.proofs.Common.{◌≡◌, ℕ, ◌<◌, Bool, true, ◌⊎◌, inl, inr, refl, sym, ◌∙◌, ap, subst, arith, List, Option, Some, None, map}
+use Rattle.std.proofs.lemmas.Bool.{cases_eq, false≢true}
+use Rattle.std.proofs.lemmas.List.Elements.{same_from_all_zip}
+use Rattle.std.specs.Option.{option_map}
+use Rattle.slab.specs.Slab.{Slab, IsSlabClone, IsSlotClone}
+use Rattle.topo_core.specs.Cycles.{IsPermutation, SameCycle, map_of}
+use Rattle.topo_core.specs.Rotations.{twin, face_next}
+use Rattle.topo_core.specs.Edits.{IsIsolated}
+use Rattle.topo_core.proofs.Orbits.{SameCycle-sym}
+use Rattle.topo_perm.specs.FaceLabels.{AddsBelow}
+use Rattle.topo_perm.specs.Joins.{AddsSegment}
+use Rattle.topo_perm.proofs.Faces.{twin-twin, isolated_face}
+use Rattle.topo_perm.proofs.Splitting.{without-self}
+use Rattle.topo_perm.proofs.LabelledFaces.{hang_labels, split_labels, smooth_labels}
+use Rattle.topo_map.specs.Rotation.{half_limit, live_in, turn_in, KeepsLabels, Slot}
+use Rattle.topo_map.specs.Segments.{put, without, holds, next_in, before_in, face_in, nexts, befores, sides, AddsFaces, AreInverse, IsKept, IsInserted, IsRemoved, IsTurned, Repaints}
+use Rattle.topo_map.specs.Building.{AreBlank, IsJoined, IsListed}
+use Rattle.topo_map.specs.Labels.{AreLabels, IsLabelled, IsSound}
+use Rattle.topo_map.specs.declared.segments.Segment.{Segment}
+use Rattle.topo_map.proofs.Steps.{IsStart, IsHung, IsSplitUp, IsSmoothed, alone, twin_alone, hung, live_twin, unchord_alone, without_alone}
+use Rattle.topo_map.proofs.Walked.{painted_kept}
+use Rattle.topo_map.proofs.Painting.{IsCoarse, parted}
+use Rattle.topo_map.proofs.Attaching.{IsStep, faces_permuted, scene, onto, without_step, labelled_by}
+
+-- ---- The same slots
+
+live_by : List (Option Segment) → ℕ → Bool
+live_by l = live_in (map (option_map nexts) l)
+
+turn_by : (Segment → Slot) → List (Option Segment) → ℕ → ℕ
+turn_by pick l = turn_in (map (option_map pick) l)
+
+-- what a slab holds lies in its slots
+pub same_slots_sound : (s s' : Slab Segment) (unused : Option ℕ) → s'.slots ≡ s.slots → IsSound s unused → IsSound s' unused
+unfolding live_by turn_by
+same_slots_sound s s' unused e k =
+    let eh : holds s' ≡ holds s = ap live_by e in
+    let en : next_in s' ≡ next_in s = ap (turn_by nexts) e in
+    let eb : before_in s' ≡ before_in s = ap (turn_by befores) e in
+    let ef : face_in s' ≡ face_in s = ap (turn_by sides) e in
+    record {
+      kept = record {
+        inverse = subst (λ (f : ℕ → ℕ). AreInverse f (before_in s')) (sym en) (subst (λ (b : ℕ → ℕ). AreInverse (next_in s) b) (sym eb) k.kept.inverse);
+        within = λ a h. k.kept.within a (ap (λ (p : ℕ → Bool). p a) (sym eh) ∙ h);
+      };
+      labels = record {
+        known = λ bound d.
+            let w : IsLabelled s bound = k.labels.known bound d in
+            record {
+              labels = labelled_by s' (holds s) (next_in s) (face_in s) eh en ef w.labels;
+              below = λ a t. subst (λ (v : ℕ). v < bound) (ap (λ (m : ℕ → ℕ). m a) (sym ef)) (w.below a (ap (λ (p : ℕ → Bool). p a) (sym eh) ∙ t));
+            };
+      };
+    }
+
+-- a clone of what is copied is the same
+same_slot : (R : Segment → Segment → Type 0) → ((x y : Segment) → R x y → y ≡ x) → (a b : Option Segment) → IsSlotClone R a b → b ≡ a
+same_slot R same None b e = e
+same_slot R same (Some x) (Some y) e = ap Some (same x y e)
+same_slot R same (Some x) None e = absurd e
+
+pub same_clone : (R : Segment → Segment → Type 0) → ((x y : Segment) → R x y → y ≡ x) → (s s' : Slab Segment) → IsSlabClone R s s' → s'.slots ≡ s.slots
+same_clone R same s s' e = same_from_all_zip (IsSlotClone R) s.slots s'.slots e.slots (same_slot R same)
+
+-- ---- A segment more or less
+
+adds_below : (s s' : Slab Segment) (x : ℕ) → IsKept s → IsKept s' → AddsSegment (holds s) (holds s') half_limit x → AddsBelow (holds s) (holds s') half_limit x
+adds_below s s' x k k' a = record { below = k.within; below_after = k'.within; adds = a }
+
+-- a new segment is given no label that is not in use
+new_below : (s s' : Slab Segment) (l : ℕ → ℕ) (x left right bound : ℕ) → IsKept s' → AddsSegment (holds s) (holds s') half_limit x → ((a : ℕ) → holds s a ≡ true → face_in s a < bound) → AddsFaces (holds s) (face_in s) l x left right → left < bound → right < bound → (a : ℕ) → holds s' a ≡ true → l a < bound
+new_below s s' l x left right bound k' t below f ll lr a h = elim (cases_eq a x) [
+  | inl e ↦ subst (λ (v : ℕ). v < bound) (sym (ap l e ∙ f.here)) ll
+  | inr nx ↦ elim (cases_eq a (twin x)) [
+    | inl e ↦ subst (λ (v : ℕ). v < bound) (sym (ap l e ∙ f.here_twin)) lr
+    | inr nt ↦
+        let was : holds s a ≡ true = sym (t.others a (k'.within a h) nx nt) ∙ h in
+        subst (λ (v : ℕ). v < bound) (sym (f.others a was)) (below a was)
+  ]
+]
+
+faces_added : (live : ℕ → Bool) (old l m : ℕ → ℕ) (x left right : ℕ) → m ≡ l → AddsFaces live old l x left right → AddsFaces live old m x left right
+faces_added live old l m x left right e f = subst (λ (k : ℕ → ℕ). AddsFaces live old k x left right) (sym e) f
+
+pub hung_labels : (s s1 s2 : Slab Segment) (c x label : ℕ) (unused : Option ℕ) → IsStart s s1 x → holds s c ≡ true → IsTurned s1 s2 (put (next_in s1) x c) → AddsFaces (holds s) (face_in s) (face_in s1) x label label → label ≡ face_in s c → face_in s2 ≡ face_in s1 → AreLabels s unused → AreLabels s2 unused
+hung_labels s s1 s2 c x label unused st hc t f el e a = record {
+  known = λ bound d.
+      let w : IsLabelled s bound = a.known bound d in
+      let done : IsHung s s2 c x = hung s s1 s2 c x st hc t in
+      let new : AddsFaces (holds s) (face_in s) (face_in s2) x label label = faces_added (holds s) (face_in s) (face_in s1) (face_in s2) x label label e f in
+      let k : IsKept s2 = done.added.sound in
+      let ll : label < bound = subst (λ (v : ℕ). v < bound) (sym el) (w.below c hc) in
+      record {
+        labels = hang_labels (holds s) (holds s2) (next_in s) (next_in s2) (face_in s) (face_in s2) half_limit c x (adds_below s s2 x st.sound k done.added.grows.live) hc done.allowed w.labels new.others (new.here ∙ el) (new.here_twin ∙ el);
+        below = new_below s s2 (face_in s2) x label label bound k done.added.grows.live w.below new ll ll;
+      };
+}
+
+pub split_labelled : (s s' : Slab Segment) (l : ℕ → ℕ) (h x t left right : ℕ) (unused : Option ℕ) → IsKept s → holds s h ≡ true → t ≡ twin h → IsSplitUp s s' h x → AddsFaces (holds s) (face_in s) l x left right → left ≡ face_in s h → right ≡ face_in s t → face_in s' ≡ l → AreLabels s unused → AreLabels s' unused
+split_labelled s s' l h x t left right unused k hh et done f el er e a = record {
+  known = λ bound d.
+      let w : IsLabelled s bound = a.known bound d in
+      let new : AddsFaces (holds s) (face_in s) (face_in s') x left right = faces_added (holds s) (face_in s) l (face_in s') x left right e f in
+      let k' : IsKept s' = done.added.sound in
+      let ht : holds s (twin h) ≡ true = live_twin s h (twin h) refl hh in
+      let er' : right ≡ face_in s (twin h) = er ∙ ap (face_in s) et in
+      record {
+        labels = split_labels (holds s) (holds s') (next_in s) (next_in s') (face_in s) (face_in s') half_limit h x (adds_below s s' x k k' done.added.grows.live) hh ht done.allowed w.labels new.others (new.here ∙ el) (new.here_twin ∙ er');
+        below = new_below s s' (face_in s') x left right bound k' done.added.grows.live w.below new (subst (λ (v : ℕ). v < bound) (sym el) (w.below h hh)) (subst (λ (v : ℕ). v < bound) (sym er') (w.below (twin h) ht));
+      };
+}
+
+pub smooth_labelled : (s s' : Slab Segment) (l : ℕ → ℕ) (x : ℕ) (unused : Option ℕ) → IsKept s → IsSmoothed s s' x → l ≡ face_in s → KeepsLabels (holds s') l (face_in s') → AreLabels s unused → AreLabels s' unused
+smooth_labelled s s' l x unused k done e kept a = record {
+  known = λ bound d.
+      let w : IsLabelled s bound = a.known bound d in
+      let k' : IsKept s' = done.taken.sound in
+      let t : AddsSegment (holds s') (holds s) half_limit x = done.taken.shrinks.live in
+      let same : (b : ℕ) → holds s' b ≡ true → face_in s' b ≡ face_in s b = λ b h. kept b h ∙ ap (λ (m : ℕ → ℕ). m b) e in
+      record {
+        labels = smooth_labels (holds s) (holds s') (next_in s) (next_in s') (face_in s) (face_in s') half_limit x (adds_below s' s x k' k t) done.allowed w.labels same;
+        below = λ b h.
+            let was : holds s b ≡ true = t.others b (k'.within b h) (λ z. false≢true (sym t.new ∙ ap (holds s') (sym z) ∙ h)) (λ z. false≢true (sym t.new_twin ∙ ap (holds s') (sym z) ∙ h)) ∙ h in
+            subst (λ (v : ℕ). v < bound) (sym (same b h)) (w.below b was);
+      };
+}
+
+-- ---- The second end of a segment that goes
+
+pub unhung_labels : (s s1 s2 s3 : Slab Segment) (h t : ℕ) (unused : Option ℕ) → holds s h ≡ true → t ≡ twin h → IsTurned s s1 (without (next_in s) h) → IsTurned s1 s2 (without (next_in s1) t) → face_in s2 ≡ face_in s1 → IsRemoved s2 s3 h → KeepsLabels (holds s3) (face_in s2) (face_in s3) → AreLabels s1 unused → AreLabels s3 unused
+unhung_labels s s1 s2 s3 h t unused hh et u v e r kept a = record {
+  known = λ bound d.
+      let w : IsLabelled s1 bound = a.known bound d in
+      let h1 : holds s1 h ≡ true = ap (λ (p : ℕ → Bool). p h) u.live ∙ hh in
+      let ht : holds s1 t ≡ true = live_twin s1 h t et h1 in
+      let i : ℕ = twin (before_in s1 t) in
+      let j : ℕ = twin t in
+      let ej : j ≡ h = ap twin et ∙ twin-twin h in
+      let x : IsStep s1 s2 i j = without_step s1 s2 t u.kept ht v e in
+      let f : ℕ → ℕ = face_next (next_in s1) in
+      let g : ℕ → ℕ = face_next (next_in s2) in
+      let fixed : next_in s1 h ≡ h = self_alone s s1 h u in
+      let two : SameCycle f i j = record { steps = 2; leads = ap f (onto s1 t u.kept) ∙ ap (next_in s1) ej ∙ fixed ∙ sym ej } in
+      let coarse : IsCoarse (holds s1) g (face_in s1) i j = parted (holds s1) (next_in s1) (next_in s2) (face_in s1) half_limit i j (scene s1 i j u.kept x.first x.second) x.exchange w.labels (w.labels.same_label i j x.first x.second two) in
+      let hg : IsPermutation g half_limit = faces_permuted s2 v.kept in
+      let isolated : IsIsolated (next_in s2) t = record {
+        this = ap (next_in s2) et ∙ without_alone s1 s2 h t et v ∙ sym et;
+        other = ap (next_in s2) ej ∙ unchord_alone s s1 s2 h t et u v ∙ sym ej;
+      } in
+      let was : (b : ℕ) → holds s3 b ≡ true → holds s1 b ≡ true = λ b hb.
+      ap (λ (p : ℕ → Bool). p b) (sym v.live) ∙ r.live.others b (r.kept.within b hb) (λ z. false≢true (sym r.live.new ∙ ap (holds s3) (sym z) ∙ hb)) (λ z. false≢true (sym r.live.new_twin ∙ ap (holds s3) (sym z) ∙ hb)) ∙ hb in
+      -- nothing that is left lies with the ends of what goes
+      let beyond : (b : ℕ) → holds s3 b ≡ true → SameCycle g j b → ⊥ = λ b hb m. elim (isolated_face (next_in s2) t b isolated m) [
+        | inl z ↦ false≢true (sym r.live.new ∙ ap (holds s3) (sym (z ∙ ej)) ∙ hb)
+        | inr z ↦ false≢true (sym r.live.new_twin ∙ ap (holds s3) (sym (z ∙ et)) ∙ hb)
+      ] in
+      let same : (b : ℕ) → holds s3 b ≡ true → face_in s3 b ≡ face_in s1 b = λ b hb. kept b hb ∙ ap (λ (m : ℕ → ℕ). m b) e in
+      record {
+        labels = record {
+          same_face = λ b c hb hc q. subst (λ (k : ℕ → ℕ). SameCycle (face_next k) b c) (sym r.next) (elim (coarse.same_face b c (was b hb) (was c hc) (sym (same b hb) ∙ q ∙ same c hc)) [
+            | inl m ↦ m
+            | inr m ↦ elim m [
+              | inl z ↦ absurd (beyond c hc z.1)
+              | inr z ↦ absurd (beyond b hb (SameCycle-sym g half_limit hg b j (r.kept.within b hb) z.0))
+            ]
+          ]);
+          same_label = λ b c hb hc m. same b hb ∙ coarse.same_label b c (was b hb) (was c hc) (subst (λ (k : ℕ → ℕ). SameCycle (face_next k) b c) r.next m) ∙ sym (same c hc);
+        };
+        below = λ b hb. subst (λ (q : ℕ). q < bound) (sym (same b hb)) (w.below b (was b hb));
+      };
+}
+  where
+    self_alone : (s s1 : Slab Segment) (h : ℕ) → IsTurned s s1 (without (next_in s) h) → next_in s1 h ≡ h
+    self_alone s s1 h u = ap (λ (f : ℕ → ℕ). f h) u.next ∙ without-self (next_in s) h h refl
+
+-- ---- What is built
+
+pub blank_none : (s : Slab Segment) → ((a : ℕ) → holds s a ≡ true → ⊥) → AreBlank s
+blank_none s none a h = absurd (none a h)
+
+pub blank_more : (s s' : Slab Segment) (x : ℕ) → AreBlank s → IsInserted s s' x → AddsFaces (holds s) (face_in s) (face_in s') x 0 0 → AreBlank s'
+blank_more s s' x blank i f a h = elim (cases_eq a x) [
+  | inl e ↦ ap (face_in s') e ∙ f.here
+  | inr nx ↦ elim (cases_eq a (twin x)) [
+    | inl e ↦ ap (face_in s') e ∙ f.here_twin
+    | inr nt ↦
+        let was : holds s a ≡ true = sym (i.live.others a (i.kept.within a h) nx nt) ∙ h in
+        f.others a was ∙ blank a was
+  ]
+]
+
+pub blank_joined : (s s' : Slab Segment) → AreBlank s → holds s' ≡ holds s → face_in s' ≡ face_in s → AreBlank s'
+blank_joined s s' blank eh ef a h = ap (λ (m : ℕ → ℕ). m a) ef ∙ blank a (ap (λ (p : ℕ → Bool). p a) (sym eh) ∙ h)
+
+pub joined_painted : (s s' : Slab Segment) (hs ts : List ℕ) (l : ℕ → ℕ) → IsJoined s hs ts → Repaints s s' l → IsJoined s' hs ts
+joined_painted s s' hs ts l j r = record {
+  kept = painted_kept s s' l j.kept r;
+  listed = subst (λ (p : ℕ → Bool). IsListed p hs) (sym r.live) j.listed;
+  next = λ a la. ap (λ (f : ℕ → ℕ). f (map_of hs a)) r.next ∙ j.next a la;
+}
+
+some-apart : (a b : ℕ) → Some a ≡ Some b → a ≡ b
+some-apart a b e = cc
+
+-- one segment, whose halves lie in one face
+pub seed_labels : (s s' : Slab Segment) (x : ℕ) → ((a : ℕ) → holds s a ≡ true → ⊥) → IsStart s s' x → AddsFaces (holds s) (face_in s) (face_in s') x 0 0 → AreLabels s' (Some 1)
+seed_labels s s' x none st f = record {
+  known = λ bound d.
+      let one : 1 ≡ bound = some-apart 1 bound d in
+      let i : IsInserted s s' x = st.inserted in
+      let zero : (a : ℕ) → holds s' a ≡ true → face_in s' a ≡ 0 = blank_more s s' x (blank_none s none) i f in
+      record {
+        labels = record {
+          same_face = λ a b ha hb e. elim (which a ha) [
+            | inl u ↦ elim (which b hb) [
+              | inl v ↦ record { steps = 0; leads = u ∙ sym v }
+              | inr v ↦ record { steps = 1; leads = ap (face_next (next_in s')) u ∙ twin_alone s s' x st ∙ sym v }
+            ]
+            | inr u ↦ elim (which b hb) [
+              | inl v ↦ record { steps = 1; leads = ap (face_next (next_in s')) u ∙ ap (next_in s') (twin-twin x) ∙ alone s s' x st ∙ sym v }
+              | inr v ↦ record { steps = 0; leads = u ∙ sym v }
+            ]
+          ];
+          same_label = λ a b ha hb m. zero a ha ∙ sym (zero b hb);
+        };
+        below = λ a h. (let z : face_in s' a ≡ 0 = zero a h in omega arith);
+      };
+}
+  where
+    which : (a : ℕ) → holds s' a ≡ true → (a ≡ x) ⊎ (a ≡ twin x)
+    which a h = elim (cases_eq a x) [
+      | inl e ↦ inl e
+      | inr nx ↦ elim (cases_eq a (twin x)) [
+        | inl e ↦ inr e
+        | inr nt ↦ absurd (none a (sym (st.inserted.live.others a (st.inserted.kept.within a h) nx nt) ∙ h))
+      ]
+    ]

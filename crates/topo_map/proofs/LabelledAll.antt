@@ -1,0 +1,138 @@
+-- Slabs of which some faces are labelled, one more with each step.
+use Rattle.std.proofs.Common.{◌≡◌, ◌≢◌, ℕ, ◌+◌, ◌<◌, Bool, true, inl, inr, refl, sym, ◌∙◌, ap, subst, arith, List, length, Option, Some}
+use Rattle.std.proofs.lemmas.Bool.{cases_eq}
+use Rattle.slab.specs.Slab.{Slab}
+use Rattle.topo_core.specs.Cycles.{IsPermutation, SameCycle, map_of}
+use Rattle.topo_core.specs.Rotations.{face_next}
+use Rattle.topo_core.proofs.Orbits.{SameCycle-trans, SameCycle-sym}
+use Rattle.topo_map.specs.Rotation.{half_limit}
+use Rattle.topo_map.specs.Segments.{holds, next_in, face_in, IsKept, Repaints}
+use Rattle.topo_map.specs.Building.{AreBlank, IsListed}
+use Rattle.topo_map.specs.Labels.{painted, AreLabels, IsPainted, IsTakenLabel}
+use Rattle.topo_map.specs.declared.segments.Segment.{Segment}
+use Rattle.topo_map.proofs.Painting.{lies, painted-in, painted_below}
+use Rattle.topo_map.proofs.Painting.Lies.{Within, Beyond}
+use Rattle.topo_map.proofs.Walked.{repainted, then_painted}
+use Rattle.topo_map.proofs.Attaching.{faces_permuted, labelled_by}
+
+-- a face has one label, and 0 or one that no other face has; the first k halves of the list have one
+pub record IsPartly (live : ℕ → Bool) (f l : ℕ → ℕ) (hs : List ℕ) (k bound : ℕ) : Type 0 where
+  pub some : 0 < bound
+  pub below : (a : ℕ) → live a ≡ true → l a < bound
+  pub same_face : (a b : ℕ) → live a ≡ true → live b ≡ true → l a ≢ 0 → l a ≡ l b → SameCycle f a b
+  pub same_label : (a b : ℕ) → live a ≡ true → live b ≡ true → SameCycle f a b → l a ≡ l b
+  pub given : (a : ℕ) → a < k → l (map_of hs a) ≢ 0
+
+-- the halves of s, labelled by l
+pub record ArePartly (s : Slab Segment) (l : ℕ → ℕ) (hs : List ℕ) (k : ℕ) (unused : Option ℕ) : Type 0 where
+  pub known : (bound : ℕ) → unused ≡ Some bound → IsPartly (holds s) (face_next (next_in s)) l hs k bound
+
+some-apart : (a b : ℕ) → Some a ≡ Some b → a ≡ b
+some-apart a b e = cc
+
+pub none_yet : (s : Slab Segment) (hs : List ℕ) → AreBlank s → ArePartly s (face_in s) hs 0 (Some 1)
+none_yet s hs blank = record {
+  known = λ bound e.
+      let one : 1 ≡ bound = some-apart 1 bound e in
+      record {
+        some = omega arith;
+        below = λ a t. (let z : face_in s a ≡ 0 = blank a t in omega arith);
+        same_face = λ a b t u ne d. absurd (ne (blank a t));
+        same_label = λ a b t u m. blank a t ∙ sym (blank b u);
+        given = λ a l. absurd (let z : ⊥ = omega arith in z);
+      };
+}
+
+-- one that has a label already
+pub given_already : (s : Slab Segment) (l : ℕ → ℕ) (hs : List ℕ) (k y : ℕ) (unused : Option ℕ) → ArePartly s l hs k unused → y ≡ map_of hs k → l y ≢ 0 → ArePartly s l hs (k + 1) unused
+given_already s l hs k y unused p ey ne = record {
+  known = λ bound e.
+      let w : IsPartly (holds s) (face_next (next_in s)) l hs k bound = p.known bound e in
+      record {
+        some = w.some;
+        below = w.below;
+        same_face = w.same_face;
+        same_label = w.same_label;
+        given = λ a la. elim (cases_eq a k) [
+          | inl same ↦ λ z. ne (ap l (ey ∙ ap (map_of hs) (sym same)) ∙ z)
+          | inr other ↦ w.given a (let v : a < k = omega arith in v)
+        ];
+      };
+}
+
+-- one whose face is painted
+pub given_now : (s : Slab Segment) (l : ℕ → ℕ) (hs : List ℕ) (k y label : ℕ) (unused rest : Option ℕ) → IsKept s → ArePartly s l hs k unused → y ≡ map_of hs k → holds s y ≡ true → l y ≡ 0 → IsTakenLabel unused label rest → ArePartly s (painted (face_next (next_in s)) half_limit y label l) hs (k + 1) rest
+given_now s l hs k y label unused rest kept p ey hy zero taken = record {
+  known = λ bound e.
+      let f : ℕ → ℕ = face_next (next_in s) in
+      let n : ℕ = half_limit in
+      let hf : IsPermutation f n = faces_permuted s kept in
+      let ly : y < n = kept.within y hy in
+      let t = taken bound e in
+      let eb : bound ≡ label + 1 = t.1 in
+      let w : IsPartly (holds s) f l hs k label = p.known label t.0 in
+      let some : 0 < label = w.some in
+      let turn_round : (a b : ℕ) → holds s a ≡ true → SameCycle f a b → SameCycle f b a = λ a b ta m. SameCycle-sym f n hf a b (kept.within a ta) m in
+      let fresh : (a : ℕ) → holds s a ≡ true → l a ≢ label = λ a ta d. (let la : l a < label = w.below a ta in let z : ⊥ = omega arith in z) in
+      let not_none : label ≢ 0 = λ z. (let v : ⊥ = omega arith in v) in
+      record {
+        some = omega arith;
+        below = λ a ta. (let la : l a < label = w.below a ta in painted_below f n y label l a bound (let z : label < bound = omega arith in z) (let z : l a < bound = omega arith in z));
+        same_face = λ a b ta tb ne d. elim (lies f n y label l a hf ly) [
+          | Within m u ↦ elim (lies f n y label l b hf ly) [
+            | Within v q ↦ SameCycle-trans f a y b (turn_round y a hy m) v
+            | Beyond v q ↦ absurd (fresh b tb (sym q ∙ sym d ∙ u))
+          ]
+          | Beyond m u ↦ elim (lies f n y label l b hf ly) [
+            | Within v q ↦ absurd (fresh a ta (sym u ∙ d ∙ q))
+            | Beyond v q ↦ w.same_face a b ta tb (λ z. ne (u ∙ z)) (sym u ∙ d ∙ q)
+          ]
+        ];
+        same_label = λ a b ta tb m. elim (lies f n y label l a hf ly) [
+          | Within v u ↦ u ∙ sym (painted-in f n y label l b hf ly (SameCycle-trans f y a b v m))
+          | Beyond v u ↦ elim (lies f n y label l b hf ly) [
+            | Within q r ↦ absurd (v (SameCycle-trans f y b a q (turn_round a b ta m)))
+            | Beyond q r ↦ u ∙ w.same_label a b ta tb m ∙ sym r
+          ]
+        ];
+        given = λ a la z. elim (lies f n y label l (map_of hs a) hf ly) [
+          | Within v u ↦ not_none (sym u ∙ z)
+          | Beyond v u ↦ elim (cases_eq a k) [
+            | inl same ↦ v (subst (λ (b : ℕ). SameCycle f y b) (ey ∙ ap (map_of hs) (sym same)) (record { steps = 0; leads = refl }))
+            | inr other ↦ w.given a (let q : a < k = omega arith in q) (sym u ∙ z)
+          ]
+        ];
+      };
+}
+
+-- and all of them
+pub all_given : (s s1 : Slab Segment) (l : ℕ → ℕ) (hs : List ℕ) (k : ℕ) (unused : Option ℕ) → IsListed (holds s) hs → Repaints s s1 l → k ≡ length hs → ArePartly s l hs k unused → AreLabels s1 unused
+all_given s s1 l hs k unused listed r ek p = record {
+  known = λ bound e.
+      let w : IsPartly (holds s) (face_next (next_in s)) l hs k bound = p.known bound e in
+      let has_one : (a : ℕ) → holds s a ≡ true → l a ≢ 0 = λ a t z.
+      w.given (listed.place a) (subst (λ (m : ℕ). listed.place a < m) (sym ek) (listed.place_within a t)) (ap l (listed.place_returns a t) ∙ z) in
+      record {
+        labels = labelled_by s1 (holds s) (next_in s) l r.live r.next r.faces (record {
+          same_face = λ a b t u d. w.same_face a b t u (has_one a t) d;
+          same_label = w.same_label;
+        });
+        below = λ a t. subst (λ (v : ℕ). v < bound) (ap (λ (m : ℕ → ℕ). m a) (sym r.faces)) (w.below a (ap (λ (h : ℕ → Bool). h a) (sym r.live) ∙ t));
+      };
+}
+
+-- what a step of the loop leaves: the halves of s, which s1 repaints
+pub record IsPartlyLabelled (s s1 : Slab Segment) (hs : List ℕ) (k : ℕ) (unused : Option ℕ) : Type 0 where
+  pub same : Repaints s s1 (face_in s1)
+  pub partly : ArePartly s (face_in s1) hs k unused
+
+pub step_over : (s s1 : Slab Segment) (hs : List ℕ) (k y : ℕ) (unused : Option ℕ) → IsPartlyLabelled s s1 hs k unused → y ≡ map_of hs k → face_in s1 y ≢ 0 → IsPartlyLabelled s s1 hs (k + 1) unused
+step_over s s1 hs k y unused w ey ne = record { same = w.same; partly = given_already s (face_in s1) hs k y unused w.partly ey ne }
+
+pub step_painted : (s s1 s2 : Slab Segment) (hs : List ℕ) (k y label : ℕ) (unused rest : Option ℕ) → IsKept s → IsPartlyLabelled s s1 hs k unused → y ≡ map_of hs k → holds s y ≡ true → face_in s1 y ≡ 0 → IsTakenLabel unused label rest → IsPainted s1 s2 y label → IsPartlyLabelled s s2 hs (k + 1) rest
+step_painted s s1 s2 hs k y label unused rest kept w ey hy zero taken p =
+    let e : face_in s2 ≡ painted (face_next (next_in s)) half_limit y label (face_in s1) = p.faces ∙ ap (λ (f : ℕ → ℕ). painted (face_next f) half_limit y label (face_in s1)) w.same.next in
+    record {
+      same = repainted s s2 _ (face_in s2) (sym p.faces) (then_painted s s1 s2 (face_in s1) _ w.same p);
+      partly = subst (λ (l : ℕ → ℕ). ArePartly s l hs (k + 1) rest) (sym e) (given_now s (face_in s1) hs k y label unused rest kept w.partly ey hy zero taken);
+    }
