@@ -2,8 +2,9 @@
 
 use crate::lists::work;
 use crate::sights::{
-    CALLER, LOOKER, PLANNER, Sight, compare_planning, compare_service, show, version_text, view_of,
+    CALLER, LOOKER, PLANNER, Sight, compare_planning, compare_service, show, view_of,
 };
+use crate::states::picture_state;
 use anyhow::{Result, bail};
 use std::alloc::AllocError;
 use std::sync::Wait;
@@ -164,8 +165,9 @@ fn show_kept<F: Asks + Drop, K: Naming<F>, R: Print + Eprint + AllocGlobal>(
     kept: &Version<F, K>,
 ) -> Result<()> {
     told?;
-    let text = version_text(rt, &[], kept)?;
-    println!(rt; "the version that was kept:{text}")?;
+    let state = picture_state(rt, kept.picture())?;
+    let number = kept.number();
+    println!(rt; "the version that was kept: {number}{state}")?;
     Ok(())
 }
 

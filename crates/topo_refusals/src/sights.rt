@@ -42,7 +42,7 @@ fn text_of<F: Asks + Drop, K: Naming<F>>(
 }
 
 /// The text of a version and of the receipts of passes.
-pub(crate) fn version_text<F: Asks + Drop, K: Naming<F>, R: Eprint + AllocGlobal>(
+fn version_text<F: Asks + Drop, K: Naming<F>, R: Eprint + AllocGlobal>(
     rt: &R,
     passes: &[Pass<F, K>],
     version: &Version<F, K>,
