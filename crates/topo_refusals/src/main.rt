@@ -9,23 +9,32 @@
 
 use anyhow::Result;
 use std::io;
+use std::sync::Wait;
+use std::thread::Threads;
 
 mod ballast;
 mod books;
 mod changes;
+mod deeds;
+mod lists;
 mod named;
 mod prices;
 mod ready;
 mod replays;
 mod retry;
 mod seen;
+mod services;
+mod sights;
 mod states;
+mod stores;
 mod stories;
 
 use ballast::taken;
 use changes::{Changes, change};
 use named::{BARRIER, BIPYRAMID, HEXAGON, Named};
 use seen::{loaded, read};
+use services::serve;
+use stores::embed;
 use stories::{APEXES, BASE, CHORDS, Story, tell_story};
 use topo_picture::Picture;
 
@@ -54,15 +63,19 @@ fn run_on<R: Print + Eprint + AllocGlobal>(
     call(rt, &picture, changes, story)
 }
 
-/// The calls on one picture after the other.
-fn run<R: Print + Eprint + AllocGlobal>(rt: &R) -> Result<()> {
+/// The calls on one picture after the other, those of an embedding, and those of a service.
+fn run<R: Threads + Wait + Print + Eprint + AllocGlobal + Sync>(rt: &R) -> Result<()> {
     run_on(rt, &BIPYRAMID, Some(Changes::OfBipyramid), &APEXES)?;
     run_on(rt, &BARRIER, Some(Changes::OfBarrier), &BASE)?;
-    run_on(rt, &HEXAGON, None, &CHORDS)
+    run_on(rt, &HEXAGON, None, &CHORDS)?;
+    embed(rt)?;
+    serve(rt)
 }
 
 /// The allocations before the first call, and then the calls.
-fn run_with_ballast<R: Input + Print + Eprint + AllocGlobal>(rt: &R) -> Result<usize> {
+fn run_with_ballast<R: Threads + Wait + Input + Print + Eprint + AllocGlobal + Sync>(
+    rt: &R,
+) -> Result<usize> {
     let ballast = taken(rt)?;
     run(rt)?;
     Ok(ballast.len())

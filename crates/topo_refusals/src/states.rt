@@ -40,9 +40,9 @@ impl fmt::Display for CrossLine<'_> {
 
 /// Rows within limits, on a line for each part.
 #[derive(Clone, Copy)]
-struct Lines<'a> {
-    limits: Limits,
-    rows: &'a Rows,
+pub(crate) struct Lines<'a> {
+    pub(crate) limits: Limits,
+    pub(crate) rows: &'a Rows,
 }
 
 impl fmt::Display for Lines<'_> {
@@ -90,7 +90,7 @@ impl fmt::Display for BookLines<'_> {
 }
 
 /// How long a text may be before it takes memory again.
-const ROOM: usize = 2000;
+pub(crate) const ROOM: usize = 2000;
 
 /// The text of a value, in one allocation where that is enough.
 fn text_of(alloc: Global, value: impl fmt::Display + Drop) -> Result<String, AllocError> {

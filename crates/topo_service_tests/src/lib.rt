@@ -8,4 +8,6 @@ mod gates;
 #[cfg(test)]
 mod harness;
 #[cfg(test)]
+mod plans;
+#[cfg(test)]
 mod views;

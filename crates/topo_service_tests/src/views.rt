@@ -272,7 +272,7 @@ fn has_apexes(frozen: &Frozen) -> bool
 }
 
 /// A plan between the apexes.
-fn plan_of<F: Asks + Drop, K: Naming<F>>(
+pub(crate) fn plan_of<F: Asks + Drop, K: Naming<F>>(
     alloc: Global,
     service: &Service<F, K>,
     pass: &mut Pass<F, K>,

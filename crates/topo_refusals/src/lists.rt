@@ -1,0 +1,155 @@
+//! A list that a worker carries out. Where a command wants memory, the rest of the list is run after it.
+
+use crate::deeds::JOIN;
+use crate::retry::{again, tell};
+use crate::sights::{CALLER, Sight, compare_service, show};
+use anyhow::{Result, bail};
+use std::alloc::{AllocError, Global};
+use std::sync::Wait;
+use std::thread::Threads;
+use topo_core::calls::{Call, Command};
+use topo_price::tariff::Asks;
+use topo_service::{Gate, Pass, Service, WorkerEnd, run_workers};
+use topo_versions::Naming;
+
+/// What the worker does.
+const COMMANDS: [Command; 4] = [
+    Command::Plain(JOIN),
+    Command::Planned {
+        u: 4,
+        v: 3,
+        kind: 0,
+    },
+    Command::Plain(Call::Delete { edge: 11 }),
+    Command::Plain(Call::Grow {
+        u: 4,
+        position: 0,
+        kind: 1,
+    }),
+];
+
+/// Nothing is done round a command.
+#[derive(Drop)]
+struct Still;
+
+impl Gate for Still {
+    fn before(&self, _worker: usize, _index: usize) {}
+
+    fn after(&self, _worker: usize, _index: usize) {}
+}
+
+/// One list, of these commands.
+fn list_of(alloc: Global, commands: &[Command]) -> Result<Vec<Vec<Command>>, AllocError> {
+    let list = Vec::from_slice(alloc, commands)?;
+    let mut lists = Vec::with_capacity(alloc, 1)?;
+    lists.push(list)?;
+    Ok(lists)
+}
+
+/// How many receipts the pass has whose list is run.
+fn receipts<F: Asks + Drop, K: Naming<F>>(passes: &[Pass<F, K>]) -> usize {
+    match passes.get(CALLER) {
+        Some(pass) => pass.receipts().len(),
+        None => 0,
+    }
+}
+
+/// How a worker ended with the commands of a list.
+fn run_list<
+    F: Asks + Drop + Send + Sync,
+    K: Naming<F> + Send + Sync,
+    R: Threads + Wait + AllocGlobal + Sync,
+>(
+    rt: &R,
+    service: &Service<F, K>,
+    passes: &mut [Pass<F, K>],
+    lists: &[Vec<Command>],
+) -> Result<WorkerEnd, AllocError> {
+    let Some(workers) = passes.get_mut(CALLER..CALLER + 1) else {
+        return Err(AllocError);
+    };
+    if workers.len() != lists.len() {
+        return Err(AllocError);
+    }
+    let ends = run_workers(rt, rt.alloc(), service, workers, lists, &Still)?;
+    match ends.as_slice().first() {
+        Some(end) => Ok(*end),
+        None => Err(AllocError),
+    }
+}
+
+/// Runs the rest of the list after a command that wanted memory, of which there is a receipt of each one
+/// before it.
+fn run_rest<
+    F: Asks + Drop + Send + Sync,
+    K: Naming<F> + Send + Sync,
+    R: Threads + Wait + Print + Eprint + AllocGlobal + Sync,
+>(rt: &R, service: &Service<F, K>, passes: &mut [Pass<F, K>], had: usize, at: usize) -> Result<()> {
+    tell(rt, "a command of run_workers");
+    let has = receipts(passes);
+    if has != had.wrapping_add(at) {
+        println!(rt; "changed: run_workers: {had} receipts became {has} before command {at}")?;
+    }
+    let Some(rest) = COMMANDS.get(at..) else {
+        bail!("no command {at}");
+    };
+    let alloc = rt.alloc();
+    let lists = again(rt, || list_of(alloc, rest))?;
+    run_whole(rt, service, passes, lists.as_slice())
+}
+
+/// Runs a list to its end.
+fn run_whole<
+    F: Asks + Drop + Send + Sync,
+    K: Naming<F> + Send + Sync,
+    R: Threads + Wait + AllocGlobal + Sync,
+>(
+    rt: &R,
+    service: &Service<F, K>,
+    passes: &mut [Pass<F, K>],
+    lists: &[Vec<Command>],
+) -> Result<()> {
+    match run_list(rt, service, passes, lists)? {
+        WorkerEnd::Done => Ok(()),
+        WorkerEnd::OutOfMemory(at) => bail!("the list ended at command {at}"),
+    }
+}
+
+/// Prints the receipts of the pass whose list was run.
+fn print_receipts<F: Asks + Drop, K: Naming<F>, R: Print>(
+    rt: &R,
+    passes: &[Pass<F, K>],
+) -> Result<()> {
+    let Some(pass) = passes.get(CALLER) else {
+        bail!("no pass");
+    };
+    println!(rt; "run_workers:")?;
+    for receipt in pass.receipts() {
+        let (call, reply) = (receipt.call, &receipt.reply);
+        println!(rt; "  {call:?}: {reply:?}")?;
+    }
+    Ok(())
+}
+
+/// A worker carries out the list. Where the room for the answer is refused, no call was made, and the whole
+/// list is run once more.
+pub(crate) fn work<
+    F: Asks + Drop + Send + Sync,
+    K: Naming<F> + Send + Sync,
+    R: Threads + Wait + Print + Eprint + AllocGlobal + Sync,
+>(rt: &R, service: &Service<F, K>, passes: &mut [Pass<F, K>], before: &Sight) -> Result<()> {
+    let alloc = rt.alloc();
+    let lists = again(rt, || list_of(alloc, &COMMANDS))?;
+    let had = receipts(passes);
+    match run_list(rt, service, passes, lists.as_slice()) {
+        Ok(WorkerEnd::Done) => {}
+        Ok(WorkerEnd::OutOfMemory(at)) => run_rest(rt, service, passes, had, at)?,
+        Err(_) => {
+            compare_service(rt, "run_workers", before, passes)?;
+            run_whole(rt, service, passes, lists.as_slice())?;
+        }
+    }
+    print_receipts(rt, passes)?;
+    let _after = show(rt, passes)?;
+    Ok(())
+}

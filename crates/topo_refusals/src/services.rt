@@ -1,0 +1,154 @@
+//! A service that is begun, used by one thread and closed.
+
+ghost use Rattle.std.specs.Prelude.{◌≡◌, Some};
+ghost use Rattle.std.specs.Arc.{arc_value};
+ghost use Rattle.topo_price.specs.Prices.{IsPromise};
+
+use crate::books::shared;
+use crate::deeds::tell_deeds;
+use crate::named::BIPYRAMID;
+use crate::prices::table_of;
+use crate::replays::replay_from;
+use crate::retry::{again, tell};
+use crate::seen::loaded;
+use crate::states::{book_state, compare, picture_state};
+use anyhow::{Result, bail};
+use std::marker::Brand;
+use std::sync::{Arc, Wait};
+use std::thread::Threads;
+use topo_book::Book;
+use topo_core::rows::Facts;
+use topo_picture::Picture;
+use topo_price::tariff::{Asks, Tariff};
+use topo_service::close::CloseFault;
+use topo_service::{Pass, Service, Unopened};
+use topo_versions::{Naming, StoreReader};
+
+/// One pass looks at versions, one makes the calls, and one plans.
+const SEATS: usize = 3;
+
+/// A service that begins with the bipyramid.
+pub(crate) fn serve<R: Threads + Wait + Print + Eprint + AllocGlobal + Sync>(rt: &R) -> Result<()> {
+    let start = loaded(rt, &BIPYRAMID)?;
+    let table = table_of([1, 5, 2, 9])?;
+    serve_with(rt, &start, |facts: &Facts| table.price(facts.kind))
+}
+
+/// A service with the prices of a closure. Where its beginning wants memory, it is begun once more.
+fn serve_with<
+    F: Asks + Drop + Send + Sync,
+    R: Threads + Wait + Print + Eprint + AllocGlobal + Sync,
+>(rt: &R, start: &Picture, ask: F) -> Result<()>
+    requires callable { F.can_ask ask }
+    requires promise { IsPromise (F.answers ask) }
+{
+    let tariff = shared(rt, ask)?;
+    let before = picture_state(rt, start)?;
+    if begun(rt, start, &tariff)? {
+        return Ok(());
+    }
+    tell(rt, "Service::new");
+    let after = picture_state(rt, start)?;
+    compare(rt, "Service::new", before.as_str(), after.as_str())?;
+    if begun(rt, start, &tariff)? {
+        return Ok(());
+    }
+    bail!("no service")
+}
+
+/// Whether a service began, which is then used and closed.
+fn begun<F: Asks + Drop + Send + Sync, R: Threads + Wait + Print + Eprint + AllocGlobal + Sync>(
+    rt: &R,
+    start: &Picture,
+    tariff: &Arc<Tariff<F>>,
+) -> Result<bool> {
+    let alloc = rt.alloc();
+    let copy = again(rt, || start.copy(alloc))?;
+    let tariff = Arc::try_clone(tariff)?;
+    named::<F, Brand, R>(rt, Unopened::new(), copy, tariff)
+}
+
+/// The same, over the service that K names. The service and its passes are owned here alone, and nothing
+/// returns early while they are.
+fn named<
+    F: Asks + Drop + Send + Sync,
+    K: Naming<F> + Send + Sync,
+    R: Threads + Wait + Print + Eprint + AllocGlobal + Sync,
+>(rt: &R, unopened: Unopened, start: Picture, tariff: Arc<Tariff<F>>) -> Result<bool>
+    requires ledger { (unopened.blank.name ≡ K.name) × (unopened.blank.parts ≡ K.parts) }
+    requires parts { K.parts ≡ 16 }
+    requires list { unopened.opened.seen.book ≡ K.book }
+    requires start { start ≡ K.start }
+    requires prices { K.closure ≡ Some (arc_value tariff) }
+{
+    let alloc = rt.alloc();
+    let Ok(mut service) = Service::<F, K>::new(alloc, unopened, start, tariff) else {
+        return Ok(false);
+    };
+    let mut passes = Vec::new(alloc);
+    let told = use_passes(rt, &mut service, &mut passes);
+    let end = service.close(rt, passes);
+    finish(rt, told, &end)
+}
+
+/// Gives the passes out, and tells the story.
+fn use_passes<
+    F: Asks + Drop + Send + Sync,
+    K: Naming<F> + Send + Sync,
+    R: Threads + Wait + Print + Eprint + AllocGlobal + Sync,
+>(rt: &R, service: &mut Service<F, K>, passes: &mut Vec<Pass<F, K>>) -> Result<()> {
+    if passes.reserve(SEATS).is_err() {
+        tell(rt, "bookkeeping");
+        passes.reserve(SEATS)?;
+    }
+    for _ in 0..SEATS {
+        give_out(rt, service, passes)?;
+    }
+    tell_deeds(rt, &*service, passes.as_mut_slice())
+}
+
+/// The next pass, which is asked for again where it wants memory.
+fn give_out<F: Asks + Drop, K: Naming<F>, R: Print + Eprint>(
+    rt: &R,
+    service: &mut Service<F, K>,
+    passes: &mut Vec<Pass<F, K>>,
+) -> Result<()> {
+    if let Ok(pass) = service.pass() {
+        return keep(rt, passes, pass);
+    }
+    tell(rt, "Service::pass");
+    match service.pass() {
+        Ok(pass) => keep(rt, passes, pass),
+        Err(fault) => bail!("{fault:?}"),
+    }
+}
+
+/// Prints a new pass and keeps it.
+fn keep<F: Asks + Drop, K: Naming<F>, R: Print>(
+    rt: &R,
+    passes: &mut Vec<Pass<F, K>>,
+    pass: Pass<F, K>,
+) -> Result<()> {
+    let (number, receipts, seen) = (pass.number(), pass.receipts().len(), pass.seen());
+    passes.push(pass)?;
+    println!(rt; "pass {number}: {receipts} receipts, has seen {seen}")?;
+    Ok(())
+}
+
+/// Prints the book of a service that ended well, and replays its history.
+fn finish<F: Asks + Drop, K: Naming<F>, R: Print + Eprint + AllocGlobal>(
+    rt: &R,
+    told: Result<()>,
+    end: &Result<Book<F>, CloseFault<F, K, StoreReader<F, K>>>,
+) -> Result<bool> {
+    told?;
+    match end {
+        Ok(book) => {
+            let state = book_state(rt, book)?;
+            println!(rt; "closed:{state}")?;
+            replay_from(rt, book, book.start())?;
+            Ok(true)
+        }
+        Err(end) => bail!("{:?}", end.fault),
+    }
+}

@@ -1,0 +1,208 @@
+//! Insertions with plans that nobody searched for, and with plans of another picture.
+
+use crate::harness::{Story, bipyramid, run, uneven_prices};
+use crate::views::{plan_of, view_of};
+use std::alloc::{AllocError, Global};
+use std::process::Abort;
+use std::sync::Wait;
+use std::test::Fail;
+use std::thread::Threads;
+use topo_core::calls::Reply;
+use topo_core::darts::{Dart, Way};
+use topo_core::ids::EdgeId;
+use topo_core::listed::Listed;
+use topo_core::routes::Route;
+use topo_core::rows::Facts;
+use topo_price::tariff::Asks;
+use topo_route::plan::Plan;
+use topo_service::{Pass, Service, WorkerEnd};
+use topo_versions::Naming;
+
+/// The least heights from the apexes' faces to apex 4, where the edges of the triangle cost 5, 2 and 9.
+const LEAST: [u64; 18] = [0, 3, 0, 2, 0, 3, 3, 3, 3, 2, 2, 3, 0, 0, 0, 0, 0, 0];
+
+/// The dart that the first route crosses.
+fn first() -> Dart {
+    Dart {
+        edge: EdgeId::new(1),
+        seg: 0,
+        way: Way::Back,
+    }
+}
+
+/// A dart of an edge that is not there.
+fn nowhere() -> Dart {
+    Dart {
+        edge: EdgeId::new(99),
+        seg: 0,
+        way: Way::Forward,
+    }
+}
+
+/// A plan with the ends and the price of the first route.
+fn invented(alloc: Global, crossed: Dart, heights: &[u64]) -> Result<Plan, AllocError> {
+    Ok(Plan {
+        route: Route {
+            start: 2,
+            crossed: Listed::from_vec(Vec::from_slice(alloc, &[crossed])?),
+            end: 2,
+        },
+        price: 2,
+        heights: Listed::from_vec(Vec::from_slice(alloc, heights)?),
+    })
+}
+
+/// An insertion between the apexes, with the plan if there is one.
+fn join<F: Asks + Drop, K: Naming<F>, R: Wait>(
+    rt: &R,
+    service: &Service<F, K>,
+    pass: &mut Pass<F, K>,
+    plan: Option<&Plan>,
+) -> Result<Reply, AllocError> {
+    match plan {
+        Some(plan) => service.insert_planned(rt, pass, 3, 4, 0, plan),
+        None => service.insert(rt, pass, 3, 4, 0),
+    }
+}
+
+/// A reply, and the picture after it.
+fn text_of<F: Asks + Drop, K: Naming<F>>(
+    alloc: Global,
+    reply: &Reply,
+    pass: &mut Pass<F, K>,
+) -> Result<String, Fail> {
+    let rows = view_of(pass)?.picture().rows(alloc)?;
+    Ok(format!(in alloc; "{reply:?} {rows:?}")?)
+}
+
+/// An insertion, with the plan if there is one.
+#[derive(Drop)]
+struct Joined<'a> {
+    plan: Option<&'a Plan>,
+}
+
+impl Story for Joined<'_> {
+    fn seats(&self) -> usize {
+        1
+    }
+
+    fn tell<F: Asks + Drop, K: Naming<F>, R: Wait>(
+        &self,
+        rt: &R,
+        alloc: Global,
+        service: &Service<F, K>,
+        passes: &mut Vec<Pass<F, K>>,
+        _ends: &[WorkerEnd],
+    ) -> Result<String, Fail> {
+        let Some(pass) = passes.as_mut_slice().first_mut() else {
+            return Err("a pass".into());
+        };
+        let reply = join(rt, service, pass, self.plan)?;
+        text_of(alloc, &reply, pass)
+    }
+}
+
+/// A plan of the picture at the start. Then an edge that it crosses is taken out and another grown, so that
+/// there are as many darts as before, and an edge is put in, by the plan or without it.
+#[derive(Drop)]
+struct Late {
+    planned: bool,
+}
+
+/// The two changes, and the insertion.
+fn join_late<F: Asks + Drop, K: Naming<F>, R: Wait>(
+    rt: &R,
+    service: &Service<F, K>,
+    pass: &mut Pass<F, K>,
+    plan: Option<&Plan>,
+) -> Result<Reply, AllocError> {
+    let _ = service.delete(rt, pass, 1)?;
+    let _ = service.grow(rt, pass, 3, 0, 0)?;
+    join(rt, service, pass, plan)
+}
+
+impl Story for Late {
+    fn seats(&self) -> usize {
+        1
+    }
+
+    fn tell<F: Asks + Drop, K: Naming<F>, R: Wait>(
+        &self,
+        rt: &R,
+        alloc: Global,
+        service: &Service<F, K>,
+        passes: &mut Vec<Pass<F, K>>,
+        _ends: &[WorkerEnd],
+    ) -> Result<String, Fail> {
+        let Some(pass) = passes.as_mut_slice().first_mut() else {
+            return Err("a pass".into());
+        };
+        let plan = plan_of(alloc, service, pass)?;
+        let used = if self.planned { Some(&plan) } else { None };
+        let reply = join_late(rt, service, pass, used)?;
+        text_of(alloc, &reply, pass)
+    }
+}
+
+/// What the story says of a service that begins with the bipyramid.
+fn told<S: Story, R: Threads + Wait + Abort + AllocGlobal + Sync>(
+    rt: &R,
+    story: &S,
+) -> Result<String, Fail> {
+    let alloc = rt.alloc();
+    let start = bipyramid(rt, alloc)?;
+    let table = uneven_prices(rt);
+    run(
+        rt,
+        alloc,
+        |facts: &Facts| table.price(facts.kind),
+        start,
+        story,
+    )
+}
+
+/// What is said of an insertion with such a plan.
+fn told_of<R: Threads + Wait + Abort + AllocGlobal + Sync>(
+    rt: &R,
+    crossed: Dart,
+    heights: &[u64],
+) -> Result<String, Fail> {
+    let plan = invented(rt.alloc(), crossed, heights)?;
+    told(rt, &Joined { plan: Some(&plan) })
+}
+
+#[test]
+fn an_invented_plan_changes_no_answer(rt: HostRuntime) -> Result<(), Fail> {
+    let due = told(&rt, &Joined { plan: None })?;
+    assert!(rt;
+        due.as_str().starts_with(
+            "Inserted(Inserted { id: EdgeId(9), route: Route { start: 2, crossed: Listed { items: [Dart { edge: EdgeId(1), seg: 0, way: Back }] }, end: 2 }, price: 2 }) "
+        )
+    );
+    assert!(rt; due.as_str().ends_with("; 1 calls, replayed: true"));
+    for at in 0..LEAST.len() {
+        let mut heights = LEAST;
+        heights[at] = heights[at].wrapping_add(1);
+        let told = told_of(&rt, first(), &heights)?;
+        assert_eq!(rt; told.as_str(), due.as_str(), "height {at} raised");
+    }
+    let all: [&[u64]; 3] = [&LEAST, &[u64::MAX; 18], &[0; 18]];
+    for heights in all {
+        assert_eq!(rt; told_of(&rt, first(), heights)?.as_str(), due.as_str());
+    }
+    assert_eq!(rt; told_of(&rt, nowhere(), &LEAST)?.as_str(), due.as_str());
+    Ok(())
+}
+
+#[test]
+fn a_plan_of_another_picture_changes_no_answer(rt: HostRuntime) -> Result<(), Fail> {
+    let due = told(&rt, &Late { planned: false })?;
+    assert!(rt;
+        due.as_str()
+            .starts_with("Inserted(Inserted { id: EdgeId(10), ")
+    );
+    assert!(rt; due.as_str().ends_with("; 3 calls, replayed: true"));
+    let told = told(&rt, &Late { planned: true })?;
+    assert_eq!(rt; told.as_str(), due.as_str());
+    Ok(())
+}
