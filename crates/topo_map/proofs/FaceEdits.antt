@@ -190,9 +190,6 @@ blank_more s s' x blank i f a h = elim (cases_eq a x) [
   ]
 ]
 
-pub blank_joined : (s s' : Slab Segment) → AreBlank s → holds s' ≡ holds s → face_in s' ≡ face_in s → AreBlank s'
-blank_joined s s' blank eh ef a h = ap (λ (m : ℕ → ℕ). m a) ef ∙ blank a (ap (λ (p : ℕ → Bool). p a) (sym eh) ∙ h)
-
 pub joined_painted : (s s' : Slab Segment) (hs ts : List ℕ) (l : ℕ → ℕ) → IsJoined s hs ts → Repaints s s' l → IsJoined s' hs ts
 joined_painted s s' hs ts l j r = record {
   kept = painted_kept s s' l j.kept r;

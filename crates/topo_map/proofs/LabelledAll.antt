@@ -1,37 +1,37 @@
 -- Slabs of which some faces are labelled, one more with each step.
-use Rattle.std.proofs.Common.{◌≡◌, ◌≢◌, ℕ, ◌+◌, ◌<◌, Bool, true, inl, inr, refl, sym, ◌∙◌, ap, subst, arith, List, length, Option, Some}
+use Rattle.std.proofs.Common.{◌≡◌, ◌≢◌, ℕ, ◌+◌, ◌<◌, Bool, true, inl, inr, refl, sym, ◌∙◌, ap, subst, arith, Option, Some}
 use Rattle.std.proofs.lemmas.Bool.{cases_eq}
 use Rattle.slab.specs.Slab.{Slab}
-use Rattle.topo_core.specs.Cycles.{IsPermutation, SameCycle, map_of}
+use Rattle.topo_core.specs.Cycles.{IsPermutation, SameCycle}
 use Rattle.topo_core.specs.Rotations.{face_next}
 use Rattle.topo_core.proofs.Orbits.{SameCycle-trans, SameCycle-sym}
 use Rattle.topo_map.specs.Rotation.{half_limit}
 use Rattle.topo_map.specs.Segments.{holds, next_in, face_in, IsKept, Repaints}
-use Rattle.topo_map.specs.Building.{AreBlank, IsListed}
+use Rattle.topo_map.specs.Building.{AreBlank}
 use Rattle.topo_map.specs.Labels.{painted, AreLabels, IsPainted, IsTakenLabel}
 use Rattle.topo_map.specs.declared.segments.Segment.{Segment}
 use Rattle.topo_map.proofs.Painting.{lies, painted-in, painted_below}
 use Rattle.topo_map.proofs.Painting.Lies.{Within, Beyond}
-use Rattle.topo_map.proofs.Walked.{repainted, then_painted}
+use Rattle.topo_map.proofs.Walked.{painted_live, repainted, then_painted, unpainted}
 use Rattle.topo_map.proofs.Attaching.{faces_permuted, labelled_by}
 
--- a face has one label, and 0 or one that no other face has; the first k halves of the list have one
-pub record IsPartly (live : ℕ → Bool) (f l : ℕ → ℕ) (hs : List ℕ) (k bound : ℕ) : Type 0 where
+-- a face has one label, and 0 or one that no other face has; the halves below k have one
+pub record IsPartly (live : ℕ → Bool) (f l : ℕ → ℕ) (k bound : ℕ) : Type 0 where
   pub some : 0 < bound
   pub below : (a : ℕ) → live a ≡ true → l a < bound
   pub same_face : (a b : ℕ) → live a ≡ true → live b ≡ true → l a ≢ 0 → l a ≡ l b → SameCycle f a b
   pub same_label : (a b : ℕ) → live a ≡ true → live b ≡ true → SameCycle f a b → l a ≡ l b
-  pub given : (a : ℕ) → a < k → l (map_of hs a) ≢ 0
+  pub given : (a : ℕ) → a < k → live a ≡ true → l a ≢ 0
 
 -- the halves of s, labelled by l
-pub record ArePartly (s : Slab Segment) (l : ℕ → ℕ) (hs : List ℕ) (k : ℕ) (unused : Option ℕ) : Type 0 where
-  pub known : (bound : ℕ) → unused ≡ Some bound → IsPartly (holds s) (face_next (next_in s)) l hs k bound
+pub record ArePartly (s : Slab Segment) (l : ℕ → ℕ) (k : ℕ) (unused : Option ℕ) : Type 0 where
+  pub known : (bound : ℕ) → unused ≡ Some bound → IsPartly (holds s) (face_next (next_in s)) l k bound
 
 some-apart : (a b : ℕ) → Some a ≡ Some b → a ≡ b
 some-apart a b e = cc
 
-pub none_yet : (s : Slab Segment) (hs : List ℕ) → AreBlank s → ArePartly s (face_in s) hs 0 (Some 1)
-none_yet s hs blank = record {
+pub none_yet : (s : Slab Segment) → AreBlank s → ArePartly s (face_in s) 0 (Some 1)
+none_yet s blank = record {
   known = λ bound e.
       let one : 1 ≡ bound = some-apart 1 bound e in
       record {
@@ -39,30 +39,30 @@ none_yet s hs blank = record {
         below = λ a t. (let z : face_in s a ≡ 0 = blank a t in omega arith);
         same_face = λ a b t u ne d. absurd (ne (blank a t));
         same_label = λ a b t u m. blank a t ∙ sym (blank b u);
-        given = λ a l. absurd (let z : ⊥ = omega arith in z);
+        given = λ a l h. absurd (let z : ⊥ = omega arith in z);
       };
 }
 
 -- one that has a label already
-pub given_already : (s : Slab Segment) (l : ℕ → ℕ) (hs : List ℕ) (k y : ℕ) (unused : Option ℕ) → ArePartly s l hs k unused → y ≡ map_of hs k → l y ≢ 0 → ArePartly s l hs (k + 1) unused
-given_already s l hs k y unused p ey ne = record {
+pub given_already : (s : Slab Segment) (l : ℕ → ℕ) (k y : ℕ) (unused : Option ℕ) → ArePartly s l k unused → y ≡ k → (holds s y ≡ true → l y ≢ 0) → ArePartly s l (k + 1) unused
+given_already s l k y unused p ey ne = record {
   known = λ bound e.
-      let w : IsPartly (holds s) (face_next (next_in s)) l hs k bound = p.known bound e in
+      let w : IsPartly (holds s) (face_next (next_in s)) l k bound = p.known bound e in
       record {
         some = w.some;
         below = w.below;
         same_face = w.same_face;
         same_label = w.same_label;
-        given = λ a la. elim (cases_eq a k) [
-          | inl same ↦ λ z. ne (ap l (ey ∙ ap (map_of hs) (sym same)) ∙ z)
-          | inr other ↦ w.given a (let v : a < k = omega arith in v)
+        given = λ a la ha. elim (cases_eq a k) [
+          | inl same ↦ λ z. ne (ap (holds s) (ey ∙ sym same) ∙ ha) (ap l (ey ∙ sym same) ∙ z)
+          | inr other ↦ w.given a (let v : a < k = omega arith in v) ha
         ];
       };
 }
 
 -- one whose face is painted
-pub given_now : (s : Slab Segment) (l : ℕ → ℕ) (hs : List ℕ) (k y label : ℕ) (unused rest : Option ℕ) → IsKept s → ArePartly s l hs k unused → y ≡ map_of hs k → holds s y ≡ true → l y ≡ 0 → IsTakenLabel unused label rest → ArePartly s (painted (face_next (next_in s)) half_limit y label l) hs (k + 1) rest
-given_now s l hs k y label unused rest kept p ey hy zero taken = record {
+pub given_now : (s : Slab Segment) (l : ℕ → ℕ) (k y label : ℕ) (unused rest : Option ℕ) → IsKept s → ArePartly s l k unused → y ≡ k → holds s y ≡ true → l y ≡ 0 → IsTakenLabel unused label rest → ArePartly s (painted (face_next (next_in s)) half_limit y label l) (k + 1) rest
+given_now s l k y label unused rest kept p ey hy zero taken = record {
   known = λ bound e.
       let f : ℕ → ℕ = face_next (next_in s) in
       let n : ℕ = half_limit in
@@ -70,7 +70,7 @@ given_now s l hs k y label unused rest kept p ey hy zero taken = record {
       let ly : y < n = kept.within y hy in
       let t = taken bound e in
       let eb : bound ≡ label + 1 = t.1 in
-      let w : IsPartly (holds s) f l hs k label = p.known label t.0 in
+      let w : IsPartly (holds s) f l k label = p.known label t.0 in
       let some : 0 < label = w.some in
       let turn_round : (a b : ℕ) → holds s a ≡ true → SameCycle f a b → SameCycle f b a = λ a b ta m. SameCycle-sym f n hf a b (kept.within a ta) m in
       let fresh : (a : ℕ) → holds s a ≡ true → l a ≢ label = λ a ta d. (let la : l a < label = w.below a ta in let z : ⊥ = omega arith in z) in
@@ -95,44 +95,68 @@ given_now s l hs k y label unused rest kept p ey hy zero taken = record {
             | Beyond q r ↦ u ∙ w.same_label a b ta tb m ∙ sym r
           ]
         ];
-        given = λ a la z. elim (lies f n y label l (map_of hs a) hf ly) [
+        given = λ a la ha z. elim (lies f n y label l a hf ly) [
           | Within v u ↦ not_none (sym u ∙ z)
           | Beyond v u ↦ elim (cases_eq a k) [
-            | inl same ↦ v (subst (λ (b : ℕ). SameCycle f y b) (ey ∙ ap (map_of hs) (sym same)) (record { steps = 0; leads = refl }))
-            | inr other ↦ w.given a (let q : a < k = omega arith in q) (sym u ∙ z)
+            | inl same ↦ v (subst (λ (b : ℕ). SameCycle f y b) (ey ∙ sym same) (record { steps = 0; leads = refl }))
+            | inr other ↦ w.given a (let q : a < k = omega arith in q) ha (sym u ∙ z)
           ]
         ];
       };
 }
 
--- and all of them
-pub all_given : (s s1 : Slab Segment) (l : ℕ → ℕ) (hs : List ℕ) (k : ℕ) (unused : Option ℕ) → IsListed (holds s) hs → Repaints s s1 l → k ≡ length hs → ArePartly s l hs k unused → AreLabels s1 unused
-all_given s s1 l hs k unused listed r ek p = record {
-  known = λ bound e.
-      let w : IsPartly (holds s) (face_next (next_in s)) l hs k bound = p.known bound e in
-      let has_one : (a : ℕ) → holds s a ≡ true → l a ≢ 0 = λ a t z.
-      w.given (listed.place a) (subst (λ (m : ℕ). listed.place a < m) (sym ek) (listed.place_within a t)) (ap l (listed.place_returns a t) ∙ z) in
-      record {
-        labels = labelled_by s1 (holds s) (next_in s) l r.live r.next r.faces (record {
-          same_face = λ a b t u d. w.same_face a b t u (has_one a t) d;
-          same_label = w.same_label;
-        });
-        below = λ a t. subst (λ (v : ℕ). v < bound) (ap (λ (m : ℕ → ℕ). m a) (sym r.faces)) (w.below a (ap (λ (h : ℕ → Bool). h a) (sym r.live) ∙ t));
-      };
-}
-
 -- what a step of the loop leaves: the halves of s, which s1 repaints
-pub record IsPartlyLabelled (s s1 : Slab Segment) (hs : List ℕ) (k : ℕ) (unused : Option ℕ) : Type 0 where
+pub record IsPartlyLabelled (s s1 : Slab Segment) (k : ℕ) (unused : Option ℕ) : Type 0 where
   pub same : Repaints s s1 (face_in s1)
-  pub partly : ArePartly s (face_in s1) hs k unused
+  pub partly : ArePartly s (face_in s1) k unused
 
-pub step_over : (s s1 : Slab Segment) (hs : List ℕ) (k y : ℕ) (unused : Option ℕ) → IsPartlyLabelled s s1 hs k unused → y ≡ map_of hs k → face_in s1 y ≢ 0 → IsPartlyLabelled s s1 hs (k + 1) unused
-step_over s s1 hs k y unused w ey ne = record { same = w.same; partly = given_already s (face_in s1) hs k y unused w.partly ey ne }
+pub step_over : (s s1 : Slab Segment) (k y : ℕ) (unused : Option ℕ) → IsPartlyLabelled s s1 k unused → y ≡ k → (holds s1 y ≡ true → face_in s1 y ≢ 0) → IsPartlyLabelled s s1 (k + 1) unused
+step_over s s1 k y unused w ey ne = record { same = w.same; partly = given_already s (face_in s1) k y unused w.partly ey (λ h. ne (painted_live s s1 (face_in s1) y w.same h)) }
 
-pub step_painted : (s s1 s2 : Slab Segment) (hs : List ℕ) (k y label : ℕ) (unused rest : Option ℕ) → IsKept s → IsPartlyLabelled s s1 hs k unused → y ≡ map_of hs k → holds s y ≡ true → face_in s1 y ≡ 0 → IsTakenLabel unused label rest → IsPainted s1 s2 y label → IsPartlyLabelled s s2 hs (k + 1) rest
-step_painted s s1 s2 hs k y label unused rest kept w ey hy zero taken p =
+pub step_painted : (s s1 s2 : Slab Segment) (k y label : ℕ) (unused rest : Option ℕ) → IsKept s → IsPartlyLabelled s s1 k unused → y ≡ k → holds s1 y ≡ true → face_in s1 y ≡ 0 → IsTakenLabel unused label rest → IsPainted s1 s2 y label → IsPartlyLabelled s s2 (k + 1) rest
+step_painted s s1 s2 k y label unused rest kept w ey hy zero taken p =
     let e : face_in s2 ≡ painted (face_next (next_in s)) half_limit y label (face_in s1) = p.faces ∙ ap (λ (f : ℕ → ℕ). painted (face_next f) half_limit y label (face_in s1)) w.same.next in
     record {
       same = repainted s s2 _ (face_in s2) (sym p.faces) (then_painted s s1 s2 (face_in s1) _ w.same p);
-      partly = subst (λ (l : ℕ → ℕ). ArePartly s l hs (k + 1) rest) (sym e) (given_now s (face_in s1) hs k y label unused rest kept w.partly ey hy zero taken);
+      partly = subst (λ (l : ℕ → ℕ). ArePartly s l (k + 1) rest) (sym e) (given_now s (face_in s1) k y label unused rest kept w.partly ey (ap (λ (h : ℕ → Bool). h y) (sym w.same.live) ∙ hy) zero taken);
     }
+
+-- and all of them
+pub all_given : (s s1 : Slab Segment) (k : ℕ) (unused : Option ℕ) → IsPartlyLabelled s s1 k unused → ((a : ℕ) → holds s a ≡ true → a < k) → AreLabels s1 unused
+all_given s s1 k unused p small = record {
+  known = λ bound e.
+      let l : ℕ → ℕ = face_in s1 in
+      let r : Repaints s s1 l = p.same in
+      let w : IsPartly (holds s) (face_next (next_in s)) l k bound = p.partly.known bound e in
+      record {
+        labels = labelled_by s1 (holds s) (next_in s) l r.live r.next refl (record {
+          same_face = λ a b t u d. w.same_face a b t u (w.given a (small a t) t) d;
+          same_label = w.same_label;
+        });
+        below = λ a t. w.below a (ap (λ (h : ℕ → Bool). h a) (sym r.live) ∙ t);
+      };
+}
+
+-- ---- No face has a label
+
+-- the halves below k have none
+pub record AreBlankBelow (s s1 : Slab Segment) (k : ℕ) : Type 0 where
+  pub same : Repaints s s1 (face_in s1)
+  pub blank : (a : ℕ) → a < k → holds s a ≡ true → face_in s1 a ≡ 0
+
+pub blank_below : (s : Slab Segment) → AreBlankBelow s s 0
+blank_below s = record { same = unpainted s; blank = λ a l h. absurd (let z : ⊥ = omega arith in z) }
+
+pub blank_on : (s s1 s2 : Slab Segment) (k y : ℕ) → AreBlankBelow s s1 k → y ≡ k → Repaints s1 s2 (face_in s2) → (holds s1 y ≡ true → face_in s2 y ≡ 0) → ((a : ℕ) → a ≢ y → face_in s2 a ≡ face_in s1 a) → AreBlankBelow s s2 (k + 1)
+blank_on s s1 s2 k y w ey r here others = record {
+  same = then_painted s s1 s2 (face_in s1) (face_in s2) w.same r;
+  blank = λ a la h. elim (cases_eq a y) [
+    | inl e ↦ ap (face_in s2) e ∙ here (painted_live s s1 (face_in s1) y w.same (ap (holds s) (sym e) ∙ h))
+    | inr ne ↦ others a ne ∙ w.blank a (let z : a < k = omega arith in z) h
+  ];
+}
+
+pub blank_all : (s s1 : Slab Segment) (k : ℕ) → AreBlankBelow s s1 k → ((a : ℕ) → holds s a ≡ true → a < k) → AreBlank s1
+blank_all s s1 k w small a h =
+    let was : holds s a ≡ true = ap (λ (p : ℕ → Bool). p a) (sym w.same.live) ∙ h in
+    w.blank a (small a was) was

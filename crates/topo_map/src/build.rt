@@ -3,17 +3,17 @@
 ghost use Rattle.std.specs.Prelude.{◌≡◌, ◌+◌, ◌*◌, ◌%◌, ◌<◌, ◌≤◌, [], ◌++◌, ◌∷◌, true, length, slice_index, IfOk};
 ghost use Rattle.topo_core.specs.Cycles.{IsPermutationList, map_of};
 ghost use Rattle.topo_core.specs.Rotations.{twin};
-ghost use Rattle.topo_map.specs.Building.{AreAlone, AreBlank, IsJoined};
+ghost use Rattle.topo_map.specs.Building.{AreAlone, IsJoined};
 ghost use Rattle.topo_map.specs.Rotation.{AreLabelled};
-ghost use Rattle.topo_map.specs.Segments.{IsKept, face_in, holds, label_in, next_in, room_of};
+ghost use Rattle.topo_map.specs.Segments.{IsKept, holds, label_in, next_in, room_of};
 
 use crate::half::Half;
 use crate::segments::{self, Segment, insert_isolated, link};
 use slab::Slab;
 use std::alloc::{AllocError, Global};
 
-/// Segments with these labels, each half a point by itself and with no face's label yet, and their
-/// halves.
+/// Segments with these labels, each half a point by itself, and their halves. No label of a face means
+/// anything yet.
 pub(crate) fn isolated_halves(
     alloc: Global,
     segments: &mut Slab<Segment>,
@@ -23,7 +23,6 @@ pub(crate) fn isolated_halves(
     ensures length { IfOk result (λ halves. length halves.items ≡ 2 * length edges.now) }
     ensures alone { IfOk result (λ halves. AreAlone segments.new halves.items) }
     ensures labels { IfOk result (λ halves. AreLabelled edges.now halves.items (label_in segments.new)) }
-    ensures blank { IfOk result (λ halves. AreBlank segments.new) }
 {
     segments::reserve(segments, edges.len())?;
     let mut halves: Vec<Half> = Vec::new(alloc);
@@ -42,8 +41,6 @@ pub(crate) fn join_turns(segments: &mut Slab<Segment>, halves: &[Half], turns: &
     requires alone { AreAlone segments.old halves.now }
     ensures joined { IsJoined segments.new halves.now turns.now }
     ensures labels { label_in segments.new ≡ label_in segments.old }
-    ensures faces { face_in segments.new ≡ face_in segments.old }
-    ensures live { holds segments.new ≡ holds segments.old }
 {
     for place in 0..turns.len() {
         link(segments, halves[place], halves[turns[place] as usize]);

@@ -21,8 +21,9 @@ use std::marker::Model;
 #[derive(Drop)]
 pub struct Embedding {
     segments: Slab<Segment>,
-    // The label that the next new face gets. None where all were given: then labels tell nothing.
-    unused: Option<u64>,
+    // The label that the next new face gets. None where there were more faces than
+    // labels: then labels tell nothing.
+    unused: Option<u32>,
 }
 
 impl Model for Embedding {
@@ -66,7 +67,7 @@ impl Embedding {
         let mut segments = Slab::new(alloc);
         let halves = isolated_halves(alloc, &mut segments, edges)?;
         join_turns(&mut segments, &halves, turns);
-        let unused = label_faces(&mut segments, &halves);
+        let unused = label_faces(&mut segments);
         Ok((Embedding { segments, unused }, halves))
     }
 

@@ -1,25 +1,26 @@
 //! The labels of faces. Each half has the label of the face on its left, and where a face is parted or
 //! two are joined, the smaller of the two is labelled anew by a walk.
 //!
-//! Labels are counted upwards, and none is given twice. At an edit each nanosecond they last for more
-//! than five hundred years. Were they ever used up, the labels would be looked at no longer.
+//! Labels are counted upwards. Where the last of them was given, all faces are labelled anew from the
+//! first on. That is one pass for some four thousand million edits. Were there more faces than labels,
+//! the labels would be looked at no longer.
 
-ghost use Rattle.std.specs.Prelude.{◌≡◌, ◌≢◌, ◌⊎◌, ◌<◌, true, length};
+ghost use Rattle.std.specs.Prelude.{◌≡◌, ◌≢◌, ◌⊎◌, ◌<◌, ℕ, true, false};
 ghost use Rattle.topo_core.specs.Rotations.{face_next, twin};
-ghost use Rattle.topo_map.specs.Building.{AreBlank, IsListed};
+ghost use Rattle.topo_map.specs.Building.{AreBlank};
 ghost use Rattle.topo_map.specs.Labels.{AreLabels, IsPainted, IsTakenLabel};
 ghost use Rattle.topo_map.specs.Rotation.{half_limit};
 ghost use Rattle.topo_map.specs.Segments.{IsKept, IsTurned, Repaints, face_in, holds, next_in, put, without};
 
 use crate::half::Half;
-use crate::segments::{Segment, face, next, put_before, set_face, take_out};
+use crate::segments::{Segment, contains, face, limit, next, put_before, set_face, take_out};
 use slab::Slab;
 
 /// Above the numbers of all halves.
 pub(crate) const HALF_LIMIT: u64 = 4_294_967_296;
 
 /// A label for a new face, and what is unused then.
-pub(crate) fn take_label(unused: Option<u64>) -> (u64, Option<u64>)
+pub(crate) fn take_label(unused: Option<u32>) -> (u32, Option<u32>)
     ensures { IsTakenLabel unused result.0 result.1 }
 {
     match unused {
@@ -29,7 +30,7 @@ pub(crate) fn take_label(unused: Option<u64>) -> (u64, Option<u64>)
 }
 
 /// The whole face of `start` gets this label.
-pub(crate) fn paint(segments: &mut Slab<Segment>, start: Half, label: u64)
+pub(crate) fn paint(segments: &mut Slab<Segment>, start: Half, label: u32)
     requires kept { IsKept segments.old }
     requires live { holds segments.old start ≡ true }
     ensures { IsPainted segments.old segments.new start label }
@@ -83,7 +84,7 @@ fn share_label(segments: &mut Slab<Segment>, a: Half, b: Half)
 }
 
 /// The smaller of two faces gets this label.
-fn part_label(segments: &mut Slab<Segment>, a: Half, b: Half, label: u64)
+fn part_label(segments: &mut Slab<Segment>, a: Half, b: Half, label: u32)
     requires kept { IsKept segments.old }
     requires live { holds segments.old a ≡ true }
     requires live_other { holds segments.old b ≡ true }
@@ -100,10 +101,10 @@ fn part_label(segments: &mut Slab<Segment>, a: Half, b: Half, label: u64)
 /// then. Answers what is unused then.
 pub(crate) fn attach(
     segments: &mut Slab<Segment>,
-    unused: Option<u64>,
+    unused: Option<u32>,
     x: Half,
     c: Half,
-) -> Option<u64>
+) -> Option<u32>
     requires kept { IsKept segments.old }
     requires live { holds segments.old x ≡ true }
     requires live_corner { holds segments.old c ≡ true }
@@ -117,7 +118,7 @@ pub(crate) fn attach(
         let (label, rest) = take_label(unused);
         put_before(segments, x, c);
         part_label(segments, x, c, label);
-        rest
+        renew(segments, rest)
     } else {
         share_label(segments, x, c);
         put_before(segments, x, c);
@@ -127,7 +128,7 @@ pub(crate) fn attach(
 
 /// `x` becomes a point by itself, and the faces beside it are labelled as they lie then. Answers what
 /// is unused then.
-pub(crate) fn detach(segments: &mut Slab<Segment>, unused: Option<u64>, x: Half) -> Option<u64>
+pub(crate) fn detach(segments: &mut Slab<Segment>, unused: Option<u32>, x: Half) -> Option<u32>
     requires kept { IsKept segments.old }
     requires live { holds segments.old x ≡ true }
     requires labels { AreLabels segments.old unused }
@@ -140,7 +141,7 @@ pub(crate) fn detach(segments: &mut Slab<Segment>, unused: Option<u64>, x: Half)
         let after = next(segments, x);
         take_out(segments, x);
         part_label(segments, x, after, label);
-        rest
+        renew(segments, rest)
     } else {
         share_label(segments, x, other);
         take_out(segments, x);
@@ -148,23 +149,64 @@ pub(crate) fn detach(segments: &mut Slab<Segment>, unused: Option<u64>, x: Half)
     }
 }
 
-/// Each face of these halves, none of which has a label yet, gets one of its own. Answers what is
-/// unused then.
-pub(crate) fn label_faces(segments: &mut Slab<Segment>, halves: &[Half]) -> Option<u64>
-    requires kept { IsKept segments.old }
-    requires listed { IsListed (holds segments.old) halves.now }
-    requires blank { AreBlank segments.old }
+/// Whether a half is there and its face has no label.
+fn lacks_label(segments: &Slab<Segment>, half: Half) -> bool
+    ensures yes { result ≡ true → (holds segments.now half ≡ true) × (face_in segments.now half ≡ 0) }
+    ensures no { result ≡ false → holds segments.now half ≡ true → face_in segments.now half ≢ 0 }
+{
+    contains(segments, half) && face(segments, half) == 0
+}
+
+/// The face of a half has no label, if the half is there.
+fn unlabel_half(segments: &mut Slab<Segment>, half: Half)
+    ensures same { Repaints segments.old segments.new (face_in segments.new) }
+    ensures blank { holds segments.old half ≡ true → face_in segments.new half ≡ 0 }
+    ensures others { (a : ℕ) → a ≢ half → face_in segments.new a ≡ face_in segments.old a }
+{
+    if contains(segments, half) {
+        set_face(segments, half, 0);
+    }
+}
+
+/// No face has a label.
+fn unlabel(segments: &mut Slab<Segment>)
+    requires { IsKept segments.old }
+    ensures same { Repaints segments.old segments.new (face_in segments.new) }
+    ensures blank { AreBlank segments.new }
+{
+    for number in 0..limit(segments) {
+        unlabel_half(segments, Half::numbered(number as u32));
+    }
+}
+
+/// Each face gets a label of its own. Answers what is unused then.
+pub(crate) fn label_faces(segments: &mut Slab<Segment>) -> Option<u32>
+    requires { IsKept segments.old }
     ensures same { Repaints segments.old segments.new (face_in segments.new) }
     ensures labels { AreLabels segments.new result }
 {
+    unlabel(segments);
     let mut unused = Some(1);
-    for place in 0..halves.len() {
-        let half = halves[place];
-        if face(segments, half) == 0 {
+    for number in 0..limit(segments) {
+        let half = Half::numbered(number as u32);
+        if lacks_label(segments, half) {
             let (label, rest) = take_label(unused);
             paint(segments, half, label);
             unused = rest;
         }
     }
     unused
+}
+
+/// Where no label is left, all faces are labelled anew. Answers what is unused then.
+fn renew(segments: &mut Slab<Segment>, unused: Option<u32>) -> Option<u32>
+    requires kept { IsKept segments.old }
+    requires labels { AreLabels segments.old unused }
+    ensures same { Repaints segments.old segments.new (face_in segments.new) }
+    ensures labels { AreLabels segments.new result }
+{
+    match unused {
+        Some(_) => unused,
+        None => label_faces(segments),
+    }
 }

@@ -52,6 +52,13 @@ impl Half {
         Half { number: 2 * key }
     }
 
+    // The half with this number.
+    pub(crate) fn numbered(number: u32) -> Self
+        ensures { result ≡ number }
+    {
+        Half { number }
+    }
+
     // The key of the segment.
     pub(crate) fn key(self) -> usize
         ensures { result ≡ self / 2 }

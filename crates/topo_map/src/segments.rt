@@ -21,7 +21,7 @@ const MOST_SEGMENTS: usize = 2_147_483_648;
 pub(crate) struct Links {
     next: Half,
     previous: Half,
-    face: u64,
+    face: u32,
 }
 
 /// What is kept for a segment: the links of its two halves, and the label of its edge.
@@ -34,7 +34,7 @@ pub(crate) struct Segment {
 
 impl Segment {
     // Each half a point by itself.
-    fn isolated(key: u32, edge: u32, left: u64, right: u64) -> Self
+    fn isolated(key: u32, edge: u32, left: u32, right: u32) -> Self
         requires { key < 2147483648 }
         ensures { result ≡ isolated_segment key edge left right }
     {
@@ -96,7 +96,7 @@ pub(crate) fn edge(segments: &Slab<Segment>, at: Half) -> u32
 }
 
 /// The label of the face on the left of a half.
-pub(crate) fn face(segments: &Slab<Segment>, at: Half) -> u64
+pub(crate) fn face(segments: &Slab<Segment>, at: Half) -> u32
     requires { holds segments.now at ≡ true }
     ensures { result ≡ face_in segments.now at }
 {
@@ -108,7 +108,7 @@ pub(crate) fn face(segments: &Slab<Segment>, at: Half) -> u64
 }
 
 /// The face on the left of a half has this label.
-pub(crate) fn set_face(segments: &mut Slab<Segment>, at: Half, label: u64)
+pub(crate) fn set_face(segments: &mut Slab<Segment>, at: Half, label: u32)
     requires { holds segments.old at ≡ true }
     ensures { Repaints segments.old segments.new (written (face_in segments.old) at label) }
 {
@@ -185,8 +185,8 @@ pub(crate) fn take_out(segments: &mut Slab<Segment>, x: Half)
 pub(crate) fn insert_isolated(
     segments: &mut Slab<Segment>,
     edge: u32,
-    left: u64,
-    right: u64,
+    left: u32,
+    right: u32,
 ) -> Half
     requires kept { IsKept segments.old }
     requires room { 0 < room_of segments.old }

@@ -27,8 +27,6 @@ loop-place-preserved c =
     let lt : map_of c.args.turns.now k < length c.args.halves.now = subst (λ (n : ℕ). map_of c.args.turns.now k < n) (sym c.requires.same_length) (c.requires.permutation.within k lk) in
     record {
       labels = c.link.ensures.edges ∙ c.loop-place.invariant.labels;
-      faces = c.link.ensures.faces ∙ c.loop-place.invariant.faces;
-      live = c.link.ensures.live ∙ c.loop-place.invariant.live;
       joined = joined_more c.loop-place.segments c.link.new.segments c.args.halves.now c.args.turns.now k c.index-halves-place.result c.index-halves-turns.result
           c.requires.permutation c.requires.same_length lk
           (c.index-halves-place.is ∙ get_or_default_zero c.args.halves.now k _ lh)

@@ -2,11 +2,8 @@ use Rattle.std.proofs.Common.{◌≡◌, ℕ, List, sym, ◌∙◌, subst, lengt
 use Rattle.topo_map.specs.Building.{IsJoined}
 use Rattle.topo_map.specs.Rotation.{AreLabelled}
 use Rattle.topo_map.proofs.Joining.{made_from}
-use Rattle.topo_map.proofs.FaceEdits.{blank_joined, joined_painted}
+use Rattle.topo_map.proofs.FaceEdits.{joined_painted}
 use Rattle.topo_map.proofs.embedding.Embedding.from_turns.Goals as goal
-
-pub label_faces-unused-requires-clause-blank : goal.label_faces-unused-requires-clause-blank
-label_faces-unused-requires-clause-blank c = blank_joined c.isolated_halves.new.segments c.join_turns.new.segments c.in_ok-halves.ensures.blank c.join_turns.ensures.live c.join_turns.ensures.faces
 
 pub returns-clause-made : goal.returns-clause-made
 returns-clause-made c =
