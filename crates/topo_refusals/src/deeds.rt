@@ -1,5 +1,6 @@
 //! Calls of a service: each is made once more where it wants memory, and the service is printed.
 
+use crate::founds::insert_by_search;
 use crate::lists::work;
 use crate::sights::{
     CALLER, LOOKER, PLANNER, Sight, compare_planning, compare_service, show, view_of,
@@ -16,7 +17,7 @@ use topo_service::{Pass, PassFault, Service};
 use topo_versions::{Naming, Version};
 
 /// The ends of the edges that are put in: the apexes.
-const ENDS: (u32, u32) = (3, 4);
+pub(crate) const ENDS: (u32, u32) = (3, 4);
 
 /// An edge between the apexes.
 pub(crate) const JOIN: Call = Call::Insert {
@@ -127,7 +128,7 @@ fn planned<F: Asks + Drop, K: Naming<F>, R: Print + Eprint + AllocGlobal>(
 ) -> Result<Plan> {
     let mut answer = plan_with(rt, service, passes);
     if matches!(answer, Err(PassFault::Refused(Refusal::Memory))) {
-        compare_planning(rt, before, passes)?;
+        compare_planning(rt, "Pass::plan", before, passes)?;
         answer = plan_with(rt, service, passes);
     }
     match answer {
@@ -140,7 +141,7 @@ fn planned<F: Asks + Drop, K: Naming<F>, R: Print + Eprint + AllocGlobal>(
 }
 
 /// The first calls, a plan, two insertions by it of which it suits the first, the deletion of an edge that
-/// is crossed, and a list that a worker carries out.
+/// is crossed, a list that a worker carries out, and insertions by a route that was found.
 fn make_all<
     F: Asks + Drop + Send + Sync,
     K: Naming<F> + Send + Sync,
@@ -155,7 +156,8 @@ fn make_all<
     before = make(rt, service, passes, JOIN, Some(&plan), &before)?;
     before = make(rt, service, passes, JOIN, Some(&plan), &before)?;
     before = make(rt, service, passes, Call::Delete { edge: 1 }, None, &before)?;
-    work(rt, service, passes, &before)
+    work(rt, service, passes, &before)?;
+    insert_by_search(rt, service, passes)
 }
 
 /// Prints a version that was kept from before the first call on.

@@ -3,8 +3,8 @@
 //! line that begins with `changed:` is printed if something differs, and the same call is made again.
 //! So a run in which one allocation fails prints what a run with ample memory prints.
 //!
-//! Standard input is the number of allocations that are made before the first call, besides one that
-//! is always made. Standard error names each call that wants memory.
+//! Standard error names each call that wants memory. The script refuse in the repository refuses the
+//! allocations one by one.
 #![tactic(auto)]
 
 use anyhow::Result;
@@ -12,10 +12,10 @@ use std::io;
 use std::sync::Wait;
 use std::thread::Threads;
 
-mod ballast;
 mod books;
 mod changes;
 mod deeds;
+mod founds;
 mod lists;
 mod named;
 mod prices;
@@ -29,7 +29,6 @@ mod states;
 mod stores;
 mod stories;
 
-use ballast::taken;
 use changes::{Changes, change};
 use named::{BARRIER, BIPYRAMID, HEXAGON, Named};
 use seen::{loaded, read};
@@ -72,19 +71,10 @@ fn run<R: Threads + Wait + Print + Eprint + AllocGlobal + Sync>(rt: &R) -> Resul
     serve(rt)
 }
 
-/// The allocations before the first call, and then the calls.
-fn run_with_ballast<R: Threads + Wait + Input + Print + Eprint + AllocGlobal + Sync>(
-    rt: &R,
-) -> Result<usize> {
-    let ballast = taken(rt)?;
-    run(rt)?;
-    Ok(ballast.len())
-}
-
 /// Each run ends with the same status, so that any fault shows as other output.
 fn main(rt: HostRuntime) -> io::Result<()> {
-    match run_with_ballast(&rt) {
-        Ok(_) => Ok(()),
+    match run(&rt) {
+        Ok(()) => Ok(()),
         Err(error) => println!(rt; "failed: {error}"),
     }
 }

@@ -132,15 +132,16 @@ pub(crate) fn compare_service<F: Asks + Drop, K: Naming<F>, R: Print + Eprint + 
     compare_seen(rt, call, before.seen, after.seen)
 }
 
-/// The same of a plan that wants memory: the pass that plans may have seen the newest version by it.
+/// The same of a plan or a search that wants memory: the pass that plans may have seen the newest version by it.
 pub(crate) fn compare_planning<F: Asks + Drop, K: Naming<F>, R: Print + Eprint + AllocGlobal>(
     rt: &R,
+    call: &str,
     before: &Sight,
     passes: &mut [Pass<F, K>],
 ) -> Result<()> {
-    tell(rt, "Pass::plan");
+    tell(rt, call);
     let after = look(rt, passes)?;
-    compare(rt, "Pass::plan", before.text.as_str(), after.text.as_str())?;
+    compare(rt, call, before.text.as_str(), after.text.as_str())?;
     let newest = seen_by(passes, LOOKER);
     let (caller, planner) = before.seen;
     let expected = if after.seen.1 == newest {
@@ -148,5 +149,5 @@ pub(crate) fn compare_planning<F: Asks + Drop, K: Naming<F>, R: Print + Eprint +
     } else {
         planner
     };
-    compare_seen(rt, "Pass::plan", (caller, expected), after.seen)
+    compare_seen(rt, call, (caller, expected), after.seen)
 }
