@@ -239,6 +239,15 @@ module _ (rows : Rows) (u v : ℕ) (plan : Planned) where
     each (q ∷ prices) zero all = let first = lt_from_test 0 q (left_true _ _ all) in omega arith
     each (q ∷ prices) (suc kind) all = each prices kind (right_true _ _ all)
 
+  -- the heights of a plan that passes are a certificate
+  pub certificate_by_tests : Passes → IsCertificate (by_kind plan.prices) rows v height
+  certificate_by_tests passes = record {
+    even = λ d known. eq_from_test _ _ (for_each (λ d. height (face_step (system rows) d) == height d) (darts rows) passes.even d known);
+    gentle = λ d p known price. subst (λ q. height d ≤ q + height (dart_twin d)) (sym (price_is plan.prices rows d p price))
+        (le_from_test _ _ (for_each (λ d. nat_le (height d) (price_at plan.prices rows d + height (dart_twin d))) (darts rows) passes.gentle d known));
+    target = λ p c at. eq_from_test _ _ (at_place (λ c. height c == 0) (around_vertex rows v) passes.target p c at);
+  }
+
   -- a plan that passes has the first of the least routes
   pub first_by_tests : Passes → list_all (nat_lt 0) plan.prices ≡ true → IsFirst (by_kind plan.prices) rows u v planned_route cost
   first_by_tests passes above = first_by_heights (by_kind plan.prices) rows u v height certified (λ d p. positive d p above) planned_route cost (record {
@@ -252,20 +261,12 @@ module _ (rows : Rows) (u v : ℕ) (plan : Planned) where
     first_end = λ p c before at face. not_both (goes c) (before_place (λ c. not (goes c)) (around_vertex rows v) plan.end passes.first_end p c before at)
         (face_held (system rows) (face_of (system rows) (arrival plan.from plan.crossed)) (arrival plan.from plan.crossed) c passes.arrival_held face);
   }) where
-    certificate : IsCertificate (by_kind plan.prices) rows v height
-    certificate = record {
-      even = λ d known. eq_from_test _ _ (for_each (λ d. height (face_step (system rows) d) == height d) (darts rows) passes.even d known);
-      gentle = λ d p known price. subst (λ q. height d ≤ q + height (dart_twin d)) (sym (price_is plan.prices rows d p price))
-          (le_from_test _ _ (for_each (λ d. nat_le (height d) (price_at plan.prices rows d + height (dart_twin d))) (darts rows) passes.gentle d known));
-      target = λ p c at. eq_from_test _ _ (at_place (λ c. height c == 0) (around_vertex rows v) passes.target p c at);
-    }
-
     certified : Certified (by_kind plan.prices) rows u v height
     certified = record {
       closed = for_each (λ d. has_dart (darts rows) (face_step (system rows) d)) (darts rows) passes.closed;
       twins = for_each (λ d. has_dart (darts rows) (dart_twin d)) (darts rows) passes.twins;
       corners = λ p c at. at_place (has_dart (darts rows)) (around_vertex rows u) passes.corners p c at;
-      certificate = certificate;
+      certificate = certificate_by_tests passes;
     }
 
 -- ---- Where no edge has a price

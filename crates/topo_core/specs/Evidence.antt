@@ -1,5 +1,5 @@
 -- What the definitions say of the named pictures: each record is proved as the contract of a function without a body.
-use Rattle.std.specs.Prelude.{◌≡◌, ◌≤◌, ℕ, List, [], ◌∷◌, ◌++◌, map, length, sum_by, slice_index_or, Some, None, false, true}
+use Rattle.std.specs.Prelude.{◌≡◌, ℕ, List, [], ◌∷◌, ◌++◌, map, length, sum_by, slice_index, slice_index_or, Some, None, false, true}
 use Rattle.topo_core.specs.declared.darts.Dart.{Dart}
 use Rattle.topo_core.specs.declared.darts.Sign.TheVariants.{LeftToRight, RightToLeft}
 use Rattle.topo_core.specs.declared.darts.Way.TheVariants.{Forward, Back}
@@ -7,7 +7,7 @@ use Rattle.topo_core.specs.declared.routes.Route.{Route}
 use Rattle.topo_core.specs.declared.rows.Rows.{Rows}
 use Rattle.topo_core.specs.declared.limits.Limits.{Limits}
 use Rattle.topo_core.specs.declared.calls.Call.{Call}
-use Rattle.topo_core.specs.declared.calls.Call.TheVariants.{Delete, Grow, Insert}
+use Rattle.topo_core.specs.declared.calls.Call.TheVariants.{Grow, Insert}
 use Rattle.topo_core.specs.declared.calls.Command.{Command}
 use Rattle.topo_core.specs.declared.calls.Command.TheVariants.{Plain, Planned}
 use Rattle.topo_core.specs.declared.calls.Entry.{Entry}
@@ -15,10 +15,10 @@ use Rattle.topo_core.specs.declared.calls.Refusal.TheVariants.{NoVertex, SameEnd
 use Rattle.topo_core.specs.declared.calls.Reply.{Reply}
 use Rattle.topo_core.specs.declared.calls.Reply.TheVariants.{Grown, Inserted as Put, Refused}
 use Rattle.topo_core.specs.Systems.{Connected, face_step}
-use Rattle.topo_core.specs.Picture.{system, segment_count, face_count, around_vertex, edge_row}
+use Rattle.topo_core.specs.Picture.{system, segment_count, face_count, around_vertex, edge_row, index_of}
 use Rattle.topo_core.specs.Pictures.{seed, bipyramid, joined_apexes, hexagon, crossed_hexagon, barrier, passed_barrier, cross, crossing, forward, back}
 use Rattle.topo_core.specs.Lawful.{Lawful, HasGenusZero, has_good_rotations}
-use Rattle.topo_core.specs.Routes.{Pricing, IsFirst, HasNoRoute}
+use Rattle.topo_core.specs.Routes.{Pricing, IsCertificate, IsFirst, HasNoRoute}
 use Rattle.topo_core.specs.Changes.{shown, grown, without, IsCut, IsLocalCut}
 use Rattle.topo_core.specs.Insertions.{lifted}
 use Rattle.topo_core.specs.Deletions.{crossings_between, rightward, RunsOver}
@@ -52,6 +52,10 @@ by_kind prices facts n = n ≡ slice_index_or prices facts.kind 1
 -- no edge has a price
 abbrev pub no_price : Pricing
 no_price facts n = ⊥
+
+-- the height of each dart, as a list in canonical order has it
+abbrev pub by_place : Rows → List ℕ → Dart → ℕ
+by_place rows heights d = slice_index heights (index_of rows d)
 
 abbrev pub route : ℕ → List Dart → ℕ → Route
 route start crossed end = record { start = start; crossed = crossed; end = end }
@@ -104,6 +108,8 @@ pub record BipyramidEvidence : Type 0 where
   pub corners_at_4 : around_vertex bipyramid 4 ≡ forward 6 0 ∷ forward 8 0 ∷ forward 7 0 ∷ []
   -- the cheapest edge of the triangle is crossed
   pub first_by_price : IsFirst (by_kind (1 ∷ 5 ∷ 2 ∷ 9 ∷ [])) bipyramid 3 4 (route 2 (back 1 0 ∷ []) 2) 2
+  -- no route costs less than the height of the corner where it starts: 2 at the third corner of 3
+  pub certificate : IsCertificate (by_kind (1 ∷ 5 ∷ 2 ∷ 9 ∷ [])) bipyramid 4 (by_place bipyramid (0 ∷ 3 ∷ 0 ∷ 2 ∷ 0 ∷ 3 ∷ 3 ∷ 3 ∷ 3 ∷ 2 ∷ 2 ∷ 3 ∷ 0 ∷ 0 ∷ 0 ∷ 0 ∷ 0 ∷ 0 ∷ []))
   -- where all three cost the same, the first start position decides
   pub first_of_ties : IsFirst (by_kind (4 ∷ 4 ∷ 4 ∷ 4 ∷ [])) bipyramid 3 4 (route 0 (back 2 0 ∷ []) 1) 4
   -- where no edge has a price, there is no route between the apexes
@@ -234,3 +240,16 @@ pub record HistoryEvidence (wide : Limits) : Type 0 where
   -- caller 1 made one call
   pub no_more : Agrees two_callers 1 1 (Insert 0 0 0) (Refused SameEnds) → ⊥
   pub run : IsRun (by_kind []) wide seed two_lists two_callers after_two
+
+-- ---- The eight calls that make the crossed hexagon from the seed
+
+abbrev pub put : ℕ → Route → ℕ → Reply
+put id route price = Put (record { id = id; route = route; price = price })
+
+abbrev pub hexagon_calls : List Entry
+hexagon_calls = entry 0 (Grow 1 0 0) (Grown 2 1) ∷ entry 0 (Grow 2 0 0) (Grown 3 2) ∷ entry 0 (Grow 3 0 0) (Grown 4 3) ∷ entry 0 (Grow 4 0 0) (Grown 5 4)
+    ∷ entry 0 (Insert 5 0 0) (put 5 (route 0 [] 0) 0) ∷ entry 0 (Insert 0 3 0) (put 6 (route 0 [] 1) 0) ∷ entry 0 (Insert 1 4 0) (put 7 (route 0 [] 0) 0)
+    ∷ entry 0 (Insert 2 5 0) (put 8 (route 0 (back 3 0 ∷ []) 1) 1) ∷ []
+
+pub record HexagonCallsEvidence (wide : Limits) : Type 0 where
+  pub replayed : Replays (by_kind []) wide seed hexagon_calls crossed_hexagon

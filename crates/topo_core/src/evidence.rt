@@ -2,7 +2,7 @@
 //! the evidence.
 
 ghost use Rattle.std.specs.Prelude.{◌≡◌};
-ghost use Rattle.topo_core.specs.Evidence.{BarrierEvidence, BipyramidEvidence, CrossEvidence, HexagonEvidence, HistoryEvidence, JoinedApexesEvidence, RefusalEvidence, SeedEvidence, UnlawfulEvidence};
+ghost use Rattle.topo_core.specs.Evidence.{BarrierEvidence, BipyramidEvidence, CrossEvidence, HexagonCallsEvidence, HexagonEvidence, HistoryEvidence, JoinedApexesEvidence, RefusalEvidence, SeedEvidence, UnlawfulEvidence};
 
 use crate::limits::Limits;
 
@@ -56,4 +56,12 @@ pub fn history(wide: Limits)
     requires vertices { wide.vertices ≡ 65536 }
     requires edges { wide.edges ≡ 65536 }
     ensures { HistoryEvidence wide }
+{}
+
+/// The eight calls that make the hexagon with three chords from the seed, each a step.
+pub fn hexagon_calls(wide: Limits)
+    requires vertices { wide.vertices ≡ 65536 }
+    requires edges { wide.edges ≡ 65536 }
+    requires crossings { wide.crossings ≡ 1048576 }
+    ensures { HexagonCallsEvidence wide }
 {}

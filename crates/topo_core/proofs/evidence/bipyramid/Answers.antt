@@ -1,7 +1,7 @@
 use Rattle.std.proofs.Common.{[], ◌∷◌, refl}
 use Rattle.topo_core.specs.Picture.{system}
 use Rattle.topo_core.specs.Pictures.{bipyramid, forward, back}
-use Rattle.topo_core.proofs.Computed.{Planned, Passes, first_by_tests, no_route_by_tests, connected_by_tests}
+use Rattle.topo_core.proofs.Computed.{Planned, Passes, certificate_by_tests, first_by_tests, no_route_by_tests, connected_by_tests}
 use Rattle.topo_core.proofs.evidence.bipyramid.Goals as goal
 
 abbrev by_price : Planned
@@ -23,6 +23,7 @@ returns c = record {
   corners_at_3 = refl;
   corners_at_4 = refl;
   first_by_price = first_by_tests bipyramid 3 4 by_price by_price_passes refl;
+  certificate = certificate_by_tests bipyramid 3 4 by_price by_price_passes;
   first_of_ties = first_by_tests bipyramid 3 4 of_ties of_ties_passes refl;
   no_route = no_route_by_tests bipyramid 3 4 refl;
   joined = refl;

@@ -1,11 +1,11 @@
-use Rattle.std.specs.Prelude.{cond, map, nat_lt, slice_index_or, not, ◌&&◌, None, Option, Some, unwrap_or}
+use Rattle.std.specs.Prelude.{map, slice_index_or, None, Option, Some, unwrap_or}
 use Rattle.std.proofs.Common.{◌≡◌, ◌∙◌, ap, [], ◌∷◌, ℕ, zero, suc, ◌<◌, refl, sym, subst, lit≤, arith, inl, inr}
 use Rattle.topo_core.specs.declared.calls.Entry.{Entry}
 use Rattle.topo_core.specs.declared.calls.Refusal.TheVariants.{NoVertex, SameEnds}
 use Rattle.topo_core.specs.declared.calls.Reply.TheVariants.{Refused}
 use Rattle.topo_core.specs.Changes.{grown}
-use Rattle.topo_core.specs.Evidence.{by_kind, after_two, growth, insertion, refusal, two_callers, two_lists}
-use Rattle.topo_core.specs.History.{call_of, entries_of, Replays}
+use Rattle.topo_core.specs.Evidence.{after_two, insertion, refusal, two_callers, two_lists}
+use Rattle.topo_core.specs.History.{call_of, entries_of}
 use Rattle.topo_core.specs.Items.{IsIn}
 use Rattle.topo_core.specs.Pictures.{back, seed}
 use Rattle.topo_core.proofs.Computed.{first_by_tests, Passes, Planned}
