@@ -5,6 +5,7 @@ ghost use Rattle.std.specs.Arc.{arc_value};
 use crate::hint::Hint;
 use crate::next::Next;
 use crate::replicas::{Replica, Replicas};
+use crate::scratch::Scratch;
 use crate::steps::{advance, advance_alone, decide};
 use std::alloc::{AllocError, Global};
 use std::marker::Model;
@@ -14,10 +15,10 @@ use topo_core::calls::{Call, Entry, Reply};
 use topo_picture::Picture;
 use topo_price::tariff::{Asks, Tariff};
 use topo_route::plan::{Plan, PricedRoute};
-use topo_route::workspace::Workspace;
 
 /// A picture that calls change, with the picture that it began with and every answer since. What its
-/// searches write on is kept from one call to the next, so that a search writes only what it reaches.
+/// searches and the checks of plans write on is kept from one call to the next, so that a search writes
+/// only what it reaches, and a check copies nothing.
 /// Pictures that took part before are kept as well: brought up to date, one of them is the next picture,
 /// so that a call which others see at once costs its change, and not a copy.
 #[derive(Drop)]
@@ -27,7 +28,7 @@ pub struct Book<F: Asks> {
     history: Vec<Entry>,
     picture: Arc<Picture>,
     replicas: Replicas,
-    work: Workspace,
+    scratch: Scratch,
 }
 
 impl<F: Asks> Model for Book<F> {
@@ -74,14 +75,14 @@ impl<F: Asks> Book<F> {
     {
         let picture = Arc::new(alloc, start.copy(alloc)?)?;
         let replicas = Replicas::new(alloc)?;
-        let work = Workspace::new(alloc)?;
+        let scratch = Scratch::new(alloc)?;
         Ok(Book {
             tariff,
             start,
             history: Vec::new(alloc),
             picture,
             replicas,
-            work,
+            scratch,
         })
     }
 
@@ -405,7 +406,7 @@ impl<F: Asks> Book<F> {
             &self.tariff,
             call,
             hint,
-            &mut self.work,
+            &mut self.scratch,
         )?;
         let entry = Entry {
             caller,
@@ -437,7 +438,7 @@ impl<F: Asks> Book<F> {
             return self.carry_out_aside(alloc, caller, call, hint);
         };
         self.history.reserve(1)?;
-        let reply = decide(alloc, picture, &self.tariff, call, hint, &mut self.work)?;
+        let reply = decide(alloc, picture, &self.tariff, call, hint, &mut self.scratch)?;
         let entry = Entry {
             caller,
             call,

@@ -12,6 +12,7 @@ mod hint;
 mod next;
 mod replaying;
 mod replicas;
+mod scratch;
 mod steps;
 
 pub use book::Book;

@@ -9,6 +9,7 @@ ghost use Rattle.topo_book.specs.Books.{IsDue};
 ghost use Rattle.topo_book.specs.Faults.{IsFaultOf, IsIllegalAt};
 
 use crate::hint::Hint;
+use crate::scratch::Scratch;
 use crate::steps::{advance, decide};
 use std::alloc::{AllocError, Global};
 use std::error::Error;
@@ -16,7 +17,6 @@ use std::fmt;
 use topo_core::calls::Entry;
 use topo_picture::Picture;
 use topo_price::tariff::{Asks, Tariff};
-use topo_route::workspace::Workspace;
 
 /// Why a list of entries has no replay.
 #[derive(Clone, Copy, Debug, Drop, PartialEq, Eq)]
@@ -77,7 +77,7 @@ fn replay_entry<F: Asks>(
     picture: &mut Picture,
     tariff: &Tariff<F>,
     entry: &Entry,
-    work: &mut Workspace,
+    scratch: &mut Scratch,
 ) -> Result<bool, AllocError>
     requires { IsPicture picture.old.limits picture.old.rows }
     ensures due { IfOk result (λ due. MatchBool due (Step (prices_of (F.answers tariff.now)) picture.old.limits picture.old.rows entry.now.call entry.now.reply picture.new.rows)
@@ -85,7 +85,7 @@ fn replay_entry<F: Asks>(
     ensures same_limits { picture.new.limits ≡ picture.old.limits }
     ensures lawful { IsPicture picture.new.limits picture.new.rows }
 {
-    let reply = decide(alloc, picture, tariff, entry.call, Hint::Nothing, work)?;
+    let reply = decide(alloc, picture, tariff, entry.call, Hint::Nothing, scratch)?;
     if !reply.equals(&entry.reply) {
         return Ok(false);
     }
@@ -111,12 +111,12 @@ pub fn replay<F: Asks>(
         Ok(picture) => picture,
         Err(_) => return Err(ReplayFault::Memory),
     };
-    let mut work = match Workspace::new(alloc) {
-        Ok(work) => work,
+    let mut scratch = match Scratch::new(alloc) {
+        Ok(scratch) => scratch,
         Err(_) => return Err(ReplayFault::Memory),
     };
     for (index, entry) in entries.iter().enumerate() {
-        match replay_entry(alloc, &mut picture, tariff, entry, &mut work) {
+        match replay_entry(alloc, &mut picture, tariff, entry, &mut scratch) {
             Ok(true) => {}
             Ok(false) => return Err(ReplayFault::WrongReply(index)),
             Err(_) => return Err(ReplayFault::Memory),

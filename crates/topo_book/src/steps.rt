@@ -13,31 +13,33 @@ ghost use Rattle.topo_book.specs.Books.{IsDue};
 ghost use Rattle.topo_book.specs.Hints.{IsHintFor, IsTrueOf};
 
 use crate::hint::Hint;
+use crate::scratch::Scratch;
 use std::alloc::{AllocError, Global};
 use std::sync::Arc;
 use topo_core::calls::{Call, Entry, Refusal, Reply};
 use topo_core::ids::EdgeId;
 use topo_core::routes::{Inserted, Route};
+use topo_frozen::NumberLists;
 use topo_picture::Picture;
 use topo_price::tariff::{Asks, Tariff};
 use topo_route::check::check;
 use topo_route::plan::{Plan, PricedRoute};
 use topo_route::search::first_route;
-use topo_route::workspace::Workspace;
 
 /// Whether a plan has as many heights as the picture has darts. A plan of an earlier picture mostly has
-/// not, and need not be compared with a frozen picture then.
+/// not, and need not be compared with the picture then.
 fn has_height_for_each_dart(picture: &Picture, plan: &Plan) -> bool {
     plan.heights.as_slice().len() == 2 * picture.counts().segments as usize
 }
 
-/// Whether a plan between these ends passes the check on the picture.
+/// Whether a plan between these ends passes the check on the picture, of which nothing is copied: its
+/// darts are numbered in the lists.
 fn passes<F: Asks>(
-    alloc: Global,
     picture: &Picture,
     tariff: &Tariff<F>,
     ends: (u32, u32),
     plan: &Plan,
+    lists: &mut NumberLists,
 ) -> Result<bool, AllocError>
     requires u_there { ends.0 < length picture.now.rows.rotations }
     requires v_there { ends.1 < length picture.now.rows.rotations }
@@ -47,8 +49,8 @@ fn passes<F: Asks>(
     if !has_height_for_each_dart(picture, plan) {
         return Ok(false);
     }
-    let frozen = picture.freeze(alloc)?;
-    match check(&frozen, tariff, ends.0, ends.1, plan) {
+    let numbered = picture.numbered(lists)?;
+    match check(&numbered, tariff, ends.0, ends.1, plan) {
         Ok(()) => Ok(true),
         Err(_) => Ok(false),
     }
@@ -73,7 +75,7 @@ fn find_first<F: Asks>(
     u: u32,
     v: u32,
     hint: Hint,
-    work: &mut Workspace,
+    scratch: &mut Scratch,
 ) -> Result<Option<PricedRoute>, AllocError>
     requires known { IsTrueOf (prices_of (F.answers tariff.now)) picture.now.rows u v hint }
     requires u_there { u < length picture.now.rows.rotations }
@@ -86,7 +88,7 @@ fn find_first<F: Asks>(
     match hint {
         Hint::Nothing => {}
         Hint::Plan(plan) => {
-            if passes(alloc, picture, tariff, (u, v), plan)? {
+            if passes(picture, tariff, (u, v), plan, &mut scratch.lists)? {
                 return Ok(Some(route_of(alloc, &plan.route, plan.price)?));
             }
         }
@@ -94,7 +96,7 @@ fn find_first<F: Asks>(
             return Ok(Some(route_of(alloc, &first.route, first.price)?));
         }
     }
-    first_route(alloc, &picture.linked(), tariff, u, v, work)
+    first_route(alloc, &picture.linked(), tariff, u, v, &mut scratch.work)
 }
 
 /// The reply that is due to an insertion from `u` to `v`, for which what it brings along may spare the
@@ -106,7 +108,7 @@ fn decide_insertion<F: Asks>(
     ends: (u32, u32),
     kind: u32,
     hint: Hint,
-    work: &mut Workspace,
+    scratch: &mut Scratch,
 ) -> Result<Reply, AllocError>
     requires { IsTrueOf (prices_of (F.answers tariff.now)) picture.now.rows ends.0 ends.1 hint }
     ensures { IfOk result (IsDue (prices_of (F.answers tariff.now)) picture.now.limits picture.now.rows (Insert ends.0 ends.1 kind)) }
@@ -115,7 +117,7 @@ fn decide_insertion<F: Asks>(
     if let Err(why) = picture.admit(u, v, kind) {
         return Ok(Reply::Refused(why));
     }
-    let Some(first) = find_first(alloc, picture, tariff, u, v, hint, work)? else {
+    let Some(first) = find_first(alloc, picture, tariff, u, v, hint, scratch)? else {
         return Ok(Reply::Refused(Refusal::NoRoute));
     };
     match picture.admit_route(&first.route) {
@@ -137,7 +139,7 @@ pub(crate) fn decide<F: Asks>(
     tariff: &Tariff<F>,
     call: Call,
     hint: Hint,
-    work: &mut Workspace,
+    scratch: &mut Scratch,
 ) -> Result<Reply, AllocError>
     requires { IsHintFor (prices_of (F.answers tariff.now)) picture.now.rows call hint }
     ensures due { IfOk result (IsDue (prices_of (F.answers tariff.now)) picture.now.limits picture.now.rows call) }
@@ -149,7 +151,7 @@ pub(crate) fn decide<F: Asks>(
             Err(why) => Ok(Reply::Refused(why)),
         },
         Call::Insert { u, v, kind } => {
-            decide_insertion(alloc, picture, tariff, (u, v), kind, hint, work)
+            decide_insertion(alloc, picture, tariff, (u, v), kind, hint, scratch)
         }
         Call::Delete { edge } => match picture.admit_deletion(edge) {
             Ok(()) => Ok(Reply::Deleted(EdgeId::new(edge))),

@@ -7,7 +7,7 @@ use Rattle.topo_core.specs.declared.rows.Rows.{Rows}
 use Rattle.topo_core.specs.declared.rows.EdgeRow.{EdgeRow}
 use Rattle.topo_core.specs.declared.rows.CrossRow.{CrossRow}
 use Rattle.topo_core.specs.Lawful.{Lawful}
-use Rattle.topo_core.specs.Picture.{segment_count, index_of, ahead, around_vertex, around_crossing, darts, turn_images}
+use Rattle.topo_core.specs.Picture.{segment_count, index_of, ahead, around_vertex, around_crossing, turn_images}
 
 -- for each edge the number of its first dart, where n darts come before, and last the number of all
 abbrev pub begins_from : ℕ → List EdgeRow → List ℕ

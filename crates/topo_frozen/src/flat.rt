@@ -13,18 +13,30 @@ use std::alloc::{AllocError, Global};
 use topo_core::darts::Sign;
 use topo_core::rows::{CrossRow, EdgeRow, Rows};
 
-/// For each edge the number of its first dart, and last the number of all darts.
-pub fn begins_of(alloc: Global, edges: &[EdgeRow]) -> Result<Vec<u32>, AllocError>
+/// Writes for each edge the number of its first dart, and last the number of all darts, over what the
+/// list held.
+pub(crate) fn fill_begins(begins: &mut Vec<u32>, edges: &[EdgeRow]) -> Result<(), AllocError>
     requires { 2 * sum_by segment_count edges.now < 2 ^ 32 }
-    ensures { IfOk result (λ begins. begins.items ≡ begins_from 0 edges.now) }
+    ensures { OnOk result (begins.new.items ≡ begins_from 0 edges.now) }
 {
-    let mut begins = Vec::with_capacity(alloc, edges.len())?;
+    begins.clear();
+    begins.reserve(edges.len() + 1)?;
     let mut next = 0;
     for row in edges {
         begins.push(next)?;
         next += 2 * (row.crossings.as_slice().len() as u32 + 1);
     }
     begins.push(next)?;
+    Ok(())
+}
+
+/// For each edge the number of its first dart, and last the number of all darts.
+pub fn begins_of(alloc: Global, edges: &[EdgeRow]) -> Result<Vec<u32>, AllocError>
+    requires { 2 * sum_by segment_count edges.now < 2 ^ 32 }
+    ensures { IfOk result (λ begins. begins.items ≡ begins_from 0 edges.now) }
+{
+    let mut begins = Vec::new(alloc);
+    fill_begins(&mut begins, edges)?;
     Ok(begins)
 }
 
@@ -99,17 +111,18 @@ fn note_paths(ahead: &mut [u32], crossings: &[CrossRow], hints: &Hints, edges: &
     }
 }
 
-/// For each crossing the numbers of the darts ahead of it, on the crossed edge and on the newcomer.
-fn ahead_of(alloc: Global, rows: &Rows, hints: &Hints) -> Result<Vec<u32>, AllocError>
+/// Writes for each crossing the numbers of the darts ahead of it, on the crossed edge and on the
+/// newcomer, over what the list held.
+fn fill_ahead(ahead: &mut Vec<u32>, rows: &Rows, hints: &Hints) -> Result<(), AllocError>
     requires well_formed { IsWellFormed rows.now }
     requires few { 2 * sum_by segment_count rows.now.edges < 2 ^ 32 }
     requires crossings { length rows.now.crossings < 2 ^ 32 }
-    ensures { IfOk result (λ ahead. AreAhead rows.now ahead.items) }
+    ensures { OnOk result (AreAhead rows.now ahead.new.items) }
 {
     let crossings = rows.crossings.as_slice();
-    let mut ahead = vec![in alloc; 0; 2 * crossings.len()]?;
-    note_paths(&mut ahead, crossings, hints, rows.edges.as_slice());
-    Ok(ahead)
+    ahead.resize(2 * crossings.len(), 0)?;
+    note_paths(ahead, crossings, hints, rows.edges.as_slice());
+    Ok(())
 }
 
 /// The number of the dart of edge `e` that starts at its end `v`.
@@ -193,26 +206,18 @@ fn link_crossings(images: &mut [u32], rows: &Rows, ahead: &[u32])
     }
 }
 
-/// Writes the images of the turn.
-fn write_turns(
-    alloc: Global,
-    images: &mut [u32],
-    rows: &Rows,
-    begins: &[u32],
-    hints: &Hints,
-) -> Result<(), AllocError>
+/// Writes the images of the turn, from the numbers of the darts ahead of the crossings.
+fn link_points(images: &mut [u32], rows: &Rows, begins: &[u32], hints: &Hints, ahead: &[u32])
     requires well_formed { IsWellFormed rows.now }
     requires begins { begins.now ≡ begins_from 0 rows.now.edges }
-    requires few { 2 * sum_by segment_count rows.now.edges < 2 ^ 32 }
     requires vertices { length rows.now.rotations < 2 ^ 32 }
     requires crossings { length rows.now.crossings < 2 ^ 32 }
+    requires ahead { AreAhead rows.now ahead.now }
     requires room { length images.old ≡ length (darts rows.now) }
-    ensures { OnOk result (images.new ≡ turn_images rows.now) }
+    ensures { images.new ≡ turn_images rows.now }
 {
-    let ahead = ahead_of(alloc, rows, hints)?;
     link_vertices(images, rows, begins, hints);
-    link_crossings(images, rows, ahead.as_slice());
-    Ok(())
+    link_crossings(images, rows, ahead);
 }
 
 /// How many darts there are.
@@ -222,6 +227,28 @@ pub(crate) fn dart_count(rows: &Rows, begins: &[u32]) -> usize
 {
     let last = rows.edges.as_slice().len();
     begins[last] as usize
+}
+
+/// Writes the images of the turn in canonical numbers, where the darts of the edges begin as said, over
+/// what the list held. Another list is for the numbers of the darts ahead of the crossings.
+pub(crate) fn fill_turns(
+    turns: &mut Vec<u32>,
+    ahead: &mut Vec<u32>,
+    rows: &Rows,
+    begins: &[u32],
+    hints: &Hints,
+) -> Result<(), AllocError>
+    requires well_formed { IsWellFormed rows.now }
+    requires begins { begins.now ≡ begins_from 0 rows.now.edges }
+    requires few { 2 * sum_by segment_count rows.now.edges < 2 ^ 32 }
+    requires vertices { length rows.now.rotations < 2 ^ 32 }
+    requires crossings { length rows.now.crossings < 2 ^ 32 }
+    ensures { OnOk result (turns.new.items ≡ turn_images rows.now) }
+{
+    fill_ahead(ahead, rows, hints)?;
+    turns.resize(dart_count(rows, begins), 0)?;
+    link_points(turns, rows, begins, hints, ahead.as_slice());
+    Ok(())
 }
 
 /// The images of the turn in canonical numbers, where the darts of the edges begin as said.
@@ -238,9 +265,9 @@ pub fn turns_from(
     requires crossings { length rows.now.crossings < 2 ^ 32 }
     ensures { IfOk result (λ images. images.items ≡ turn_images rows.now) }
 {
-    let count = dart_count(rows, begins);
-    let mut images = vec![in alloc; 0; count]?;
-    write_turns(alloc, &mut images, rows, begins, hints)?;
+    let mut ahead = Vec::new(alloc);
+    let mut images = Vec::new(alloc);
+    fill_turns(&mut images, &mut ahead, rows, begins, hints)?;
     Ok(images)
 }
 

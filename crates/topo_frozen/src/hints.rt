@@ -155,11 +155,12 @@ fn dart_total(begins: &[u32]) -> u32 {
     }
 }
 
-/// The place of the edge of each segment, where the darts of the edges begin as said.
-pub(crate) fn segment_places(alloc: Global, begins: &[u32]) -> Result<Vec<u32>, AllocError> {
-    let mut segments = vec![in alloc; 0; (dart_total(begins) / 2) as usize]?;
-    note_segments(&mut segments, begins);
-    Ok(segments)
+/// Notes for each segment the place of its edge, where the darts of the edges begin as said, over what
+/// the list held.
+pub(crate) fn fill_segments(segments: &mut Vec<u32>, begins: &[u32]) -> Result<(), AllocError> {
+    segments.resize((dart_total(begins) / 2) as usize, 0)?;
+    note_segments(segments, begins);
+    Ok(())
 }
 
 /// Notes for each segment the place of its edge: first 1 where an edge begins behind another, and then

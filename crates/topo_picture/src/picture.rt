@@ -15,7 +15,7 @@ use topo_core::routes::Route;
 use topo_core::rows::{EdgeRow, Rows};
 use topo_frozen::by_id::edge_place;
 use topo_frozen::load::{LoadFault, first_fault};
-use topo_frozen::{Frozen, Hints};
+use topo_frozen::{Frozen, Hints, NumberLists, Numbered};
 use topo_links::linked::LinkedRows;
 use topo_links::table::Links;
 use topo_route::plan::Plan;
@@ -129,6 +129,14 @@ impl Picture {
         let rows = copy_rows(alloc, &self.rows)?;
         let hints = self.hints.copy(alloc)?;
         Frozen::new(alloc, rows, hints)
+    }
+
+    /// Its rows as they are, with their darts numbered in lists that are lent: what its frozen picture
+    /// answers, and nothing of it is copied. The lists are written anew.
+    pub fn numbered<'a>(&'a self, lists: &'a mut NumberLists) -> Result<Numbered<'a>, AllocError>
+        ensures { IfOk result (λ d. d.rows ≡ self.now.rows) }
+    {
+        Numbered::new(&self.rows, &self.hints, lists)
     }
 
     /// Its rows with the table of their half-edges, for a search that hands out no heights. It takes no

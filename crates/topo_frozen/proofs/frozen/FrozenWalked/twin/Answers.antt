@@ -1,9 +1,6 @@
-use Rattle.std.proofs.Common.{◌∙◌, sym}
-use Rattle.topo_frozen.specs.Recovering.{lawful_again}
-use Rattle.topo_route.proofs.Canonical.{canonical_below, canonical_twin}
+use Rattle.std.proofs.Common.{◌≡◌, subst}
+use Rattle.topo_route.specs.Names.{canonical, twin_name}
 use Rattle.topo_frozen.proofs.frozen.FrozenWalked.twin.Goals as goal
 
 pub returns : goal.returns
-returns c =
-    let lawful = lawful_again c.args.self.now.rows c.args.self.now.lawful in
-    c.twin_of.ensures ∙ sym (canonical_twin c.args.self.now.rows lawful c.args.dart (canonical_below c.args.self.now.rows lawful c.args.dart c.requires))
+returns c = subst (λ rows. c.twin.result ≡ twin_name (canonical rows) c.args.dart) c.as_numbered.ensures c.twin.ensures

@@ -1,7 +1,7 @@
 use Rattle.std.proofs.Common.{◌≡◌, ◌*◌, ◌++◌, drop, take, sum_by}
 use Rattle.topo_core.specs.Picture.{segment_count}
 use Rattle.topo_frozen.specs.Flats.{begins_from}
-use Rattle.topo_frozen.proofs.flat.begins_of.Given as goal
+use Rattle.topo_frozen.proofs.flat.fill_begins.Given as goal
 
 -- what is still to come goes behind what is there
 abbrev pub invariant-loop-row : goal.invariant-loop-row

@@ -7,7 +7,7 @@ use Rattle.std.proofs.lemmas.Grind.{common_steps}
 use Rattle.topo_frozen.specs.Flats.{AreAhead, notes_from, written}
 use Rattle.topo_frozen.proofs.Finding.{crossings_rise}
 use Rattle.topo_frozen.proofs.Rounds.{are_ahead, paths_known}
-use Rattle.topo_frozen.proofs.flat.ahead_of.Goals as goal
+use Rattle.topo_frozen.proofs.flat.fill_ahead.Goals as goal
 
 pub note_paths-requires-clause-rise : goal.note_paths-requires-clause-rise
 note_paths-requires-clause-rise c = crossings_rise c.args.rows.now c.as_slice-crossings.result.now c.requires.well_formed.crossings c.as_slice-crossings.ensures
@@ -20,10 +20,10 @@ note_paths-requires-clause-known c =
 
 pub returns : goal.returns
 returns c =
-    let kept : take c.in_ok-ahead.ahead.len (c.note_paths.new.ahead ++ drop (length c.note_paths.new.ahead) c.in_ok-ahead.ahead.items) ≡ c.note_paths.new.ahead = grind (arith, common_steps) in
+    let kept : take c.resize.new.self.len (c.note_paths.new.ahead ++ drop (length c.note_paths.new.ahead) c.resize.new.self.items) ≡ c.note_paths.new.ahead = grind (arith, common_steps) in
     let noted : c.note_paths.new.ahead ≡ written c.deref_mut.result.now (notes_from c.args.rows.now.crossings 0 c.args.rows.now.edges) =
     c.note_paths.ensures ∙ ap (λ xs. written c.deref_mut.result.now (notes_from xs 0 c.as_slice.result.now)) c.as_slice-crossings.ensures
     ∙ ap (λ xs. written c.deref_mut.result.now (notes_from c.args.rows.now.crossings 0 xs)) c.as_slice.ensures in
     let room : length c.deref_mut.result.now ≡ 2 * length c.args.rows.now.crossings =
-    (let a = c.deref_mut.ensures.len in let b = c.in_ok-ahead.ensures.len in let d = ap length c.as_slice-crossings.ensures in omega arith) in
+    (let a = c.deref_mut.ensures.len in let b = c.in_ok-resize.ensures.len in let d = ap length c.as_slice-crossings.ensures in omega arith) in
     subst (AreAhead c.args.rows.now) (sym (kept ∙ noted)) (are_ahead c.args.rows.now c.requires.well_formed c.deref_mut.result.now room)

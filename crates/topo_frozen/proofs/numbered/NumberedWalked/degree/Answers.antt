@@ -2,11 +2,11 @@ use Rattle.std.proofs.Common.{arith}
 use Rattle.topo_frozen.specs.Recovering.{well_formed_again}
 use Rattle.topo_frozen.proofs.RowCounts.{degree_most}
 use Rattle.topo_frozen.proofs.Verdicts.{images_total}
-use Rattle.topo_frozen.proofs.frozen.FrozenWalked.degree.Goals as goal
+use Rattle.topo_frozen.proofs.numbered.NumberedWalked.degree.Goals as goal
 
 pub overflow_cast-result : goal.overflow_cast-result
 overflow_cast-result c =
-    let most = degree_most c.self.inside.rows (well_formed_again c.self.inside.rows c.self.inside.lawful) c.self.invariant.few_vertices c.args.v in
-    let total = images_total c.self.inside.rows c.self.inside.turns.items c.self.invariant.images in
+    let most = degree_most c.self.inside.rows.now (well_formed_again c.self.inside.rows.now c.self.inside.lawful) c.self.invariant.few_vertices c.args.v in
+    let total = images_total c.self.inside.rows.now c.self.inside.lists.now.turns.items c.self.invariant.images in
     let few = c.self.invariant.few_darts in
     let is = c.degree.ensures in omega arith

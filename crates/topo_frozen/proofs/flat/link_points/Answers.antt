@@ -2,7 +2,7 @@ use Rattle.std.proofs.Common.{ap, ◌∙◌}
 use Rattle.std.specs.Prelude.{flat_map}
 use Rattle.topo_frozen.specs.Flats.{crossing_round, links, written}
 use Rattle.topo_frozen.proofs.Linking.{linked_in_turn}
-use Rattle.topo_frozen.proofs.flat.write_turns.Goals as goal
+use Rattle.topo_frozen.proofs.flat.link_points.Goals as goal
 
 pub returns : goal.returns
 returns c =
