@@ -135,11 +135,16 @@ fn no_first_route_where_the_triangle_is_closed(rt: HostRuntime) -> Result<(), Fa
     Ok(())
 }
 
-/// The picture of four parallel edges, after two growths into one corner.
+/// Two growths into one corner.
+fn grow_two(rt: &impl Abort, alloc: Global, picture: &mut Picture) {
+    assert!(rt; picture.grow(alloc, 0, 0, 0).is_ok());
+    assert!(rt; picture.grow(alloc, 0, 0, 0).is_ok());
+}
+
+/// The picture of four parallel edges, after the growths.
 fn grown(rt: &impl Abort, alloc: Global) -> Result<Picture, Fail> {
     let mut picture = picture_of(alloc, PARALLEL)?;
-    assert!(rt; picture.grow(alloc, 0, 0, 0).is_ok());
-    assert!(rt; picture.grow(alloc, 0, 0, 0).is_ok());
+    grow_two(rt, alloc, &mut picture);
     Ok(picture)
 }
 

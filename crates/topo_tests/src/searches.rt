@@ -14,6 +14,7 @@ use topo_core::listed::Listed;
 use topo_core::routes::Route;
 use topo_core::rows::Facts;
 use topo_frozen::Frozen;
+use topo_picture::Picture;
 use topo_price::asked::Asked;
 use topo_price::table::PriceTable;
 use topo_price::tariff::{Asks, Tariff};
@@ -393,12 +394,26 @@ fn no_route_where_the_triangle_is_closed(rt: HostRuntime) -> Result<(), Fail> {
     Ok(())
 }
 
-/// The picture of four parallel edges, after a growth at either end.
-fn grown(rt: &impl Abort, alloc: Global) -> Result<Frozen, Fail> {
-    let mut picture = picture_of(alloc, PARALLEL)?;
+/// Two growths at vertex 0, in different corners.
+fn grow_two(rt: &impl Abort, alloc: Global, picture: &mut Picture) {
     assert!(rt; picture.grow(alloc, 0, 0, 0).is_ok());
     assert!(rt; picture.grow(alloc, 0, 2, 0).is_ok());
-    Ok(picture.freeze(alloc)?)
+}
+
+/// The same, and the picture after them.
+fn frozen_after(
+    rt: &impl Abort,
+    alloc: Global,
+    picture: &mut Picture,
+) -> Result<Frozen, AllocError> {
+    grow_two(rt, alloc, picture);
+    picture.freeze(alloc)
+}
+
+/// The picture of four parallel edges, after the growths.
+fn grown(rt: &impl Abort, alloc: Global) -> Result<Frozen, Fail> {
+    let mut picture = picture_of(alloc, PARALLEL)?;
+    Ok(frozen_after(rt, alloc, &mut picture)?)
 }
 
 /// Between the grown vertices, at the greatest price.

@@ -18,13 +18,31 @@ fn edge_row(alloc: Global, id: u32, kind: u32) -> EdgeRow {
     }
 }
 
+/// The edges round each of three vertices.
+const ROTATIONS: &[&[u32]] = &[&[], &[4, 6], &[4, 6]];
+
+fn rotations(alloc: Global) -> Result<Listed<Listed<u32>>, AllocError> {
+    let mut lists = Vec::new(alloc);
+    for ids in ROTATIONS {
+        lists.push(Listed::from_vec(Vec::from_slice(alloc, *ids)?))?;
+    }
+    Ok(Listed::from_vec(lists))
+}
+
+fn edges(alloc: Global) -> Result<Listed<EdgeRow>, AllocError> {
+    let mut rows = Vec::new(alloc);
+    for (id, kind) in [(4, 63), (6, 64)] {
+        rows.push(edge_row(alloc, id, kind))?;
+    }
+    Ok(Listed::from_vec(rows))
+}
+
 /// Three vertices, and the edges 4 and 6 from vertex 2 to vertex 1.
 fn two_edges(alloc: Global) -> Result<Rows, AllocError> {
-    let around = Listed::from_vec(vec![in alloc; 4, 6]?);
-    let other = Listed::from_vec(vec![in alloc; 4, 6]?);
+    let rotations = rotations(alloc)?;
     Ok(Rows {
-        rotations: Listed::from_vec(vec![in alloc; Listed::new(alloc), around, other]?),
-        edges: Listed::from_vec(vec![in alloc; edge_row(alloc, 4, 63), edge_row(alloc, 6, 64)]?),
+        rotations,
+        edges: edges(alloc)?,
         crossings: Listed::new(alloc),
         next_edge: 7,
         next_crossing: 0,
