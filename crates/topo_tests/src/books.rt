@@ -2,10 +2,12 @@
 
 ghost use Rattle.topo_price.specs.Prices.{IsPromise};
 
+use crate::calls::made;
 use std::alloc::{AllocError, Global};
+use std::process::Abort;
 use std::sync::Arc;
 use std::test::Fail;
-use topo_book::{Book, ReplayFault, replay};
+use topo_book::{Book, Next, ReplayFault, replay};
 use topo_core::calls::{Call, Entry, Refusal, Reply};
 use topo_core::ids::{EdgeId, VertexId};
 use topo_core::limits::Limits;
@@ -14,14 +16,18 @@ use topo_picture::Picture;
 use topo_price::table::PriceTable;
 use topo_price::tariff::{Asks, Tariff};
 
-/// A book that begins with the seed, and has room for three vertices and three edges.
+/// The seed, with room for three vertices and three edges.
+fn seed(alloc: Global) -> Result<Picture, AllocError> {
+    Picture::seed(alloc, Limits::new(3, 3, 0).unwrap())
+}
+
+/// A book that begins with the seed.
 fn seed_book<F: Asks + Drop>(alloc: Global, ask: F) -> Result<Book<F>, AllocError>
     requires callable { F.can_ask ask }
     requires promise { IsPromise (F.answers ask) }
 {
     let tariff = Arc::new(alloc, Tariff::new(ask))?;
-    let limits = Limits::new(3, 3, 0).unwrap();
-    let start = Picture::seed(alloc, limits)?;
+    let start = seed(alloc)?;
     Book::new(alloc, start, tariff)
 }
 
@@ -35,41 +41,132 @@ fn sizes<F: Asks>(alloc: Global, book: &Book<F>) -> Result<[u32; 3], ReplayFault
     ])
 }
 
-/// The history of a growth, four refusals and another, as text, with the sizes.
-fn calls<F: Asks>(alloc: Global, book: &mut Book<F>) -> Result<String, Fail> {
-    book.grow(alloc, 3, 1, 0, 2)?;
-    book.grow(alloc, 1, 7, 0, 0)?;
-    book.grow(alloc, 1, 0, 1, 0)?;
-    book.insert(alloc, 2, 2, 2, 0)?;
-    book.insert(alloc, 2, 0, 1, 64)?;
-    book.grow(alloc, 0, 0, 0, 0)?;
-    let sizes = sizes(alloc, book);
-    Ok(format!(in alloc; "{:?} {:?}", book.history(), sizes)?)
+/// A growth, four refusals and another growth, each with its caller.
+const CALLS: &[(u32, Call)] = &[
+    (
+        3,
+        Call::Grow {
+            u: 1,
+            position: 0,
+            kind: 2,
+        },
+    ),
+    (
+        1,
+        Call::Grow {
+            u: 7,
+            position: 0,
+            kind: 0,
+        },
+    ),
+    (
+        1,
+        Call::Grow {
+            u: 0,
+            position: 1,
+            kind: 0,
+        },
+    ),
+    (
+        2,
+        Call::Insert {
+            u: 2,
+            v: 2,
+            kind: 0,
+        },
+    ),
+    (
+        2,
+        Call::Insert {
+            u: 0,
+            v: 1,
+            kind: 64,
+        },
+    ),
+    (
+        0,
+        Call::Grow {
+            u: 0,
+            position: 0,
+            kind: 0,
+        },
+    ),
+];
+
+/// The history of these calls, and the sizes.
+const TOLD: &str =
+    "[Entry { caller: 3, call: Grow { u: 1, position: 0, kind: 2 }, reply: Grown { vertex: VertexId(2), edge: EdgeId(1) } }, \
+    Entry { caller: 1, call: Grow { u: 7, position: 0, kind: 0 }, reply: Refused(NoVertex) }, \
+    Entry { caller: 1, call: Grow { u: 0, position: 1, kind: 0 }, reply: Refused(NoPosition) }, \
+    Entry { caller: 2, call: Insert { u: 2, v: 2, kind: 0 }, reply: Refused(SameEnds) }, \
+    Entry { caller: 2, call: Insert { u: 0, v: 1, kind: 64 }, reply: Refused(BadKind) }, \
+    Entry { caller: 0, call: Grow { u: 0, position: 0, kind: 0 }, reply: Refused(Full) }] Ok([2, 3, 3])";
+
+/// Makes the calls.
+fn make_all<F: Asks>(alloc: Global, book: &mut Book<F>) -> Result<(), AllocError> {
+    for (caller, call) in CALLS {
+        made(alloc, book, *caller, *call)?;
+    }
+    Ok(())
 }
 
-/// The calls of a book that begins with the seed.
-fn calls_from_seed<F: Asks + Drop>(alloc: Global, ask: F) -> Result<String, Fail>
+/// The history as text, with the sizes.
+fn text_of<F: Asks>(alloc: Global, book: &Book<F>) -> Result<String, AllocError> {
+    let sizes = sizes(alloc, book);
+    format!(in alloc; "{:?} {sizes:?}", book.history())
+}
+
+/// A text is the one that is wanted.
+fn is_told(rt: &impl Abort, told: &str, wanted: &str) {
+    assert!(rt; told == wanted, "{told}");
+}
+
+/// The book's history and its sizes are as they are to be told.
+fn tells<F: Asks>(
+    rt: &impl Abort,
+    alloc: Global,
+    book: &Book<F>,
+    wanted: &str,
+) -> Result<(), AllocError> {
+    let told = text_of(alloc, book)?;
+    is_told(rt, told.as_str(), wanted);
+    Ok(())
+}
+
+/// The calls of a book, and what is then told of it.
+fn enters_calls<F: Asks>(
+    rt: &impl Abort,
+    alloc: Global,
+    book: &mut Book<F>,
+) -> Result<(), AllocError> {
+    make_all(alloc, book)?;
+    tells(rt, alloc, book, TOLD)
+}
+
+/// The same of a book that begins with the seed.
+fn enters_calls_from_seed<F: Asks + Drop>(
+    rt: &impl Abort,
+    alloc: Global,
+    ask: F,
+) -> Result<(), AllocError>
     requires callable { F.can_ask ask }
     requires promise { IsPromise (F.answers ask) }
 {
     let mut book = seed_book(alloc, ask)?;
-    calls(alloc, &mut book)
+    enters_calls(rt, alloc, &mut book)
 }
 
 #[test]
 fn answers_are_entered_in_order_and_replayed(rt: HostRuntime) -> Result<(), Fail> {
     let table = PriceTable::new([Some(1); 64]).expect(&rt, "a table");
-    let told = calls_from_seed(rt.alloc(), |facts: &Facts| table.price(facts.kind))?;
-    assert_eq!(rt;
-        told.as_str(),
-        "[Entry { caller: 3, call: Grow { u: 1, position: 0, kind: 2 }, reply: Grown { vertex: VertexId(2), edge: EdgeId(1) } }, \
-        Entry { caller: 1, call: Grow { u: 7, position: 0, kind: 0 }, reply: Refused(NoVertex) }, \
-        Entry { caller: 1, call: Grow { u: 0, position: 1, kind: 0 }, reply: Refused(NoPosition) }, \
-        Entry { caller: 2, call: Insert { u: 2, v: 2, kind: 0 }, reply: Refused(SameEnds) }, \
-        Entry { caller: 2, call: Insert { u: 0, v: 1, kind: 64 }, reply: Refused(BadKind) }, \
-        Entry { caller: 0, call: Grow { u: 0, position: 0, kind: 0 }, reply: Refused(Full) }] Ok([2, 3, 3])"
-    );
+    enters_calls_from_seed(&rt, rt.alloc(), |facts: &Facts| table.price(facts.kind))?;
     Ok(())
+}
+
+/// What a call is made ready as, and how many entries the book has before it is entered.
+fn next_text(alloc: Global, next: &Next, entries: usize) -> Result<String, AllocError> {
+    let has_picture = next.picture().is_some();
+    format!(in alloc; "{:?} {has_picture} after {entries}", next.entry())
 }
 
 /// Makes a growth in the corner of vertex 0 ready, and enters it. The text says what it is made ready as, and
@@ -81,45 +178,77 @@ fn enter<F: Asks>(alloc: Global, book: &mut Book<F>, caller: u32) -> Result<Stri
         kind: 0,
     };
     let next = book.prepare(alloc, caller, grow)?;
-    let entries = book.history().len();
-    let entry = next.entry();
-    let has_picture = next.picture().is_some();
-    let told = format!(in alloc; "{entry:?} {has_picture} after {entries}");
+    let told = next_text(alloc, &next, book.history().len());
     book.commit(next);
     told
 }
 
+/// A growth of this caller is made ready and entered, as it is to be told.
+fn enters<F: Asks>(
+    rt: &impl Abort,
+    alloc: Global,
+    book: &mut Book<F>,
+    caller: u32,
+    wanted: &str,
+) -> Result<(), AllocError> {
+    let told = enter(alloc, book, caller)?;
+    is_told(rt, told.as_str(), wanted);
+    Ok(())
+}
+
+/// A growth and what it is told as.
+const GROWTH: &str =
+    "Entry { caller: 5, call: Grow { u: 0, position: 0, kind: 0 }, reply: Grown { vertex: VertexId(2), edge: EdgeId(1) } } true after 0";
+
+/// A refusal and what it is told as.
+const REFUSAL: &str =
+    "Entry { caller: 6, call: Grow { u: 0, position: 0, kind: 0 }, reply: Refused(Full) } false after 1";
+
 /// A growth and a refusal that are made ready and entered, and how large the book is at the end.
-fn enter_both<F: Asks>(alloc: Global, book: &mut Book<F>) -> Result<String, Fail> {
-    let first = enter(alloc, book, 5)?;
-    let second = enter(alloc, book, 6)?;
-    let entries = book.history().len();
-    let vertices = book.picture().counts().vertices;
-    Ok(format!(in alloc; "{first}, {second}; {entries}, {vertices}")?)
+fn enters_both<F: Asks>(
+    rt: &impl Abort,
+    alloc: Global,
+    book: &mut Book<F>,
+) -> Result<(), AllocError> {
+    enters(rt, alloc, book, 5, GROWTH)?;
+    enters(rt, alloc, book, 6, REFUSAL)?;
+    assert!(rt; book.history().len() == 2);
+    assert!(rt; book.picture().counts().vertices == 3);
+    Ok(())
 }
 
 /// Both of a book that begins with the seed.
-fn enter_from_seed<F: Asks + Drop>(alloc: Global, ask: F) -> Result<String, Fail>
+fn enters_both_from_seed<F: Asks + Drop>(
+    rt: &impl Abort,
+    alloc: Global,
+    ask: F,
+) -> Result<(), AllocError>
     requires callable { F.can_ask ask }
     requires promise { IsPromise (F.answers ask) }
 {
     let mut book = seed_book(alloc, ask)?;
-    enter_both(alloc, &mut book)
+    enters_both(rt, alloc, &mut book)
 }
 
 #[test]
 fn calls_are_prepared_and_committed(rt: HostRuntime) -> Result<(), Fail> {
     let table = PriceTable::new([Some(1); 64]).expect(&rt, "a table");
-    let told = enter_from_seed(rt.alloc(), |facts: &Facts| table.price(facts.kind))?;
-    assert_eq!(rt;
-        told.as_str(),
-        "Entry { caller: 5, call: Grow { u: 0, position: 0, kind: 0 }, reply: Grown { vertex: VertexId(2), edge: EdgeId(1) } } true after 0, \
-        Entry { caller: 6, call: Grow { u: 0, position: 0, kind: 0 }, reply: Refused(Full) } false after 1; 2, 3"
-    );
+    enters_both_from_seed(&rt, rt.alloc(), |facts: &Facts| table.price(facts.kind))?;
     Ok(())
 }
 
-/// The replay of the entries from the seed.
+/// How many vertices the replay of entries from a start has.
+fn size_from<F: Asks>(
+    alloc: Global,
+    start: &Picture,
+    entries: &[Entry],
+    tariff: &Tariff<F>,
+) -> Result<u32, ReplayFault> {
+    let picture = replay(alloc, start, entries, tariff)?;
+    Ok(picture.counts().vertices)
+}
+
+/// The same from the seed.
 fn replay_from_seed<F: Asks + Drop>(
     alloc: Global,
     entries: &[Entry],
@@ -129,10 +258,10 @@ fn replay_from_seed<F: Asks + Drop>(
     requires promise { IsPromise (F.answers ask) }
 {
     let tariff = Tariff::new(ask);
-    let limits = Limits::new(3, 3, 0).unwrap();
-    let start = Picture::seed(alloc, limits).map_err(|_| ReplayFault::Memory)?;
-    let picture = replay(alloc, &start, entries, &tariff)?;
-    Ok(picture.counts().vertices)
+    match seed(alloc) {
+        Ok(start) => size_from(alloc, &start, entries, &tariff),
+        Err(_) => Err(ReplayFault::Memory),
+    }
 }
 
 /// A growth in the corner of vertex 0, with the given reply.
@@ -148,45 +277,56 @@ fn growth(reply: Reply) -> Entry {
     }
 }
 
-fn grown(vertex: u32, edge: u32) -> Reply {
-    Reply::Grown {
-        vertex: VertexId::new(vertex),
-        edge: EdgeId::new(edge),
+/// The number of the grown vertex and of its edge, or why there is none.
+type Due = Result<(u32, u32), Refusal>;
+
+/// The reply that says so.
+fn reply_of(due: &Due) -> Reply {
+    match due {
+        Ok((vertex, edge)) => Reply::Grown {
+            vertex: VertexId::new(*vertex),
+            edge: EdgeId::new(*edge),
+        },
+        Err(refusal) => Reply::Refused(*refusal),
     }
+}
+
+/// Growths with these replies.
+fn growths(alloc: Global, replies: &[Due]) -> Result<Vec<Entry>, AllocError> {
+    let mut entries = Vec::new(alloc);
+    for due in replies {
+        entries.push(growth(reply_of(due)))?;
+    }
+    Ok(entries)
+}
+
+/// The replies of growths from the seed, and what their replay says.
+const LISTS: &[(&[Due], Result<u32, ReplayFault>)] = &[
+    (&[Ok((2, 1)), Err(Refusal::Full)], Ok(3)),
+    (&[Ok((2, 2))], Err(ReplayFault::WrongReply(0))),
+    (&[Ok((2, 1)), Ok((3, 2))], Err(ReplayFault::WrongReply(1))),
+    (
+        &[Ok((2, 1)), Err(Refusal::Memory)],
+        Err(ReplayFault::WrongReply(1)),
+    ),
+];
+
+/// What the replay of growths with these replies says.
+fn said(
+    alloc: Global,
+    table: &PriceTable,
+    replies: &[Due],
+) -> Result<Result<u32, ReplayFault>, Fail> {
+    let entries = growths(alloc, replies)?;
+    let ask = |facts: &Facts| table.price(facts.kind);
+    Ok(replay_from_seed(alloc, entries.as_slice(), ask))
 }
 
 #[test]
 fn the_first_wrong_reply_is_named(rt: HostRuntime) -> Result<(), Fail> {
     let table = PriceTable::new([Some(1); 64]).expect(&rt, "a table");
-    let alloc = rt.alloc();
-    let lists = [
-        (
-            vec![in alloc; growth(grown(2, 1)), growth(Reply::Refused(Refusal::Full))]?,
-            Ok(3),
-        ),
-        (
-            vec![in alloc; growth(grown(2, 2))]?,
-            Err(ReplayFault::WrongReply(0)),
-        ),
-        (
-            vec![in alloc; growth(grown(2, 1)), growth(grown(3, 2))]?,
-            Err(ReplayFault::WrongReply(1)),
-        ),
-        (
-            vec![in alloc;
-                growth(grown(2, 1)),
-                growth(Reply::Refused(Refusal::Memory)),
-            ]?,
-            Err(ReplayFault::WrongReply(1)),
-        ),
-    ];
-    for (entries, due) in lists {
-        let told = replay_from_seed(
-            alloc,
-            entries.as_slice(),
-            |facts: &Facts| table.price(facts.kind),
-        );
-        assert!(rt; told == due);
+    for (replies, due) in LISTS {
+        assert!(rt; said(rt.alloc(), &table, *replies)? == *due);
     }
     Ok(())
 }

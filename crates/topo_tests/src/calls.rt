@@ -29,12 +29,13 @@ pub(crate) fn book_of<F: Asks + Drop>(
 pub(crate) fn made<F: Asks>(
     alloc: Global,
     book: &mut Book<F>,
+    caller: u32,
     call: Call,
 ) -> Result<Reply, AllocError> {
     match call {
-        Call::Grow { u, position, kind } => book.grow(alloc, 0, u, position, kind),
-        Call::Insert { u, v, kind } => book.insert(alloc, 0, u, v, kind),
-        Call::Delete { edge } => book.delete(alloc, 0, edge),
+        Call::Grow { u, position, kind } => book.grow(alloc, caller, u, position, kind),
+        Call::Insert { u, v, kind } => book.insert(alloc, caller, u, v, kind),
+        Call::Delete { edge } => book.delete(alloc, caller, edge),
     }
 }
 

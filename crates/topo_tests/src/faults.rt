@@ -25,55 +25,68 @@ fn check_fault(rt: &impl Abort, alloc: Global, fault: &RunFault, text: &str) -> 
     Ok(())
 }
 
+/// The faults of commands that name no path, as they are printed.
+const FAULTS: &[(RunFault, &str)] = &[
+    (RunFault::Memory, "8 Memory"),
+    (RunFault::Price(PriceFault::BadPrice(7)), "10 BadPrice 7"),
+    (RunFault::BadLimits, "11 BadLimits"),
+    (RunFault::Load(LoadFault::TooMany), "20 TooMany"),
+    (RunFault::Load(LoadFault::BadPath), "21 BadPath"),
+    (RunFault::Load(LoadFault::BadCrossing), "22 BadCrossing"),
+    (RunFault::Load(LoadFault::BadRotation), "23 BadRotation"),
+    (RunFault::Load(LoadFault::NotConnected), "24 NotConnected"),
+    (RunFault::Load(LoadFault::NotPlanar), "25 NotPlanar"),
+    (RunFault::Load(LoadFault::Memory), "8 Memory"),
+    (RunFault::Script(ScriptFault::NotJson), "50 NotJson"),
+    (RunFault::Script(ScriptFault::TooLong), "51 TooLong"),
+    (
+        RunFault::Script(ScriptFault::BadShape(Path::WHOLE)),
+        "52 BadShape $",
+    ),
+    (RunFault::Script(ScriptFault::BadVersion), "53 BadVersion"),
+    (RunFault::Script(ScriptFault::Memory), "8 Memory"),
+    (RunFault::ReadFault, "55 ReadFault"),
+    (RunFault::WriteFault, "56 WriteFault"),
+    (RunFault::NoSeat, "41 NoSeat"),
+    (RunFault::Mismatch(1, 2), "40 Mismatch 1 2"),
+    (RunFault::WrongReply(17), "60 WrongReply 17"),
+    (RunFault::WrongPicture, "61 WrongPicture"),
+];
+
 #[test]
 fn faults_of_commands(rt: HostRuntime) -> Result<(), Fail> {
+    for (fault, text) in FAULTS {
+        check_fault(&rt, rt.alloc(), fault, text)?;
+        let wanted = if text.ends_with("Memory") { 3 } else { 1 };
+        assert!(rt; fault.status() == wanted);
+    }
+    Ok(())
+}
+
+/// A fault of a script that names a path is printed as this text.
+fn check_path(rt: &impl Abort, alloc: Global, fault: ScriptFault, text: &str) -> Result<(), Fail> {
+    let fault = RunFault::Script(fault);
+    check_fault(rt, alloc, &fault, text)?;
+    assert!(rt; fault.status() == 1);
+    Ok(())
+}
+
+#[test]
+fn faults_at_paths(rt: HostRuntime) -> Result<(), Fail> {
     let workers = Path::WHOLE.member(Key::Workers);
     let deep = workers.element(0).element(3).element(1);
     let sixth = deep.member(Key::Call).member(Key::NextEdge);
-    let table = [
-        (RunFault::Memory, "8 Memory"),
-        (RunFault::Price(PriceFault::BadPrice(7)), "10 BadPrice 7"),
-        (RunFault::BadLimits, "11 BadLimits"),
-        (RunFault::Load(LoadFault::TooMany), "20 TooMany"),
-        (RunFault::Load(LoadFault::BadPath), "21 BadPath"),
-        (RunFault::Load(LoadFault::BadCrossing), "22 BadCrossing"),
-        (RunFault::Load(LoadFault::BadRotation), "23 BadRotation"),
-        (RunFault::Load(LoadFault::NotConnected), "24 NotConnected"),
-        (RunFault::Load(LoadFault::NotPlanar), "25 NotPlanar"),
-        (RunFault::Load(LoadFault::Memory), "8 Memory"),
-        (RunFault::Script(ScriptFault::NotJson), "50 NotJson"),
-        (RunFault::Script(ScriptFault::TooLong), "51 TooLong"),
-        (
-            RunFault::Script(ScriptFault::BadShape(Path::WHOLE)),
-            "52 BadShape $",
-        ),
-        (
-            RunFault::Script(ScriptFault::BadShape(workers)),
-            "52 BadShape $/workers",
-        ),
-        (RunFault::Script(ScriptFault::BadVersion), "53 BadVersion"),
-        (
-            RunFault::Script(ScriptFault::BadNumber(deep)),
-            "54 BadNumber $/workers/0/3/1",
-        ),
-        (
-            RunFault::Script(ScriptFault::BadNumber(sixth)),
-            "54 BadNumber $/workers/0/3/1/call/next_edge",
-        ),
-        (RunFault::Script(ScriptFault::Memory), "8 Memory"),
-        (RunFault::ReadFault, "55 ReadFault"),
-        (RunFault::WriteFault, "56 WriteFault"),
-        (RunFault::NoSeat, "41 NoSeat"),
-        (RunFault::Mismatch(1, 2), "40 Mismatch 1 2"),
-        (RunFault::WrongReply(17), "60 WrongReply 17"),
-        (RunFault::WrongPicture, "61 WrongPicture"),
-    ];
-    for (fault, text) in &table {
-        check_fault(&rt, rt.alloc(), fault, text)?;
-        let wanted = if text.ends_with("Memory") { 3 } else { 1 };
-        assert_eq!(rt; fault.status(), wanted);
-    }
-    Ok(())
+    let shape = ScriptFault::BadShape(workers);
+    check_path(&rt, rt.alloc(), shape, "52 BadShape $/workers")?;
+    let number = ScriptFault::BadNumber(deep);
+    check_path(&rt, rt.alloc(), number, "54 BadNumber $/workers/0/3/1")?;
+    let number = ScriptFault::BadNumber(sixth);
+    check_path(
+        &rt,
+        rt.alloc(),
+        number,
+        "54 BadNumber $/workers/0/3/1/call/next_edge",
+    )
 }
 
 #[test]

@@ -4,13 +4,17 @@ ghost use Rattle.std.specs.Prelude.{◌≢◌, ◌<◌, IsTrue, length};
 ghost use Rattle.topo_price.specs.Prices.{IsPromise};
 
 use crate::pictures::{BARRIER, BIPYRAMID, JOINED, PARALLEL, SEED, picture_of};
-use crate::searches::{APEXES, Answer, FIVE_TWO_NINE, Question, ROUTES, dart, table_of};
+use crate::searches::{
+    APEXES, Answer, FIVE_TWO_NINE, Question, ROUTES, are_ends as are_ends_of, dart, table_of,
+};
 use std::alloc::{AllocError, Global};
-use std::cell::Cell;
 use std::process::Abort;
+use std::sync::atomic::{AtomicU32, Ordering};
 use std::test::Fail;
 use topo_core::rows::Facts;
+use topo_frozen::Frozen;
 use topo_picture::Picture;
+use topo_price::table::PriceTable;
 use topo_price::tariff::{Asks, Tariff};
 use topo_route::plan::{Plan, PricedRoute};
 use topo_route::search::{first_route, search};
@@ -43,6 +47,19 @@ fn routed<F: Asks + Drop>(
     first_route(alloc, &picture.linked(), &Tariff::new(ask), u, v, work)
 }
 
+/// The same with the prices of a table.
+fn route_at(
+    rt: &impl Abort,
+    alloc: Global,
+    picture: &Picture,
+    table: &PriceTable,
+    ends: (u32, u32),
+    work: &mut Workspace,
+) -> Result<Option<PricedRoute>, AllocError> {
+    let ask = |facts: &Facts| table.price(facts.kind);
+    routed(rt, alloc, picture, ask, ends, work)
+}
+
 /// Whether a route is that of the answer, and its price.
 fn is_route(found: &PricedRoute, answer: &Answer) -> bool {
     let crossed = found.route.crossed.as_slice();
@@ -56,66 +73,117 @@ fn is_route(found: &PricedRoute, answer: &Answer) -> bool {
             .all(|(had, (edge, seg, way))| *had == dart(*edge, *seg, *way))
 }
 
+/// The first route on a picture is the answer.
+fn is_found(
+    rt: &impl Abort,
+    alloc: Global,
+    picture: &Picture,
+    question: &Question,
+    answer: &Answer,
+    work: &mut Workspace,
+) -> Result<(), Fail> {
+    let table = table_of(rt, question.rest, question.entries);
+    let found = route_at(rt, alloc, picture, &table, question.ends, work)?.ok_or("a route")?;
+    assert!(rt; is_route(&found, answer), "{:?}: {found:?}", question.ends);
+    Ok(())
+}
+
+/// The same on the picture of the question.
+fn is_answered(
+    rt: &impl Abort,
+    alloc: Global,
+    question: &Question,
+    answer: &Answer,
+    work: &mut Workspace,
+) -> Result<(), Fail> {
+    let picture = picture_of(alloc, question.picture)?;
+    is_found(rt, alloc, &picture, question, answer, work)
+}
+
+/// The first route of each question.
+fn are_answered(rt: &impl Abort, alloc: Global, work: &mut Workspace) -> Result<(), Fail> {
+    for (question, answer) in ROUTES {
+        is_answered(rt, alloc, question, answer, work)?;
+    }
+    Ok(())
+}
+
 #[test]
 fn first_routes_are_those_of_searches(rt: HostRuntime) -> Result<(), Fail> {
     let mut work = Workspace::new(rt.alloc())?;
-    for (at, (question, answer)) in ROUTES.iter().enumerate() {
-        let picture = picture_of(rt.alloc(), question.picture)?;
-        let table = table_of(&rt, question.rest, question.entries);
-        let found = routed(
-            &rt,
-            rt.alloc(),
-            &picture,
-            |facts: &Facts| table.price(facts.kind),
-            question.ends,
-            &mut work,
-        )?
-        .ok_or("a route")?;
-        assert!(rt; is_route(&found, answer), "line {at}: {found:?}");
-    }
-    Ok(())
+    are_answered(&rt, rt.alloc(), &mut work)
+}
+
+/// Whether there is a route on a picture with the prices of a table.
+fn has_route(
+    rt: &impl Abort,
+    alloc: Global,
+    picture: &Picture,
+    table: &PriceTable,
+    ends: (u32, u32),
+) -> Result<bool, AllocError> {
+    let mut work = Workspace::new(alloc)?;
+    let found = route_at(rt, alloc, picture, table, ends, &mut work)?;
+    Ok(found.is_some())
 }
 
 #[test]
 fn no_first_route_where_the_triangle_is_closed(rt: HostRuntime) -> Result<(), Fail> {
     let picture = picture_of(rt.alloc(), BIPYRAMID)?;
     let table = table_of(&rt, Some(1), &[(1, None), (2, None), (3, None)]);
-    let mut work = Workspace::new(rt.alloc())?;
-    let found = routed(
-        &rt,
-        rt.alloc(),
-        &picture,
-        |facts: &Facts| table.price(facts.kind),
-        APEXES,
-        &mut work,
-    )?;
-    assert!(rt; found.is_none());
+    assert!(rt; !has_route(&rt, rt.alloc(), &picture, &table, APEXES)?);
+    Ok(())
+}
+
+/// Two growths into one corner.
+fn grow_two(rt: &impl Abort, alloc: Global, picture: &mut Picture) {
+    assert!(rt; picture.grow(alloc, 0, 0, 0).is_ok());
+    assert!(rt; picture.grow(alloc, 0, 0, 0).is_ok());
+}
+
+/// The picture of four parallel edges, after the growths.
+fn grown(rt: &impl Abort, alloc: Global) -> Result<Picture, Fail> {
+    let mut picture = picture_of(alloc, PARALLEL)?;
+    grow_two(rt, alloc, &mut picture);
+    Ok(picture)
+}
+
+/// The first route between the grown vertices, with its questions counted.
+fn route_counted(
+    rt: &impl Abort,
+    alloc: Global,
+    picture: &Picture,
+    asked: &AtomicU32,
+    work: &mut Workspace,
+) -> Result<Option<PricedRoute>, AllocError> {
+    let ask = |_facts: &Facts| {
+        let _ = asked.fetch_add(1, Ordering::SeqCst);
+        Some(7)
+    };
+    routed(rt, alloc, picture, ask, (2, 3), work)
+}
+
+/// The route crosses nothing, and few prices are asked for.
+fn asks_little(
+    rt: &impl Abort,
+    alloc: Global,
+    picture: &Picture,
+    work: &mut Workspace,
+) -> Result<(), Fail> {
+    let asked = AtomicU32::new(0);
+    let found = route_counted(rt, alloc, picture, &asked, work)?.ok_or("a route")?;
+    assert!(rt; found.price == 0);
+    assert!(rt; found.route.crossed.as_slice().is_empty());
+    let asked = asked.load(Ordering::SeqCst);
+    assert!(rt; asked < 7, "{asked}");
     Ok(())
 }
 
 #[test]
 fn a_near_end_asks_little(rt: HostRuntime) -> Result<(), Fail> {
-    let mut picture = picture_of(rt.alloc(), PARALLEL)?;
-    assert!(rt; picture.grow(rt.alloc(), 0, 0, 0).is_ok());
-    assert!(rt; picture.grow(rt.alloc(), 0, 0, 0).is_ok());
-    let asked = Cell::new(0u32);
+    let picture = grown(&rt, rt.alloc())?;
     let mut work = Workspace::new(rt.alloc())?;
-    let found = routed(
-        &rt,
-        rt.alloc(),
-        &picture,
-        |_facts: &Facts| {
-            asked.set(asked.get().wrapping_add(1));
-            Some(7)
-        },
-        (2, 3),
-        &mut work,
-    )?
-    .ok_or("a route")?;
-    assert_eq!(rt; found.price, 0);
-    assert!(rt; found.route.crossed.as_slice().is_empty());
-    assert!(rt; asked.get() < 7, "{}", asked.get());
-    Ok(())
+    asks_little(&rt, rt.alloc(), &picture, &mut work)
 }
 
 /// Whether a search on a kept workspace and one from nothing found the same: the same route at the same
@@ -131,6 +199,34 @@ fn is_same(found: &Option<PricedRoute>, plan: &Option<Plan>) -> bool {
         (None, None) => true,
         _ => false,
     }
+}
+
+/// Whether a search from nothing finds what was found.
+fn is_planned<F: Asks>(
+    rt: &impl Abort,
+    alloc: Global,
+    frozen: &Frozen,
+    tariff: &Tariff<F>,
+    ends: (u32, u32),
+    found: &Option<PricedRoute>,
+) -> Result<bool, AllocError> {
+    let (u, v) = ends;
+    assert!(rt; are_ends_of(frozen, u, v));
+    let plan = search(alloc, frozen, tariff, u, v)?;
+    Ok(is_same(found, &plan))
+}
+
+/// The same of a picture.
+fn is_planned_on<F: Asks>(
+    rt: &impl Abort,
+    alloc: Global,
+    picture: &Picture,
+    tariff: &Tariff<F>,
+    ends: (u32, u32),
+    found: &Option<PricedRoute>,
+) -> Result<bool, AllocError> {
+    let frozen = picture.freeze(alloc)?;
+    is_planned(rt, alloc, &frozen, tariff, ends, found)
 }
 
 /// Whether a search on a workspace that is kept finds what a search from nothing finds.
@@ -149,8 +245,7 @@ fn agrees<F: Asks + Drop>(
     assert!(rt; are_ends(picture, u, v));
     let tariff = Tariff::new(ask);
     let found = first_route(alloc, &picture.linked(), &tariff, u, v, work)?;
-    let plan = search(alloc, &picture.freeze(alloc)?, &tariff, u, v)?;
-    Ok(is_same(&found, &plan))
+    is_planned_on(rt, alloc, picture, &tariff, ends, &found)
 }
 
 /// Searches in a row: on larger and smaller pictures, with a route and without.
@@ -205,21 +300,31 @@ const IN_A_ROW: &[Question] = &[
     },
 ];
 
+/// Both searches of a question agree.
+fn is_agreed(
+    rt: &impl Abort,
+    alloc: Global,
+    question: &Question,
+    work: &mut Workspace,
+) -> Result<(), Fail> {
+    let picture = picture_of(alloc, question.picture)?;
+    let table = table_of(rt, question.rest, question.entries);
+    let ask = |facts: &Facts| table.price(facts.kind);
+    let same = agrees(rt, alloc, &picture, ask, question.ends, work)?;
+    assert!(rt; same, "{:?}", question.ends);
+    Ok(())
+}
+
+/// Both searches of all questions agree, there and back.
+fn are_agreed(rt: &impl Abort, alloc: Global, work: &mut Workspace) -> Result<(), Fail> {
+    for question in IN_A_ROW.iter().chain(IN_A_ROW.iter().rev()) {
+        is_agreed(rt, alloc, question, work)?;
+    }
+    Ok(())
+}
+
 #[test]
 fn what_an_earlier_search_left_does_not_matter(rt: HostRuntime) -> Result<(), Fail> {
     let mut work = Workspace::new(rt.alloc())?;
-    for question in IN_A_ROW.iter().chain(IN_A_ROW.iter().rev()) {
-        let picture = picture_of(rt.alloc(), question.picture)?;
-        let table = table_of(&rt, question.rest, question.entries);
-        let same = agrees(
-            &rt,
-            rt.alloc(),
-            &picture,
-            |facts: &Facts| table.price(facts.kind),
-            question.ends,
-            &mut work,
-        )?;
-        assert!(rt; same, "{:?}", question.ends);
-    }
-    Ok(())
+    are_agreed(&rt, rt.alloc(), &mut work)
 }

@@ -5,7 +5,7 @@ ghost use Rattle.topo_price.specs.Prices.{IsPromise};
 use crate::calls::{book_of, made};
 use crate::pictures::SEED;
 use crate::searches::table_of;
-use crate::seen_rows::{falls_apart, is_loaded_again};
+use crate::seen_rows::{falls_apart, is_loaded_again, shows};
 use std::alloc::{AllocError, Global};
 use std::process::Abort;
 use std::test::Fail;
@@ -64,17 +64,34 @@ pub(crate) fn next_call(numbers: &mut Numbers, vertices: u32, edges: u32) -> Cal
     }
 }
 
+/// The ids that the next edge and the next crossing of a picture get.
+pub(crate) fn next_ids(alloc: Global, picture: &Picture) -> Result<(u32, u32), AllocError> {
+    let rows = picture.rows(alloc)?;
+    Ok((rows.next_edge, rows.next_crossing))
+}
+
+/// Whether an edge can be taken out, and these rows are left.
+fn is_deleted(
+    alloc: Global,
+    picture: &mut Picture,
+    edge: u32,
+    wanted: &Rows,
+) -> Result<bool, AllocError> {
+    let deleted = picture.delete(alloc, edge).is_ok();
+    Ok(shows(alloc, picture, wanted)? && deleted)
+}
+
 /// Whether the rows are those from before an insertion once its edge is taken out of a copy, but for
 /// the ids that are used.
-fn is_taken_back(alloc: Global, picture: &Picture, edge: u32, before: Rows) -> Result<bool, Fail> {
-    let mut wanted = before;
-    let now = picture.rows(alloc)?;
-    wanted.next_edge = now.next_edge;
-    wanted.next_crossing = now.next_crossing;
+fn is_taken_back(
+    alloc: Global,
+    picture: &Picture,
+    edge: u32,
+    before: &mut Rows,
+) -> Result<bool, AllocError> {
+    (before.next_edge, before.next_crossing) = next_ids(alloc, picture)?;
     let mut copy = picture.copy(alloc)?;
-    let deleted = copy.delete(alloc, edge).is_ok();
-    let left = copy.rows(alloc)?;
-    Ok(deleted && left.equals(&wanted))
+    is_deleted(alloc, &mut copy, edge, before)
 }
 
 /// Whether the picture is what the reply says, where that is seen without knowing the routes. A cut is
@@ -84,21 +101,50 @@ fn is_meant(
     picture: &Picture,
     call: Call,
     reply: &Reply,
-    before: Rows,
+    before: &mut Rows,
 ) -> Result<bool, Fail> {
-    if let (Call::Delete { edge }, Reply::Refused(Refusal::Cut(_))) = (call, reply) {
-        if !falls_apart(alloc, picture.limits(), &before, edge)? {
-            return Ok(false);
+    match (call, reply) {
+        (_, Reply::Inserted(made)) => {
+            Ok(is_taken_back(alloc, picture, made.id.number(), before)?)
         }
-    }
-    match reply {
-        Reply::Inserted(made) => is_taken_back(alloc, picture, made.id.number(), before),
-        Reply::Refused(_) => {
-            let now = picture.rows(alloc)?;
-            Ok(now.equals(&before))
+        (Call::Delete { edge }, Reply::Refused(Refusal::Cut(_))) => {
+            let falls = falls_apart(alloc, picture.limits(), before, edge)?;
+            Ok(shows(alloc, picture, before)? && falls)
         }
+        (_, Reply::Refused(_)) => Ok(shows(alloc, picture, before)?),
         _ => Ok(true),
     }
+}
+
+/// The picture that a call left is lawful, and is what its reply says.
+fn is_right(
+    rt: &impl Abort,
+    alloc: Global,
+    picture: &Picture,
+    call: Call,
+    reply: &Reply,
+    before: &mut Rows,
+) -> Result<(), Fail> {
+    assert!(rt; is_loaded_again(alloc, picture)?, "{call:?}: {reply:?}");
+    assert!(rt;
+        is_meant(alloc, picture, call, reply, before)?,
+        "{call:?}: {reply:?}"
+    );
+    Ok(())
+}
+
+/// Makes one call on a picture that shows these rows, and looks at what comes of it.
+fn go_on_from<F: Asks>(
+    rt: &impl Abort,
+    alloc: Global,
+    book: &mut Book<F>,
+    numbers: &mut Numbers,
+    before: &mut Rows,
+) -> Result<(), Fail> {
+    let vertices = book.picture().counts().vertices;
+    let call = next_call(numbers, vertices, before.next_edge);
+    let reply = made(alloc, book, 0, call)?;
+    is_right(rt, alloc, book.picture(), call, &reply, before)
 }
 
 /// Makes one call, and looks at what comes of it.
@@ -108,17 +154,8 @@ fn go_on<F: Asks>(
     book: &mut Book<F>,
     numbers: &mut Numbers,
 ) -> Result<(), Fail> {
-    let before = book.picture().rows(alloc)?;
-    let vertices = book.picture().counts().vertices;
-    let call = next_call(numbers, vertices, before.next_edge);
-    let reply = made(alloc, book, call)?;
-    assert!(rt;
-        is_loaded_again(alloc, book.picture())?,
-        "{call:?}: {reply:?}"
-    );
-    let meant = is_meant(alloc, book.picture(), call, &reply, before)?;
-    assert!(rt; meant, "{call:?}: {reply:?}");
-    Ok(())
+    let mut before = book.picture().rows(alloc)?;
+    go_on_from(rt, alloc, book, numbers, &mut before)
 }
 
 /// Whether a reply is of the sort with this number: grown, put in across no edge, put in across some,
@@ -154,32 +191,62 @@ fn copies_of(alloc: Global, entries: &[Entry]) -> Result<Listed<Entry>, AllocErr
     Ok(Listed::from_vec(copies))
 }
 
-/// The text of the report that a book is.
-fn text_of<F: Asks>(alloc: Global, book: &Book<F>) -> Result<String, Fail> {
-    let limits = book.start().limits();
-    let start = book.start().rows(alloc)?;
-    let picture = book.picture().rows(alloc)?;
-    let made = Report {
-        limits: LimitRows {
-            vertices: limits.vertices,
-            edges: limits.edges,
-            crossings: limits.crossings,
-        },
+/// The limits of a picture.
+fn limits_of(picture: &Picture) -> LimitRows {
+    let limits = picture.limits();
+    LimitRows {
+        vertices: limits.vertices,
+        edges: limits.edges,
+        crossings: limits.crossings,
+    }
+}
+
+/// The report that a book is, of which the first and the last picture are read off.
+fn report_between<F: Asks>(
+    alloc: Global,
+    book: &Book<F>,
+    start: Rows,
+    picture: Rows,
+) -> Result<Report, AllocError> {
+    Ok(Report {
+        limits: limits_of(book.start()),
         prices: Listed::from_vec(Vec::from_slice(alloc, &PRICES)?),
         start,
         history: copies_of(alloc, book.history())?,
         picture,
-    };
-    Ok(report(alloc, &made)?)
+    })
 }
 
-/// The replay of a book's history is its picture, in which no vertex is missing.
+/// The report that a book is.
+fn report_of<F: Asks>(alloc: Global, book: &Book<F>) -> Result<Report, AllocError> {
+    let start = book.start().rows(alloc)?;
+    let picture = book.picture().rows(alloc)?;
+    report_between(alloc, book, start, picture)
+}
+
+/// The text of that report.
+fn text_of<F: Asks>(alloc: Global, book: &Book<F>) -> Result<String, AllocError> {
+    let made = report_of(alloc, book)?;
+    report(alloc, &made)
+}
+
+/// A picture is like another, in which no vertex is missing.
+fn is_alike(
+    rt: &impl Abort,
+    alloc: Global,
+    picture: &Picture,
+    wanted: &Picture,
+) -> Result<(), AllocError> {
+    let rows = wanted.rows(alloc)?;
+    assert!(rt; shows(alloc, picture, &rows)?);
+    assert!(rt; picture.counts().vertices == 40);
+    Ok(())
+}
+
+/// The replay of a book's history is its picture.
 fn is_replayed<F: Asks>(rt: &impl Abort, alloc: Global, book: &Book<F>) -> Result<(), Fail> {
     let again = replay(alloc, book.start(), book.history(), book.tariff())?;
-    let rows = book.picture().rows(alloc)?;
-    let replayed = again.rows(alloc)?;
-    assert!(rt; replayed.equals(&rows));
-    assert_eq!(rt; again.counts().vertices, 40);
+    is_alike(rt, alloc, &again, book.picture())?;
     Ok(())
 }
 
@@ -191,7 +258,22 @@ fn has_each_sort(rt: &impl Abort, history: &[Entry]) {
     }
 }
 
-/// The report that a book is passes the command `replay`, which counts its calls.
+/// The line that counts calls was written.
+fn is_line(rt: &impl Abort, alloc: Global, written: &[u8], calls: u32) -> Result<(), AllocError> {
+    let wanted = format!(in alloc; "replayed {calls} calls\n")?;
+    assert!(rt; written == wanted.as_bytes());
+    Ok(())
+}
+
+/// A report passes the command `replay`, which counts its calls.
+fn passes(rt: &impl Abort, alloc: Global, text: &str, calls: u32) -> Result<(), Fail> {
+    let mut written: Vec<u8> = Vec::new(alloc);
+    replay_io(alloc, &mut text.as_bytes(), &mut written)?;
+    is_line(rt, alloc, written.as_slice(), calls)?;
+    Ok(())
+}
+
+/// The report that a book is passes.
 fn is_reported<F: Asks>(
     rt: &impl Abort,
     alloc: Global,
@@ -199,12 +281,7 @@ fn is_reported<F: Asks>(
     calls: u32,
 ) -> Result<(), Fail> {
     let text = text_of(alloc, book)?;
-    let mut written: Vec<u8> = Vec::new(alloc);
-    let mut reader = text.as_bytes();
-    replay_io(alloc, &mut reader, &mut written)?;
-    let wanted = format!(in alloc; "replayed {calls} calls\n")?;
-    assert!(rt; written.as_slice() == wanted.as_bytes());
-    Ok(())
+    passes(rt, alloc, text.as_str(), calls)
 }
 
 /// A run of calls, its replay, and the replay of its report.

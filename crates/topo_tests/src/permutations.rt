@@ -6,8 +6,8 @@ use topo_perm::{Euler, cycles, is_connected, same_cycle};
 
 #[test]
 fn counts_cycles(rt: HostRuntime) -> Result<(), Fail> {
-    assert_eq!(rt; cycles(rt.alloc(), &[])?, 0);
-    assert_eq!(rt; cycles(rt.alloc(), &[1, 2, 0, 4, 3])?, 2);
+    assert!(rt; cycles(rt.alloc(), &[])? == 0);
+    assert!(rt; cycles(rt.alloc(), &[1, 2, 0, 4, 3])? == 2);
     Ok(())
 }
 
@@ -19,15 +19,20 @@ fn tells_cycles_apart(rt: HostRuntime) {
 }
 
 #[test]
-fn exchanges_images(rt: HostRuntime) -> Result<(), Fail> {
+fn exchanges_images_of_two_cycles(rt: HostRuntime) -> Result<(), Fail> {
     let mut images = [1, 2, 0, 4, 3];
     exchange(&mut images, 0, 3);
-    assert_eq!(rt; images, [4, 2, 0, 1, 3]);
-    assert_eq!(rt; cycles(rt.alloc(), &images)?, 1);
+    assert!(rt; images == [4, 2, 0, 1, 3]);
+    assert!(rt; cycles(rt.alloc(), &images)? == 1);
+    Ok(())
+}
+
+#[test]
+fn exchanges_images_of_one_cycle(rt: HostRuntime) -> Result<(), Fail> {
     let mut images = [1, 2, 0, 4, 3];
     exchange(&mut images, 0, 1);
-    assert_eq!(rt; images, [2, 1, 0, 4, 3]);
-    assert_eq!(rt; cycles(rt.alloc(), &images)?, 3);
+    assert!(rt; images == [2, 1, 0, 4, 3]);
+    assert!(rt; cycles(rt.alloc(), &images)? == 3);
     Ok(())
 }
 
@@ -35,8 +40,8 @@ fn exchanges_images(rt: HostRuntime) -> Result<(), Fail> {
 fn bypasses_points(rt: HostRuntime) -> Result<(), Fail> {
     let mut images = [1, 2, 0, 4, 3];
     bypass(&mut images, 0);
-    assert_eq!(rt; images, [0, 2, 1, 4, 3]);
-    assert_eq!(rt; cycles(rt.alloc(), &images)?, 3);
+    assert!(rt; images == [0, 2, 1, 4, 3]);
+    assert!(rt; cycles(rt.alloc(), &images)? == 3);
     Ok(())
 }
 
@@ -48,47 +53,21 @@ fn tells_connected_systems(rt: HostRuntime) -> Result<(), Fail> {
     Ok(())
 }
 
+/// These numbers of a rotation system.
+fn numbers(points: u64, segments: u64, faces: u64, components: u64) -> Euler {
+    Euler {
+        points,
+        segments,
+        faces,
+        components,
+    }
+}
+
 #[test]
 fn counts_rotation_systems(rt: HostRuntime) -> Result<(), Fail> {
-    let numbers = euler(rt.alloc(), &[])?;
-    assert_eq!(rt;
-        numbers,
-        Euler {
-            points: 0,
-            segments: 0,
-            faces: 0,
-            components: 0
-        }
-    );
-    let numbers = euler(rt.alloc(), &[0, 1])?;
-    assert_eq!(rt;
-        numbers,
-        Euler {
-            points: 2,
-            segments: 1,
-            faces: 1,
-            components: 1
-        }
-    );
-    let numbers = euler(rt.alloc(), &[0, 1, 2, 3])?;
-    assert_eq!(rt;
-        numbers,
-        Euler {
-            points: 4,
-            segments: 2,
-            faces: 2,
-            components: 2
-        }
-    );
-    let numbers = euler(rt.alloc(), &[2, 3, 1, 0])?;
-    assert_eq!(rt;
-        numbers,
-        Euler {
-            points: 1,
-            segments: 2,
-            faces: 1,
-            components: 1
-        }
-    );
+    assert!(rt; euler(rt.alloc(), &[])? == numbers(0, 0, 0, 0));
+    assert!(rt; euler(rt.alloc(), &[0, 1])? == numbers(2, 1, 1, 1));
+    assert!(rt; euler(rt.alloc(), &[0, 1, 2, 3])? == numbers(4, 2, 2, 2));
+    assert!(rt; euler(rt.alloc(), &[2, 3, 1, 0])? == numbers(1, 2, 1, 1));
     Ok(())
 }

@@ -7,14 +7,15 @@ use crate::calls::book_of;
 use crate::pictures::{BIPYRAMID, WIDE};
 use crate::searches::{FIVE_TWO_NINE, LEAST, dart, invented, table_of};
 use std::alloc::{AllocError, Global};
-use std::cell::Cell;
 use std::process::Abort;
+use std::sync::atomic::{AtomicU32, Ordering};
 use std::test::Fail;
 use topo_book::Book;
 use topo_core::calls::Reply;
 use topo_core::darts::Way;
 use topo_core::rows::Facts;
 use topo_frozen::Frozen;
+use topo_price::table::PriceTable;
 use topo_price::tariff::Asks;
 use topo_route::check::check;
 use topo_route::plan::Plan;
@@ -60,22 +61,49 @@ fn joined<F: Asks>(alloc: Global, book: &mut Book<F>, plan: &Plan) -> Result<Rep
     Ok(book.insert_planned(alloc, 0, 3, 4, 0, plan)?)
 }
 
+/// The reply to it takes the first route.
+fn takes_first<F: Asks>(
+    rt: &impl Abort,
+    alloc: Global,
+    book: &mut Book<F>,
+    plan: &Plan,
+) -> Result<(), Fail> {
+    let reply = joined(alloc, book, plan)?;
+    assert!(rt; is_first(&reply), "{reply:?}");
+    Ok(())
+}
+
 /// The same of a book that begins with the bipyramid.
-fn replied<F: Asks + Drop>(alloc: Global, ask: F, plan: &Plan) -> Result<Reply, Fail>
+fn takes_first_from_start<F: Asks + Drop>(
+    rt: &impl Abort,
+    alloc: Global,
+    ask: F,
+    plan: &Plan,
+) -> Result<(), Fail>
     requires callable { F.can_ask ask }
     requires promise { IsPromise (F.answers ask) }
 {
     let mut book = book_of(alloc, BIPYRAMID, WIDE, ask)?;
-    joined(alloc, &mut book, plan)
+    takes_first(rt, alloc, &mut book, plan)
+}
+
+/// The same by the plan with this route and these heights.
+fn takes_first_by(
+    rt: &impl Abort,
+    alloc: Global,
+    table: &PriceTable,
+    route: &(u32, u32, Way, u32, u64),
+    heights: &[u64],
+) -> Result<(), Fail> {
+    let plan = plan_of(alloc, route, heights)?;
+    takes_first_from_start(rt, alloc, |facts: &Facts| table.price(facts.kind), &plan)
 }
 
 #[test]
 fn any_plan_gives_the_first_route(rt: HostRuntime) -> Result<(), Fail> {
     let table = table_of(&rt, Some(1), FIVE_TWO_NINE);
-    for (at, (route, heights)) in PLANS.iter().enumerate() {
-        let plan = plan_of(rt.alloc(), route, heights)?;
-        let reply = replied(rt.alloc(), |facts: &Facts| table.price(facts.kind), &plan)?;
-        assert!(rt; is_first(&reply), "line {at}: {reply:?}");
+    for (route, heights) in PLANS {
+        takes_first_by(&rt, rt.alloc(), &table, route, *heights)?;
     }
     Ok(())
 }
@@ -100,28 +128,50 @@ fn passes<F: Asks>(
     Ok(check(&frozen, book.tariff(), 3, 4, plan).is_ok())
 }
 
-/// How often the prices are asked for in a check of the plan, and then in an insertion by it.
+/// How often the prices are asked for in a check of the plan, which it passes.
+fn count_check<F: Asks>(
+    rt: &impl Abort,
+    alloc: Global,
+    asked: &AtomicU32,
+    book: &Book<F>,
+    plan: &Plan,
+) -> Result<u32, AllocError> {
+    asked.store(0, Ordering::SeqCst);
+    assert!(rt; passes(rt, alloc, book, plan)?);
+    Ok(asked.load(Ordering::SeqCst))
+}
+
+/// How often they are asked for in an insertion by the plan, which takes the first route.
+fn count_insertion<F: Asks>(
+    rt: &impl Abort,
+    alloc: Global,
+    asked: &AtomicU32,
+    book: &mut Book<F>,
+    plan: &Plan,
+) -> Result<u32, Fail> {
+    asked.store(0, Ordering::SeqCst);
+    takes_first(rt, alloc, book, plan)?;
+    Ok(asked.load(Ordering::SeqCst))
+}
+
+/// Both.
 fn counted<F: Asks>(
     rt: &impl Abort,
     alloc: Global,
-    asked: &Cell<u32>,
+    asked: &AtomicU32,
     book: &mut Book<F>,
     plan: &Plan,
 ) -> Result<(u32, u32), Fail> {
-    asked.set(0);
-    assert!(rt; passes(rt, alloc, book, plan)?);
-    let checked = asked.get();
-    asked.set(0);
-    let reply = joined(alloc, book, plan)?;
-    assert!(rt; is_first(&reply), "{reply:?}");
-    Ok((checked, asked.get()))
+    let checked = count_check(rt, alloc, asked, book, plan)?;
+    let inserted = count_insertion(rt, alloc, asked, book, plan)?;
+    Ok((checked, inserted))
 }
 
 /// The same of a book that begins with the bipyramid.
 fn counted_from_start<F: Asks + Drop>(
     rt: &impl Abort,
     alloc: Global,
-    asked: &Cell<u32>,
+    asked: &AtomicU32,
     ask: F,
     plan: &Plan,
 ) -> Result<(u32, u32), Fail>
@@ -132,22 +182,27 @@ fn counted_from_start<F: Asks + Drop>(
     counted(rt, alloc, asked, &mut book, plan)
 }
 
+/// The same with the prices of a table.
+fn counted_at(
+    rt: &impl Abort,
+    alloc: Global,
+    table: &PriceTable,
+    plan: &Plan,
+) -> Result<(u32, u32), Fail> {
+    let asked = AtomicU32::new(0);
+    let ask = |facts: &Facts| {
+        let _ = asked.fetch_add(1, Ordering::SeqCst);
+        table.price(facts.kind)
+    };
+    counted_from_start(rt, alloc, &asked, ask, plan)
+}
+
 #[test]
 fn a_plan_that_passes_spares_the_search(rt: HostRuntime) -> Result<(), Fail> {
     let table = table_of(&rt, Some(1), FIVE_TWO_NINE);
-    let asked = Cell::new(0u32);
     let plan = plan_of(rt.alloc(), &(2, 1, Way::Back, 2, 2), &LEAST)?;
-    let (checked, inserted) = counted_from_start(
-        &rt,
-        rt.alloc(),
-        &asked,
-        |facts: &Facts| {
-            asked.set(asked.get().wrapping_add(1));
-            table.price(facts.kind)
-        },
-        &plan,
-    )?;
+    let (checked, inserted) = counted_at(&rt, rt.alloc(), &table, &plan)?;
     assert!(rt; checked > 0);
-    assert_eq!(rt; inserted, checked);
+    assert!(rt; inserted == checked);
     Ok(())
 }

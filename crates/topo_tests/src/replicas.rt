@@ -4,8 +4,10 @@
 ghost use Rattle.topo_price.specs.Prices.{IsPromise};
 
 use crate::calls::made;
-use crate::generated::{Numbers, next_call};
-use std::alloc::Global;
+use crate::generated::{Numbers, next_call, next_ids};
+use crate::searches::table_of;
+use crate::seen_rows::shows;
+use std::alloc::{AllocError, Global};
 use std::process::Abort;
 use std::sync::Arc;
 use std::test::Fail;
@@ -14,7 +16,6 @@ use topo_core::calls::Call;
 use topo_core::limits::Limits;
 use topo_core::rows::{Facts, Rows};
 use topo_picture::Picture;
-use topo_price::table::PriceTable;
 use topo_price::tariff::{Asks, Tariff};
 
 /// A version that a reader holds, with the rows that it showed when it was taken.
@@ -24,18 +25,23 @@ struct Held {
     rows: Rows,
 }
 
-/// Takes a share of a version.
-fn hold(alloc: Global, held: &mut Vec<Held>, picture: &Arc<Picture>) -> Result<(), Fail> {
-    let rows = picture.rows(alloc)?;
+/// Holds a version that shows these rows.
+fn hold_with(held: &mut Vec<Held>, picture: &Arc<Picture>, rows: Rows) -> Result<(), AllocError> {
     let picture = Arc::try_clone(picture)?;
     held.push(Held { picture, rows })?;
     Ok(())
 }
 
+/// Takes a share of a version.
+fn hold(alloc: Global, held: &mut Vec<Held>, picture: &Arc<Picture>) -> Result<(), AllocError> {
+    let rows = picture.rows(alloc)?;
+    hold_with(held, picture, rows)
+}
+
 /// Whether each version shows the rows that it showed.
-fn are_as_they_were(alloc: Global, held: &[Held]) -> Result<bool, Fail> {
+fn are_as_they_were(alloc: Global, held: &[Held]) -> Result<bool, AllocError> {
     for version in held {
-        if !version.picture.rows(alloc)?.equals(&version.rows) {
+        if !shows(alloc, &version.picture, &version.rows)? {
             return Ok(false);
         }
     }
@@ -43,11 +49,17 @@ fn are_as_they_were(alloc: Global, held: &[Held]) -> Result<bool, Fail> {
 }
 
 /// The reply of a call that is ready, as text. Its version is held.
-fn hold_next(alloc: Global, held: &mut Vec<Held>, next: &Next) -> Result<String, Fail> {
+fn hold_next(alloc: Global, held: &mut Vec<Held>, next: &Next) -> Result<String, AllocError> {
     if let Some(picture) = next.shared() {
         hold(alloc, held, picture)?;
     }
-    Ok(format!(in alloc; "{:?}", next.entry().reply)?)
+    format!(in alloc; "{:?}", next.entry().reply)
+}
+
+/// Makes a call ready, and lets that go.
+fn let_go<F: Asks>(alloc: Global, book: &mut Book<F>, call: Call) -> Result<(), AllocError> {
+    let _ = book.prepare(alloc, 0, call)?;
+    Ok(())
 }
 
 /// Makes a call ready, lets that go, makes it ready again and enters it. Its version is held. The answer is
@@ -57,16 +69,54 @@ fn enter<F: Asks>(
     book: &mut Book<F>,
     held: &mut Vec<Held>,
     call: Call,
-) -> Result<String, Fail> {
-    drop(book.prepare(alloc, 0, call)?);
+) -> Result<String, AllocError> {
+    let_go(alloc, book, call)?;
     let next = book.prepare(alloc, 0, call)?;
     let told = hold_next(alloc, held, &next);
     book.commit(next);
     told
 }
 
+/// Makes a call in place. The answer is the reply as text.
+fn make<F: Asks>(alloc: Global, book: &mut Book<F>, call: Call) -> Result<String, AllocError> {
+    let reply = made(alloc, book, 0, call)?;
+    format!(in alloc; "{reply:?}")
+}
+
+/// The same. The version that it makes is held.
+fn make_and_hold<F: Asks>(
+    alloc: Global,
+    book: &mut Book<F>,
+    held: &mut Vec<Held>,
+    call: Call,
+) -> Result<String, AllocError> {
+    let told = make(alloc, book, call);
+    hold(alloc, held, book.shared_picture())?;
+    told
+}
+
+/// Makes a call in place where it is to, and else ready first. It is replied as it is to be.
+fn makes<F: Asks>(
+    rt: &impl Abort,
+    alloc: Global,
+    book: &mut Book<F>,
+    held: &mut Vec<Held>,
+    call: Call,
+    in_place: bool,
+    wanted: &str,
+) -> Result<(), AllocError> {
+    let told = if in_place {
+        make_and_hold(alloc, book, held, call)
+    } else {
+        enter(alloc, book, held, call)
+    };
+    let told = told?;
+    assert!(rt; told.as_str() == wanted, "{call:?}: {told}, not {wanted}");
+    Ok(())
+}
+
 /// Makes the same call of both books: of the first in place, of the second in place too, beside the
-/// versions that are held, where it is to, and else ready first. The replies and the pictures are equal.
+/// versions that are held, where it is to, and else ready first. The replies are equal.
 fn make_of_both<F: Asks>(
     rt: &impl Abort,
     alloc: Global,
@@ -74,22 +124,22 @@ fn make_of_both<F: Asks>(
     held: &mut Vec<Held>,
     call: Call,
     in_place: bool,
-) -> Result<(), Fail> {
+) -> Result<(), AllocError> {
     let (first, second) = books;
-    let wanted = format!(in alloc; "{:?}", made(alloc, first, call)?)?;
-    let told = if in_place {
-        let reply = made(alloc, second, call)?;
-        hold(alloc, held, second.shared_picture())?;
-        format!(in alloc; "{reply:?}")?
-    } else {
-        enter(alloc, second, held, call)?
-    };
-    assert!(rt;
-        told.as_str() == wanted.as_str(),
-        "{call:?}: {told}, not {wanted}"
-    );
-    let rows = first.picture().rows(alloc)?;
-    assert!(rt; second.picture().rows(alloc)?.equals(&rows), "{call:?}");
+    let wanted = make(alloc, first, call)?;
+    makes(rt, alloc, second, held, call, in_place, wanted.as_str())
+}
+
+/// Both pictures are equal after a call.
+fn are_alike(
+    rt: &impl Abort,
+    alloc: Global,
+    first: &Picture,
+    second: &Picture,
+    call: Call,
+) -> Result<(), AllocError> {
+    let rows = first.rows(alloc)?;
+    assert!(rt; shows(alloc, second, &rows)?, "{call:?}");
     Ok(())
 }
 
@@ -103,17 +153,36 @@ fn go_on<F: Asks>(
     numbers: &mut Numbers,
     turn: u32,
     most: usize,
-) -> Result<(), Fail> {
+) -> Result<(), AllocError> {
     let (first, second) = books;
-    let now = first.picture().rows(alloc)?;
+    let (next_edge, _) = next_ids(alloc, first.picture())?;
     let vertices = first.picture().counts().vertices;
-    let call = next_call(numbers, vertices, now.next_edge);
-    let in_place = turn % 5 == 4;
-    make_of_both(rt, alloc, (first, second), held, call, in_place)?;
+    let call = next_call(numbers, vertices, next_edge);
+    make_of_both(
+        rt,
+        alloc,
+        (&mut *first, &mut *second),
+        held,
+        call,
+        turn % 5 == 4,
+    )?;
+    are_alike(rt, alloc, first.picture(), second.picture(), call)?;
     assert!(rt; are_as_they_were(alloc, held.as_slice())?, "{call:?}");
     if held.len() > most {
         drop(held.remove(0));
     }
+    Ok(())
+}
+
+/// A book has the history that is told by a text.
+fn has_history<F: Asks>(
+    rt: &impl Abort,
+    alloc: Global,
+    book: &Book<F>,
+    wanted: &str,
+) -> Result<(), AllocError> {
+    let told = format!(in alloc; "{:?}", book.history())?;
+    assert!(rt; told.as_str() == wanted);
     Ok(())
 }
 
@@ -123,22 +192,20 @@ fn have_one_history<F: Asks>(
     alloc: Global,
     first: &Book<F>,
     second: &Book<F>,
-) -> Result<(), Fail> {
+) -> Result<(), AllocError> {
     let wanted = format!(in alloc; "{:?}", first.history())?;
-    let told = format!(in alloc; "{:?}", second.history())?;
-    assert!(rt; told.as_str() == wanted.as_str());
-    Ok(())
+    has_history(rt, alloc, second, wanted.as_str())
 }
 
-/// A run of calls of two books, with so many versions held of the second. Each is held until as many came
+/// Makes calls of both books, with so many versions held of the second. Each is held until as many came
 /// after it.
-fn run<F: Asks>(
+fn go_on_often<F: Asks>(
     rt: &impl Abort,
     alloc: Global,
     books: (&mut Book<F>, &mut Book<F>),
     most: usize,
     calls: u32,
-) -> Result<(), Fail> {
+) -> Result<(), AllocError> {
     let (first, second) = books;
     let mut numbers = Numbers { state: 11 };
     let mut held: Vec<Held> = Vec::new(alloc);
@@ -146,14 +213,35 @@ fn run<F: Asks>(
         let books = (&mut *first, &mut *second);
         go_on(rt, alloc, books, &mut held, &mut numbers, turn, most)?;
     }
+    Ok(())
+}
+
+/// A run of calls of two books.
+fn run<F: Asks>(
+    rt: &impl Abort,
+    alloc: Global,
+    books: (&mut Book<F>, &mut Book<F>),
+    most: usize,
+    calls: u32,
+) -> Result<(), AllocError> {
+    let (first, second) = books;
+    go_on_often(rt, alloc, (&mut *first, &mut *second), most, calls)?;
     have_one_history(rt, alloc, first, second)
 }
 
+/// The seed, with room for forty vertices.
+fn seed(alloc: Global) -> Result<Picture, AllocError> {
+    Picture::seed(alloc, Limits::new(40, 1_000, 2_000).unwrap())
+}
+
 /// A book that begins with the seed.
-fn seed_book<F: Asks + Drop>(alloc: Global, tariff: Arc<Tariff<F>>) -> Result<Book<F>, Fail> {
-    let limits = Limits::new(40, 1_000, 2_000)?;
-    let start = Picture::seed(alloc, limits)?;
-    Ok(Book::new(alloc, start, tariff)?)
+fn seed_book<F: Asks + Drop>(
+    alloc: Global,
+    tariff: &Arc<Tariff<F>>,
+) -> Result<Book<F>, AllocError> {
+    let start = seed(alloc)?;
+    let tariff = Arc::try_clone(tariff)?;
+    Book::new(alloc, start, tariff)
 }
 
 /// The run of a book and a second one, which begins with the seed.
@@ -161,9 +249,9 @@ fn run_beside<F: Asks + Drop>(
     rt: &impl Abort,
     alloc: Global,
     first: &mut Book<F>,
-    tariff: Arc<Tariff<F>>,
+    tariff: &Arc<Tariff<F>>,
     most: usize,
-) -> Result<(), Fail> {
+) -> Result<(), AllocError> {
     let mut second = seed_book(alloc, tariff)?;
     run(rt, alloc, (first, &mut second), most, 150)
 }
@@ -172,11 +260,11 @@ fn run_beside<F: Asks + Drop>(
 fn run_both<F: Asks + Drop>(
     rt: &impl Abort,
     alloc: Global,
-    tariffs: (Arc<Tariff<F>>, Arc<Tariff<F>>),
+    tariff: &Arc<Tariff<F>>,
     most: usize,
-) -> Result<(), Fail> {
-    let mut first = seed_book(alloc, tariffs.0)?;
-    run_beside(rt, alloc, &mut first, tariffs.1, most)
+) -> Result<(), AllocError> {
+    let mut first = seed_book(alloc, tariff)?;
+    run_beside(rt, alloc, &mut first, tariff, most)
 }
 
 /// The run of two books with the prices of a closure.
@@ -185,25 +273,24 @@ fn run_from_seed<F: Asks + Drop>(
     alloc: Global,
     most: usize,
     ask: F,
-) -> Result<(), Fail>
+) -> Result<(), AllocError>
     requires callable { F.can_ask ask }
     requires promise { IsPromise (F.answers ask) }
 {
     let tariff = Arc::new(alloc, Tariff::new(ask))?;
-    let share = Arc::try_clone(&tariff)?;
-    run_both(rt, alloc, (tariff, share), most)
+    run_both(rt, alloc, &tariff, most)
 }
 
 #[test]
 fn versions_stay_as_they_were(rt: HostRuntime) -> Result<(), Fail> {
-    let mut prices = [Some(1); 64];
-    prices[1] = Some(5);
-    prices[2] = Some(2);
-    prices[3] = None;
-    let table = PriceTable::new(prices).expect(&rt, "a table");
+    let table = table_of(&rt, Some(1), &[(1, Some(5)), (2, Some(2)), (3, None)]);
     for most in [0, 1, 10, 100] {
-        let ask = |facts: &Facts| table.price(facts.kind);
-        run_from_seed(&rt, rt.alloc(), most, ask)?;
+        run_from_seed(
+            &rt,
+            rt.alloc(),
+            most,
+            |facts: &Facts| table.price(facts.kind),
+        )?;
     }
     Ok(())
 }

@@ -5,8 +5,8 @@ ghost use Rattle.topo_price.specs.Prices.{IsPromise};
 
 use crate::pictures::{BARRIER, BIPYRAMID, JOINED, PARALLEL, picture_of};
 use std::alloc::{AllocError, Global};
-use std::cell::Cell;
 use std::process::Abort;
+use std::sync::atomic::{AtomicU32, Ordering};
 use std::test::Fail;
 use topo_core::darts::{Dart, Point, Way};
 use topo_core::ids::{CrossId, EdgeId, VertexId};
@@ -14,6 +14,7 @@ use topo_core::listed::Listed;
 use topo_core::routes::Route;
 use topo_core::rows::Facts;
 use topo_frozen::Frozen;
+use topo_picture::Picture;
 use topo_price::asked::Asked;
 use topo_price::table::PriceTable;
 use topo_price::tariff::{Asks, Tariff};
@@ -24,7 +25,7 @@ use topo_route::search::search;
 use topo_route::walked::Walked;
 
 /// Whether both are vertices, and different ones.
-fn are_ends(frozen: &Frozen, u: u32, v: u32) -> bool
+pub(crate) fn are_ends(frozen: &Frozen, u: u32, v: u32) -> bool
     ensures u_there { IsTrue result → u < length frozen.now.rows.rotations }
     ensures v_there { IsTrue result → v < length frozen.now.rows.rotations }
     ensures apart { IsTrue result → u ≢ v }
@@ -63,6 +64,41 @@ fn judged<F: Asks + Drop>(
     let (u, v) = ends;
     assert!(rt; are_ends(frozen, u, v));
     check(frozen, &Tariff::new(ask), u, v, plan)
+}
+
+/// The plan of a search with the prices of a table. There is a route.
+fn plan_at(
+    rt: &impl Abort,
+    alloc: Global,
+    frozen: &Frozen,
+    table: &PriceTable,
+    ends: (u32, u32),
+) -> Result<Plan, Fail> {
+    let plan = planned(
+        rt,
+        alloc,
+        frozen,
+        |facts: &Facts| table.price(facts.kind),
+        ends,
+    )?;
+    Ok(plan.ok_or("a route")?)
+}
+
+/// What the check says of a plan with the prices of a table.
+fn judged_at(
+    rt: &impl Abort,
+    frozen: &Frozen,
+    table: &PriceTable,
+    ends: (u32, u32),
+    plan: &Plan,
+) -> Result<(), PlanFault> {
+    judged(
+        rt,
+        frozen,
+        |facts: &Facts| table.price(facts.kind),
+        ends,
+        plan,
+    )
 }
 
 /// The prices of two edges of the triangle between the apexes, as they are kept.
@@ -249,95 +285,151 @@ fn is_answer(plan: &Plan, answer: &Answer) -> bool {
             .all(|(had, (edge, seg, way))| *had == dart(*edge, *seg, *way))
 }
 
+/// A plan is the answer, and passes the check.
+fn is_judged(
+    rt: &impl Abort,
+    frozen: &Frozen,
+    table: &PriceTable,
+    ends: (u32, u32),
+    plan: &Plan,
+    answer: &Answer,
+) {
+    assert!(rt; is_answer(plan, answer), "{ends:?}: {plan:?}");
+    let says = judged_at(rt, frozen, table, ends, plan);
+    assert!(rt; says == Ok(()), "{ends:?}");
+}
+
+/// The search on a picture finds the answer, and the check passes it.
+fn is_found(
+    rt: &impl Abort,
+    alloc: Global,
+    frozen: &Frozen,
+    question: &Question,
+    answer: &Answer,
+) -> Result<(), Fail> {
+    let table = table_of(rt, question.rest, question.entries);
+    let plan = plan_at(rt, alloc, frozen, &table, question.ends)?;
+    is_judged(rt, frozen, &table, question.ends, &plan, answer);
+    Ok(())
+}
+
+/// The same on the picture of the question.
+fn is_answered(
+    rt: &impl Abort,
+    alloc: Global,
+    question: &Question,
+    answer: &Answer,
+) -> Result<(), Fail> {
+    let frozen = frozen_of(alloc, question.picture)?;
+    is_found(rt, alloc, &frozen, question, answer)
+}
+
 #[test]
 fn searches_find_the_first_of_the_least_routes(rt: HostRuntime) -> Result<(), Fail> {
-    for (at, (question, answer)) in ROUTES.iter().enumerate() {
-        let frozen = frozen_of(rt.alloc(), question.picture)?;
-        let table = table_of(&rt, question.rest, question.entries);
-        let plan = planned(
-            &rt,
-            rt.alloc(),
-            &frozen,
-            |facts: &Facts| table.price(facts.kind),
-            question.ends,
-        )?
-        .ok_or("a route")?;
-        assert!(rt; is_answer(&plan, answer), "line {at}: {plan:?}");
-        let says = judged(
-            &rt,
-            &frozen,
-            |facts: &Facts| table.price(facts.kind),
-            question.ends,
-            &plan,
-        );
-        assert_eq!(rt; says, Ok(()), "line {at}");
+    for (question, answer) in ROUTES {
+        is_answered(&rt, rt.alloc(), question, answer)?;
     }
+    Ok(())
+}
+
+/// The heights where the way round the second edge is the cheapest.
+const FAR: [u64; 18] = [0, 5, 0, 6, 0, 6, 6, 5, 5, 6, 6, 6, 0, 0, 0, 0, 0, 0];
+
+/// Prices, and the least height of each dart of the bipyramid.
+const HEIGHTS: &[(&[(usize, Option<u32>)], [u64; 18])] = &[
+    (
+        FIVE_TWO_NINE,
+        [0, 3, 0, 2, 0, 3, 3, 3, 3, 2, 2, 3, 0, 0, 0, 0, 0, 0],
+    ),
+    (SECOND_DEAR, FAR),
+    (SECOND_CLOSED, FAR),
+];
+
+/// The search between the apexes gives these heights.
+fn has_heights(
+    rt: &impl Abort,
+    alloc: Global,
+    frozen: &Frozen,
+    entries: &[(usize, Option<u32>)],
+    heights: &[u64],
+) -> Result<(), Fail> {
+    let table = table_of(rt, Some(1), entries);
+    let plan = plan_at(rt, alloc, frozen, &table, APEXES)?;
+    assert!(rt; plan.heights.as_slice() == heights);
     Ok(())
 }
 
 #[test]
 fn a_search_gives_the_least_height_of_each_dart(rt: HostRuntime) -> Result<(), Fail> {
-    let far = [0, 5, 0, 6, 0, 6, 6, 5, 5, 6, 6, 6, 0, 0, 0, 0, 0, 0];
-    for (entries, heights) in [
-        (
-            FIVE_TWO_NINE,
-            [0, 3, 0, 2, 0, 3, 3, 3, 3, 2, 2, 3, 0, 0, 0, 0, 0, 0],
-        ),
-        (SECOND_DEAR, far),
-        (SECOND_CLOSED, far),
-    ] {
-        let frozen = frozen_of(rt.alloc(), BIPYRAMID)?;
-        let table = table_of(&rt, Some(1), entries);
-        let plan = planned(
-            &rt,
-            rt.alloc(),
-            &frozen,
-            |facts: &Facts| table.price(facts.kind),
-            APEXES,
-        )?
-        .ok_or("a route")?;
-        assert_eq!(rt; plan.heights.as_slice(), heights.as_slice());
+    let frozen = frozen_of(rt.alloc(), BIPYRAMID)?;
+    for (entries, heights) in HEIGHTS {
+        has_heights(&rt, rt.alloc(), &frozen, *entries, heights.as_slice())?;
     }
     Ok(())
+}
+
+/// Whether the search finds a route with the prices of a table.
+fn has_route(
+    rt: &impl Abort,
+    alloc: Global,
+    frozen: &Frozen,
+    table: &PriceTable,
+    ends: (u32, u32),
+) -> Result<bool, AllocError> {
+    let plan = planned(
+        rt,
+        alloc,
+        frozen,
+        |facts: &Facts| table.price(facts.kind),
+        ends,
+    )?;
+    Ok(plan.is_some())
 }
 
 #[test]
 fn no_route_where_the_triangle_is_closed(rt: HostRuntime) -> Result<(), Fail> {
     let frozen = frozen_of(rt.alloc(), BIPYRAMID)?;
     let table = table_of(&rt, Some(1), &[(1, None), (2, None), (3, None)]);
-    let plan = planned(
-        &rt,
-        rt.alloc(),
-        &frozen,
-        |facts: &Facts| table.price(facts.kind),
-        APEXES,
-    )?;
-    assert!(rt; plan.is_none());
+    assert!(rt; !has_route(&rt, rt.alloc(), &frozen, &table, APEXES)?);
     Ok(())
 }
 
+/// Two growths at vertex 0, in different corners.
+fn grow_two(rt: &impl Abort, alloc: Global, picture: &mut Picture) {
+    assert!(rt; picture.grow(alloc, 0, 0, 0).is_ok());
+    assert!(rt; picture.grow(alloc, 0, 2, 0).is_ok());
+}
+
+/// The same, and the picture after them.
+fn frozen_after(
+    rt: &impl Abort,
+    alloc: Global,
+    picture: &mut Picture,
+) -> Result<Frozen, AllocError> {
+    grow_two(rt, alloc, picture);
+    picture.freeze(alloc)
+}
+
+/// The picture of four parallel edges, after the growths.
+fn grown(rt: &impl Abort, alloc: Global) -> Result<Frozen, Fail> {
+    let mut picture = picture_of(alloc, PARALLEL)?;
+    Ok(frozen_after(rt, alloc, &mut picture)?)
+}
+
+/// Between the grown vertices, at the greatest price.
+const ACROSS_TWO: Answer = Answer {
+    start: 0,
+    crossed: &[(0, 0, Way::Forward), (1, 0, Way::Forward)],
+    end: 0,
+    price: 2000,
+};
+
 #[test]
 fn a_search_after_growths(rt: HostRuntime) -> Result<(), Fail> {
-    let mut picture = picture_of(rt.alloc(), PARALLEL)?;
-    assert!(rt; picture.grow(rt.alloc(), 0, 0, 0).is_ok());
-    assert!(rt; picture.grow(rt.alloc(), 0, 2, 0).is_ok());
-    let frozen = picture.freeze(rt.alloc())?;
+    let frozen = grown(&rt, rt.alloc())?;
     let table = table_of(&rt, Some(1000), &[]);
-    let plan = planned(
-        &rt,
-        rt.alloc(),
-        &frozen,
-        |facts: &Facts| table.price(facts.kind),
-        (2, 3),
-    )?
-    .ok_or("a route")?;
-    let answer = Answer {
-        start: 0,
-        crossed: &[(0, 0, Way::Forward), (1, 0, Way::Forward)],
-        end: 0,
-        price: 2000,
-    };
-    assert!(rt; is_answer(&plan, &answer), "{plan:?}");
+    let plan = plan_at(&rt, rt.alloc(), &frozen, &table, (2, 3))?;
+    assert!(rt; is_answer(&plan, &ACROSS_TWO), "{plan:?}");
     Ok(())
 }
 
@@ -433,109 +525,166 @@ const JUDGEMENTS: &[Judgement] = &[
     ),
 ];
 
+/// The check of a plan says what is due.
+fn is_said(
+    rt: &impl Abort,
+    alloc: Global,
+    frozen: &Frozen,
+    judgement: &Judgement,
+) -> Result<(), AllocError> {
+    let (entries, route, heights, due) = judgement;
+    let (start, edge, way, end, price) = *route;
+    let table = table_of(rt, Some(1), *entries);
+    let plan = invented(alloc, start, dart(edge, 0, way), end, price, *heights)?;
+    let said = judged_at(rt, frozen, &table, APEXES, &plan);
+    assert!(rt; said == *due, "{route:?}");
+    Ok(())
+}
+
 #[test]
 fn plans_fail_the_first_test(rt: HostRuntime) -> Result<(), Fail> {
-    for (at, (entries, route, heights, says)) in JUDGEMENTS.iter().enumerate() {
-        let frozen = frozen_of(rt.alloc(), BIPYRAMID)?;
-        let table = table_of(&rt, Some(1), *entries);
-        let (start, edge, way, end, price) = *route;
-        let plan = invented(rt.alloc(), start, dart(edge, 0, way), end, price, *heights)?;
-        let said = judged(
-            &rt,
-            &frozen,
-            |facts: &Facts| table.price(facts.kind),
-            APEXES,
-            &plan,
-        );
-        assert_eq!(rt; said, *says, "line {at}");
+    let frozen = frozen_of(rt.alloc(), BIPYRAMID)?;
+    for judgement in JUDGEMENTS {
+        is_said(&rt, rt.alloc(), &frozen, judgement)?;
     }
+    Ok(())
+}
+
+/// The check of the least plan, with the height at a place raised by 1, tells an uneven face.
+fn is_uneven(
+    rt: &impl Abort,
+    alloc: Global,
+    frozen: &Frozen,
+    table: &PriceTable,
+    place: usize,
+) -> Result<(), AllocError>
+    requires { place < 18 }
+{
+    let mut heights = LEAST;
+    heights[place] = heights[place].wrapping_add(1);
+    let plan = invented(alloc, 2, dart(1, 0, Way::Back), 2, 2, &heights)?;
+    let said = judged_at(rt, frozen, table, APEXES, &plan);
+    assert!(rt; said == Err(PlanFault::UnevenFace), "height {place}");
     Ok(())
 }
 
 #[test]
 fn one_height_raised_is_uneven(rt: HostRuntime) -> Result<(), Fail> {
+    let frozen = frozen_of(rt.alloc(), BIPYRAMID)?;
+    let table = table_of(&rt, Some(1), FIVE_TWO_NINE);
     for place in 0..18 {
-        let frozen = frozen_of(rt.alloc(), BIPYRAMID)?;
-        let table = table_of(&rt, Some(1), FIVE_TWO_NINE);
-        let mut heights = LEAST;
-        heights[place] = heights[place].wrapping_add(1);
-        let plan = invented(rt.alloc(), 2, dart(1, 0, Way::Back), 2, 2, &heights)?;
-        let said = judged(
-            &rt,
-            &frozen,
-            |facts: &Facts| table.price(facts.kind),
-            APEXES,
-            &plan,
-        );
-        assert_eq!(rt; said, Err(PlanFault::UnevenFace), "height {place}");
+        is_uneven(&rt, rt.alloc(), &frozen, &table, place)?;
     }
     Ok(())
+}
+
+/// How often a search between the apexes asks for a price. There is a route.
+fn asked_for(
+    rt: &impl Abort,
+    alloc: Global,
+    frozen: &Frozen,
+    table: &PriceTable,
+) -> Result<u32, AllocError> {
+    let asks = AtomicU32::new(0);
+    let ask = |facts: &Facts| {
+        let _ = asks.fetch_add(1, Ordering::SeqCst);
+        table.price(facts.kind)
+    };
+    let plan = planned(rt, alloc, frozen, ask, APEXES)?;
+    assert!(rt; plan.is_some());
+    Ok(asks.load(Ordering::SeqCst))
 }
 
 #[test]
 fn each_edge_is_asked_for_once(rt: HostRuntime) -> Result<(), Fail> {
     let frozen = frozen_of(rt.alloc(), BIPYRAMID)?;
     let table = table_of(&rt, Some(1), FIVE_TWO_NINE);
-    let asks = Cell::new(0u32);
-    let plan = planned(
-        &rt,
-        rt.alloc(),
-        &frozen,
-        |facts: &Facts| {
-            asks.set(asks.get().wrapping_add(1));
-            table.price(facts.kind)
-        },
-        APEXES,
-    )?;
-    assert!(rt; plan.is_some());
-    assert_eq!(rt; asks.get(), 9);
+    assert!(rt; asked_for(&rt, rt.alloc(), &frozen, &table)? == 9);
     Ok(())
+}
+
+/// Both prices are kept, at the places in which they were asked for.
+fn are_kept(rt: &impl Abort, asked: &Asked) {
+    assert!(rt; asked.len() == 2);
+    assert!(rt; asked.price(0) == Some(5));
+    assert!(rt; asked.price(1) == Some(2));
 }
 
 #[test]
 fn answers_are_kept_in_order(rt: HostRuntime) -> Result<(), Fail> {
     let frozen = frozen_of(rt.alloc(), BIPYRAMID)?;
     let table = table_of(&rt, Some(1), FIVE_TWO_NINE);
-    let asked = asked_of(
-        &rt,
-        rt.alloc(),
-        &frozen,
-        |facts: &Facts| table.price(facts.kind),
-    )?;
-    assert_eq!(rt; asked.len(), 2);
-    assert_eq!(rt; asked.price(0), Some(5));
-    assert_eq!(rt; asked.price(1), Some(2));
+    let ask = |facts: &Facts| table.price(facts.kind);
+    let asked = asked_of(&rt, rt.alloc(), &frozen, ask)?;
+    are_kept(&rt, &asked);
     Ok(())
+}
+
+/// The picture has 24 darts.
+fn has_numbers(rt: &impl Abort, frozen: &Frozen) {
+    assert!(rt; frozen.size() == 24);
+    for number in [4, 5, 20, 23] {
+        assert!(rt; has_number(frozen, number));
+    }
+    assert!(rt; !has_number(frozen, 24));
+}
+
+/// Edge 1 is crossed by edge 9: its four darts are 2 to 5, those of edge 9 are 20 to 23.
+fn has_darts(rt: &impl Abort, frozen: &Frozen) {
+    assert!(rt; has_number(frozen, 4));
+    assert!(rt; frozen.dart(4) == dart(1, 1, Way::Forward));
+    assert!(rt; frozen.twin(4) == 5);
+    assert!(rt; frozen.index(dart(1, 1, Way::Forward)) == Some(4));
+    assert!(rt; frozen.index(dart(1, 2, Way::Forward)) == None);
+    assert!(rt; frozen.index(dart(10, 0, Way::Forward)) == None);
+}
+
+/// Where a dart starts.
+fn starts_at(rt: &impl Abort, frozen: &Frozen, number: u32, point: Point) {
+    assert!(rt; has_number(frozen, number));
+    assert!(rt; frozen.tail(number) == point);
+}
+
+/// From edge 9 at the crossing the face on the left goes on along edge 1 towards its end 1.
+fn goes_on(rt: &impl Abort, frozen: &Frozen) {
+    assert!(rt; has_number(frozen, 5));
+    assert!(rt; has_number(frozen, 20));
+    assert!(rt; frozen.next(20) == 3);
+    assert!(rt; frozen.precedes(5, 20));
+    assert!(rt; !frozen.precedes(20, 5));
+}
+
+/// The corners of vertex 3, and those of a vertex that is not there.
+fn has_corners(rt: &impl Abort, frozen: &Frozen) {
+    assert!(rt; frozen.degree(3) == 4);
+    assert!(rt; frozen.degree(5) == 0);
+    assert!(rt; frozen.corner(3, 2) == Some(20));
+    assert!(rt; frozen.corner(3, 4) == None);
+    assert!(rt; frozen.corner(5, 0) == None);
+}
+
+/// The last dart is of edge 9, between the apexes.
+fn has_facts(rt: &impl Abort, frozen: &Frozen) {
+    assert!(rt; has_number(frozen, 23));
+    let facts = frozen.facts(23);
+    assert!(rt; (facts.id, facts.a, facts.b, facts.kind) == (9, 3, 4, 0));
+}
+
+/// What is read off the bipyramid whose apexes are joined.
+fn answers(rt: &impl Abort, frozen: &Frozen) {
+    has_numbers(rt, frozen);
+    has_darts(rt, frozen);
+    starts_at(rt, frozen, 4, Point::Crossing(CrossId::new(0)));
+    starts_at(rt, frozen, 5, Point::Vertex(VertexId::new(2)));
+    starts_at(rt, frozen, 20, Point::Vertex(VertexId::new(3)));
+    goes_on(rt, frozen);
+    has_corners(rt, frozen);
+    has_facts(rt, frozen);
 }
 
 #[test]
 fn a_frozen_picture_answers(rt: HostRuntime) -> Result<(), Fail> {
     let frozen = frozen_of(rt.alloc(), JOINED)?;
-    assert_eq!(rt; frozen.size(), 24);
-    assert!(rt; has_number(&frozen, 4));
-    assert!(rt; has_number(&frozen, 5));
-    assert!(rt; has_number(&frozen, 20));
-    assert!(rt; has_number(&frozen, 23));
-    assert!(rt; !has_number(&frozen, 24));
-    // edge 1 is crossed by edge 9: its four darts are 2 to 5, those of edge 9 are 20 to 23
-    assert_eq!(rt; frozen.dart(4), dart(1, 1, Way::Forward));
-    assert_eq!(rt; frozen.index(dart(1, 1, Way::Forward)), Some(4));
-    assert_eq!(rt; frozen.index(dart(1, 2, Way::Forward)), None);
-    assert_eq!(rt; frozen.index(dart(10, 0, Way::Forward)), None);
-    assert_eq!(rt; frozen.twin(4), 5);
-    assert_eq!(rt; frozen.tail(4), Point::Crossing(CrossId::new(0)));
-    assert_eq!(rt; frozen.tail(5), Point::Vertex(VertexId::new(2)));
-    assert_eq!(rt; frozen.tail(20), Point::Vertex(VertexId::new(3)));
-    // from edge 9 at the crossing the face on the left goes on along edge 1 towards its end 1
-    assert_eq!(rt; frozen.next(20), 3);
-    assert!(rt; frozen.precedes(5, 20));
-    assert!(rt; !frozen.precedes(20, 5));
-    assert_eq!(rt; frozen.degree(3), 4);
-    assert_eq!(rt; frozen.degree(5), 0);
-    assert_eq!(rt; frozen.corner(3, 2), Some(20));
-    assert_eq!(rt; frozen.corner(3, 4), None);
-    assert_eq!(rt; frozen.corner(5, 0), None);
-    let facts = frozen.facts(23);
-    assert_eq!(rt; (facts.id, facts.a, facts.b, facts.kind), (9, 3, 4, 0));
+    answers(&rt, &frozen);
     Ok(())
 }

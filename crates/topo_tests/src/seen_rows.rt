@@ -9,12 +9,22 @@ use topo_core::rows::{CrossRow, EdgeRow, Rows};
 use topo_frozen::LoadFault;
 use topo_picture::Picture;
 
+/// Whether a picture shows these rows.
+pub(crate) fn shows(alloc: Global, picture: &Picture, rows: &Rows) -> Result<bool, AllocError> {
+    let now = picture.rows(alloc)?;
+    Ok(now.equals(rows))
+}
+
+/// Whether rows are loaded under limits and given back.
+fn are_given_back(alloc: Global, limits: Limits, rows: &Rows) -> Result<bool, Fail> {
+    let again = Picture::load(alloc, limits, rows)?;
+    Ok(shows(alloc, &again, rows)?)
+}
+
 /// Whether a picture's rows are loaded under its limits and given back.
 pub(crate) fn is_loaded_again(alloc: Global, picture: &Picture) -> Result<bool, Fail> {
     let rows = picture.rows(alloc)?;
-    let again = Picture::load(alloc, picture.limits(), &rows)?;
-    let back = again.rows(alloc)?;
-    Ok(rows.equals(&back))
+    are_given_back(alloc, picture.limits(), &rows)
 }
 
 /// The ids of a list that are not among the others.
@@ -28,22 +38,20 @@ fn kept(alloc: Global, ids: &[u32], gone: &[u32]) -> Result<Listed<u32>, AllocEr
     Ok(Listed::from_vec(left))
 }
 
+/// The ids from this one on, and then those before it.
+fn turned_to(alloc: Global, ids: &[u32], first: u32) -> Result<Listed<u32>, AllocError> {
+    let place = ids.iter().position(|id| *id == first).unwrap_or(0);
+    let (before, after) = ids.split_at(place);
+    let mut turned = Vec::from_slice(alloc, after)?;
+    turned.extend_from_slice(before)?;
+    Ok(Listed::from_vec(turned))
+}
+
 /// The edges round a vertex but one, from the least on.
 fn turned_to_least(alloc: Global, around: &[u32], e: u32) -> Result<Listed<u32>, AllocError> {
     let left = kept(alloc, around, &[e])?;
     let ids = left.as_slice();
-    let least = ids.iter().copied().min().unwrap_or(0);
-    let mut first = Vec::new(alloc);
-    let mut last = Vec::new(alloc);
-    for id in ids {
-        if *id == least || !first.is_empty() {
-            first.push(*id)?;
-        } else {
-            last.push(*id)?;
-        }
-    }
-    first.extend_from_slice(last.as_slice())?;
-    Ok(Listed::from_vec(first))
+    turned_to(alloc, ids, ids.iter().copied().min().unwrap_or(0))
 }
 
 /// The ids of the crossings of an edge.
@@ -57,38 +65,84 @@ fn crossings_of(alloc: Global, crossings: &[CrossRow], e: u32) -> Result<Vec<u32
     Ok(ids)
 }
 
-/// The rows without an edge and its crossings.
-fn without(alloc: Global, rows: &Rows, e: u32) -> Result<Rows, AllocError> {
-    let gone = crossings_of(alloc, rows.crossings.as_slice(), e)?;
-    let mut rotations = Vec::new(alloc);
-    for around in rows.rotations.as_slice() {
-        rotations.push(turned_to_least(alloc, around.as_slice(), e)?)?;
+/// The edges round each vertex without one.
+fn rotations_without(
+    alloc: Global,
+    rotations: &[Listed<u32>],
+    e: u32,
+) -> Result<Listed<Listed<u32>>, AllocError> {
+    let mut left = Vec::new(alloc);
+    for around in rotations {
+        left.push(turned_to_least(alloc, around.as_slice(), e)?)?;
     }
-    let mut edges = Vec::new(alloc);
-    for row in rows.edges.as_slice() {
+    Ok(Listed::from_vec(left))
+}
+
+/// The edges but one, without crossings that are gone.
+fn edges_without(
+    alloc: Global,
+    edges: &[EdgeRow],
+    e: u32,
+    gone: &[u32],
+) -> Result<Listed<EdgeRow>, AllocError> {
+    let mut left = Vec::new(alloc);
+    for row in edges {
         if row.id != e {
-            edges.push(EdgeRow {
+            left.push(EdgeRow {
                 id: row.id,
                 a: row.a,
                 b: row.b,
                 kind: row.kind,
-                crossings: kept(alloc, row.crossings.as_slice(), gone.as_slice())?,
+                crossings: kept(alloc, row.crossings.as_slice(), gone)?,
             })?;
         }
     }
-    let mut crossings = Vec::new(alloc);
-    for row in rows.crossings.as_slice() {
+    Ok(Listed::from_vec(left))
+}
+
+/// The crossings but those that are gone.
+fn crossings_without(
+    alloc: Global,
+    crossings: &[CrossRow],
+    gone: &[u32],
+) -> Result<Listed<CrossRow>, AllocError> {
+    let mut left = Vec::new(alloc);
+    for row in crossings {
         if !gone.contains(&row.id) {
-            crossings.push(*row)?;
+            left.push(*row)?;
         }
     }
+    Ok(Listed::from_vec(left))
+}
+
+/// The rows without an edge, of which the edges and the crossings are left.
+fn with_lists(
+    alloc: Global,
+    rows: &Rows,
+    e: u32,
+    edges: Listed<EdgeRow>,
+    crossings: Listed<CrossRow>,
+) -> Result<Rows, AllocError> {
     Ok(Rows {
-        rotations: Listed::from_vec(rotations),
-        edges: Listed::from_vec(edges),
-        crossings: Listed::from_vec(crossings),
+        rotations: rotations_without(alloc, rows.rotations.as_slice(), e)?,
+        edges,
+        crossings,
         next_edge: rows.next_edge,
         next_crossing: rows.next_crossing,
     })
+}
+
+/// The rows without an edge and the crossings that are gone with it.
+fn without_crossings(alloc: Global, rows: &Rows, e: u32, gone: &[u32]) -> Result<Rows, AllocError> {
+    let edges = edges_without(alloc, rows.edges.as_slice(), e, gone)?;
+    let crossings = crossings_without(alloc, rows.crossings.as_slice(), gone)?;
+    with_lists(alloc, rows, e, edges, crossings)
+}
+
+/// The rows without an edge and its crossings.
+fn without(alloc: Global, rows: &Rows, e: u32) -> Result<Rows, AllocError> {
+    let gone = crossings_of(alloc, rows.crossings.as_slice(), e)?;
+    without_crossings(alloc, rows, e, gone.as_slice())
 }
 
 /// Whether the rows without an edge are refused as not connected.

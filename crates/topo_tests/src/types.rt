@@ -18,13 +18,31 @@ fn edge_row(alloc: Global, id: u32, kind: u32) -> EdgeRow {
     }
 }
 
+/// The edges round each of three vertices.
+const ROTATIONS: &[&[u32]] = &[&[], &[4, 6], &[4, 6]];
+
+fn rotations(alloc: Global) -> Result<Listed<Listed<u32>>, AllocError> {
+    let mut lists = Vec::new(alloc);
+    for ids in ROTATIONS {
+        lists.push(Listed::from_vec(Vec::from_slice(alloc, *ids)?))?;
+    }
+    Ok(Listed::from_vec(lists))
+}
+
+fn edges(alloc: Global) -> Result<Listed<EdgeRow>, AllocError> {
+    let mut rows = Vec::new(alloc);
+    for (id, kind) in [(4, 63), (6, 64)] {
+        rows.push(edge_row(alloc, id, kind))?;
+    }
+    Ok(Listed::from_vec(rows))
+}
+
 /// Three vertices, and the edges 4 and 6 from vertex 2 to vertex 1.
 fn two_edges(alloc: Global) -> Result<Rows, AllocError> {
-    let around = Listed::from_vec(vec![in alloc; 4, 6]?);
-    let other = Listed::from_vec(vec![in alloc; 4, 6]?);
+    let rotations = rotations(alloc)?;
     Ok(Rows {
-        rotations: Listed::from_vec(vec![in alloc; Listed::new(alloc), around, other]?),
-        edges: Listed::from_vec(vec![in alloc; edge_row(alloc, 4, 63), edge_row(alloc, 6, 64)]?),
+        rotations,
+        edges: edges(alloc)?,
         crossings: Listed::new(alloc),
         next_edge: 7,
         next_crossing: 0,
@@ -33,9 +51,9 @@ fn two_edges(alloc: Global) -> Result<Rows, AllocError> {
 
 #[test]
 fn ids_are_their_numbers(rt: HostRuntime) {
-    assert_eq!(rt; VertexId::new(5).number(), 5);
-    assert_eq!(rt; EdgeId::new(6).number(), 6);
-    assert_eq!(rt; CrossId::new(7).number(), 7);
+    assert!(rt; VertexId::new(5).number() == 5);
+    assert!(rt; EdgeId::new(6).number() == 6);
+    assert!(rt; CrossId::new(7).number() == 7);
 }
 
 #[test]
@@ -53,13 +71,13 @@ fn limits_have_ranges(rt: HostRuntime) {
         match Limits::new(vertices, edges, crossings) {
             Ok(limits) => {
                 assert!(rt; accepted);
-                assert_eq!(rt; limits.vertices, vertices);
-                assert_eq!(rt; limits.edges, edges);
-                assert_eq!(rt; limits.crossings, crossings);
+                assert!(rt; limits.vertices == vertices);
+                assert!(rt; limits.edges == edges);
+                assert!(rt; limits.crossings == crossings);
             }
             Err(fault) => {
                 assert!(rt; !accepted);
-                assert_eq!(rt; fault, LimitsFault::BadLimits);
+                assert!(rt; fault == LimitsFault::BadLimits);
             }
         }
     }
@@ -68,13 +86,13 @@ fn limits_have_ranges(rt: HostRuntime) {
 #[test]
 fn rows_are_found_by_id(rt: HostRuntime) -> Result<(), Fail> {
     let rows = two_edges(rt.alloc())?;
-    assert_eq!(rt; rows.degree(0), 0);
-    assert_eq!(rt; rows.degree(2), 2);
-    assert_eq!(rt; rows.degree(3), 0);
+    assert!(rt; rows.degree(0) == 0);
+    assert!(rt; rows.degree(2) == 2);
+    assert!(rt; rows.degree(3) == 0);
     assert!(rt; rows.edge(5).is_none());
     let row = rows.edge(4).ok_or("edge 4")?;
     let facts = Facts::from_row(row).ok_or("facts of edge 4")?;
-    assert_eq!(rt; (facts.id, facts.a, facts.b, facts.kind), (4, 2, 1, 63));
+    assert!(rt; (facts.id, facts.a, facts.b, facts.kind) == (4, 2, 1, 63));
     let row = rows.edge(6).ok_or("edge 6")?;
     assert!(rt; Facts::from_row(row).is_none());
     Ok(())
@@ -83,8 +101,8 @@ fn rows_are_found_by_id(rt: HostRuntime) -> Result<(), Fail> {
 #[test]
 fn lists_give_their_items_back(rt: HostRuntime) -> Result<(), Fail> {
     let listed = Listed::from_vec(vec![in rt.alloc(); 3u32, 1]?);
-    assert_eq!(rt; listed.as_slice(), [3, 1].as_slice());
-    assert_eq!(rt; listed.into_vec().as_slice(), [3, 1].as_slice());
+    assert!(rt; listed.as_slice() == [3, 1].as_slice());
+    assert!(rt; listed.into_vec().as_slice() == [3, 1].as_slice());
     Ok(())
 }
 
@@ -102,6 +120,6 @@ fn refusals_have_numbers(rt: HostRuntime) {
         (Refusal::NoRoute, 9),
     ];
     for (refusal, number) in table {
-        assert_eq!(rt; refusal.number(), number);
+        assert!(rt; refusal.number() == number);
     }
 }
