@@ -14,6 +14,8 @@ pub mod EditCounts
 pub mod Bypassing
 pub mod Connecting
 pub mod Renumbered
+pub mod EditNumbers
+pub mod SplitNumbers
 pub mod Slabs
 pub mod SlabEdits
 pub mod FacesKept

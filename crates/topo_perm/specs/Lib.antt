@@ -7,3 +7,4 @@ pub mod Live
 pub mod LiveEdits
 pub mod Reach
 pub mod Renumbering
+pub mod RenumberedEdits
