@@ -16,6 +16,7 @@ pub mod Connecting
 pub mod Renumbered
 pub mod EditNumbers
 pub mod SplitNumbers
+pub mod Composing
 pub mod Slabs
 pub mod SlabEdits
 pub mod FacesKept

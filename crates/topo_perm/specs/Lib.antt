@@ -8,3 +8,4 @@ pub mod LiveEdits
 pub mod Reach
 pub mod Renumbering
 pub mod RenumberedEdits
+pub mod Runs
