@@ -17,6 +17,7 @@ pub mod Renumbered
 pub mod EditNumbers
 pub mod SplitNumbers
 pub mod Composing
+pub mod RunNumbers
 pub mod Slabs
 pub mod SlabEdits
 pub mod FacesKept
@@ -26,5 +27,6 @@ pub mod Links
 pub mod Bends
 pub mod Passages
 pub mod Passing
+pub mod PassageNumbers
 pub mod Stages
 pub mod Collapses

@@ -1,0 +1,1 @@
+-- A passage under other numbers: where the bends and the links are made in a slab that renumbers the system below, it renumbers the system with the new edge.
