@@ -437,11 +437,15 @@ straighten b n f m name (k ∷ ks) named h straight =
       );
       bent = λ live slab r. one_bend_more live b c rest.bottom n f m name k ks s h.1 h.2 r
           (rest.bent live slab r.1);
-      run = λ live r. (record { live = with_bends live ks; turn = c }, rest.run live r.1, (
-        record { within = i.beyond_there; adds = bend_adds live b c n f m name k ks s h.1 h.2 r; permutation = named.permutation },
-        record { within = i.near_there; alive = live_bends live ks k.near r.0.2 },
-        s.split.edit,
-      ));
+      run = λ live r. (
+        record { live = with_bends live ks; turn = c },
+        rest.run live r.1,
+        (
+          record { within = i.beyond_there; adds = bend_adds live b c n f m name k ks s h.1 h.2 r; permutation = named.permutation },
+          record { within = i.near_there; alive = live_bends live ks k.near r.0.2 },
+          s.split.edit,
+        ),
+      );
       kept = λ a e u w. split_keeps_faces c b n k.near k.beyond a e s.split u.0 (rest.kept a e u.1 w);
       back = λ a e u v w. rest.back a e u.1 v.1 (smooth_keeps_faces b c n k.beyond a e first.smooth u.0 v.0 w);
       sides = (

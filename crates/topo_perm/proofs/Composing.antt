@@ -1,5 +1,5 @@
 -- Slabs whose live darts stand for one another: the way back, one numbering after another, and slabs of which all darts are live.
-use Rattle.std.proofs.Common.{◌≡◌, ℕ, ◌%◌, ◌<◌, Bool, true, refl, sym, ◌∙◌, ap}
+use Rattle.std.proofs.Common.{◌≡◌, ℕ, ◌<◌, Bool, true, refl, sym, ◌∙◌, ap}
 use Rattle.std.proofs.lemmas.Bool.{false≢true}
 use Rattle.topo_core.specs.Rotations.{twin}
 use Rattle.topo_perm.specs.Live.{IsSlab}

@@ -1,8 +1,7 @@
 -- Runs of edits: the same run of two slabs whose live darts stand for one another leaves them so.
-use Rattle.std.proofs.Common.{◌≡◌, ◌≢◌, ℕ, ◌%◌, Bool, true, false, List, [], ◌∷◌, refl, sym, ◌∙◌, ap, subst}
+use Rattle.std.proofs.Common.{◌≡◌, ℕ, ◌%◌, List, [], ◌∷◌, refl, ◌∙◌, subst}
 use Rattle.std.specs.List.{AllByRecursion}
 use Rattle.topo_core.specs.Rotations.{twin}
-use Rattle.topo_perm.specs.Joins.{AddsSegment}
 use Rattle.topo_perm.specs.RenumberedEdits.{IsAlive, RenumbersSlab, AddsBoth, extended}
 use Rattle.topo_perm.specs.Runs.{Turning, Edit, Comes, IsStep, IsRun, segment_of, under, stepped, stepped_back, numbers_after, backs_after, AreAlike}
 use Rattle.topo_perm.specs.Runs.Edit.{Hang, Chord, Unchord, Split, Smooth}
