@@ -30,3 +30,4 @@ pub mod Passing
 pub mod PassageNumbers
 pub mod Stages
 pub mod Collapses
+pub mod Midpoints
