@@ -31,3 +31,4 @@ pub mod PassageNumbers
 pub mod Stages
 pub mod Collapses
 pub mod Midpoints
+pub mod DeletionNumbers

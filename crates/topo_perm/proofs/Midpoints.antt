@@ -1,25 +1,18 @@
 -- Points of degree two on segments, smoothed in any order: what is left is the system without them, under other numbers.
-use Rattle.std.proofs.Common.{◌≡◌, ◌≢◌, ℕ, ◌%◌, ◌<◌, ◌==◌, Bool, true, false, cond, ◌||◌, ◌&&◌, not, List, [], ◌∷◌, ◌⊎◌, inl, inr, refl, sym, ◌∙◌, ap, subst, arith}
-use Rattle.std.specs.List.{AllByRecursion}
-use Rattle.std.proofs.lemmas.Bool.{cases_eq, cond-true, cond-false, eq-eqb, ne_eqb, false≢true}
+use Rattle.std.proofs.Common.{◌≡◌, ◌≢◌, ℕ, ◌%◌, ◌<◌, ◌==◌, Bool, true, false, cond, ◌||◌, ◌&&◌, not, ◌⊎◌, inl, inr, refl, sym, ◌∙◌, ap, subst, arith}
+use Rattle.std.proofs.lemmas.Bool.{cases_eq, cond-true, cond-false, eq-eqb, ne_eqb}
 use Rattle.topo_core.specs.Cycles.{IsPermutation}
 use Rattle.topo_core.specs.Rotations.{twin}
 use Rattle.topo_core.specs.Edits.{IsSmooth}
-use Rattle.topo_core.specs.Items.{IsIn}
 use Rattle.topo_perm.specs.Edits.{IsAllowedSmooth, IsSmoothing, Leads}
 use Rattle.topo_perm.specs.Joins.{AddsSegment}
 use Rattle.topo_perm.specs.Live.{IsSlab}
-use Rattle.topo_perm.specs.Renumbering.{RenumbersTurn}
-use Rattle.topo_perm.specs.RenumberedEdits.{IsAlive, RenumbersSlab}
-use Rattle.topo_perm.specs.Runs.{Turning, Edit, Goes, IsStep, IsRun}
-use Rattle.topo_perm.specs.Runs.Edit.{Smooth}
+use Rattle.topo_perm.specs.RenumberedEdits.{IsAlive}
 use Rattle.topo_perm.proofs.Walks.{twin-cases, twin-within}
-use Rattle.topo_perm.proofs.Faces.{twin-other, twin-twin, twin-apart}
+use Rattle.topo_perm.proofs.Faces.{twin-other, twin-twin}
 use Rattle.topo_perm.proofs.Possible.{smooth_is_possible}
 use Rattle.topo_perm.proofs.EditNumbers.{alive_turn, alive_twin, dead_apart, still_alive}
-use Rattle.topo_perm.proofs.SplitNumbers.{smooth_numbers}
 use Rattle.topo_perm.proofs.SlabEdits.{smooth_keeps_slab}
-use Rattle.topo_perm.proofs.Composing.{composed_numbers, slab_of_turn, turn_of_slab}
 
 -- ---- The images after a smoothing
 
@@ -87,7 +80,7 @@ left_self live x a e = ap (λ (b : Bool). not (b || a == twin x) && live a) (eq-
 left_twin : (live : ℕ → Bool) (x a : ℕ) → a ≡ twin x → without_segment live x a ≡ false
 left_twin live x a e = ap (λ (b : Bool). not (b || a == twin x) && live a) (ne_eqb a x (λ w. twin-other x (sym e ∙ w))) ∙ ap (λ (b : Bool). not b && live a) (eq-eqb a (twin x) e)
 
-left_other : (live : ℕ → Bool) (x a : ℕ) → a ≢ x → a ≢ twin x → without_segment live x a ≡ live a
+pub left_other : (live : ℕ → Bool) (x a : ℕ) → a ≢ x → a ≢ twin x → without_segment live x a ≡ live a
 left_other live x a nx nt = ap (λ (b : Bool). not (b || a == twin x) && live a) (ne_eqb a x nx) ∙ ap (λ (b : Bool). not b && live a) (ne_eqb a (twin x) nt)
 
 taken_segment : (live : ℕ → Bool) (f : ℕ → ℕ) (n x : ℕ) → IsSlab live f n → IsAlive live n x → AddsSegment (without_segment live x) live n x
@@ -103,10 +96,13 @@ taken_segment live f n x s xt = record {
 abbrev pub smoothed_name : (ℕ → ℕ) → (ℕ → ℕ) → ℕ → ℕ → ℕ
 smoothed_name t name x d = cond (name d == twin x) (t x) (name d)
 
-odd_twin : (x : ℕ) → x % 2 ≡ 0 → twin x % 2 ≡ 1
+pub smoothed_name-other : (t name : ℕ → ℕ) (x d : ℕ) → name d ≢ twin x → smoothed_name t name x d ≡ name d
+smoothed_name-other t name x d ne = cond-false _ _ _ (ne_eqb (name d) (twin x) ne)
+
+pub odd_twin : (x : ℕ) → x % 2 ≡ 0 → twin x % 2 ≡ 1
 odd_twin x e = omega (arith, twin-cases x)
 
-even_not_odd : (a b : ℕ) → a % 2 ≡ 0 → b % 2 ≡ 1 → a ≢ b
+pub even_not_odd : (a b : ℕ) → a % 2 ≡ 0 → b % 2 ≡ 1 → a ≢ b
 even_not_odd a b ea ob e = (let w : b % 2 ≡ 0 = subst (λ (v : ℕ). v % 2 ≡ 0) e ea in absurd (omega arith))
 
 module _ (middle : ℕ → Bool) (rank : ℕ → ℕ) (live : ℕ → Bool) (t : ℕ → ℕ) (n : ℕ) (f : ℕ → ℕ) (m : ℕ) (name onto : ℕ → ℕ) (w : AreMidway middle rank live t n f m name onto) (x : ℕ) (xt : IsAlive live n x) (is : middle x ≡ true) where
