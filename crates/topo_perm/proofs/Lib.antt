@@ -32,3 +32,4 @@ pub mod Stages
 pub mod Collapses
 pub mod Midpoints
 pub mod DeletionNumbers
+pub mod GrowthNumbers
