@@ -40,12 +40,12 @@ smooths_of h [] = []
 smooths_of h (x ∷ xs) = Smooth (h x) ∷ smooths_of h xs
 
 -- live midpoints, each once
-abbrev pub AreMids : (ℕ → Bool) → (ℕ → Bool) → ℕ → List ℕ → Type 0
+abbrev pub AreMids : (ℕ → Type 0) → (ℕ → Bool) → ℕ → List ℕ → Type 0
 AreMids middle live n [] = Unit {0}
-AreMids middle live n (x ∷ xs) = IsAlive live n x × (middle x ≡ true) × AllByRecursion (λ y. x ≢ y) xs × AreMids middle live n xs
+AreMids middle live n (x ∷ xs) = IsAlive live n x × middle x × AllByRecursion (λ y. x ≢ y) xs × AreMids middle live n xs
 
 -- some slab that the numbers carry to v, in which these midpoints are gone
-record IsSmoothedTo (middle : ℕ → Bool) (rank : ℕ → ℕ) (live : ℕ → Bool) (n : ℕ) (f : ℕ → ℕ) (m : ℕ) (name onto nu back : ℕ → ℕ) (limit : ℕ) (xs : List ℕ) (v : Turning) : Type 0 where
+record IsSmoothedTo (middle : ℕ → Type 0) (rank : ℕ → ℕ) (live : ℕ → Bool) (n : ℕ) (f : ℕ → ℕ) (m : ℕ) (name onto nu back : ℕ → ℕ) (limit : ℕ) (xs : List ℕ) (v : Turning) : Type 0 where
   left : ℕ → Bool
   turn : ℕ → ℕ
   names : ℕ → ℕ
@@ -56,7 +56,14 @@ record IsSmoothedTo (middle : ℕ → Bool) (rank : ℕ → ℕ) (live : ℕ →
   stays : (a : ℕ) → IsAlive live n a → AllByRecursion (λ x. (a ≢ x) × (a ≢ twin x)) xs → IsAlive left n a
   gone : AllByRecursion (λ x. left x ≡ false) xs
 
-module _ (middle : ℕ → Bool) (rank : ℕ → ℕ) (live : ℕ → Bool) (t : ℕ → ℕ) (n : ℕ) (f : ℕ → ℕ) (m : ℕ) (name onto : ℕ → ℕ) (w : AreMidway middle rank live t n f m name onto) (p : IsPermutation f m) (even : m % 2 ≡ 0)
+-- the slab v renumbers the system without the midpoints: a dart that was named by an even number has the half of that
+pub record IsSmoothedUnder (f : ℕ → ℕ) (m : ℕ) (name nu : ℕ → ℕ) (v : Turning) (limit : ℕ) : Type 0 where
+  pub number : ℕ → ℕ
+  pub back_number : ℕ → ℕ
+  pub renumbers : RenumbersTurn number back_number f v.turn m v.live limit
+  pub forward : (d : ℕ) → d < m → name d % 2 ≡ 0 → number d ≡ nu (name d)
+
+module _ (middle : ℕ → Type 0) (rank : ℕ → ℕ) (live : ℕ → Bool) (t : ℕ → ℕ) (n : ℕ) (f : ℕ → ℕ) (m : ℕ) (name onto : ℕ → ℕ) (w : AreMidway middle rank live t n f m name onto) (p : IsPermutation f m) (even : m % 2 ≡ 0)
     (nu back : ℕ → ℕ) (limit : ℕ) (u : Turning) (r : RenumbersSlab nu back live t n u.live u.turn limit) where
   away : (a : ℕ) → a % 2 ≡ 0 → (xs : List ℕ) → AreMids middle live n xs → AllByRecursion (λ y. a ≢ y) xs → AllByRecursion (λ x. (a ≢ x) × (a ≢ twin x)) xs
   away a e [] mids apart = tt
@@ -105,14 +112,7 @@ module _ (middle : ℕ → Bool) (rank : ℕ → ℕ) (live : ℕ → Bool) (t :
         gone = (takes.new, dead_still old new xs sub mids.3 before.gone);
       }
 
-  -- the slab v renumbers the system without the midpoints: a dart that was named by an even number has the half of that
-  pub record IsSmoothedUnder (v : Turning) : Type 0 where
-    pub number : ℕ → ℕ
-    pub back_number : ℕ → ℕ
-    pub renumbers : RenumbersTurn number back_number f v.turn m v.live limit
-    pub forward : (d : ℕ) → d < m → name d % 2 ≡ 0 → number d ≡ nu (name d)
-
-  pub smoothed_numbers : (xs : List ℕ) (v : Turning) → AreMids middle live n xs → ((x : ℕ) → IsAlive live n x → middle x ≡ true → IsIn x xs) → IsRun limit u (smooths_of nu xs) v → IsSmoothedUnder v
+  pub smoothed_numbers : (xs : List ℕ) (v : Turning) → AreMids middle live n xs → ((x : ℕ) → IsAlive live n x → middle x → IsIn x xs) → IsRun limit u (smooths_of nu xs) v → IsSmoothedUnder f m name nu v limit
   smoothed_numbers xs v mids all run =
       let s : IsSmoothedTo middle rank live n f m name onto nu back limit xs v = smoothed xs v mids run in
       let z : AreMidway middle rank s.left s.turn n f m s.names onto = s.midway in

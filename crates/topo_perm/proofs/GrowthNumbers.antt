@@ -62,6 +62,14 @@ twin_new m e = omega (arith, twin-cases m)
 twin_of_new : (m : ℕ) → m % 2 ≡ 0 → twin (suc m) ≡ m
 twin_of_new m e = omega (arith, twin-cases (suc m))
 
+-- the slab v renumbers the grown system: the old darts keep their halves, and the new one has y
+pub record IsGrowthUnder (g : ℕ → ℕ) (m : ℕ) (nu : ℕ → ℕ) (v : Turning) (limit y : ℕ) : Type 0 where
+  pub number : ℕ → ℕ
+  pub back_number : ℕ → ℕ
+  pub renumbers : RenumbersTurn number back_number g v.turn (suc (suc m)) v.live limit
+  pub old_number : (d : ℕ) → d < m → number d ≡ nu d
+  pub new_number : number m ≡ y
+
 module _ (f g : ℕ → ℕ) (m c : ℕ) (o : IsGrowth f g m c) where
   abbrev n : ℕ
   n = suc (suc m)
@@ -148,14 +156,6 @@ module _ (f g : ℕ → ℕ) (m c : ℕ) (o : IsGrowth f g m c) where
   }
 
   module _ (nu back : ℕ → ℕ) (limit : ℕ) (u v : Turning) (y : ℕ) (r : RenumbersTurn nu back f u.turn m u.live limit) (slab : IsSlab u.live u.turn limit) (step : IsStep limit u (Hang (nu c) y) v) where
-    -- the slab v renumbers the grown system, in which the old darts keep their halves
-    pub record IsGrowthUnder : Type 0 where
-      pub number : ℕ → ℕ
-      pub back_number : ℕ → ℕ
-      pub renumbers : RenumbersTurn number back_number g v.turn n v.live limit
-      pub old_number : (d : ℕ) → d < m → number d ≡ nu d
-      pub new_number : number m ≡ y
-
     whole : RenumbersSlab nu back (λ _. true) f m u.live u.turn limit
     whole = slab_of_turn nu back f u.turn m u.live limit r slab
 
@@ -174,7 +174,7 @@ module _ (f g : ℕ → ℕ) (m c : ℕ) (o : IsGrowth f g m c) where
       turns = λ a at. whole.turns a (inside a at) ∙ ap nu (sym (room_old f m a (inside a at).within));
     }
 
-    pub growth_numbers : IsGrowthUnder
+    pub growth_numbers : IsGrowthUnder g m nu v limit y
     growth_numbers = record {
       number = extended nu m y;
       back_number = extended back y m;

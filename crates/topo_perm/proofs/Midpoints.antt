@@ -1,5 +1,5 @@
 -- Points of degree two on segments, smoothed in any order: what is left is the system without them, under other numbers.
-use Rattle.std.proofs.Common.{◌≡◌, ◌≢◌, ℕ, ◌%◌, ◌<◌, ◌==◌, Bool, true, false, cond, ◌||◌, ◌&&◌, not, ◌⊎◌, inl, inr, refl, sym, ◌∙◌, ap, subst, arith}
+use Rattle.std.proofs.Common.{◌≡◌, ◌≢◌, ℕ, ◌%◌, ◌<◌, ◌==◌, Bool, false, cond, ◌||◌, ◌&&◌, not, ◌⊎◌, inl, inr, refl, sym, ◌∙◌, ap, subst, arith}
 use Rattle.std.proofs.lemmas.Bool.{cases_eq, cond-true, cond-false, eq-eqb, ne_eqb}
 use Rattle.topo_core.specs.Cycles.{IsPermutation}
 use Rattle.topo_core.specs.Rotations.{twin}
@@ -60,15 +60,15 @@ pub record IsMidpoint (t : ℕ → ℕ) (m : ℕ) (name onto rank : ℕ → ℕ)
   pub off : (d : ℕ) → d < m → (name d ≢ x) × (name d ≢ t x)
 
 -- the live darts of t are those of f under their names, and darts at midpoints on the segments of f. `onto` gives each the dart of f that it is part of
-pub record AreMidway (middle : ℕ → Bool) (rank : ℕ → ℕ) (live : ℕ → Bool) (t : ℕ → ℕ) (n : ℕ) (f : ℕ → ℕ) (m : ℕ) (name onto : ℕ → ℕ) : Type 0 where
+pub record AreMidway (middle : ℕ → Type 0) (rank : ℕ → ℕ) (live : ℕ → Bool) (t : ℕ → ℕ) (n : ℕ) (f : ℕ → ℕ) (m : ℕ) (name onto : ℕ → ℕ) : Type 0 where
   pub slab : IsSlab live t n
   pub named : (d : ℕ) → d < m → IsAlive live n (name d)
   pub returns : (d : ℕ) → d < m → onto (name d) ≡ d
   pub turns : (d : ℕ) → d < m → t (name d) ≡ name (f d)
   pub onto_within : (y : ℕ) → IsAlive live n y → onto y < m
   pub twins : (y : ℕ) → IsAlive live n y → onto (twin y) ≡ twin (onto y)
-  pub midpoints : (x : ℕ) → IsAlive live n x → middle x ≡ true → IsMidpoint t m name onto rank x
-  pub placed : (y : ℕ) → IsAlive live n y → (y ≡ name (onto y)) ⊎ ((x : ℕ) × IsAlive live n x × (middle x ≡ true) × ((y ≡ x) ⊎ (y ≡ t x)))
+  pub midpoints : (x : ℕ) → IsAlive live n x → middle x → IsMidpoint t m name onto rank x
+  pub placed : (y : ℕ) → IsAlive live n y → (y ≡ name (onto y)) ⊎ ((x : ℕ) × IsAlive live n x × middle x × ((y ≡ x) ⊎ (y ≡ t x)))
 
 -- the live darts but those of the segment of x
 abbrev pub without_segment : (ℕ → Bool) → ℕ → ℕ → Bool
@@ -105,7 +105,7 @@ odd_twin x e = omega (arith, twin-cases x)
 pub even_not_odd : (a b : ℕ) → a % 2 ≡ 0 → b % 2 ≡ 1 → a ≢ b
 even_not_odd a b ea ob e = (let w : b % 2 ≡ 0 = subst (λ (v : ℕ). v % 2 ≡ 0) e ea in absurd (omega arith))
 
-module _ (middle : ℕ → Bool) (rank : ℕ → ℕ) (live : ℕ → Bool) (t : ℕ → ℕ) (n : ℕ) (f : ℕ → ℕ) (m : ℕ) (name onto : ℕ → ℕ) (w : AreMidway middle rank live t n f m name onto) (x : ℕ) (xt : IsAlive live n x) (is : middle x ≡ true) where
+module _ (middle : ℕ → Type 0) (rank : ℕ → ℕ) (live : ℕ → Bool) (t : ℕ → ℕ) (n : ℕ) (f : ℕ → ℕ) (m : ℕ) (name onto : ℕ → ℕ) (w : AreMidway middle rank live t n f m name onto) (x : ℕ) (xt : IsAlive live n x) (is : middle x) where
   abbrev left : ℕ → Bool
   left = without_segment live x
 
@@ -184,7 +184,7 @@ module _ (middle : ℕ → Bool) (rank : ℕ → ℕ) (live : ℕ → Bool) (t :
     ]
 
     -- another midpoint: it turns as before, or it turned to the far end of the segment of x
-    other_turn : (y : ℕ) → IsAlive left n y → middle y ≡ true → ((t y ≡ twin x) × (g y ≡ t x)) ⊎ ((t y ≢ twin x) × (g y ≡ t y))
+    other_turn : (y : ℕ) → IsAlive left n y → middle y → ((t y ≡ twin x) × (g y ≡ t x)) ⊎ ((t y ≢ twin x) × (g y ≡ t y))
     other_turn y yt mid =
         let q : IsMidpoint t m name onto rank y = w.midpoints y (was y yt) mid in
         elim (cases_eq (t y) (twin x)) [
@@ -192,7 +192,7 @@ module _ (middle : ℕ → Bool) (rank : ℕ → ℕ) (live : ℕ → Bool) (t :
           | inr ne ↦ inr (ne, images.elsewhere y yt.within (not_x y yt) (not_twin y yt) (even_not_odd y (t x) q.even point.odd) ne)
         ]
 
-    other_midpoint : (y : ℕ) → IsAlive left n y → middle y ≡ true → IsMidpoint g m name' onto rank y
+    other_midpoint : (y : ℕ) → IsAlive left n y → middle y → IsMidpoint g m name' onto rank y
     other_midpoint y yt mid =
         let q : IsMidpoint t m name onto rank y = w.midpoints y (was y yt) mid in
         elim (other_turn y yt mid) [
@@ -231,7 +231,7 @@ module _ (middle : ℕ → Bool) (rank : ℕ → ℕ) (live : ℕ → Bool) (t :
               }
         ]
 
-    placed_left : (y : ℕ) → IsAlive left n y → (y ≡ name' (onto y)) ⊎ ((z : ℕ) × IsAlive left n z × (middle z ≡ true) × ((y ≡ z) ⊎ (y ≡ g z)))
+    placed_left : (y : ℕ) → IsAlive left n y → (y ≡ name' (onto y)) ⊎ ((z : ℕ) × IsAlive left n z × middle z × ((y ≡ z) ⊎ (y ≡ g z)))
     placed_left y yt = elim (w.placed y (was y yt)) [
       | inl e ↦ inl (e ∙ sym (there (onto y) (w.onto_within y (was y yt)) (λ v. not_twin y yt (e ∙ v))))
       | inr (z, zt, mid, at) ↦
@@ -253,7 +253,7 @@ module _ (middle : ℕ → Bool) (rank : ℕ → ℕ) (live : ℕ → Bool) (t :
           ]
     ] where
       -- the dart of the point has the place of the far end
-      at_point : (y : ℕ) → y ≡ t x → (y ≡ name' (onto y)) ⊎ ((z : ℕ) × IsAlive left n z × (middle z ≡ true) × ((y ≡ z) ⊎ (y ≡ g z)))
+      at_point : (y : ℕ) → y ≡ t x → (y ≡ name' (onto y)) ⊎ ((z : ℕ) × IsAlive left n z × middle z × ((y ≡ z) ⊎ (y ≡ g z)))
       at_point y e =
           let tt' : IsAlive live n (twin x) = alive_twin live t n x w.slab xt in
           let part : onto y ≡ onto (twin x) = ap onto e ∙ onto_back in
