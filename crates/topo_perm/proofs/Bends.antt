@@ -8,6 +8,8 @@ use Rattle.topo_perm.specs.Edits.{IsApart, IsAllowedSplit, IsAllowedSmooth, Lead
 use Rattle.topo_perm.specs.Joins.{AddsSegment, IsConnectedAmong}
 use Rattle.topo_perm.specs.Live.{IsSlab, live_cycle_count}
 use Rattle.topo_perm.specs.LiveEdits.{GrowsSlab}
+use Rattle.topo_perm.specs.Runs.{Edit, IsRun}
+use Rattle.topo_perm.specs.Runs.Edit.{Split}
 use Rattle.topo_perm.proofs.Walks.{twin-within}
 use Rattle.topo_perm.proofs.Faces.{twin-twin, twin-apart, twin-other}
 use Rattle.topo_perm.proofs.EditCounts.{smoothed}
@@ -249,6 +251,11 @@ abbrev pub AreBendable : (ℕ → Bool) → List Bend → Type 0
 AreBendable live [] = Unit {0}
 AreBendable live (k ∷ ks) = ((live k.beyond ≡ false) × (live (twin k.beyond) ≡ false) × (live k.near ≡ true)) × AreBendable live ks
 
+-- the bends are a run of splits
+abbrev pub splits_of : List Bend → List Edit
+splits_of [] = []
+splits_of (k ∷ ks) = Split k.near k.beyond ∷ splits_of ks
+
 -- b with all bends taken out
 pub record Straightened (b : ℕ → ℕ) (n : ℕ) (f : ℕ → ℕ) (m : ℕ) (name : ℕ → ℕ) (ks : List Bend) : Type 0 where
   pub bottom : ℕ → ℕ
@@ -266,6 +273,7 @@ pub record Straightened (b : ℕ → ℕ) (n : ℕ) (f : ℕ → ℕ) (m : ℕ) 
   pub beyond_alone : AllByRecursion (λ k. (bottom k.beyond ≡ k.beyond) × (bottom (twin k.beyond) ≡ twin k.beyond)) ks
   -- what is counted and joined, and the faces
   pub bent : (live : ℕ → Bool) → IsSlab live bottom n → AreBendable live ks → Bent live bottom b n ks
+  pub run : (live : ℕ → Bool) → AreBendable live ks → IsRun n (record { live = live; turn = bottom }) (splits_of ks) (record { live = with_bends live ks; turn = b })
   pub kept : (a c : ℕ) → IsWithin n ks a → SameCycle (face_next bottom) a c → SameCycle (face_next b) a c
   pub back : (a c : ℕ) → IsWithin n ks a → IsWithin n ks c → SameCycle (face_next b) a c → SameCycle (face_next bottom) a c
   pub sides : AllByRecursion (λ k. SameCycle (face_next b) k.near k.beyond × SameCycle (face_next b) (twin k.beyond) (twin k.near)) ks
@@ -341,15 +349,20 @@ first_step b n f m name k named i =
       };
     }
 
+bend_adds : (live : ℕ → Bool) (b c : ℕ → ℕ) (n : ℕ) (f : ℕ → ℕ) (m : ℕ) (name : ℕ → ℕ) (k : Bend) (ks : List Bend) → IsStep b c n f m name k → AllByRecursion (AreOnOthers m k) ks → AreBends b n m name ks → AreBendable live (k ∷ ks)
+    → AddsSegment (with_bends live ks) (with_bends live (k ∷ ks)) n k.beyond
+bend_adds live b c n f m name k ks s o h r =
+    let here : IsWithin n ks k.beyond = all_both (AreOnOthers m k) (IsBend b n m name) (λ l. IsApart n k.beyond l.beyond)
+    (λ l u v. beyond_apart b n m name k l s.named.turn_even s.bend u v) ks o (all_bends b n m name ks h) in
+    let here_twin : IsWithin n ks (twin k.beyond) = all_map (λ l. IsApart n k.beyond l.beyond) (λ l. IsApart n (twin k.beyond) l.beyond) (λ l u. twin_apart n k.beyond l.beyond s.named.even u) ks here in
+    adds_segment (with_bends live ks) n k.beyond (dead_bends live n ks k.beyond r.0.0 here) (dead_bends live n ks (twin k.beyond) r.0.1 here_twin)
+
 -- the bent slab with one bend more
 one_bend_more : (live : ℕ → Bool) (b c e : ℕ → ℕ) (n : ℕ) (f : ℕ → ℕ) (m : ℕ) (name : ℕ → ℕ) (k : Bend) (ks : List Bend) → IsStep b c n f m name k → AllByRecursion (AreOnOthers m k) ks → AreBends b n m name ks → AreBendable live (k ∷ ks) → Bent live e c n ks → Bent live e b n (k ∷ ks)
 one_bend_more live b c e n f m name k ks s o h r w =
     let old : ℕ → Bool = with_bends live ks in
     let new : ℕ → Bool = with_segment old k.beyond in
-    let here : IsWithin n ks k.beyond = all_both (AreOnOthers m k) (IsBend b n m name) (λ l. IsApart n k.beyond l.beyond)
-    (λ l u v. beyond_apart b n m name k l s.named.turn_even s.bend u v) ks o (all_bends b n m name ks h) in
-    let here_twin : IsWithin n ks (twin k.beyond) = all_map (λ l. IsApart n k.beyond l.beyond) (λ l. IsApart n (twin k.beyond) l.beyond) (λ l u. twin_apart n k.beyond l.beyond s.named.even u) ks here in
-    let adds : AddsSegment old new n k.beyond = adds_segment old n k.beyond (dead_bends live n ks k.beyond r.0.0 here) (dead_bends live n ks (twin k.beyond) r.0.1 here_twin) in
+    let adds : AddsSegment old new n k.beyond = bend_adds live b c n f m name k ks s o h r in
     let alive : old k.near ≡ true = live_bends live ks k.near r.0.2 in
     let after : IsSlab new b n = split_keeps_slab old new c b n k.near k.beyond w.slab adds alive s.split in
     let grows : GrowsSlab old new c b n k.beyond = record { before = w.slab; after = after; within = s.bend.beyond_there; adds = adds } in
@@ -373,6 +386,7 @@ straighten b n f m name [] named h straight = record {
   alone = λ y ly e u. e;
   beyond_alone = tt;
   bent = λ live slab r. record { slab = slab; faces = refl; connected = λ hang. hang };
+  run = λ live r. refl;
   kept = λ a e u w. w;
   back = λ a e u v w. w;
   sides = tt;
@@ -423,6 +437,15 @@ straighten b n f m name (k ∷ ks) named h straight =
       );
       bent = λ live slab r. one_bend_more live b c rest.bottom n f m name k ks s h.1 h.2 r
           (rest.bent live slab r.1);
+      run = λ live r. (
+        record { live = with_bends live ks; turn = c },
+        rest.run live r.1,
+        (
+          record { within = i.beyond_there; adds = bend_adds live b c n f m name k ks s h.1 h.2 r; permutation = named.permutation },
+          record { within = i.near_there; alive = live_bends live ks k.near r.0.2 },
+          s.split.edit,
+        ),
+      );
       kept = λ a e u w. split_keeps_faces c b n k.near k.beyond a e s.split u.0 (rest.kept a e u.1 w);
       back = λ a e u v w. rest.back a e u.1 v.1 (smooth_keeps_faces b c n k.beyond a e first.smooth u.0 v.0 w);
       sides = (

@@ -14,6 +14,10 @@ pub mod EditCounts
 pub mod Bypassing
 pub mod Connecting
 pub mod Renumbered
+pub mod EditNumbers
+pub mod SplitNumbers
+pub mod Composing
+pub mod RunNumbers
 pub mod Slabs
 pub mod SlabEdits
 pub mod FacesKept
@@ -23,5 +27,9 @@ pub mod Links
 pub mod Bends
 pub mod Passages
 pub mod Passing
+pub mod PassageNumbers
 pub mod Stages
 pub mod Collapses
+pub mod Midpoints
+pub mod DeletionNumbers
+pub mod GrowthNumbers

@@ -4,11 +4,14 @@ use Rattle.std.specs.List.{AllByRecursion}
 use Rattle.std.proofs.lemmas.Bool.{cases_eq, eq-eqb, ne_eqb}
 use Rattle.topo_core.specs.Cycles.{IsPermutation, IsBypass, SameCycle}
 use Rattle.topo_core.specs.Rotations.{twin, face_next}
+use Rattle.topo_core.specs.Edits.{IsChord}
 use Rattle.topo_core.proofs.Orbits.{SameCycle-sym}
 use Rattle.topo_perm.specs.Edits.{IsApart, IsAllowedChord, IsAllowedUnchord}
 use Rattle.topo_perm.specs.Joins.{AddsSegment, IsConnectedAmong}
 use Rattle.topo_perm.specs.Live.{IsSlab, live_cycle_count}
 use Rattle.topo_perm.specs.LiveEdits.{GrowsSlab}
+use Rattle.topo_perm.specs.Runs.{Edit, IsRun}
+use Rattle.topo_perm.specs.Runs.Edit.{Chord}
 use Rattle.topo_perm.proofs.Walks.{twin-within, face_next-permutation}
 use Rattle.topo_perm.proofs.Faces.{twin-twin, twin-apart, twin-other}
 use Rattle.topo_perm.proofs.Splitting.{without, without-self, without-elsewhere, without-bypass, bypassed-permutation}
@@ -152,23 +155,26 @@ link_permutation g n k p even lh =
 -- ---- One link drawn
 
 -- f is the turn without the link, and g the turn with it
-allowed_link : (g : ℕ → ℕ) (n : ℕ) (k : Link) → IsPermutation g n → n % 2 ≡ 0 → IsLink g n k → SameCycle (face_next (without_link g k)) k.from k.to → IsAllowedChord (without_link g k) g n k.from k.to k.half
-allowed_link g n k p even i one =
+link_chord : (g : ℕ → ℕ) (n : ℕ) (k : Link) → IsLink g n k → IsChord (without_link g k) g n k.from k.to k.half
+link_chord g n k i =
     let y : ℕ = k.half in
     let half : ℕ → ℕ = without g (twin y) in
     let at_twin : half (twin y) ≡ twin y = without-self g (twin y) (twin y) refl in
     let at : half y ≡ k.from = without-elsewhere g (twin y) y (λ e. twin-other y (sym e)) (λ w. i.from_apart.not_twin (sym i.leaves ∙ w)) ∙ i.leaves in
     record {
-      turns = record { before = link_permutation g n k p even i.there; after = p; even = even; within = i.there };
-      corner = i.from_apart;
-      one_face = one;
-      edit = record {
-        room = record { this = without-self half y y refl; other = without-elsewhere half y (twin y) (twin-other y) (λ w. twin-other y (sym at_twin ∙ w)) ∙ at_twin };
-        half = half;
-        start = record { turns = at; without = without-bypass half n y };
-        end = record { turns = i.arrives; without = without-bypass g n (twin y) };
-      };
+      room = record { this = without-self half y y refl; other = without-elsewhere half y (twin y) (twin-other y) (λ w. twin-other y (sym at_twin ∙ w)) ∙ at_twin };
+      half = half;
+      start = record { turns = at; without = without-bypass half n y };
+      end = record { turns = i.arrives; without = without-bypass g n (twin y) };
     }
+
+allowed_link : (g : ℕ → ℕ) (n : ℕ) (k : Link) → IsPermutation g n → n % 2 ≡ 0 → IsLink g n k → SameCycle (face_next (without_link g k)) k.from k.to → IsAllowedChord (without_link g k) g n k.from k.to k.half
+allowed_link g n k p even i one = record {
+  turns = record { before = link_permutation g n k p even i.there; after = p; even = even; within = i.there };
+  corner = i.from_apart;
+  one_face = one;
+  edit = link_chord g n k i;
+}
 
 -- and the link may be taken out again
 allowed_unlink : (g : ℕ → ℕ) (n : ℕ) (k : Link) → IsPermutation g n → n % 2 ≡ 0 → IsLink g n k → SameCycle (face_next (without_link g k)) k.from k.to → IsAllowedUnchord g (without_link g k) n (twin k.half)
@@ -219,6 +225,31 @@ half_unlinked n k ks lh u = all_map (AreUnlinked n k) (λ l. IsApart n k.half l.
 pub twin_unlinked : (n : ℕ) (ks : List Link) (a : ℕ) → n % 2 ≡ 0 → IsUnlinked n ks a → IsUnlinked n ks (twin a)
 twin_unlinked n ks a even u = all_map (λ k. IsApart n a k.half) (λ k. IsApart n (twin a) k.half) (λ k w. apart_twin n a k.half even w) ks u
 
+link_adds : (live : ℕ → Bool) (g : ℕ → ℕ) (n : ℕ) (k : Link) (ks : List Link) → n % 2 ≡ 0 → AreLinks g n (k ∷ ks) → AreReady live (k ∷ ks) → AddsSegment (with_links live ks) (with_links live (k ∷ ks)) n k.half
+link_adds live g n k ks even h ready =
+    let hu : IsUnlinked n ks k.half = half_unlinked n k ks h.0.there h.1 in
+    adds_segment (with_links live ks) n k.half (dead_links live n ks k.half ready.0.0 hu) (dead_links live n ks (twin k.half) ready.0.1 (twin_unlinked n ks k.half even hu))
+
+-- the links are a run of chords
+abbrev pub chords_of : List Link → List Edit
+chords_of [] = []
+chords_of (k ∷ ks) = Chord k.from k.to k.half ∷ chords_of ks
+
+pub links_run : (live : ℕ → Bool) (g : ℕ → ℕ) (n : ℕ) (ks : List Link) → IsPermutation g n → n % 2 ≡ 0 → AreLinks g n ks → AreReady live ks → IsRun n (record { live = live; turn = without_links g ks }) (chords_of ks) (record { live = with_links live ks; turn = g })
+links_run live g n [] p even h ready = refl
+links_run live g n (k ∷ ks) p even h ready = (
+  record { live = with_links live ks; turn = without_link g k },
+  links_run live (without_link g k) n ks (link_permutation g n k p even h.0.there) even (links_stay g n k ks even h.1 h.2) ready.1,
+  (
+    record { within = h.0.there; adds = link_adds live g n k ks even h ready; permutation = p },
+    (
+      record { within = h.0.from_apart.within; alive = live_links live ks k.from ready.0.2 },
+      record { within = h.0.to_apart.within; alive = live_links live ks k.to ready.0.3 },
+    ),
+    link_chord g n k h.0,
+  ),
+)
+
 pub draw : (live : ℕ → Bool) (g : ℕ → ℕ) (n : ℕ) (ks : List Link) → IsPermutation g n → n % 2 ≡ 0 → AreLinks g n ks → AreReady live ks → AreInFaces (without_links g ks) ks → IsSlab live (without_links g ks) n → Drawn live (without_links g ks) g n ks
 draw live g n [] p even h ready faces slab = record {
   slab = slab;
@@ -237,8 +268,7 @@ draw live g n (k ∷ ks) p even h ready faces slab =
     let allowed : IsAllowedChord f g n k.from k.to k.half = allowed_link g n k p even i one in
     let old : ℕ → Bool = with_links live ks in
     let new : ℕ → Bool = with_segment old k.half in
-    let hu : IsUnlinked n ks k.half = half_unlinked n k ks i.there h.1 in
-    let adds : AddsSegment old new n k.half = adds_segment old n k.half (dead_links live n ks k.half ready.0.0 hu) (dead_links live n ks (twin k.half) ready.0.1 (twin_unlinked n ks k.half even hu)) in
+    let adds : AddsSegment old new n k.half = link_adds live g n k ks even h ready in
     let alive : old k.from ≡ true = live_links live ks k.from ready.0.2 in
     let after : IsSlab new g n = chord_keeps_slab old new f g n k.from k.to k.half below.slab adds alive (live_links live ks k.to ready.0.3) allowed in
     let grows : GrowsSlab old new f g n k.half = record { before = below.slab; after = after; within = i.there; adds = adds } in

@@ -21,7 +21,7 @@ use Rattle.topo_perm.proofs.Passages.{find_below, found_below, is_named, named_b
 not_named : (name : ℕ → ℕ) (m a : ℕ) → ((d : ℕ) → d < m → name d ≢ a) → is_named name m a ≡ false
 not_named name m a h = some_below-false (λ d. name d == a) m (λ d ld. ne_eqb (name d) a (h d ld))
 
-renumbers : (b : ℕ → ℕ) (n : ℕ) (f : ℕ → ℕ) (m : ℕ) (name : ℕ → ℕ) (ks : List Bend) → (s : Straightened b n f m name ks) → RenumbersTurn s.names (λ y. find_below (λ d. s.names d == y) m) f s.bottom m (is_named s.names m) n
+pub renumbers : (b : ℕ → ℕ) (n : ℕ) (f : ℕ → ℕ) (m : ℕ) (name : ℕ → ℕ) (ks : List Bend) → (s : Straightened b n f m name ks) → RenumbersTurn s.names (λ y. find_below (λ d. s.names d == y) m) f s.bottom m (is_named s.names m) n
 renumbers b n f m name ks s = record {
   turn = record {
     before = s.named.turn;
@@ -45,7 +45,7 @@ renumbers b n f m name ks s = record {
 -- ---- Where the darts of bends and links lie
 
 -- the name of a dart, if no bend is at its far end: the dart itself is named so below
-named_below : (b : ℕ → ℕ) (n : ℕ) (f : ℕ → ℕ) (m : ℕ) (name : ℕ → ℕ) (ks : List Bend) → AllByRecursion (IsBend b n m name) ks → (s : Straightened b n f m name ks) → (d : ℕ) → d < m
+pub named_below : (b : ℕ → ℕ) (n : ℕ) (f : ℕ → ℕ) (m : ℕ) (name : ℕ → ℕ) (ks : List Bend) → AllByRecursion (IsBend b n m name) ks → (s : Straightened b n f m name ks) → (d : ℕ) → d < m
     → (s.names d ≡ name d) ⊎ ((k : Bend) × IsIn k ks × (d ≡ twin k.dart) × (name d ≡ twin k.beyond))
 named_below b n f m name ks i s d ld = elim (bent_or_not m ks d ld) [
   | inl u ↦ inl (s.unbent d u)
@@ -56,18 +56,18 @@ named_below b n f m name ks i s d ld = elim (bent_or_not m ks d ld) [
 ]
 
 -- the dart back from a bend is named below
-back_named : (b : ℕ → ℕ) (n : ℕ) (f : ℕ → ℕ) (m : ℕ) (name : ℕ → ℕ) (ks : List Bend) → AllByRecursion (IsBend b n m name) ks → (s : Straightened b n f m name ks) → (k : Bend) → IsIn k ks → s.names (twin k.dart) ≡ twin k.near
+pub back_named : (b : ℕ → ℕ) (n : ℕ) (f : ℕ → ℕ) (m : ℕ) (name : ℕ → ℕ) (ks : List Bend) → AllByRecursion (IsBend b n m name) ks → (s : Straightened b n f m name ks) → (k : Bend) → IsIn k ks → s.names (twin k.dart) ≡ twin k.near
 back_named b n f m name ks i s k h =
     s.twins k.dart (all_at (IsBend b n m name) k ks i h).there ∙ ap twin (all_at (λ l. s.names l.dart ≡ l.near) k ks s.near h)
 
-back_live : (b : ℕ → ℕ) (n : ℕ) (f : ℕ → ℕ) (m : ℕ) (name : ℕ → ℕ) (ks : List Bend) → AllByRecursion (IsBend b n m name) ks → (s : Straightened b n f m name ks) → (k : Bend) → IsIn k ks → is_named s.names m (twin k.near) ≡ true
+pub back_live : (b : ℕ → ℕ) (n : ℕ) (f : ℕ → ℕ) (m : ℕ) (name : ℕ → ℕ) (ks : List Bend) → AllByRecursion (IsBend b n m name) ks → (s : Straightened b n f m name ks) → (k : Bend) → IsIn k ks → is_named s.names m (twin k.near) ≡ true
 back_live b n f m name ks i s k h =
     let lk : k.dart < m = (all_at (IsBend b n m name) k ks i h).there in
     subst (λ (v : ℕ). is_named s.names m v ≡ true) (back_named b n f m name ks i s k h) (is_named-of s.names m (twin k.dart) (twin-within m k.dart s.named.turn_even lk))
 
 -- ---- The slab below
 
-slab_below : (g : ℕ → ℕ) (n : ℕ) (f : ℕ → ℕ) (m : ℕ) (name : ℕ → ℕ) (c : ℕ) (ks : List Bend) (e : ℕ) (ls : List Link) → IsPassage g n f m name c ks e ls → (s : Straightened (without_links g ls) n f m name ks) → IsSlab (is_named s.names m) s.bottom n
+pub slab_below : (g : ℕ → ℕ) (n : ℕ) (f : ℕ → ℕ) (m : ℕ) (name : ℕ → ℕ) (c : ℕ) (ks : List Bend) (e : ℕ) (ls : List Link) → IsPassage g n f m name c ks e ls → (s : Straightened (without_links g ls) n f m name ks) → IsSlab (is_named s.names m) s.bottom n
 slab_below g n f m name c ks e ls p s =
     let b : ℕ → ℕ = without_links g ls in
     let i : AllByRecursion (IsBend b n m name) ks = all_bends b n m name ks p.bends in
@@ -118,7 +118,7 @@ bendable_of : (live : ℕ → Bool) (name : ℕ → ℕ) (ks : List Bend) → Al
 bendable_of live name [] h = tt
 bendable_of live name (k ∷ ks) h = (h.0, bendable_of live name ks h.1)
 
-bendable : (b : ℕ → ℕ) (n : ℕ) (f : ℕ → ℕ) (m : ℕ) (name : ℕ → ℕ) (ks : List Bend) → AllByRecursion (IsBend b n m name) ks → (s : Straightened b n f m name ks) → AreBendable (is_named s.names m) ks
+pub bendable : (b : ℕ → ℕ) (n : ℕ) (f : ℕ → ℕ) (m : ℕ) (name : ℕ → ℕ) (ks : List Bend) → AllByRecursion (IsBend b n m name) ks → (s : Straightened b n f m name ks) → AreBendable (is_named s.names m) ks
 bendable b n f m name ks i s = bendable_of (is_named s.names m) name ks (all_of (λ k. (is_named s.names m k.beyond ≡ false) × (is_named s.names m (twin k.beyond) ≡ false) × (is_named s.names m k.near ≡ true)) ks (λ k h. (
   not_named s.names m k.beyond (λ d ld. (all_at (λ l. IsApart n (s.names d) l.beyond) k ks (s.within d ld) h).not_self),
   not_named s.names m (twin k.beyond) (λ d ld. (all_at (λ l. IsApart n (s.names d) l.beyond) k ks (s.within d ld) h).not_twin),
@@ -126,14 +126,14 @@ bendable b n f m name ks i s = bendable_of (is_named s.names m) name ks (all_of 
 )))
 
 -- with the bends each name is live, and each dart at a bend
-beyond_live : (live : ℕ → Bool) (ks : List Bend) (k : Bend) → IsIn k ks → (with_bends live ks k.beyond ≡ true) × (with_bends live ks (twin k.beyond) ≡ true)
+pub beyond_live : (live : ℕ → Bool) (ks : List Bend) (k : Bend) → IsIn k ks → (with_bends live ks k.beyond ≡ true) × (with_bends live ks (twin k.beyond) ≡ true)
 beyond_live live [] k h = elim h [ ]
 beyond_live live (j ∷ js) k h = elim h [
   | inl e ↦ subst (λ (v : Bend). (with_bends live (j ∷ js) v.beyond ≡ true) × (with_bends live (j ∷ js) (twin v.beyond) ≡ true)) (sym e) (with_self (with_bends live js) j.beyond, with_twin (with_bends live js) j.beyond)
   | inr w ↦ let (a, t) = beyond_live live js k w in (with_old (with_bends live js) j.beyond k.beyond a, with_old (with_bends live js) j.beyond (twin k.beyond) t)
 ]
 
-name_live : (b : ℕ → ℕ) (n : ℕ) (f : ℕ → ℕ) (m : ℕ) (name : ℕ → ℕ) (ks : List Bend) → AllByRecursion (IsBend b n m name) ks → (s : Straightened b n f m name ks) → (d : ℕ) → d < m → with_bends (is_named s.names m) ks (name d) ≡ true
+pub name_live : (b : ℕ → ℕ) (n : ℕ) (f : ℕ → ℕ) (m : ℕ) (name : ℕ → ℕ) (ks : List Bend) → AllByRecursion (IsBend b n m name) ks → (s : Straightened b n f m name ks) → (d : ℕ) → d < m → with_bends (is_named s.names m) ks (name d) ≡ true
 name_live b n f m name ks i s d ld = elim (named_below b n f m name ks i s d ld) [
   | inl at ↦ live_bends (is_named s.names m) ks (name d) (subst (λ (v : ℕ). is_named s.names m v ≡ true) at (is_named-of s.names m d ld))
   | inr q ↦ subst (λ (v : ℕ). with_bends (is_named s.names m) ks v ≡ true) (sym q.3) (beyond_live (is_named s.names m) ks q.0 q.1).1
@@ -278,7 +278,7 @@ pub record Passed (g : ℕ → ℕ) (n : ℕ) (f : ℕ → ℕ) (m : ℕ) (ls : 
   pub faces : cycle_count (face_next g) n ≡ cycle_count (face_next f) m + length ls
   pub connected : ((a b : ℕ) → a < m → b < m → Joined f twin a b) → (a b : ℕ) → a < n → b < n → Joined g twin a b
 
-all_live : (g : ℕ → ℕ) (n : ℕ) (f : ℕ → ℕ) (m : ℕ) (name : ℕ → ℕ) (c : ℕ) (ks : List Bend) (e : ℕ) (ls : List Link) → IsPassage g n f m name c ks e ls
+pub all_live : (g : ℕ → ℕ) (n : ℕ) (f : ℕ → ℕ) (m : ℕ) (name : ℕ → ℕ) (c : ℕ) (ks : List Bend) (e : ℕ) (ls : List Link) → IsPassage g n f m name c ks e ls
     → AllByRecursion (IsBend (without_links g ls) n m name) ks → (s : Straightened (without_links g ls) n f m name ks) → (a : ℕ) → a < n → with_links (with_bends (is_named s.names m) ks) ls a ≡ true
 all_live g n f m name c ks e ls p i s a la =
     let b : ℕ → ℕ = without_links g ls in
@@ -305,6 +305,19 @@ whole_count h n live p all = renumbered_cycles (λ a. a) (λ a. a) h h n live n 
   map = record { each = λ a la. refl };
 })
 
+-- with the bends, the links are ready to be drawn
+pub ready : (g : ℕ → ℕ) (n : ℕ) (f : ℕ → ℕ) (m : ℕ) (name : ℕ → ℕ) (c : ℕ) (ks : List Bend) (e : ℕ) (ls : List Link) → IsPassage g n f m name c ks e ls
+    → AllByRecursion (IsBend (without_links g ls) n m name) ks → (s : Straightened (without_links g ls) n f m name ks) → AreReady (with_bends (is_named s.names m) ks) ls
+ready g n f m name c ks e ls p i s =
+    let b : ℕ → ℕ = without_links g ls in
+    let below : ℕ → Bool = is_named s.names m in
+    let live : ℕ → Bool = with_bends below ks in
+    let corners : AllByRecursion (λ l. (live l.from ≡ true) × (live l.to ≡ true)) ls = corners_live live m name (name c) ks e ls p.along (name_live b n f m name ks i s c p.from_there) (name_live b n f m name ks i s e p.to_there)
+    (all_of (λ k. (live k.beyond ≡ true) × (live (twin k.near) ≡ true)) ks (λ k h. ((beyond_live below ks k h).0, live_bends below ks (twin k.near) (back_live b n f m name ks i s k h)))) in
+    let halves : AllByRecursion (λ l. (live l.half ≡ false) × (live (twin l.half) ≡ false)) ls = all_of (λ l. (live l.half ≡ false) × (live (twin l.half) ≡ false)) ls
+    (λ l h. half_dead g n f m name c ks e ls (record { p = p; s = s; i = i }) s l h) in
+    ready_of live ls halves corners
+
 pub passed : (g : ℕ → ℕ) (n : ℕ) (f : ℕ → ℕ) (m : ℕ) (name : ℕ → ℕ) (c : ℕ) (ks : List Bend) (e : ℕ) (ls : List Link) → IsPassage g n f m name c ks e ls → Passed g n f m ls
 passed g n f m name c ks e ls p =
     let b : ℕ → ℕ = without_links g ls in
@@ -318,11 +331,7 @@ passed g n f m name c ks e ls p =
     let good : AllByRecursion (GoodBend b m name s.names) ks = good_bends b n f m name ks i s in
     let faces : AreInFaces b ls = in_faces b n f m name s.names above (name c) c ks e ls p.along (p.named.within c p.from_there) p.from_there p.to_there (above.at_name c p.from_there) p.walk p.once good
     (all_map (IsBend b n m name) (λ k. twin k.near < n) (λ k w. twin-within n k.near even w.near_there) ks i) in
-    let corners : AllByRecursion (λ l. (live l.from ≡ true) × (live l.to ≡ true)) ls = corners_live live m name (name c) ks e ls p.along (name_live b n f m name ks i s c p.from_there) (name_live b n f m name ks i s e p.to_there)
-    (all_of (λ k. (live k.beyond ≡ true) × (live (twin k.near) ≡ true)) ks (λ k h. ((beyond_live below ks k h).0, live_bends below ks (twin k.near) (back_live b n f m name ks i s k h)))) in
-    let halves : AllByRecursion (λ l. (live l.half ≡ false) × (live (twin l.half) ≡ false)) ls = all_of (λ l. (live l.half ≡ false) × (live (twin l.half) ≡ false)) ls
-    (λ l h. half_dead g n f m name c ks e ls (record { p = p; s = s; i = i }) s l h) in
-    let d : Drawn live b g n ls = draw live g n ls p.permutation even p.links (ready_of live ls halves corners) faces bent.slab in
+    let d : Drawn live b g n ls = draw live g n ls p.permutation even p.links (ready g n f m name c ks e ls p i s) faces bent.slab in
     let back : ℕ → ℕ = λ y. find_below (λ v. s.names v == y) m in
     let r : RenumbersTurn s.names back f s.bottom m below n = renumbers b n f m name ks s in
     let count_below : cycle_count (face_next f) m ≡ live_cycle_count below (face_next s.bottom) n = renumbered_cycles s.names back (face_next f) (face_next s.bottom) m below n (renumbered_faces s.names back f s.bottom m below n r) in

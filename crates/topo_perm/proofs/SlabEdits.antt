@@ -81,7 +81,7 @@ smooth_live_faces live live' f g n x s k =
 others : (a x : ℕ) → a ≢ x → a ≢ twin x → (twin a ≢ x) × (twin a ≢ twin x)
 others a x nx nt = (λ e. nt (sym (twin-twin a) ∙ ap twin e), λ e. nx (twin-apart a x e))
 
-added_twins : (live live' : ℕ → Bool) (n x : ℕ) → n % 2 ≡ 0 → AddsSegment live live' n x → ((a : ℕ) → a < n → live (twin a) ≡ live a) → (a : ℕ) → a < n → live' (twin a) ≡ live' a
+pub added_twins : (live live' : ℕ → Bool) (n x : ℕ) → n % 2 ≡ 0 → AddsSegment live live' n x → ((a : ℕ) → a < n → live (twin a) ≡ live a) → (a : ℕ) → a < n → live' (twin a) ≡ live' a
 added_twins live live' n x even s t a la =
     elim (cases_eq a x) [
       | inl e ↦ ap (λ z. live' (twin z)) e ∙ s.here_twin ∙ sym (ap live' e ∙ s.here)
@@ -92,7 +92,7 @@ added_twins live live' n x even s t a la =
       ]
     ]
 
-taken_twins : (live live' : ℕ → Bool) (n x : ℕ) → n % 2 ≡ 0 → AddsSegment live' live n x → ((a : ℕ) → a < n → live (twin a) ≡ live a) → (a : ℕ) → a < n → live' (twin a) ≡ live' a
+pub taken_twins : (live live' : ℕ → Bool) (n x : ℕ) → n % 2 ≡ 0 → AddsSegment live' live n x → ((a : ℕ) → a < n → live (twin a) ≡ live a) → (a : ℕ) → a < n → live' (twin a) ≡ live' a
 taken_twins live live' n x even s t a la =
     elim (cases_eq a x) [
       | inl e ↦ ap (λ z. live' (twin z)) e ∙ s.new_twin ∙ sym (ap live' e ∙ s.new)
@@ -104,13 +104,13 @@ taken_twins live live' n x even s t a la =
     ]
 
 -- a dart that is not live after a segment came was not live before, and none of it
-record Stayed (live live' : ℕ → Bool) (f : ℕ → ℕ) (n x a : ℕ) : Type 0 where
-  not_self : a ≢ x
-  not_twin : a ≢ twin x
-  dead : live a ≡ false
-  fixed : f a ≡ a
+pub record Stayed (live live' : ℕ → Bool) (f : ℕ → ℕ) (n x a : ℕ) : Type 0 where
+  pub not_self : a ≢ x
+  pub not_twin : a ≢ twin x
+  pub dead : live a ≡ false
+  pub fixed : f a ≡ a
 
-stayed : (live live' : ℕ → Bool) (f : ℕ → ℕ) (n x a : ℕ) → IsSlab live f n → AddsSegment live live' n x → a < n → live' a ≡ false → Stayed live live' f n x a
+pub stayed : (live live' : ℕ → Bool) (f : ℕ → ℕ) (n x a : ℕ) → IsSlab live f n → AddsSegment live live' n x → a < n → live' a ≡ false → Stayed live live' f n x a
 stayed live live' f n x a s t la e =
     let nx : a ≢ x = λ w. both_ways (live' a) e (ap live' w ∙ t.here) in
     let nt : a ≢ twin x = λ w. both_ways (live' a) e (ap live' w ∙ t.here_twin) in

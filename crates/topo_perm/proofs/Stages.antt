@@ -65,13 +65,13 @@ pub left_of : (h : ℕ → ℕ) (i a : ℕ) → ((j : ℕ) → j < i → (a ≢ 
 left_of h zero a u = refl
 left_of h (suc i) a u = left_stays h i a (u i (omega arith)).0 (u i (omega arith)).1 ∙ left_of h i a (λ j lj. u j (omega (arith, lj)))
 
-segment_left : (t : ℕ → ℕ → ℕ) (n : ℕ) (h : ℕ → ℕ) (count : ℕ) → IsOpening t n h count → (i : ℕ) → i < count → (left_after h i (h i) ≡ true) × (left_after h i (twin (h i)) ≡ true)
+pub segment_left : (t : ℕ → ℕ → ℕ) (n : ℕ) (h : ℕ → ℕ) (count : ℕ) → IsOpening t n h count → (i : ℕ) → i < count → (left_after h i (h i) ≡ true) × (left_after h i (twin (h i)) ≡ true)
 segment_left t n h count o i li = (
   left_of h i (h i) (λ j lj. ((o.apart j i lj li).not_self, (o.apart j i lj li).not_twin)),
   left_of h i (twin (h i)) (λ j lj. (λ e. (o.apart j i lj li).not_twin (sym (twin-twin (h i)) ∙ ap twin e), λ e. (o.apart j i lj li).not_self (sym (twin-twin (h i)) ∙ ap twin e ∙ twin-twin (h j)))),
 )
 
-step_adds : (t : ℕ → ℕ → ℕ) (n : ℕ) (h : ℕ → ℕ) (count : ℕ) → IsOpening t n h count → (i : ℕ) → i < count → AddsSegment (left_after h (suc i)) (left_after h i) n (h i)
+pub step_adds : (t : ℕ → ℕ → ℕ) (n : ℕ) (h : ℕ → ℕ) (count : ℕ) → IsOpening t n h count → (i : ℕ) → i < count → AddsSegment (left_after h (suc i)) (left_after h i) n (h i)
 step_adds t n h count o i li = record {
   new = left_out h i (h i) (inl refl);
   new_twin = left_out h i (twin (h i)) (inr refl);

@@ -7,3 +7,5 @@ pub mod Live
 pub mod LiveEdits
 pub mod Reach
 pub mod Renumbering
+pub mod RenumberedEdits
+pub mod Runs

@@ -1,5 +1,5 @@
 -- A picture whose edge is opened from end to end, as numbers: the picture without the edge, drawn with points of degree two on its segments.
-use Rattle.std.proofs.Common.{◌≡◌, ◌≢◌, ℕ, ◌+◌, ◌<◌, ◌≤◌, true, List, [], ◌∷◌, length, ◌⊎◌, inl, inr, refl, sym, ◌∙◌, ap, subst, arith}
+use Rattle.std.proofs.Common.{◌≡◌, ◌≢◌, ℕ, ◌+◌, ◌%◌, ◌<◌, ◌≤◌, true, List, [], ◌∷◌, length, ◌⊎◌, inl, inr, refl, sym, ◌∙◌, ap, subst, arith}
 use Rattle.std.specs.Prelude.{is_some}
 use Rattle.topo_core.specs.declared.darts.Dart.{Dart}
 use Rattle.topo_core.specs.declared.darts.Way.{Way}
@@ -20,14 +20,17 @@ use Rattle.topo_core.specs.Picture.{ahead, behind, darts, edge_at, edge_row, ind
 use Rattle.topo_core.specs.Pictures.{back, forward}
 use Rattle.topo_core.specs.Systems.{has_dart, turn}
 use Rattle.topo_core.proofs.DartLaws.{twin-twin}
-use Rattle.topo_core.proofs.Numbering.{images_length, index_twin, turn_permutes, turn_stays, twin_in}
+use Rattle.topo_core.proofs.Numbering.{images_length, index_forward, index_twin, turn_permutes, turn_stays, twin_in}
 use Rattle.topo_core.proofs.Openings.{opens}
 use Rattle.topo_core.proofs.Orbits.{SameCycle-refl, SameCycle-step, SameCycle-trans}
 use Rattle.topo_core.proofs.ShownPlaces.{lifted_edge}
 use Rattle.topo_core.proofs.SystemDarts.{edge_at_row, some_of}
 use Rattle.topo_core.proofs.WithoutPlaces.{segment_of_dart}
 use Rattle.topo_perm.specs.Live.{IsSlab}
+use Rattle.topo_perm.specs.RenumberedEdits.{IsAlive}
 use Rattle.topo_perm.proofs.Collapses.{Collapses}
+use Rattle.topo_perm.proofs.Faces.{twin-twin as nat_twin}
+use Rattle.topo_perm.proofs.Midpoints.{AreMidway, IsMidpoint, odd_twin}
 use Rattle.topo_perm.proofs.Walks.{twin-within}
 use Rattle.topo_perm.proofs.Stages.{left_after, left_of}
 use Rattle.topo_picture.proofs.DeletedSegments.{IsPart, collapsed, collapsed_lifted, collapsed_onward, part_of}
@@ -374,6 +377,91 @@ module _ (q : Rows) (e : ℕ) (p : Rows) (hq : IsWellFormed q) (hp : IsWellForme
         subst (λ (v : ℕ). SameCycle (face_next t) (name a) v) (ap (λ (c : Dart). num (lifted p q (turn (system p) c))) (sym (twinned p hp a la)) ∙ ap (λ (c : Dart). num (lifted p q c)) (sym (turned p hp (twin a) la')))
         (leads_on d (dart_here p hp a la)).forth;
   }
+
+  -- ---- The crossings of e are midpoints
+
+  -- a is the number of the dart ahead of a crossing of e, on the other edge
+  abbrev pub IsAheadOfCrossing : ℕ → Type 0
+  IsAheadOfCrossing a = (c : ℕ) × (x : CrossRow) × IsCrossingOf q e c x × (a ≡ num (ahead q c x.id))
+
+  -- which segment of its edge a dart is on
+  abbrev pub place : ℕ → ℕ
+  place a = (dart_of q hq a).seg
+
+  -- a part of a dart that is not its first turns to the end of the one before it
+  middle_turn : (y d : Dart) → IsPart q e p hp s y d → y ≢ lifted p q d → onto (t (num y)) ≡ index_of p (dart_twin d)
+  middle_turn y d part ne = elim part.on [
+    | inl at ↦ absurd (ne at)
+    | inr (x, is, between, at) ↦
+        let (leads, here) = onward_turn d.edge x d.way is in
+        ap (λ (z : Dart). onto (t (num z))) at ∙ ap onto leads ∙ onto_of (onward_by q x.id d.edge (reversed d.way)) here ∙ ap (index_of p) (onward_other y d x part.was is between)
+  ]
+
+  -- a dart of another edge is left
+  other_left : (d : Dart) → Is d → d.edge ≢ e → left_after half count (num d) ≡ true
+  other_left d h ne = left_of half count (num d) (off d h ne)
+
+  midpoint : (c : ℕ) (x : CrossRow) → IsCrossingOf q e c x → IsMidpoint t m name onto place (num (ahead q c x.id))
+  midpoint c x is =
+      let here : Passes c x.id = passes c x is in
+      let on : Dart = ahead q c x.id in
+      let back : Dart = behind q c x.id in
+      let a : ℕ = num on in
+      let la : a < n = number_less q hq on here.ahead_in in
+      let left : left_after half count a ≡ true = other_left on here.ahead_in here.other in
+      let same : dart_of q hq a ≡ on = dart_of_number q hq on here.ahead_in in
+      let around : Dart = dart_twin back in
+      let around_in : Is around = twin_in q back here.behind_in in
+      let behind_twin : twin (num back) ≡ num around = sym (index_twin q back here.behind_in) in
+      record {
+        two = ap t here.from_ahead ∙ here.from_behind;
+        even = index_forward q on here.ahead_in refl;
+        odd = ap (λ (v : ℕ). v % 2) (here.from_ahead ∙ sym (nat_twin (num back)) ∙ ap twin behind_twin) ∙ odd_twin (num around) (index_forward q around around_in refl);
+        lower = (let before : place (twin (t a)) ≡ back.seg = ap (λ (v : ℕ). (dart_of q hq (twin v)).seg) here.from_ahead ∙ ap (λ (v : ℕ). (dart_of q hq v).seg) behind_twin ∙ ap (λ (d : Dart). d.seg) (dart_of_number q hq around around_in) in
+            let now : place a ≡ on.seg = ap (λ (d : Dart). d.seg) same in
+            let next : on.seg ≡ back.seg + 1 = refl in omega arith);
+        middle =
+            let (d, part) = part_there a la left in
+            let is_part : IsPart q e p hp s on d = subst (λ (y : Dart). IsPart q e p hp s y d) same part in
+            middle_turn on d is_part (λ w. (s.gone_points c x d is part.was).0 (sym w)) ∙ index_twin p d part.was ∙ ap twin (sym (onto_part a d part));
+        off = λ b lb.
+            let d : Dart = dart_of p hp b in
+            let was : Was d = dart_here p hp b lb in
+            let (not_on, not_back) = s.gone_points c x d is was in (
+              numbers_apart q hq (lifted p q d) on (s.lifts d was) here.ahead_in not_on,
+              λ w. numbers_apart q hq (lifted p q d) back (s.lifts d was) here.behind_in not_back (w ∙ here.from_ahead),
+            );
+      }
+
+  -- a part at a crossing is the dart ahead of it, or the one to which that turns
+  at_crossing : (a c : ℕ) (x : CrossRow) (way : Way) → IsCrossingOf q e c x → a ≡ num (onward_by q x.id c way) → (z : ℕ) × IsAlive (left_after half count) n z × IsAheadOfCrossing z × ((a ≡ z) ⊎ (a ≡ t z))
+  at_crossing a c x way is at =
+      let here : Passes c x.id = passes c x is in
+      let z : ℕ = num (ahead q c x.id) in
+      (z, record { within = number_less q hq (ahead q c x.id) here.ahead_in; alive = other_left (ahead q c x.id) here.ahead_in here.other }, (c, x, is, refl), by_way way at) where
+        by_way : (way : Way) → a ≡ num (onward_by q x.id c way) → (a ≡ num (ahead q c x.id)) ⊎ (a ≡ t (num (ahead q c x.id)))
+        by_way Forward at = inl at
+        by_way Back at = (let here : Passes c x.id = passes c x is in inr (at ∙ sym here.from_ahead))
+
+  pub midway_here : IsSlab (left_after half count) t n → AreMidway IsAheadOfCrossing place (left_after half count) t n old m name onto
+  midway_here slab =
+      let c : Collapses t n (left_after half count) old m name onto = collapse_here slab in
+      record {
+        slab = slab;
+        named = λ d ld. record { within = c.within d ld; alive = c.alive d ld };
+        returns = c.returns;
+        turns = c.named_turns;
+        onto_within = λ y yt. c.onto_within y yt.within yt.alive;
+        twins = λ y yt. c.twins y yt.within yt.alive;
+        midpoints = λ a at (b, x, is, same). subst (IsMidpoint t m name onto place) (sym same) (midpoint b x is);
+        placed = λ y yt.
+            let (d, part) = part_there y yt.within yt.alive in
+            let at : y ≡ num (dart_of q hq y) = sym (number_of q hq y yt.within) in
+            elim part.on [
+              | inl on ↦ inl (at ∙ ap num on ∙ sym (name_of d part.was) ∙ ap name (sym (onto_part y d part)))
+              | inr (x, is, between, on) ↦ inr (at_crossing y d.edge x d.way is (at ∙ ap num on))
+            ];
+      }
 
 -- the picture without edge e is what collapses out of the picture in which e is opened from end to end
 pub collapse : (q : Rows) (e : ℕ) (p : Rows) (hq : IsWellFormed q) (hp : IsWellFormed p) (known : is_some (edge_row q e) ≡ true) (s : HidesTurns q e p)

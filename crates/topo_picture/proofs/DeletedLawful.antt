@@ -43,13 +43,13 @@ some_bare (a ∷ lists) (suc v) l w = or_second (is_bare a) (list_any is_bare li
   or_second false b w = w
 
 module _ (rows : Rows) (good : IsWellFormed rows) (e : ℕ) (row : EdgeRow) (known : edge_row rows e ≡ Some row) where
-  there : is_some (edge_row rows e) ≡ true
+  pub there : is_some (edge_row rows e) ≡ true
   there = ap is_some known
 
-  good_p : IsWellFormed (without rows e)
+  pub good_p : IsWellFormed (without rows e)
   good_p = without_well_formed rows e good there
 
-  hides : HidesTurns rows e (without rows e)
+  pub hides : HidesTurns rows e (without rows e)
   hides = hides_turns rows e good there
 
   a_dart : end_dart rows row.a e ≡ record { edge = e; seg = 0; way = Forward }
@@ -71,7 +71,7 @@ module _ (rows : Rows) (good : IsWellFormed rows) (e : ℕ) (row : EdgeRow) (kno
   }
 
   module _ (connected : Connected (system rows)) (zero_genus : HasGenusZero rows) where
-    genus : cycle_count (map_of (turn_images rows)) (length (turn_images rows)) + cycle_count (face_next (map_of (turn_images rows))) (length (turn_images rows)) ≡ length (turn_images rows) / 2 + 2
+    pub genus : cycle_count (map_of (turn_images rows)) (length (turn_images rows)) + cycle_count (face_next (map_of (turn_images rows))) (length (turn_images rows)) ≡ length (turn_images rows) / 2 + 2
     genus = (let points : cycles_of (turn_images rows) ≡ length rows.rotations + length rows.crossings = points_are_cycles rows good connected.no_bare_point in
         let darts : length (turn_images rows) ≡ 2 * sum_by segment_count rows.edges = images_total rows (turn_images rows) refl in
         let euler : length rows.rotations + length rows.crossings + face_count rows ≡ sum_by segment_count rows.edges + 2 = zero_genus in omega arith)

@@ -187,10 +187,10 @@ module _ (q : Rows) (e : ℕ) (row : EdgeRow) (good : IsWellFormed q) (known : e
 
   -- ---- The opening
 
-  permutes : (i : ℕ) → IsPermutation (opened_by i) n
+  pub permutes : (i : ℕ) → IsPermutation (opened_by i) n
   permutes i = subst (λ (v : ℕ). IsPermutation (opened_by i) v) as_many (opening.permutes i)
 
-  shut : (a : ℕ) → a < n → opened_by 0 a ≡ map_of (turn_images q) a
+  pub shut : (a : ℕ) → a < n → opened_by 0 a ≡ map_of (turn_images q) a
   shut a la = opening.shut a (subst (λ (v : ℕ). a < v) (sym as_many) la)
 
   pub faces_shut : cycle_count (face_next (opened_by 0)) n ≡ cycle_count (face_next (map_of (turn_images q))) n

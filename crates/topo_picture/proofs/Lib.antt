@@ -10,6 +10,7 @@ pub mod Totals
 pub mod InsertedNumbers
 pub mod InsertedPassage
 pub mod InsertedLawful
+pub mod InsertedSlab
 pub mod DeletedOpening
 pub mod DeletedCuts
 pub mod AlonePoints
@@ -19,4 +20,5 @@ pub mod DeletedTurns
 pub mod DeletedSegments
 pub mod DeletedCollapse
 pub mod DeletedLawful
+pub mod DeletedSlab
 pub mod DeletedPicture

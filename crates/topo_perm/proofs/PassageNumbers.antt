@@ -1,0 +1,301 @@
+-- A passage under other numbers: where its bends and links are made in a slab that renumbers the system below, that slab renumbers the system with the new edge.
+use Rattle.std.proofs.Common.{◌≡◌, ◌≢◌, ℕ, ◌%◌, ◌<◌, ◌==◌, Bool, true, cond, List, [], ◌∷◌, inl, inr, refl, sym, ◌∙◌, ap, subst}
+use Rattle.std.specs.List.{AllByRecursion}
+use Rattle.std.proofs.lemmas.Bool.{cases_eq, cond-true, cond-false, eq-eqb, ne_eqb}
+use Rattle.topo_core.specs.Rotations.{twin}
+use Rattle.topo_core.specs.Items.{IsIn}
+use Rattle.topo_perm.specs.Live.{IsSlab}
+use Rattle.topo_perm.specs.Renumbering.{RenumbersTurn}
+use Rattle.topo_perm.specs.RenumberedEdits.{IsAlive}
+use Rattle.topo_perm.specs.Runs.{Turning, IsRun, numbers_after, backs_after, AreAlike}
+use Rattle.topo_perm.specs.Runs.Edit.{Chord, Split}
+use Rattle.topo_perm.proofs.Walks.{twin-within}
+use Rattle.topo_perm.proofs.Links.{Link, without_links, with_links, chords_of, links_run}
+use Rattle.topo_perm.proofs.Bends.{Bend, IsBend, Straightened, all_bends, splits_of, straighten, with_bends}
+use Rattle.topo_perm.proofs.Passages.{AreAlong, IsPassage, all_at, find_below, is_named, is_named-of}
+use Rattle.topo_perm.proofs.Passing.{all_live, back_named, beyond_live, bendable, name_live, named_below, ready, renumbers, slab_below}
+use Rattle.topo_perm.proofs.Composing.{back_numbers, composed_numbers, slab_of_turn, turn_of_slab}
+use Rattle.topo_perm.proofs.RunNumbers.{AreNumbered, IsAdding, SlabsAlike, kept_alive, kept_number, new_numbers, run_numbers}
+
+-- ---- What is made in the slab
+
+-- the bends, on the halves with the numbers of their darts
+abbrev pub AreBendsUnder : (ℕ → ℕ) → List Bend → List Bend → Type 0
+AreBendsUnder h [] [] = Unit {0}
+AreBendsUnder h [] (j ∷ js) = ⊥
+AreBendsUnder h (k ∷ ks) [] = ⊥
+AreBendsUnder h (k ∷ ks) (j ∷ js) = (j.dart ≡ k.dart) × (j.near ≡ h k.dart) × AreBendsUnder h ks js
+
+-- the half of a dart once the bends are made: the last part of its segment where the bend is before its far end
+abbrev pub bent_number : (ℕ → ℕ) → List Bend → ℕ → ℕ
+bent_number h [] d = h d
+bent_number h (j ∷ js) d = cond (d == twin j.dart) (twin j.beyond) (bent_number h js d)
+
+-- the darts at the bends have the halves at these bends
+abbrev pub AreBendsAt : (ℕ → ℕ) → List Bend → List Bend → Type 0
+AreBendsAt h [] [] = Unit {0}
+AreBendsAt h [] (j ∷ js) = ⊥
+AreBendsAt h (k ∷ ks) [] = ⊥
+AreBendsAt h (k ∷ ks) (j ∷ js) = (h k.beyond ≡ j.beyond) × (h (twin k.beyond) ≡ twin j.beyond) × (h (twin k.near) ≡ twin j.near) × AreBendsAt h ks js
+
+-- ---- Bends and links as edits
+
+splits_add : (ks : List Bend) → AllByRecursion IsAdding (splits_of ks)
+splits_add [] = tt
+splits_add (k ∷ ks) = (tt, splits_add ks)
+
+chords_add : (ls : List Link) → AllByRecursion IsAdding (chords_of ls)
+chords_add [] = tt
+chords_add (l ∷ ls) = (tt, chords_add ls)
+
+-- each bend is on a dart that is live below, and that has the half of the other bend
+abbrev OnOldDarts : (ℕ → ℕ) → (ℕ → Bool) → ℕ → List Bend → List Bend → Type 0
+OnOldDarts h live n [] [] = Unit {0}
+OnOldDarts h live n [] (j ∷ js) = ⊥
+OnOldDarts h live n (k ∷ ks) [] = ⊥
+OnOldDarts h live n (k ∷ ks) (j ∷ js) = IsAlive live n k.near × (j.near ≡ h k.near) × OnOldDarts h live n ks js
+
+splits_alike : (h : ℕ → ℕ) (n : ℕ) (s t : Turning) (ks js : List Bend) → IsRun n s (splits_of ks) t → OnOldDarts h s.live n ks js → AreAlike h (splits_of ks) (splits_of js)
+splits_alike h n s t [] [] r o = tt
+splits_alike h n s t [] (j ∷ js) r o = absurd o
+splits_alike h n s t (k ∷ ks) [] r o = absurd o
+splits_alike h n s t (k ∷ ks) (j ∷ js) r o = (
+  splits_alike h n s r.0 ks js r.1 o.2,
+  ap (λ (z : ℕ). Split z j.beyond) (o.1 ∙ sym (kept_number h n s r.0 (splits_of ks) (splits_of js) k.near (splits_add ks) r.1 o.0)),
+)
+
+-- the links lead from corner to corner as those of the slab do
+abbrev AreCornersUnder : (ℕ → ℕ) → (ℕ → Bool) → ℕ → List Link → List Link → Type 0
+AreCornersUnder h live n [] [] = Unit {0}
+AreCornersUnder h live n [] (i ∷ is) = ⊥
+AreCornersUnder h live n (l ∷ ls) [] = ⊥
+AreCornersUnder h live n (l ∷ ls) (i ∷ is) = (IsAlive live n l.from × IsAlive live n l.to) × ((i.from ≡ h l.from) × (i.to ≡ h l.to)) × AreCornersUnder h live n ls is
+
+chords_alike : (h : ℕ → ℕ) (n : ℕ) (s t : Turning) (ls is : List Link) → IsRun n s (chords_of ls) t → AreCornersUnder h s.live n ls is → AreAlike h (chords_of ls) (chords_of is)
+chords_alike h n s t [] [] r o = tt
+chords_alike h n s t [] (i ∷ is) r o = absurd o
+chords_alike h n s t (l ∷ ls) [] r o = absurd o
+chords_alike h n s t (l ∷ ls) (i ∷ is) r o = (
+  chords_alike h n s r.0 ls is r.1 o.2,
+  ap (λ (z : ℕ). Chord z i.to i.half) (o.1.0 ∙ sym (kept_number h n s r.0 (chords_of ls) (chords_of is) l.from (chords_add ls) r.1 o.0.0))
+      ∙ ap (λ (z : ℕ). Chord (numbers_after h (chords_of ls) (chords_of is) l.from) z i.half) (o.1.1 ∙ sym (kept_number h n s r.0 (chords_of ls) (chords_of is) l.to (chords_add ls) r.1 o.0.1)),
+)
+
+-- ---- Where the links lead
+
+-- the darts of the bends are below n and live
+abbrev AreAliveAt : (ℕ → Bool) → ℕ → List Bend → Type 0
+AreAliveAt live n ks = AllByRecursion (λ k. IsAlive live n k.beyond × IsAlive live n (twin k.near)) ks
+
+corners_under : (h name name' : ℕ → ℕ) (live : ℕ → Bool) (n z z' : ℕ) (ks js : List Bend) (e : ℕ) (ls is : List Link) → AreAlong name z ks e ls → AreAlong name' z' js e is → h z ≡ z' → h (name e) ≡ name' e
+    → IsAlive live n z → IsAlive live n (name e) → AreBendsAt h ks js → AreAliveAt live n ks → AreCornersUnder h live n ls is
+corners_under h name name' live n z z' [] [] e [] is a b at_z at_e zt et at alive = absurd a
+corners_under h name name' live n z z' [] [] e (l ∷ []) [] a b at_z at_e zt et at alive = absurd b
+corners_under h name name' live n z z' [] [] e (l ∷ []) (i ∷ []) a b at_z at_e zt et at alive =
+    ((subst (IsAlive live n) (sym a.0) zt, subst (IsAlive live n) (sym a.1) et), (b.0 ∙ sym at_z ∙ ap h (sym a.0), b.1 ∙ sym at_e ∙ ap h (sym a.1)), tt)
+corners_under h name name' live n z z' [] [] e (l ∷ []) (i ∷ (v ∷ is)) a b at_z at_e zt et at alive = absurd b
+corners_under h name name' live n z z' [] [] e (l ∷ (u ∷ ls)) is a b at_z at_e zt et at alive = absurd a
+corners_under h name name' live n z z' [] (j ∷ js) e ls is a b at_z at_e zt et at alive = absurd at
+corners_under h name name' live n z z' (k ∷ ks) [] e ls is a b at_z at_e zt et at alive = absurd at
+corners_under h name name' live n z z' (k ∷ ks) (j ∷ js) e [] is a b at_z at_e zt et at alive = absurd a
+corners_under h name name' live n z z' (k ∷ ks) (j ∷ js) e (l ∷ ls) [] a b at_z at_e zt et at alive = absurd b
+corners_under h name name' live n z z' (k ∷ ks) (j ∷ js) e (l ∷ ls) (i ∷ is) a b at_z at_e zt et at alive = (
+  (subst (IsAlive live n) (sym a.0) zt, subst (IsAlive live n) (sym a.1) alive.0.0),
+  (b.0 ∙ sym at_z ∙ ap h (sym a.0), b.1 ∙ sym at.0 ∙ ap h (sym a.1)),
+  corners_under h name name' live n (twin k.near) (twin j.near) ks js e ls is a.2 b.2 at.2 at_e alive.0.1 et at.3 alive.1,
+)
+
+-- ---- The numbers of the darts of the system below
+
+-- where no bend is before its far end, a dart has the half that it had
+abbrev HasOld : (ℕ → ℕ) → (ℕ → ℕ) → (ℕ → ℕ) → List Bend → ℕ → Type 0
+HasOld number name h ks d = AllByRecursion (λ k. d ≢ twin k.dart) ks → number (name d) ≡ h d
+
+bent_numbers : (number name h : ℕ → ℕ) (ks js : List Bend) (d : ℕ) → AreBendsUnder h ks js → AreBendsAt number ks js → AllByRecursion (λ k. name (twin k.dart) ≡ twin k.beyond) ks → HasOld number name h ks d → number (name d) ≡ bent_number h js d
+bent_numbers number name h [] [] d u at ends old = old tt
+bent_numbers number name h [] (j ∷ js) d u at ends old = absurd u
+bent_numbers number name h (k ∷ ks) [] d u at ends old = absurd u
+bent_numbers number name h (k ∷ ks) (j ∷ js) d u at ends old = elim (cases_eq d (twin j.dart)) [
+  | inl e ↦ ap number (ap name (e ∙ ap twin u.0) ∙ ends.0) ∙ at.1 ∙ sym (cond-true _ _ _ (eq-eqb d (twin j.dart) e))
+  | inr ne ↦ bent_numbers number name h ks js d u.2 at.3 ends.1 (λ w. old (λ e. ne (e ∙ ap twin (sym u.0)), w)) ∙ sym (cond-false _ _ _ (ne_eqb d (twin j.dart) ne))
+]
+
+-- ---- The passage
+
+-- the slab t renumbers the system with the new edge: each dart of the system below has the half of its first part
+pub record IsPassageUnder (g : ℕ → ℕ) (n m : ℕ) (name : ℕ → ℕ) (ks : List Bend) (ls : List Link) (h : ℕ → ℕ) (js : List Bend) (is : List Link) (t : Turning) (limit : ℕ) : Type 0 where
+  pub number : ℕ → ℕ
+  pub back : ℕ → ℕ
+  pub renumbers : RenumbersTurn number back g t.turn n t.live limit
+  pub names : (d : ℕ) → d < m → number (name d) ≡ bent_number h js d
+  pub bends : AreBendsAt number ks js
+  pub links : AreNumbered number (chords_of ls) (chords_of is)
+
+at_bends : (number k : ℕ → ℕ) (live : ℕ → Bool) (n : ℕ) (ks js : List Bend) → ((a : ℕ) → IsAlive live n a → k a ≡ number a) → AllByRecursion (λ j. IsAlive live n j.beyond × IsAlive live n (twin j.beyond) × IsAlive live n (twin j.near)) ks → AreBendsAt number ks js → AreBendsAt k ks js
+at_bends number k live n [] [] same alive at = tt
+at_bends number k live n [] (j ∷ js) same alive at = absurd at
+at_bends number k live n (b ∷ ks) [] same alive at = absurd at
+at_bends number k live n (b ∷ ks) (j ∷ js) same alive at =
+    (same b.beyond alive.0.0 ∙ at.0, same (twin b.beyond) alive.0.1 ∙ at.1, same (twin b.near) alive.0.2 ∙ at.2, at_bends number k live n ks js same alive.1 at.3)
+
+-- the halves of the bends, of their new segments and of the near ones
+made_bends : (number h : ℕ → ℕ) (ks js : List Bend) → AreNumbered number (splits_of ks) (splits_of js) → AreBendsUnder h ks js → AllByRecursion (λ k. number (twin k.near) ≡ twin (h k.dart)) ks → AreBendsAt number ks js
+made_bends number h [] [] made u near = tt
+made_bends number h [] (j ∷ js) made u near = absurd u
+made_bends number h (k ∷ ks) [] made u near = absurd u
+made_bends number h (k ∷ ks) (j ∷ js) made u near = (made.0, made.1, near.0 ∙ ap twin (sym u.1), made_bends number h ks js made.2 u.2 near.1)
+
+on_old : (h nu : ℕ → ℕ) (live : ℕ → Bool) (n : ℕ) (ks js : List Bend) → AreBendsUnder nu ks js → AllByRecursion (λ k. IsAlive live n k.near × (h k.near ≡ nu k.dart)) ks → OnOldDarts h live n ks js
+on_old h nu live n [] [] u at = tt
+on_old h nu live n [] (j ∷ js) u at = absurd u
+on_old h nu live n (k ∷ ks) [] u at = absurd u
+on_old h nu live n (k ∷ ks) (j ∷ js) u at = (at.0.0, u.1 ∙ sym at.0.1, on_old h nu live n ks js u.2 at.1)
+
+every : {X : Type 0} (P : X → Type 0) (xs : List X) → ((x : X) → IsIn x xs → P x) → AllByRecursion P xs
+every P [] f = tt
+every P (x ∷ xs) f = (f x (inl refl), every P xs (λ y i. f y (inr i)))
+
+module _ (g : ℕ → ℕ) (n : ℕ) (f : ℕ → ℕ) (m : ℕ) (name : ℕ → ℕ) (c : ℕ) (ks : List Bend) (e : ℕ) (ls : List Link) (p : IsPassage g n f m name c ks e ls)
+    (nu nu_back : ℕ → ℕ) (limit : ℕ) (t u t' : Turning) (r : RenumbersTurn nu nu_back f t.turn m t.live limit) (slab : IsSlab t.live t.turn limit)
+    (js : List Bend) (is : List Link) (on : AreBendsUnder nu ks js) (along : AreAlong (bent_number nu js) (bent_number nu js c) js e is)
+    (splits : IsRun limit t (splits_of js) u) (chords : IsRun limit u (chords_of is) t') where
+  abbrev b : ℕ → ℕ
+  b = without_links g ls
+
+  i : AllByRecursion (IsBend b n m name) ks
+  i = all_bends b n m name ks p.bends
+
+  s : Straightened b n f m name ks
+  s = straighten b n f m name ks p.named p.bends p.straight
+
+  abbrev below : ℕ → Bool
+  below = is_named s.names m
+
+  abbrev bent : ℕ → Bool
+  bent = with_bends below ks
+
+  even : n % 2 ≡ 0
+  even = p.named.even
+
+  -- from the bottom to the slab
+  abbrev down : ℕ → ℕ
+  down y = find_below (λ d. s.names d == y) m
+
+  abbrev first : ℕ → ℕ
+  first y = nu (down y)
+
+  abbrev first_back : ℕ → ℕ
+  first_back y = s.names (nu_back y)
+
+  abbrev bottom : Turning
+  bottom = record { live = below; turn = s.bottom }
+
+  abbrev middle : Turning
+  middle = record { live = bent; turn = b }
+
+  abbrev top : Turning
+  top = record { live = with_links bent ls; turn = g }
+
+  start : SlabsAlike first first_back n bottom limit t
+  start = (let renumbered : RenumbersTurn s.names down f s.bottom m below n = renumbers b n f m name ks s in
+      composed_numbers down s.names nu nu_back below s.bottom n (λ _. true) f m t.live t.turn limit
+      (back_numbers s.names down (λ _. true) f m below s.bottom n (slab_of_turn s.names down f s.bottom m below n renumbered (slab_below g n f m name c ks e ls p s)))
+      (slab_of_turn nu nu_back f t.turn m t.live limit r slab))
+
+  alive_name : (d : ℕ) → d < m → IsAlive below n (s.names d)
+  alive_name d ld = record { within = s.named.within d ld; alive = is_named-of s.names m d ld }
+
+  first_name : (d : ℕ) → d < m → first (s.names d) ≡ nu d
+  first_name d ld = ap nu ((renumbers b n f m name ks s).turn.numbers.returns d ld)
+
+  -- ---- The bends
+
+  bends_run : IsRun n bottom (splits_of ks) middle
+  bends_run = s.run below (bendable b n f m name ks i s)
+
+  near_alive : (k : Bend) → IsIn k ks → IsAlive below n k.near × (first k.near ≡ nu k.dart)
+  near_alive k h =
+      let at : s.names k.dart ≡ k.near = all_at (λ j. s.names j.dart ≡ j.near) k ks s.near h in
+      let lk : k.dart < m = (all_at (IsBend b n m name) k ks i h).there in
+      (subst (IsAlive below n) at (alive_name k.dart lk), ap first (sym at) ∙ first_name k.dart lk)
+
+  splits_are_alike : AreAlike first (splits_of ks) (splits_of js)
+  splits_are_alike = splits_alike first n bottom middle ks js bends_run (on_old first nu below n ks js on (every (λ k. IsAlive below n k.near × (first k.near ≡ nu k.dart)) ks near_alive))
+
+  abbrev second : ℕ → ℕ
+  second = numbers_after first (splits_of ks) (splits_of js)
+
+  abbrev second_back : ℕ → ℕ
+  second_back = backs_after first_back (splits_of ks) (splits_of js)
+
+  with_all_bends : SlabsAlike second second_back n middle limit u
+  with_all_bends = run_numbers first first_back n bottom middle limit t u (splits_of ks) (splits_of js) start bends_run splits splits_are_alike
+
+  second_name : (d : ℕ) → d < m → second (s.names d) ≡ nu d
+  second_name d ld = kept_number first n bottom middle (splits_of ks) (splits_of js) (s.names d) (splits_add ks) bends_run (alive_name d ld) ∙ first_name d ld
+
+  back_there : (k : Bend) → IsIn k ks → twin k.dart < m
+  back_there k h = twin-within m k.dart s.named.turn_even (all_at (IsBend b n m name) k ks i h).there
+
+  far_back : (k : Bend) → IsIn k ks → second (twin k.near) ≡ twin (nu k.dart)
+  far_back k h = ap second (sym (back_named b n f m name ks i s k h)) ∙ second_name (twin k.dart) (back_there k h) ∙ sym (r.twins.each k.dart (all_at (IsBend b n m name) k ks i h).there)
+
+  second_bends : AreBendsAt second ks js
+  second_bends = made_bends second nu ks js
+      (new_numbers first second n bottom middle (splits_of ks) (splits_of js) even (splits_add ks) bends_run splits_are_alike (λ a at. refl))
+      on (every (λ k. second (twin k.near) ≡ twin (nu k.dart)) ks far_back)
+
+  other_ends : AllByRecursion (λ k. name (twin k.dart) ≡ twin k.beyond) ks
+  other_ends = every (λ k. name (twin k.dart) ≡ twin k.beyond) ks (λ k h. (all_at (IsBend b n m name) k ks i h).other_end)
+
+  second_names : (d : ℕ) → d < m → second (name d) ≡ bent_number nu js d
+  second_names d ld = bent_numbers second name nu ks js d on second_bends other_ends (λ none. elim (named_below b n f m name ks i s d ld) [
+    | inl at ↦ ap second (sym at) ∙ second_name d ld
+    | inr w ↦ absurd (all_at (λ k. d ≢ twin k.dart) w.0 ks none w.1 w.2)
+  ])
+
+  -- ---- The links
+
+  links_are : IsRun n middle (chords_of ls) top
+  links_are = links_run bent g n ls p.permutation even p.links (ready g n f m name c ks e ls p i s)
+
+  alive_here : (d : ℕ) → d < m → IsAlive bent n (name d)
+  alive_here d ld = record { within = p.named.within d ld; alive = name_live b n f m name ks i s d ld }
+
+  alive_back : (k : Bend) → IsIn k ks → IsAlive bent n (twin k.near)
+  alive_back k h = kept_alive n bottom middle (splits_of ks) (twin k.near) (splits_add ks) bends_run
+      (subst (IsAlive below n) (back_named b n f m name ks i s k h) (alive_name (twin k.dart) (back_there k h)))
+
+  alive_beyond : (k : Bend) → IsIn k ks → IsAlive bent n k.beyond × IsAlive bent n (twin k.beyond)
+  alive_beyond k h =
+      let there : k.beyond < n = (all_at (IsBend b n m name) k ks i h).beyond_there in
+      let (one, two) = beyond_live below ks k h in
+      (record { within = there; alive = one }, record { within = twin-within n k.beyond even there; alive = two })
+
+  chords_are_alike : AreAlike second (chords_of ls) (chords_of is)
+  chords_are_alike = chords_alike second n middle top ls is links_are
+      (corners_under second name (bent_number nu js) bent n (name c) (bent_number nu js c) ks js e ls is p.along along (second_names c p.from_there) (second_names e p.to_there)
+      (alive_here c p.from_there) (alive_here e p.to_there) second_bends (every (λ k. IsAlive bent n k.beyond × IsAlive bent n (twin k.near)) ks (λ k h. ((alive_beyond k h).0, alive_back k h))))
+
+  abbrev third : ℕ → ℕ
+  third = numbers_after second (chords_of ls) (chords_of is)
+
+  abbrev third_back : ℕ → ℕ
+  third_back = backs_after second_back (chords_of ls) (chords_of is)
+
+  with_all_links : SlabsAlike third third_back n top limit t'
+  with_all_links = run_numbers second second_back n middle top limit u t' (chords_of ls) (chords_of is) with_all_bends links_are chords chords_are_alike
+
+  third_same : (a : ℕ) → IsAlive bent n a → third a ≡ second a
+  third_same a at = kept_number second n middle top (chords_of ls) (chords_of is) a (chords_add ls) links_are at
+
+  pub passage_numbers : IsPassageUnder g n m name ks ls nu js is t' limit
+  passage_numbers = record {
+    number = third;
+    back = third_back;
+    renumbers = turn_of_slab third third_back g t'.turn n (with_links bent ls) t'.live limit (all_live g n f m name c ks e ls p i s) with_all_links;
+    names = λ d ld. third_same (name d) (alive_here d ld) ∙ second_names d ld;
+    bends = at_bends second third bent n ks js third_same
+        (every (λ k. IsAlive bent n k.beyond × IsAlive bent n (twin k.beyond) × IsAlive bent n (twin k.near)) ks (λ k h. ((alive_beyond k h).0, (alive_beyond k h).1, alive_back k h))) second_bends;
+    links = new_numbers second third n middle top (chords_of ls) (chords_of is) even (chords_add ls) links_are chords_are_alike (λ a at. refl);
+  }
