@@ -1,5 +1,5 @@
-//! Calls that only read: a picture is loaded, copied, given back as rows, frozen, and searched for a
-//! route.
+//! Calls that only read: a picture is loaded, copied, given back as rows, frozen, numbered, and searched
+//! for a route.
 
 ghost use Rattle.std.specs.Prelude.{◌≢◌, ◌<◌, IsTrue, length};
 
@@ -7,14 +7,15 @@ use crate::named::{Named, rows_of};
 use crate::retry::{again, reading, tell};
 use crate::states::{compare, picture_state, rows_state};
 use anyhow::{Result, bail};
-use std::alloc::Global;
+use std::alloc::{AllocError, Global};
 use topo_core::limits::Limits;
 use topo_core::rows::Rows;
-use topo_frozen::{Frozen, LoadFault};
+use topo_frozen::{Frozen, LoadFault, NumberLists};
 use topo_picture::Picture;
 use topo_price::tariff::{Asks, Tariff};
 use topo_route::plan::Plan;
 use topo_route::search::search;
+use topo_route::walked::Walked;
 
 /// The greatest limits.
 fn greatest_limits() -> Limits {
@@ -90,12 +91,35 @@ fn freeze<R: Print + Eprint + AllocGlobal>(rt: &R, picture: &Picture, before: &s
     print_likeness(rt, "freeze", before, given.as_str())
 }
 
-/// The picture is copied, gives its rows, and is frozen.
+/// How many darts a picture has, once they are numbered in new lists.
+fn numbered_darts(alloc: Global, picture: &Picture) -> Result<u32, AllocError> {
+    let mut lists = NumberLists::new(alloc);
+    let numbered = picture.numbered(&mut lists)?;
+    Ok(numbered.size())
+}
+
+/// The darts of the picture are numbered.
+fn number<R: Print + Eprint + AllocGlobal>(rt: &R, picture: &Picture, before: &str) -> Result<()> {
+    let alloc = rt.alloc();
+    let state = || picture_state(rt, picture);
+    let darts = reading(
+        rt,
+        "Picture::numbered",
+        before,
+        state,
+        || numbered_darts(alloc, picture),
+    )?;
+    println!(rt; "numbered: {darts} darts")?;
+    Ok(())
+}
+
+/// The picture is copied, gives its rows, is frozen, and its darts are numbered.
 pub(crate) fn read<R: Print + Eprint + AllocGlobal>(rt: &R, picture: &Picture) -> Result<()> {
     let before = picture_state(rt, picture)?;
     copy(rt, picture, before.as_str())?;
     give_rows(rt, picture, before.as_str())?;
-    freeze(rt, picture, before.as_str())
+    freeze(rt, picture, before.as_str())?;
+    number(rt, picture, before.as_str())
 }
 
 /// Whether both are vertices, and different ones.

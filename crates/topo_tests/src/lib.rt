@@ -16,6 +16,8 @@ mod first_routes;
 #[cfg(test)]
 mod generated;
 #[cfg(test)]
+mod numbered;
+#[cfg(test)]
 mod permutations;
 #[cfg(test)]
 mod pictures;

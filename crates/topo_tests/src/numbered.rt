@@ -1,0 +1,55 @@
+//! Pictures whose darts are numbered in lists that served for another picture before.
+
+use crate::pictures::{BIPYRAMID, JOINED, PARALLEL, picture_of};
+use crate::searches::dart;
+use std::alloc::AllocError;
+use std::test::Fail;
+use topo_core::darts::{Dart, Point, Way};
+use topo_core::ids::VertexId;
+use topo_frozen::NumberLists;
+use topo_picture::Picture;
+use topo_route::dual::{Dual, has_number};
+use topo_route::walked::Walked;
+
+/// How many darts a picture has, the number of a dart, where the last dart starts, and which comes next
+/// along its face.
+type Seen = (u32, Option<u32>, Option<Point>, Option<u32>);
+
+/// What a picture answers, whatever the lists held.
+fn seen(picture: &Picture, lists: &mut NumberLists, dart: Dart) -> Result<Seen, AllocError> {
+    let numbered = picture.numbered(lists)?;
+    let darts = numbered.size();
+    let last = darts.saturating_sub(1);
+    if !has_number(&numbered, last) {
+        return Ok((darts, numbered.index(dart), None, None));
+    }
+    let tail = numbered.tail(last);
+    let next = numbered.next(last);
+    Ok((darts, numbered.index(dart), Some(tail), Some(next)))
+}
+
+/// What the picture of a text answers.
+fn seen_of(
+    rt: &impl AllocGlobal,
+    lists: &mut NumberLists,
+    text: &str,
+    dart: Dart,
+) -> Result<Seen, Fail> {
+    let picture = picture_of(rt.alloc(), text)?;
+    Ok(seen(&picture, lists, dart)?)
+}
+
+#[test]
+fn lists_serve_one_picture_after_another(rt: HostRuntime) -> Result<(), Fail> {
+    let mut lists = NumberLists::new(rt.alloc());
+    let base = dart(1, 0, Way::Back);
+    let behind = dart(1, 1, Way::Back);
+    let start = |v: u32| Some(Point::Vertex(VertexId::new(v)));
+    // the last dart goes from vertex 2 to vertex 4, and the one after it to vertex 1
+    assert!(rt; seen_of(&rt, &mut lists, BIPYRAMID, base)? == (18, Some(3), start(2), Some(14)));
+    // edge 1 has one segment alone; the last dart goes from vertex 1 to vertex 0, and back along edge 0
+    assert!(rt; seen_of(&rt, &mut lists, PARALLEL, behind)? == (8, None, start(1), Some(0)));
+    // the last dart goes from vertex 4 to the crossing, and the one after it to vertex 2
+    assert!(rt; seen_of(&rt, &mut lists, JOINED, behind)? == (24, Some(5), start(4), Some(4)));
+    Ok(())
+}
