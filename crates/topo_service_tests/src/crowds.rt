@@ -1,16 +1,15 @@
 //! Many workers, with calls that meet one another.
 
-use crate::harness::{Still, Story, bipyramid, run_lists};
+use crate::harness::{Lists, Still, Story, bipyramid, told_after};
 use crate::views::view_of;
 use std::alloc::{AllocError, Global};
 use std::process::Abort;
 use std::sync::Wait;
 use std::test::Fail;
+use std::thread::Threads;
 use topo_core::calls::{Call, Command};
 use topo_core::limits::Limits;
-use topo_core::rows::Facts;
 use topo_picture::Picture;
-use topo_price::table::PriceTable;
 use topo_price::tariff::Asks;
 use topo_service::{Pass, Service, WorkerEnd};
 use topo_versions::Naming;
@@ -20,6 +19,14 @@ use topo_versions::Naming;
 struct Workers {
     number: usize,
     accepted: u64,
+}
+
+/// The number of the version of now that the first pass sees; 0 where there is no pass.
+fn accepted_by<F: Asks + Drop, K: Naming<F>>(passes: &mut [Pass<F, K>]) -> Result<u64, Fail> {
+    match passes.first_mut() {
+        Some(pass) => Ok(view_of(pass)?.number()),
+        None => Ok(0),
+    }
 }
 
 impl Story for Workers {
@@ -36,43 +43,59 @@ impl Story for Workers {
         ends: &[WorkerEnd],
     ) -> Result<String, Fail> {
         let done = ends.iter().all(|end| *end == WorkerEnd::Done);
-        let accepted = match passes.as_mut_slice().first_mut() {
-            Some(pass) => view_of(pass)?.number(),
-            None => 0,
-        };
-        let many = accepted >= self.accepted;
+        let many = accepted_by(passes.as_mut_slice())? >= self.accepted;
         Ok(format!(in alloc; "{} ended, all done: {done}, accepted: {many}", ends.len())?)
     }
 }
 
+/// An insertion between the apexes by a plan, and the deletion of an edge.
+fn plan_and_delete(alloc: Global, edge: u32) -> Result<Vec<Command>, AllocError> {
+    let planned = Command::Planned {
+        u: 3,
+        v: 4,
+        kind: 0,
+    };
+    Ok(vec![in alloc; planned, Command::Plain(Call::Delete { edge })]?)
+}
+
+/// Such a list for each of four workers.
+fn four_lists(alloc: Global) -> Result<Vec<Vec<Command>>, AllocError> {
+    let mut lists = Vec::new(alloc);
+    for edge in 0..4 {
+        lists.push(plan_and_delete(alloc, edge)?)?;
+    }
+    Ok(lists)
+}
+
+/// Four workers, who make eight calls.
+const FOUR: Workers = Workers {
+    number: 4,
+    accepted: 8,
+};
+
+/// What is told of the four, with such lists.
+fn told_of_four<R: Threads + Wait + Abort + AllocGlobal + Sync>(
+    rt: &R,
+    lists: &[Vec<Command>],
+) -> Result<String, Fail> {
+    let start = bipyramid(rt, rt.alloc())?;
+    told_after(
+        rt,
+        start,
+        &Lists {
+            lists,
+            gate: &Still,
+        },
+        &FOUR,
+    )
+}
+
 #[test]
 fn four_workers_plan_between_the_apexes(rt: HostRuntime) -> Result<(), Fail> {
-    let alloc = rt.alloc();
-    let start = bipyramid(&rt, alloc)?;
-    let table = PriceTable::new([Some(1); 64]).expect(&rt, "a table");
-    let mut lists = Vec::new(alloc);
-    for i in 0..4 {
-        let planned = Command::Planned {
-            u: 3,
-            v: 4,
-            kind: 0,
-        };
-        lists.push(vec![in alloc; planned, Command::Plain(Call::Delete { edge: i })]?)?;
-    }
-    let told = run_lists(
-        &rt,
-        alloc,
-        |facts: &Facts| table.price(facts.kind),
-        start,
-        (lists.as_slice(), &Still),
-        &Workers {
-            number: 4,
-            accepted: 8,
-        },
-    )?;
-    assert_eq!(rt;
-        told.as_str(),
-        "4 ended, all done: true, accepted: true; 8 calls, replayed: true"
+    let lists = four_lists(rt.alloc())?;
+    let told = told_of_four(&rt, lists.as_slice())?;
+    assert!(rt;
+        told.as_str() == "4 ended, all done: true, accepted: true; 8 calls, replayed: true"
     );
     Ok(())
 }
@@ -125,29 +148,44 @@ fn tree(rt: &impl Abort, alloc: Global) -> Result<Picture, AllocError> {
     Ok(picture)
 }
 
-#[test]
-fn sixteen_workers_make_thousands_of_calls(rt: HostRuntime) -> Result<(), Fail> {
-    let alloc = rt.alloc();
-    let start = tree(&rt, alloc)?;
-    let table = PriceTable::new([Some(1); 64]).expect(&rt, "a table");
+/// The lists of sixteen workers.
+fn sixteen_lists(alloc: Global) -> Result<Vec<Vec<Command>>, AllocError> {
     let mut lists = Vec::new(alloc);
     for worker in 0..16 {
         lists.push(list_of(alloc, worker)?)?;
     }
-    let told = run_lists(
-        &rt,
-        alloc,
-        |facts: &Facts| table.price(facts.kind),
+    Ok(lists)
+}
+
+/// Sixteen workers, some of whose calls are accepted.
+const SIXTEEN: Workers = Workers {
+    number: 16,
+    accepted: 500,
+};
+
+/// What is told of the sixteen, with such lists.
+fn told_of_sixteen<R: Threads + Wait + Abort + AllocGlobal + Sync>(
+    rt: &R,
+    lists: &[Vec<Command>],
+) -> Result<String, Fail> {
+    let start = tree(rt, rt.alloc())?;
+    told_after(
+        rt,
         start,
-        (lists.as_slice(), &Still),
-        &Workers {
-            number: 16,
-            accepted: 500,
+        &Lists {
+            lists,
+            gate: &Still,
         },
-    )?;
-    assert_eq!(rt;
-        told.as_str(),
-        "16 ended, all done: true, accepted: true; 16000 calls, replayed: true"
+        &SIXTEEN,
+    )
+}
+
+#[test]
+fn sixteen_workers_make_thousands_of_calls(rt: HostRuntime) -> Result<(), Fail> {
+    let lists = sixteen_lists(rt.alloc())?;
+    let told = told_of_sixteen(&rt, lists.as_slice())?;
+    assert!(rt;
+        told.as_str() == "16 ended, all done: true, accepted: true; 16000 calls, replayed: true"
     );
     Ok(())
 }
