@@ -1,20 +1,18 @@
 //! Many workers, with calls that meet one another.
 
-use crate::harness::{Lists, Still, Story, Work, bipyramid, told_after};
+use crate::harness::{Still, Story, bipyramid, run_lists};
 use crate::views::view_of;
 use std::alloc::{AllocError, Global};
 use std::process::Abort;
 use std::sync::Wait;
-use std::sync::atomic::{AtomicU32, Ordering};
 use std::test::Fail;
-use std::thread;
-use std::thread::Threads;
 use topo_core::calls::{Call, Command};
 use topo_core::limits::Limits;
-use topo_core::rows::Rows;
+use topo_core::rows::Facts;
 use topo_picture::Picture;
+use topo_price::table::PriceTable;
 use topo_price::tariff::Asks;
-use topo_service::{Pass, Service, WorkerEnd, run_workers};
+use topo_service::{Pass, Service, WorkerEnd};
 use topo_versions::Naming;
 
 /// So many workers, whether all came to their ends, and whether at least so many calls were accepted.
@@ -22,14 +20,6 @@ use topo_versions::Naming;
 struct Workers {
     number: usize,
     accepted: u64,
-}
-
-/// The number of the version of now that the first pass sees; 0 where there is no pass.
-fn accepted_by<F: Asks + Drop, K: Naming<F>>(passes: &mut [Pass<F, K>]) -> Result<u64, Fail> {
-    match passes.first_mut() {
-        Some(pass) => Ok(view_of(pass)?.number()),
-        None => Ok(0),
-    }
 }
 
 impl Story for Workers {
@@ -46,59 +36,43 @@ impl Story for Workers {
         ends: &[WorkerEnd],
     ) -> Result<String, Fail> {
         let done = ends.iter().all(|end| *end == WorkerEnd::Done);
-        let many = accepted_by(passes.as_mut_slice())? >= self.accepted;
+        let accepted = match passes.as_mut_slice().first_mut() {
+            Some(pass) => view_of(pass)?.number(),
+            None => 0,
+        };
+        let many = accepted >= self.accepted;
         Ok(format!(in alloc; "{} ended, all done: {done}, accepted: {many}", ends.len())?)
     }
 }
 
-/// An insertion between the apexes by a plan, and the deletion of an edge.
-fn plan_and_delete(alloc: Global, edge: u32) -> Result<Vec<Command>, AllocError> {
-    let planned = Command::Planned {
-        u: 3,
-        v: 4,
-        kind: 0,
-    };
-    Ok(vec![in alloc; planned, Command::Plain(Call::Delete { edge })]?)
-}
-
-/// Such a list for each of four workers.
-fn four_lists(alloc: Global) -> Result<Vec<Vec<Command>>, AllocError> {
-    let mut lists = Vec::new(alloc);
-    for edge in 0..4 {
-        lists.push(plan_and_delete(alloc, edge)?)?;
-    }
-    Ok(lists)
-}
-
-/// Four workers, who make eight calls.
-const FOUR: Workers = Workers {
-    number: 4,
-    accepted: 8,
-};
-
-/// What is told of the four, with such lists.
-fn told_of_four<R: Threads + Wait + Abort + AllocGlobal + Sync>(
-    rt: &R,
-    lists: &[Vec<Command>],
-) -> Result<String, Fail> {
-    let start = bipyramid(rt, rt.alloc())?;
-    told_after(
-        rt,
-        start,
-        &Lists {
-            lists,
-            gate: &Still,
-        },
-        &FOUR,
-    )
-}
-
 #[test]
 fn four_workers_plan_between_the_apexes(rt: HostRuntime) -> Result<(), Fail> {
-    let lists = four_lists(rt.alloc())?;
-    let told = told_of_four(&rt, lists.as_slice())?;
-    assert!(rt;
-        told.as_str() == "4 ended, all done: true, accepted: true; 8 calls, replayed: true"
+    let alloc = rt.alloc();
+    let start = bipyramid(&rt, alloc)?;
+    let table = PriceTable::new([Some(1); 64]).expect(&rt, "a table");
+    let mut lists = Vec::new(alloc);
+    for i in 0..4 {
+        let planned = Command::Planned {
+            u: 3,
+            v: 4,
+            kind: 0,
+        };
+        lists.push(vec![in alloc; planned, Command::Plain(Call::Delete { edge: i })]?)?;
+    }
+    let told = run_lists(
+        &rt,
+        alloc,
+        |facts: &Facts| table.price(facts.kind),
+        start,
+        (lists.as_slice(), &Still),
+        &Workers {
+            number: 4,
+            accepted: 8,
+        },
+    )?;
+    assert_eq!(rt;
+        told.as_str(),
+        "4 ended, all done: true, accepted: true; 8 calls, replayed: true"
     );
     Ok(())
 }
@@ -128,26 +102,15 @@ fn command_of(place: u32, x: u32) -> Command {
     }
 }
 
-/// How many parts the work of each worker has.
-const PARTS: u32 = 5;
-
-/// The commands of one of sixteen workers in one part of its work, four hundred.
-fn list_of(alloc: Global, worker: u32, part: u32) -> Result<Vec<Command>, AllocError> {
+/// The list of one of sixteen workers.
+fn list_of(alloc: Global, worker: u32) -> Result<Vec<Command>, AllocError> {
     let mut list = Vec::new(alloc);
-    let mut x = stir(worker.wrapping_mul(64).wrapping_add(part));
-    for turn in 0..400u32 {
+    let mut x = worker;
+    for turn in 0..1_000u32 {
         x = stir(x);
-        let place = part.wrapping_mul(400).wrapping_add(turn);
-        list.push(command_of(place.wrapping_mul(16).wrapping_add(worker), x))?;
+        list.push(command_of(turn.wrapping_mul(16).wrapping_add(worker), x))?;
     }
     Ok(list)
-}
-
-/// The same as the only list.
-fn part_of(alloc: Global, worker: u32, part: u32) -> Result<Vec<Vec<Command>>, AllocError> {
-    let mut lists = Vec::new(alloc);
-    lists.push(list_of(alloc, worker, part)?)?;
-    Ok(lists)
 }
 
 /// The seed with two hundred vertices more.
@@ -162,138 +125,29 @@ fn tree(rt: &impl Abort, alloc: Global) -> Result<Picture, AllocError> {
     Ok(picture)
 }
 
-/// The work of each of sixteen passes in parts, each in a thread of its own. After each part the pass takes a
-/// view, while the others go on.
-#[derive(Drop)]
-struct Parts {
-    /// How many parts were done to their ends.
-    done: AtomicU32,
-    /// How many views had a lawful picture.
-    lawful: AtomicU32,
-}
-
-/// Whether a picture shows these rows.
-fn shows(alloc: Global, picture: &Picture, rows: &Rows) -> bool {
-    match picture.rows(alloc) {
-        Ok(now) => now.equals(rows),
-        Err(_) => false,
-    }
-}
-
-/// Whether rows are loaded, and given back.
-fn are_lawful(alloc: Global, limits: Limits, rows: &Rows) -> bool {
-    match Picture::load(alloc, limits, rows) {
-        Ok(again) => shows(alloc, &again, rows),
-        Err(_) => false,
-    }
-}
-
-/// Whether a picture is lawful.
-fn is_lawful(alloc: Global, picture: &Picture) -> bool {
-    match picture.rows(alloc) {
-        Ok(rows) => are_lawful(alloc, picture.limits(), &rows),
-        Err(_) => false,
-    }
-}
-
-/// Whether the picture of the version of now is lawful.
-fn sees_lawful<F: Asks + Drop, K: Naming<F>>(alloc: Global, pass: &mut Pass<F, K>) -> bool {
-    match pass.view() {
-        Ok(version) => is_lawful(alloc, version.picture()),
-        Err(_) => false,
-    }
-}
-
-/// Adds one.
-fn count(counter: &AtomicU32) {
-    let _ = counter.fetch_add(1, Ordering::SeqCst);
-}
-
-impl Parts {
-    /// Carries out one part of a worker's work by its pass.
-    fn do_part<F: Asks + Drop + Send + Sync, K: Naming<F> + Send + Sync, R: Threads + Wait + Sync>(
-        &self,
-        rt: &R,
-        alloc: Global,
-        service: &Service<F, K>,
-        passes: &mut [Pass<F, K>],
-        lists: &[Vec<Command>],
-    ) -> Result<(), AllocError> {
-        if passes.len() != lists.len() {
-            return Ok(());
-        }
-        let ends = run_workers(rt, alloc, service, passes, lists, &Still)?;
-        if ends.iter().all(|end| *end == WorkerEnd::Done) {
-            count(&self.done);
-        }
-        Ok(())
-    }
-
-    /// Each of these passes looks at the version of now.
-    fn look<F: Asks + Drop, K: Naming<F>>(&self, alloc: Global, passes: &mut [Pass<F, K>]) {
-        for pass in passes {
-            if sees_lawful(alloc, pass) {
-                count(&self.lawful);
-            }
-        }
-    }
-
-    /// Carries out the parts of a worker by its pass, which looks after each.
-    fn do_all<F: Asks + Drop + Send + Sync, K: Naming<F> + Send + Sync, R: Threads + Wait + Sync>(
-        &self,
-        rt: &R,
-        alloc: Global,
-        service: &Service<F, K>,
-        passes: &mut [Pass<F, K>],
-        worker: u32,
-    ) {
-        for part in 0..PARTS {
-            if let Ok(lists) = part_of(alloc, worker, part) {
-                let _ = self.do_part(rt, alloc, service, passes, lists.as_slice());
-            }
-            self.look(alloc, passes);
-        }
-    }
-}
-
-impl Work for Parts {
-    fn carry_out<
-        F: Asks + Drop + Send + Sync,
-        K: Naming<F> + Send + Sync,
-        R: Threads + Wait + Sync,
-    >(
-        &self,
-        rt: &R,
-        alloc: Global,
-        service: &Service<F, K>,
-        passes: &mut [Pass<F, K>],
-    ) -> Result<Vec<WorkerEnd>, Fail> {
-        let each = |start: usize, one: &mut [Pass<F, K>]| {
-            self.do_all(rt, alloc, service, one, (start % 16) as u32)
-        };
-        thread::for_each_chunk_mut(rt, passes, 1, &each);
-        Ok(Vec::new(alloc))
-    }
-}
-
-/// Sixteen workers, some of whose calls are accepted.
-const SIXTEEN: Workers = Workers {
-    number: 16,
-    accepted: 1_000,
-};
-
 #[test]
 fn sixteen_workers_make_thousands_of_calls(rt: HostRuntime) -> Result<(), Fail> {
-    let start = tree(&rt, rt.alloc())?;
-    let parts = Parts {
-        done: AtomicU32::new(0),
-        lawful: AtomicU32::new(0),
-    };
-    let told = told_after(&rt, start, &parts, &SIXTEEN)?;
-    assert!(rt;
-        told.as_str() == "0 ended, all done: true, accepted: true; 32000 calls, replayed: true"
+    let alloc = rt.alloc();
+    let start = tree(&rt, alloc)?;
+    let table = PriceTable::new([Some(1); 64]).expect(&rt, "a table");
+    let mut lists = Vec::new(alloc);
+    for worker in 0..16 {
+        lists.push(list_of(alloc, worker)?)?;
+    }
+    let told = run_lists(
+        &rt,
+        alloc,
+        |facts: &Facts| table.price(facts.kind),
+        start,
+        (lists.as_slice(), &Still),
+        &Workers {
+            number: 16,
+            accepted: 500,
+        },
+    )?;
+    assert_eq!(rt;
+        told.as_str(),
+        "16 ended, all done: true, accepted: true; 16000 calls, replayed: true"
     );
-    assert!(rt; parts.done.load(Ordering::SeqCst) == 16 * PARTS);
-    assert!(rt; parts.lawful.load(Ordering::SeqCst) == 16 * PARTS);
     Ok(())
 }

@@ -1,15 +1,14 @@
 //! Two workers at one time, in an order that a gate sets.
 
-use crate::harness::{Lists, Story, bipyramid, run_work, seed, told_after, uneven_prices};
+use crate::harness::{Story, bipyramid, run_lists, seed, uneven_prices};
 use crate::views::{edges_of, view_of};
-use std::alloc::{AllocError, Global};
-use std::process::Abort;
+use std::alloc::Global;
 use std::sync::Wait;
 use std::sync::atomic::{AtomicBool, Ordering};
 use std::test::Fail;
-use std::thread::Threads;
 use topo_core::calls::{Call, Command};
 use topo_core::rows::Facts;
+use topo_price::table::PriceTable;
 use topo_price::tariff::Asks;
 use topo_service::{Gate, Pass, Service, WorkerEnd};
 use topo_versions::Naming;
@@ -58,20 +57,15 @@ struct Pair<'a> {
     turn: &'a Turn,
 }
 
-/// How many receipts a pass has, and how many edges it sees.
-fn seen_by<F: Asks + Drop, K: Naming<F>>(pass: &mut Pass<F, K>) -> Result<(usize, u32), Fail> {
-    let edges = edges_of(&view_of(pass)?);
-    Ok((pass.receipts().len(), edges))
-}
-
-/// The same of each pass.
+/// How many receipts each pass has, and how many edges it sees.
 fn seen_of<F: Asks + Drop, K: Naming<F>>(
     alloc: Global,
     passes: &mut [Pass<F, K>],
 ) -> Result<Vec<(usize, u32)>, Fail> {
     let mut seen = Vec::new(alloc);
     for pass in passes {
-        seen.push(seen_by(pass)?)?;
+        let edges = edges_of(&view_of(pass)?);
+        seen.push((pass.receipts().len(), edges))?;
     }
     Ok(seen)
 }
@@ -95,44 +89,32 @@ impl Story for Pair<'_> {
     }
 }
 
-/// A list of one command for each worker.
-fn one_each(alloc: Global, commands: &[Command]) -> Result<Vec<Vec<Command>>, AllocError> {
-    let mut lists = Vec::new(alloc);
-    for command in commands {
-        lists.push(vec![in alloc; *command]?)?;
-    }
-    Ok(lists)
-}
-
-/// What is told of two workers with such lists, who take turns.
-fn told_in_turn<R: Threads + Wait + Abort + AllocGlobal + Sync>(
-    rt: &R,
-    lists: &[Vec<Command>],
-) -> Result<String, Fail> {
+#[test]
+fn workers_run_at_one_time(rt: HostRuntime) -> Result<(), Fail> {
+    let start = seed(&rt, rt.alloc())?;
+    let table = PriceTable::new([Some(1); 64]).expect(&rt, "a table");
     let turn = Turn {
         begun: AtomicBool::new(false),
         made: AtomicBool::new(false),
         late: AtomicBool::new(false),
     };
-    let start = seed(rt, rt.alloc())?;
-    told_after(
-        rt,
+    let mut lists = Vec::new(rt.alloc());
+    for kind in 0..2 {
+        let insert = Command::Plain(Call::Insert { u: 0, v: 1, kind });
+        lists.push(vec![in rt.alloc(); insert]?)?;
+    }
+    let told = run_lists(
+        &rt,
+        rt.alloc(),
+        |facts: &Facts| table.price(facts.kind),
         start,
-        &Lists { lists, gate: &turn },
+        (lists.as_slice(), &turn),
         &Pair { turn: &turn },
-    )
-}
-
-/// An insertion between the seed's vertices.
-fn insertion(kind: u32) -> Command {
-    Command::Plain(Call::Insert { u: 0, v: 1, kind })
-}
-
-#[test]
-fn workers_run_at_one_time(rt: HostRuntime) -> Result<(), Fail> {
-    let lists = one_each(rt.alloc(), &[insertion(0), insertion(1)])?;
-    let told = told_in_turn(&rt, lists.as_slice())?;
-    assert!(rt; told.as_str() == "false [Done, Done] [(1, 3), (1, 3)]; 2 calls, replayed: true");
+    )?;
+    assert_eq!(rt;
+        told.as_str(),
+        "false [Done, Done] [(1, 3), (1, 3)]; 2 calls, replayed: true"
+    );
     Ok(())
 }
 
@@ -215,40 +197,37 @@ impl Story for PlanAndDelete<'_> {
     }
 }
 
-/// What is told of two workers with such lists, of whom one plans while the other changes the picture.
-fn told_between<R: Threads + Wait + Abort + AllocGlobal + Sync>(
-    rt: &R,
-    lists: &[Vec<Command>],
-) -> Result<String, Fail> {
-    let table = uneven_prices(rt);
+#[test]
+fn a_plan_is_made_anew_where_the_picture_changed_meanwhile(rt: HostRuntime) -> Result<(), Fail> {
+    let start = bipyramid(&rt, rt.alloc())?;
+    let table = uneven_prices(&rt);
     let between = Between::new();
     let ask = |facts: &Facts| {
         between.ask();
         table.price(facts.kind)
     };
-    let work = Lists {
-        lists,
-        gate: &between,
-    };
-    let story = PlanAndDelete { between: &between };
-    let start = bipyramid(rt, rt.alloc())?;
-    run_work(rt, rt.alloc(), ask, start, &work, &story)
-}
-
-/// The insertion crosses nothing, where the edge is gone that it would have crossed.
-const MADE_ANEW: &str =
-    "false [Done, Done] Inserted(Inserted { id: EdgeId(9), route: Route { start: 2, crossed: Listed { items: [] }, end: 2 }, price: 0 }); 2 calls, replayed: true";
-
-#[test]
-fn a_plan_is_made_anew_where_the_picture_changed_meanwhile(rt: HostRuntime) -> Result<(), Fail> {
     let planned = Command::Planned {
         u: 3,
         v: 4,
         kind: 0,
     };
     let deletion = Command::Plain(Call::Delete { edge: 1 });
-    let lists = one_each(rt.alloc(), &[planned, deletion])?;
-    let told = told_between(&rt, lists.as_slice())?;
-    assert!(rt; told.as_str() == MADE_ANEW);
+    let mut lists = Vec::new(rt.alloc());
+    for command in [planned, deletion] {
+        lists.push(vec![in rt.alloc(); command]?)?;
+    }
+    let story = PlanAndDelete { between: &between };
+    let told = run_lists(
+        &rt,
+        rt.alloc(),
+        ask,
+        start,
+        (lists.as_slice(), &between),
+        &story,
+    )?;
+    assert_eq!(rt;
+        told.as_str(),
+        "false [Done, Done] Inserted(Inserted { id: EdgeId(9), route: Route { start: 2, crossed: Listed { items: [] }, end: 2 }, price: 0 }); 2 calls, replayed: true"
+    );
     Ok(())
 }

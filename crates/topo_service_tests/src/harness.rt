@@ -14,7 +14,7 @@ use topo_book::{Book, replay};
 use topo_core::calls::Command;
 use topo_core::limits::Limits;
 use topo_core::listed::Listed;
-use topo_core::rows::{EdgeRow, Facts, Rows};
+use topo_core::rows::{EdgeRow, Rows};
 use topo_picture::Picture;
 use topo_price::table::PriceTable;
 use topo_price::tariff::{Asks, Tariff};
@@ -40,68 +40,6 @@ pub(crate) trait Story {
     ) -> Result<String, Fail>;
 }
 
-/// What the passes do before the story is told.
-pub(crate) trait Work: Sync {
-    /// Does it, and says how the workers' lists ended.
-    fn carry_out<
-        F: Asks + Drop + Send + Sync,
-        K: Naming<F> + Send + Sync,
-        R: Threads + Wait + Sync,
-    >(
-        &self,
-        rt: &R,
-        alloc: Global,
-        service: &Service<F, K>,
-        passes: &mut [Pass<F, K>],
-    ) -> Result<Vec<WorkerEnd>, Fail>;
-}
-
-/// Nothing is done.
-#[derive(Drop)]
-pub(crate) struct NoWork;
-
-impl Work for NoWork {
-    fn carry_out<
-        F: Asks + Drop + Send + Sync,
-        K: Naming<F> + Send + Sync,
-        R: Threads + Wait + Sync,
-    >(
-        &self,
-        _rt: &R,
-        alloc: Global,
-        _service: &Service<F, K>,
-        _passes: &mut [Pass<F, K>],
-    ) -> Result<Vec<WorkerEnd>, Fail> {
-        Ok(Vec::new(alloc))
-    }
-}
-
-/// Each list with the pass at its place, in a thread of its own.
-#[derive(Drop)]
-pub(crate) struct Lists<'a, T: Gate> {
-    pub lists: &'a [Vec<Command>],
-    pub gate: &'a T,
-}
-
-impl<T: Gate> Work for Lists<'_, T> {
-    fn carry_out<
-        F: Asks + Drop + Send + Sync,
-        K: Naming<F> + Send + Sync,
-        R: Threads + Wait + Sync,
-    >(
-        &self,
-        rt: &R,
-        alloc: Global,
-        service: &Service<F, K>,
-        passes: &mut [Pass<F, K>],
-    ) -> Result<Vec<WorkerEnd>, Fail> {
-        if passes.len() != self.lists.len() {
-            return Err("a pass for each list".into());
-        }
-        Ok(run_workers(rt, alloc, service, passes, self.lists, self.gate)?)
-    }
-}
-
 /// Nothing is done round a command.
 #[derive(Drop)]
 pub(crate) struct Still;
@@ -123,16 +61,16 @@ pub(crate) fn run<F: Asks + Drop + Send + Sync, S: Story, R: Threads + Wait + Sy
     requires callable { F.can_ask ask }
     requires promise { IsPromise (F.answers ask) }
 {
-    run_work(rt, alloc, ask, start, &NoWork, story)
+    run_lists(rt, alloc, ask, start, (&[], &Still), story)
 }
 
-/// The same, where the passes do some work before the story is told.
-pub(crate) fn run_work<F: Asks + Drop + Send + Sync, S: Story, T: Work, R: Threads + Wait + Sync>(
+/// The same, where workers carry out a list each before the story is told, with its first passes.
+pub(crate) fn run_lists<F: Asks + Drop + Send + Sync, S: Story, T: Gate, R: Threads + Wait + Sync>(
     rt: &R,
     alloc: Global,
     ask: F,
     start: Picture,
-    work: &T,
+    work: (&[Vec<Command>], &T),
     story: &S,
 ) -> Result<String, Fail>
     requires callable { F.can_ask ask }
@@ -148,7 +86,7 @@ fn named<
     F: Asks + Drop + Send + Sync,
     K: Naming<F> + Send + Sync,
     S: Story,
-    T: Work,
+    T: Gate,
     R: Threads + Wait + Sync,
 >(
     rt: &R,
@@ -156,7 +94,7 @@ fn named<
     unopened: Unopened,
     start: Picture,
     tariff: Arc<Tariff<F>>,
-    work: &T,
+    work: (&[Vec<Command>], &T),
     story: &S,
 ) -> Result<String, Fail>
     requires ledger { (unopened.blank.name ≡ K.name) × (unopened.blank.parts ≡ K.parts) }
@@ -177,18 +115,18 @@ fn tell<
     F: Asks + Drop + Send + Sync,
     K: Naming<F> + Send + Sync,
     S: Story,
-    T: Work,
+    T: Gate,
     R: Threads + Wait + Sync,
 >(
     rt: &R,
     alloc: Global,
     service: &mut Service<F, K>,
     passes: &mut Vec<Pass<F, K>>,
-    work: &T,
+    work: (&[Vec<Command>], &T),
     story: &S,
 ) -> Result<String, Fail> {
     give_out(service, passes, story.seats())?;
-    let ends = work.carry_out(rt, alloc, &*service, passes.as_mut_slice())?;
+    let ends = carry_out(rt, alloc, &*service, passes.as_mut_slice(), work)?;
     story.tell(rt, alloc, &*service, passes, ends.as_slice())
 }
 
@@ -207,21 +145,19 @@ fn give_out<F: Asks + Drop, K: Naming<F>>(
     Ok(())
 }
 
-/// The text, and the book that the service left.
-fn with_book<F: Asks + Drop>(alloc: Global, text: &str, book: &Book<F>) -> Result<String, Fail> {
-    let calls = book.history().len();
-    let again = replay(alloc, book.start(), book.history(), book.tariff()).is_ok();
-    Ok(format!(in alloc; "{text}; {calls} calls, replayed: {again}")?)
-}
-
-/// The text, and how the service ended.
-fn with_end<F: Asks + Drop, K: Naming<F>>(
+/// What the story told, and how the service ended.
+fn finish<F: Asks + Drop, K: Naming<F>>(
     alloc: Global,
-    text: &str,
+    told: Result<String, Fail>,
     end: &Result<Book<F>, CloseFault<F, K, StoreReader<F, K>>>,
 ) -> Result<String, Fail> {
+    let text = told?;
     match end {
-        Ok(book) => with_book(alloc, text, book),
+        Ok(book) => {
+            let calls = book.history().len();
+            let again = replay(alloc, book.start(), book.history(), book.tariff()).is_ok();
+            Ok(format!(in alloc; "{text}; {calls} calls, replayed: {again}")?)
+        }
         Err(end) => {
             let number = end.fault.number();
             let left = end.passes.len();
@@ -230,14 +166,26 @@ fn with_end<F: Asks + Drop, K: Naming<F>>(
     }
 }
 
-/// What the story told, and how the service ended.
-fn finish<F: Asks + Drop, K: Naming<F>>(
+/// Runs each list with the pass at its place, in a thread of its own. Where there is no list, no pass is used.
+fn carry_out<
+    F: Asks + Drop + Send + Sync,
+    K: Naming<F> + Send + Sync,
+    T: Gate,
+    R: Threads + Wait + Sync,
+>(
+    rt: &R,
     alloc: Global,
-    told: Result<String, Fail>,
-    end: &Result<Book<F>, CloseFault<F, K, StoreReader<F, K>>>,
-) -> Result<String, Fail> {
-    let text = told?;
-    with_end(alloc, text.as_str(), end)
+    service: &Service<F, K>,
+    passes: &mut [Pass<F, K>],
+    (lists, gate): (&[Vec<Command>], &T),
+) -> Result<Vec<WorkerEnd>, Fail> {
+    if lists.is_empty() {
+        return Ok(Vec::new(alloc));
+    }
+    if passes.len() != lists.len() {
+        return Err("a pass for each list".into());
+    }
+    Ok(run_workers(rt, alloc, service, passes, lists, gate)?)
 }
 
 /// The seed within these limits.
@@ -246,74 +194,53 @@ pub(crate) fn seed(rt: &impl Abort, alloc: Global) -> Result<Picture, AllocError
     Picture::seed(alloc, limits)
 }
 
-/// The edges round each vertex of the bipyramid.
-const ROTATIONS: &[&[u32]] = &[
-    &[0, 3, 2, 6],
-    &[0, 7, 1, 4],
-    &[1, 8, 2, 5],
-    &[3, 4, 5],
-    &[6, 8, 7],
-];
-
-/// The number, the two ends and the kind of each edge of the bipyramid.
-const EDGES: &[(u32, u32, u32, u32)] = &[
-    (0, 0, 1, 1),
-    (1, 1, 2, 2),
-    (2, 2, 0, 3),
-    (3, 3, 0, 0),
-    (4, 3, 1, 0),
-    (5, 3, 2, 0),
-    (6, 4, 0, 0),
-    (7, 4, 1, 0),
-    (8, 4, 2, 0),
-];
-
-/// The rotations of the bipyramid.
-fn rotations(alloc: Global) -> Result<Listed<Listed<u32>>, AllocError> {
-    let mut rotations = Vec::new(alloc);
-    for list in ROTATIONS {
-        rotations.push(Listed::from_vec(Vec::from_slice(alloc, *list)?))?;
-    }
-    Ok(Listed::from_vec(rotations))
-}
-
-/// The edges of the bipyramid.
-fn edges(alloc: Global) -> Result<Listed<EdgeRow>, AllocError> {
-    let mut edges = Vec::new(alloc);
-    for (id, a, b, kind) in EDGES {
-        edges.push(EdgeRow {
-            id: *id,
-            a: *a,
-            b: *b,
-            kind: *kind,
-            crossings: Listed::new(alloc),
-        })?;
-    }
-    Ok(Listed::from_vec(edges))
-}
-
-/// The rows of the bipyramid.
-fn bipyramid_rows(alloc: Global) -> Result<Rows, AllocError> {
-    let rotations = rotations(alloc)?;
-    Ok(Rows {
-        rotations,
-        edges: edges(alloc)?,
-        crossings: Listed::new(alloc),
-        next_edge: 9,
-        next_crossing: 0,
-    })
-}
-
 /// A triangle between two apexes, 3 and 4; the edges of the triangle are of kinds 1, 2 and 3.
 pub(crate) fn bipyramid(rt: &impl Abort, alloc: Global) -> Result<Picture, AllocError> {
     let limits = Limits::new(65_536, 65_536, 1_048_576).expect(rt, "the greatest limits");
-    let rows = bipyramid_rows(alloc)?;
-    Picture::load(alloc, limits, &rows).map_err(|_| AllocError)
-}
-
-/// A table at which each edge costs 1.
-pub(crate) fn even_prices(rt: &impl Abort) -> PriceTable {
-    PriceTable::new([Some(1); 64]).expect(rt, "a table")
+    let lists: [&[u32]; 5] = [
+        &[0, 3, 2, 6],
+        &[0, 7, 1, 4],
+        &[1, 8, 2, 5],
+        &[3, 4, 5],
+        &[6, 8, 7],
+    ];
+    let mut rotations = Vec::new(alloc);
+    for list in lists {
+        rotations.push(Listed::from_vec(Vec::from_slice(alloc, list)?))?;
+    }
+    let ends: [(u32, u32, u32); 9] = [
+        (0, 1, 1),
+        (1, 2, 2),
+        (2, 0, 3),
+        (3, 0, 0),
+        (3, 1, 0),
+        (3, 2, 0),
+        (4, 0, 0),
+        (4, 1, 0),
+        (4, 2, 0),
+    ];
+    let mut edges = Vec::new(alloc);
+    for id in 0..9u32 {
+        let (a, b, kind) = ends[id as usize];
+        edges.push(EdgeRow {
+            id,
+            a,
+            b,
+            kind,
+            crossings: Listed::new(alloc),
+        })?;
+    }
+    let rows = Rows {
+        rotations: Listed::from_vec(rotations),
+        edges: Listed::from_vec(edges),
+        crossings: Listed::new(alloc),
+        next_edge: 9,
+        next_crossing: 0,
+    };
+    match Picture::load(alloc, limits, &rows) {
+        Ok(picture) => Ok(picture),
+        Err(_) => Err(AllocError),
+    }
 }
 
 /// Prices at which the edges of the triangle cost 5, 2 and 9, so that the cheapest way from one apex to the
@@ -324,32 +251,4 @@ pub(crate) fn uneven_prices(rt: &impl Abort) -> PriceTable {
     prices[2] = Some(2);
     prices[3] = Some(9);
     PriceTable::new(prices).expect(rt, "a table")
-}
-
-/// What a story says of a service that begins with the seed, at even prices.
-pub(crate) fn told_from_seed<S: Story, R: Threads + Wait + Abort + AllocGlobal + Sync>(
-    rt: &R,
-    story: &S,
-) -> Result<String, Fail> {
-    let table = even_prices(rt);
-    let start = seed(rt, rt.alloc())?;
-    run(
-        rt,
-        rt.alloc(),
-        |facts: &Facts| table.price(facts.kind),
-        start,
-        story,
-    )
-}
-
-/// What a story says of a service that begins with such a picture, at even prices, once some work is done.
-pub(crate) fn told_after<S: Story, T: Work, R: Threads + Wait + Abort + AllocGlobal + Sync>(
-    rt: &R,
-    start: Picture,
-    work: &T,
-    story: &S,
-) -> Result<String, Fail> {
-    let table = even_prices(rt);
-    let ask = |facts: &Facts| table.price(facts.kind);
-    run_work(rt, rt.alloc(), ask, start, work, story)
 }

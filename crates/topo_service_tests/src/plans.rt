@@ -184,13 +184,13 @@ fn an_invented_plan_changes_no_answer(rt: HostRuntime) -> Result<(), Fail> {
         let mut heights = LEAST;
         heights[at] = heights[at].wrapping_add(1);
         let told = told_of(&rt, first(), &heights)?;
-        assert!(rt; told.as_str() == due.as_str(), "height {at} raised");
+        assert_eq!(rt; told.as_str(), due.as_str(), "height {at} raised");
     }
     let all: [&[u64]; 3] = [&LEAST, &[u64::MAX; 18], &[0; 18]];
     for heights in all {
-        assert!(rt; told_of(&rt, first(), heights)?.as_str() == due.as_str());
+        assert_eq!(rt; told_of(&rt, first(), heights)?.as_str(), due.as_str());
     }
-    assert!(rt; told_of(&rt, nowhere(), &LEAST)?.as_str() == due.as_str());
+    assert_eq!(rt; told_of(&rt, nowhere(), &LEAST)?.as_str(), due.as_str());
     Ok(())
 }
 
@@ -203,6 +203,6 @@ fn a_plan_of_another_picture_changes_no_answer(rt: HostRuntime) -> Result<(), Fa
     );
     assert!(rt; due.as_str().ends_with("; 3 calls, replayed: true"));
     let told = told(&rt, &Late { planned: true })?;
-    assert!(rt; told.as_str() == due.as_str());
+    assert_eq!(rt; told.as_str(), due.as_str());
     Ok(())
 }
