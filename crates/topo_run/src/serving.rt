@@ -161,7 +161,9 @@ fn serve<
     ensures run { IfOk result (λ course. IsRun (prices_of (F.answers (arc_value tariff))) start.limits start.rows (map commands lists.now) course.history course.picture) }
     ensures fault { IfErr result IsOfService }
 {
-    let Ok(mut service) = Service::<F, K>::new(alloc, unopened, start, tariff) else {
+    let places = lists.len().max(1).min(16) as u32;
+    let Ok(mut service) = Service::<F, K>::with_places(alloc, unopened, start, tariff, places)
+    else {
         return Err(RunFault::Memory);
     };
     match work_all(rt, alloc, &mut service, lists, gate) {

@@ -5,9 +5,10 @@ use Rattle.topo_core.specs.declared.calls.Entry.{Entry}
 use Rattle.topo_core.specs.declared.calls.Reply.{Reply}
 use Rattle.topo_service.specs.declared.pass.Receipt.{Receipt}
 
--- what answers the prices, and how many passes were given out: these are numbered from 0
+-- what answers the prices, how many passes may be given out, and how many were: these are numbered from 0
 pub record ServiceState (F : Type 0) : Type 0 where
   pub tariff : F
+  pub places : ℕ
   pub given : ℕ
 
 -- a pass: its number, which is its caller's in entries, its receipts, and the accepted entries that it has seen

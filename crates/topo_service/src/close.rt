@@ -1,6 +1,6 @@
 //! How a service begins and ends.
 
-ghost use Rattle.std.specs.Prelude.{◌≡◌, ◌<◌, ℕ, [], length, All, IfOk, IfErr, OnOk, Some};
+ghost use Rattle.std.specs.Prelude.{◌≡◌, ◌<◌, ◌≤◌, ℕ, [], length, All, IfOk, IfErr, OnOk, Some};
 ghost use Rattle.std.specs.Arc.{arc_value};
 ghost use Rattle.topo_core.specs.History.{IsPrefix, Replays, versions};
 ghost use Rattle.topo_book.specs.Books.{ReplaysLawfully};
@@ -52,7 +52,8 @@ impl Unopened {
 pub type Service<F, K> = ServiceOver<F, K, StoreWriter<F, K>>;
 
 impl<F: Asks + Drop, K: Naming<F>> Service<F, K> {
-    /// Begins a service, at the start and with the closure that K names, with no entry and no pass.
+    /// Begins a service of 16 passes at most, at the start and with the closure that K names, with no entry
+    /// and no pass.
     pub fn new(
         alloc: Global,
         unopened: Unopened,
@@ -65,6 +66,29 @@ impl<F: Asks + Drop, K: Naming<F>> Service<F, K> {
         requires start { start ≡ K.start }
         requires prices { K.closure ≡ Some (arc_value tariff) }
         ensures tariff { IfOk result (λ s. s.tariff ≡ arc_value tariff) }
+        ensures places { IfOk result (λ s. s.places ≡ 16) }
+        ensures no_pass { IfOk result (λ s. s.given ≡ 0) }
+    {
+        Self::with_places(alloc, unopened, start, tariff, 16)
+    }
+
+    /// As `new`, for so many passes at most. An accepted call visits the place of each of them twice, so a
+    /// service of few passes takes less time.
+    pub fn with_places(
+        alloc: Global,
+        unopened: Unopened,
+        start: Picture,
+        tariff: Arc<Tariff<F>>,
+        places: u32,
+    ) -> Result<Service<F, K>, AllocError>
+        requires ledger { (unopened.blank.name ≡ K.name) × (unopened.blank.parts ≡ K.parts) }
+        requires parts { K.parts ≡ 16 }
+        requires list { unopened.opened.seen.book ≡ K.book }
+        requires start { start ≡ K.start }
+        requires prices { K.closure ≡ Some (arc_value tariff) }
+        requires places { (0 < places) × (places ≤ 16) }
+        ensures tariff { IfOk result (λ s. s.tariff ≡ arc_value tariff) }
+        ensures places { IfOk result (λ s. s.places ≡ places) }
         ensures no_pass { IfOk result (λ s. s.given ≡ 0) }
     {
         let Unopened { blank, opened } = unopened;
@@ -74,12 +98,13 @@ impl<F: Asks + Drop, K: Naming<F>> Service<F, K> {
         let shared = Arc::try_clone(book.shared_picture())?;
         let first = Version::first(alloc, shared, front.again())?;
         let second = first.again()?;
-        let writer = StoreWriter::<F, K>::new(alloc, first, second, 16)?;
+        let writer = StoreWriter::<F, K>::new(alloc, first, second, places as usize)?;
         Ok(ServiceOver {
             alloc,
             tariff,
             desk: Mutex::new(Desk::new(book, calls, head, front, writer)),
             seats: Mutex::new(Seats::new(rest)),
+            places,
             given: 0,
         })
     }
@@ -119,6 +144,7 @@ impl<F: Asks + Drop, K: Naming<F>, W: Shelf<F, K>> ServiceOver<F, K, W> {
             tariff: _tariff,
             desk,
             seats,
+            places: _,
             given,
         } = self;
         let seats = seats.into_inner();

@@ -24,26 +24,27 @@ use topo_price::tariff::{Asks, Tariff};
 use topo_route::plan::Plan;
 use topo_versions::{Glass, Lends, Naming, Shelf};
 
-/// One lock round a book, with the passes that were given out. Contracts see what answers its prices, and
-/// how many passes it has given out.
+/// One lock round a book, with the passes that were given out. Contracts see what answers its prices, how
+/// many passes it gives out at most, and how many it has given out.
 pub struct ServiceOver<F: Asks, K: Naming<F>, W: Shelf<F, K>> {
     pub(crate) alloc: Global,
     pub(crate) tariff: Arc<Tariff<F>>,
     pub(crate) desk: Mutex<Desk<F, K, W>>,
     pub(crate) seats: Mutex<Seats<K>>,
+    pub(crate) places: u32,
     pub(crate) given: u32,
 }
 
 impl<F: Asks, K: Naming<F>, W: Shelf<F, K>> Model for ServiceOver<F, K, W> {
-    ghost use Rattle.std.specs.Prelude.{◌≡◌, Some};
+    ghost use Rattle.std.specs.Prelude.{◌≡◌, ◌≤◌, Some};
     ghost use Rattle.std.specs.Arc.{arc_value};
     ghost use Rattle.topo_service.specs.Passes.{ServiceState};
 
     ghost Value = { ServiceState F };
 
-    ghost view = { λ s. record { tariff = arc_value s.tariff; given = s.given } };
+    ghost view = { λ s. record { tariff = arc_value s.tariff; places = s.places; given = s.given } };
 
-    ghost invariant = { λ s. (K.closure ≡ Some (arc_value s.tariff)) × (K.parts ≡ 16) };
+    ghost invariant = { λ s. (K.closure ≡ Some (arc_value s.tariff)) × (K.parts ≡ 16) × (s.places ≤ 16) };
 }
 
 impl<F: Asks, K: Naming<F>, W: Shelf<F, K>> ServiceOver<F, K, W> {
@@ -55,19 +56,20 @@ impl<F: Asks, K: Naming<F>, W: Shelf<F, K>> ServiceOver<F, K, W> {
         &self.tariff
     }
 
-    /// The next pass, with no receipt. NoSeat is answered where 16 were given out, or the version store
-    /// has no place for a reader. It waits for nobody.
+    /// The next pass, with no receipt. NoSeat is answered where as many were given out as there may be, or
+    /// the version store has no place for a reader. It waits for nobody.
     pub fn pass<G: Glass<F, K>>(&mut self) -> Result<PassOver<F, K, G>, ServiceFault>
     where
         W: Lends<F, K, G>,
         ensures number { IfOk result (λ p. p.number ≡ self.old.given) }
         ensures receipts { IfOk result (λ p. p.receipts ≡ []) }
         ensures seen { IfOk result (λ p. p.seen ≡ []) }
-        ensures given { IfOk result (λ p. (self.old.given < 16) × (self.new.given ≡ self.old.given + 1)) }
+        ensures given { IfOk result (λ p. (self.old.given < self.old.places) × (self.new.given ≡ self.old.given + 1)) }
         ensures refused { OnErr result (self.new.given ≡ self.old.given) }
-        ensures same { self.new.tariff ≡ self.old.tariff }
+        ensures at_most { self.old.places ≤ 16 }
+        ensures same { (self.new.tariff ≡ self.old.tariff) × (self.new.places ≡ self.old.places) }
     {
-        if self.given >= 16 {
+        if self.given >= self.places {
             return Err(ServiceFault::NoSeat);
         }
         let Ok(reader) = self.desk.get_mut().reader() else {

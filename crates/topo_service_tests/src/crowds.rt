@@ -1,19 +1,22 @@
 //! Many workers, with calls that meet one another.
 
-use crate::harness::{Still, Story, bipyramid, run_lists};
+use crate::harness::{Still, Story, Work, bipyramid, run_work};
 use crate::views::view_of;
 use std::alloc::{AllocError, Global};
 use std::process::Abort;
 use std::sync::Wait;
+use std::sync::atomic::{AtomicU32, Ordering};
 use std::test::Fail;
+use std::thread;
+use std::thread::Threads;
 use topo_core::calls::{Call, Command};
 use topo_core::limits::Limits;
-use topo_core::rows::Facts;
+use topo_core::rows::{Facts, Rows};
 use topo_picture::Picture;
 use topo_price::table::PriceTable;
 use topo_price::tariff::Asks;
 use topo_service::{Pass, Service, WorkerEnd};
-use topo_versions::Naming;
+use topo_versions::{Naming, Version};
 
 /// So many workers, whether all came to their ends, and whether at least so many calls were accepted.
 #[derive(Drop)]
@@ -59,12 +62,12 @@ fn four_workers_plan_between_the_apexes(rt: HostRuntime) -> Result<(), Fail> {
         };
         lists.push(vec![in alloc; planned, Command::Plain(Call::Delete { edge: i })]?)?;
     }
-    let told = run_lists(
+    let told = run_work(
         &rt,
         alloc,
         |facts: &Facts| table.price(facts.kind),
         start,
-        (lists.as_slice(), &Still),
+        Work::Lists(lists.as_slice(), &Still),
         &Workers {
             number: 4,
             accepted: 8,
@@ -102,17 +105,6 @@ fn command_of(place: u32, x: u32) -> Command {
     }
 }
 
-/// The list of one of sixteen workers.
-fn list_of(alloc: Global, worker: u32) -> Result<Vec<Command>, AllocError> {
-    let mut list = Vec::new(alloc);
-    let mut x = worker;
-    for turn in 0..1_000u32 {
-        x = stir(x);
-        list.push(command_of(turn.wrapping_mul(16).wrapping_add(worker), x))?;
-    }
-    Ok(list)
-}
-
 /// The seed with two hundred vertices more.
 fn tree(rt: &impl Abort, alloc: Global) -> Result<Picture, AllocError> {
     let limits = Limits::new(65_536, 65_536, 65_536).expect(rt, "limits");
@@ -125,29 +117,190 @@ fn tree(rt: &impl Abort, alloc: Global) -> Result<Picture, AllocError> {
     Ok(picture)
 }
 
-#[test]
-fn sixteen_workers_make_thousands_of_calls(rt: HostRuntime) -> Result<(), Fail> {
-    let alloc = rt.alloc();
-    let start = tree(&rt, alloc)?;
-    let table = PriceTable::new([Some(1); 64]).expect(&rt, "a table");
-    let mut lists = Vec::new(alloc);
-    for worker in 0..16 {
-        lists.push(list_of(alloc, worker)?)?;
+/// What is noted while a crowd works.
+#[derive(Drop)]
+pub(crate) struct Watch {
+    /// How many views were taken.
+    views: AtomicU32,
+    /// How many of them had a picture that is not lawful.
+    unlawful: AtomicU32,
+    /// How many had a lower number than the view before by the same pass.
+    fallen: AtomicU32,
+    /// How many calls wanted memory.
+    failed: AtomicU32,
+}
+
+impl Watch {
+    fn new() -> Watch {
+        Watch {
+            views: AtomicU32::new(0),
+            unlawful: AtomicU32::new(0),
+            fallen: AtomicU32::new(0),
+            failed: AtomicU32::new(0),
+        }
     }
-    let told = run_lists(
-        &rt,
-        alloc,
+}
+
+/// Adds one where it is so.
+fn count_where(counter: &AtomicU32, is_so: bool) {
+    if is_so {
+        let _ = counter.fetch_add(1, Ordering::SeqCst);
+    }
+}
+
+/// Whether a picture shows these rows.
+fn shows(alloc: Global, picture: &Picture, rows: &Rows) -> bool {
+    match picture.rows(alloc) {
+        Ok(now) => now.equals(rows),
+        Err(_) => false,
+    }
+}
+
+/// Whether rows are loaded, and given back.
+fn are_lawful(alloc: Global, limits: Limits, rows: &Rows) -> bool {
+    match Picture::load(alloc, limits, rows) {
+        Ok(again) => shows(alloc, &again, rows),
+        Err(_) => false,
+    }
+}
+
+/// Whether a picture is lawful.
+fn is_lawful(alloc: Global, picture: &Picture) -> bool {
+    match picture.rows(alloc) {
+        Ok(rows) => are_lawful(alloc, picture.limits(), &rows),
+        Err(_) => false,
+    }
+}
+
+/// Looks at a version, and answers its number.
+fn look_at<F: Asks + Drop, K: Naming<F>>(
+    alloc: Global,
+    view: &Version<F, K>,
+    before: u64,
+    watch: &Watch,
+) -> u64 {
+    count_where(&watch.views, true);
+    count_where(&watch.fallen, view.number() < before);
+    count_where(&watch.unlawful, !is_lawful(alloc, view.picture()));
+    view.number()
+}
+
+/// Takes a view, and looks at it. It answers the number of the last view.
+fn look<F: Asks + Drop, K: Naming<F>>(
+    alloc: Global,
+    pass: &mut Pass<F, K>,
+    before: u64,
+    watch: &Watch,
+) -> u64 {
+    match pass.view() {
+        Ok(view) => look_at(alloc, &view, before, watch),
+        Err(_) => before,
+    }
+}
+
+/// Whether a command was carried out.
+fn is_made<F: Asks + Drop, K: Naming<F>, R: Wait>(
+    rt: &R,
+    service: &Service<F, K>,
+    pass: &mut Pass<F, K>,
+    call: Call,
+) -> bool {
+    match call {
+        Call::Insert { u, v, kind } => service.insert(rt, pass, u, v, kind).is_ok(),
+        Call::Delete { edge } => service.delete(rt, pass, edge).is_ok(),
+        Call::Grow { u, position, kind } => service.grow(rt, pass, u, position, kind).is_ok(),
+    }
+}
+
+/// The same of a planned insertion.
+fn is_planned<F: Asks + Drop, K: Naming<F>, R: Wait>(
+    rt: &R,
+    alloc: Global,
+    service: &Service<F, K>,
+    pass: &mut Pass<F, K>,
+    (u, v, kind): (u32, u32, u32),
+) -> bool {
+    match pass.find(alloc, service.tariff(), u, v) {
+        Ok(found) => service.insert_found(rt, pass, kind, &found).is_ok(),
+        Err(_) => is_made(rt, service, pass, Call::Insert { u, v, kind }),
+    }
+}
+
+/// Makes two thousand calls, and takes a view after each hundred.
+fn work_and_look<F: Asks + Drop, K: Naming<F>, R: Wait>(
+    rt: &R,
+    alloc: Global,
+    service: &Service<F, K>,
+    pass: &mut Pass<F, K>,
+    watch: &Watch,
+) {
+    let worker = pass.number();
+    let mut x = worker;
+    let mut number = 0;
+    for turn in 0..2_000u32 {
+        x = stir(x);
+        let made = match command_of(turn.wrapping_mul(16).wrapping_add(worker), x) {
+            Command::Plain(call) => is_made(rt, service, pass, call),
+            Command::Planned { u, v, kind } => is_planned(rt, alloc, service, pass, (u, v, kind)),
+        };
+        count_where(&watch.failed, !made);
+        if turn % 100 == 99 {
+            number = look(alloc, pass, number, watch);
+        }
+    }
+}
+
+/// Lets each pass make its calls, in a thread of its own, and looks at versions meanwhile.
+pub(crate) fn work_all<
+    F: Asks + Drop + Send + Sync,
+    K: Naming<F> + Send + Sync,
+    R: Threads + Wait + Sync,
+>(rt: &R, alloc: Global, service: &Service<F, K>, passes: &mut [Pass<F, K>], watch: &Watch) {
+    let threads = passes.len();
+    if threads == 0 {
+        return;
+    }
+    thread::for_each_mut(
+        rt,
+        passes,
+        threads,
+        &|_place, pass: &mut Pass<F, K>| work_and_look(rt, alloc, service, pass, watch),
+    );
+}
+
+/// Sixteen workers, some of whose calls are accepted.
+const SIXTEEN: Workers = Workers {
+    number: 16,
+    accepted: 1_000,
+};
+
+/// What is told of sixteen who are watched.
+fn told_of_sixteen<R: Threads + Wait + Abort + AllocGlobal + Sync>(
+    rt: &R,
+    watch: &Watch,
+) -> Result<String, Fail> {
+    let start = tree(rt, rt.alloc())?;
+    let table = PriceTable::new([Some(1); 64]).expect(rt, "a table");
+    run_work(
+        rt,
+        rt.alloc(),
         |facts: &Facts| table.price(facts.kind),
         start,
-        (lists.as_slice(), &Still),
-        &Workers {
-            number: 16,
-            accepted: 500,
-        },
-    )?;
-    assert_eq!(rt;
-        told.as_str(),
-        "16 ended, all done: true, accepted: true; 16000 calls, replayed: true"
+        Work::<Still>::Crowd(watch),
+        &SIXTEEN,
+    )
+}
+
+#[test]
+fn sixteen_workers_make_thousands_of_calls(rt: HostRuntime) -> Result<(), Fail> {
+    let watch = Watch::new();
+    let told = told_of_sixteen(&rt, &watch)?;
+    assert!(rt;
+        told.as_str() == "0 ended, all done: true, accepted: true; 32000 calls, replayed: true"
     );
+    assert!(rt; watch.views.load(Ordering::SeqCst) == 320);
+    assert!(rt; watch.unlawful.load(Ordering::SeqCst) == 0);
+    assert!(rt; watch.fallen.load(Ordering::SeqCst) == 0);
+    assert!(rt; watch.failed.load(Ordering::SeqCst) == 0);
     Ok(())
 }

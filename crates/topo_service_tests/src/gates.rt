@@ -1,6 +1,6 @@
 //! Two workers at one time, in an order that a gate sets.
 
-use crate::harness::{Story, bipyramid, run_lists, seed, uneven_prices};
+use crate::harness::{Story, Work, bipyramid, run_work, seed, uneven_prices};
 use crate::views::{edges_of, view_of};
 use std::alloc::Global;
 use std::sync::Wait;
@@ -103,12 +103,12 @@ fn workers_run_at_one_time(rt: HostRuntime) -> Result<(), Fail> {
         let insert = Command::Plain(Call::Insert { u: 0, v: 1, kind });
         lists.push(vec![in rt.alloc(); insert]?)?;
     }
-    let told = run_lists(
+    let told = run_work(
         &rt,
         rt.alloc(),
         |facts: &Facts| table.price(facts.kind),
         start,
-        (lists.as_slice(), &turn),
+        Work::Lists(lists.as_slice(), &turn),
         &Pair { turn: &turn },
     )?;
     assert_eq!(rt;
@@ -217,12 +217,12 @@ fn a_plan_is_made_anew_where_the_picture_changed_meanwhile(rt: HostRuntime) -> R
         lists.push(vec![in rt.alloc(); command]?)?;
     }
     let story = PlanAndDelete { between: &between };
-    let told = run_lists(
+    let told = run_work(
         &rt,
         rt.alloc(),
         ask,
         start,
-        (lists.as_slice(), &between),
+        Work::Lists(lists.as_slice(), &between),
         &story,
     )?;
     assert_eq!(rt;

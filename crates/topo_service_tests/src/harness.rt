@@ -4,6 +4,7 @@ ghost use Rattle.std.specs.Prelude.{◌≡◌, Some};
 ghost use Rattle.std.specs.Arc.{arc_value};
 ghost use Rattle.topo_price.specs.Prices.{IsPromise};
 
+use crate::crowds::{Watch, work_all};
 use std::alloc::{AllocError, Global};
 use std::marker::Brand;
 use std::process::Abort;
@@ -50,6 +51,16 @@ impl Gate for Still {
     fn after(&self, _worker: usize, _index: usize) {}
 }
 
+/// What the passes do before the story is told.
+#[derive(Drop)]
+pub(crate) enum Work<'a, T> {
+    /// Each carries out the list at its place, with the gate's calls round each command. Where there is no
+    /// list, no pass is used.
+    Lists(&'a [Vec<Command>], &'a T),
+    /// Each makes calls of its own, and looks at versions meanwhile.
+    Crowd(&'a Watch),
+}
+
 /// The text of the story, and how the service ended.
 pub(crate) fn run<F: Asks + Drop + Send + Sync, S: Story, R: Threads + Wait + Sync>(
     rt: &R,
@@ -61,16 +72,16 @@ pub(crate) fn run<F: Asks + Drop + Send + Sync, S: Story, R: Threads + Wait + Sy
     requires callable { F.can_ask ask }
     requires promise { IsPromise (F.answers ask) }
 {
-    run_lists(rt, alloc, ask, start, (&[], &Still), story)
+    run_work(rt, alloc, ask, start, Work::Lists(&[], &Still), story)
 }
 
-/// The same, where workers carry out a list each before the story is told, with its first passes.
-pub(crate) fn run_lists<F: Asks + Drop + Send + Sync, S: Story, T: Gate, R: Threads + Wait + Sync>(
+/// The same, where the passes have work to do before the story is told.
+pub(crate) fn run_work<F: Asks + Drop + Send + Sync, S: Story, T: Gate, R: Threads + Wait + Sync>(
     rt: &R,
     alloc: Global,
     ask: F,
     start: Picture,
-    work: (&[Vec<Command>], &T),
+    work: Work<T>,
     story: &S,
 ) -> Result<String, Fail>
     requires callable { F.can_ask ask }
@@ -94,7 +105,7 @@ fn named<
     unopened: Unopened,
     start: Picture,
     tariff: Arc<Tariff<F>>,
-    work: (&[Vec<Command>], &T),
+    work: Work<T>,
     story: &S,
 ) -> Result<String, Fail>
     requires ledger { (unopened.blank.name ≡ K.name) × (unopened.blank.parts ≡ K.parts) }
@@ -122,7 +133,7 @@ fn tell<
     alloc: Global,
     service: &mut Service<F, K>,
     passes: &mut Vec<Pass<F, K>>,
-    work: (&[Vec<Command>], &T),
+    work: Work<T>,
     story: &S,
 ) -> Result<String, Fail> {
     give_out(service, passes, story.seats())?;
@@ -166,7 +177,7 @@ fn finish<F: Asks + Drop, K: Naming<F>>(
     }
 }
 
-/// Runs each list with the pass at its place, in a thread of its own. Where there is no list, no pass is used.
+/// Lets the passes do their work, each in a thread of its own.
 fn carry_out<
     F: Asks + Drop + Send + Sync,
     K: Naming<F> + Send + Sync,
@@ -177,15 +188,21 @@ fn carry_out<
     alloc: Global,
     service: &Service<F, K>,
     passes: &mut [Pass<F, K>],
-    (lists, gate): (&[Vec<Command>], &T),
+    work: Work<T>,
 ) -> Result<Vec<WorkerEnd>, Fail> {
-    if lists.is_empty() {
-        return Ok(Vec::new(alloc));
+    match work {
+        Work::Crowd(watch) => {
+            work_all(rt, alloc, service, passes, watch);
+            Ok(Vec::new(alloc))
+        }
+        Work::Lists([], _) => Ok(Vec::new(alloc)),
+        Work::Lists(lists, gate) => {
+            if passes.len() != lists.len() {
+                return Err("a pass for each list".into());
+            }
+            Ok(run_workers(rt, alloc, service, passes, lists, gate)?)
+        }
     }
-    if passes.len() != lists.len() {
-        return Err("a pass for each list".into());
-    }
-    Ok(run_workers(rt, alloc, service, passes, lists, gate)?)
 }
 
 /// The seed within these limits.

@@ -1,6 +1,6 @@
 use Rattle.std.proofs.Common.{Some}
 use Rattle.std.specs.Arc.{arc_value}
-use Rattle.topo_service_tests.proofs.harness.run_lists.Given as goal
+use Rattle.topo_service_tests.proofs.harness.run_work.Given as goal
 
 abbrev pub ghosts-named-K-Naming : goal.ghosts-named-K-Naming
 ghosts-named-K-Naming g a = record { start = a.start; closure = Some (arc_value a.tariff) }
