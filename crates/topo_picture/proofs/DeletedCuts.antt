@@ -274,6 +274,7 @@ module _ (q : Rows) (e : ℕ) (row : EdgeRow) (good : IsWellFormed q) (known : e
         inl (
           w.0,
           record {
+            there = ap (λ (row : Option EdgeRow). is_some row) known;
             on_path = hi;
             one_face = (same_face_test w.0 hi).0 w.2.here;
             two_faces_before = λ j lj s. (same_face_test j (omega (arith, hi, lj))).1 (w.2.before j lj) s;
