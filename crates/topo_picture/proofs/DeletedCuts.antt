@@ -1,6 +1,6 @@
 -- The first segment of an edge with one face on both sides is the first without which the picture falls apart; where there is none, it stays whole.
 use Rattle.std.proofs.Common.{◌≡◌, ◌≢◌, ℕ, zero, suc, ◌+◌, ◌-◌, ◌/◌, ◌<◌, ◌≤◌, ◌==◌, Bool, true, false, ◌&&◌, not, List, [], ◌∷◌, length, ◌⊎◌, inl, inr, refl, sym, ◌∙◌, ap, subst, arith}
-use Rattle.std.specs.Prelude.{Some, nat_lt}
+use Rattle.std.specs.Prelude.{Option, Some, is_some, nat_lt}
 use Rattle.std.specs.List.{list_any}
 use Rattle.std.proofs.lemmas.Bool.{cases_Bool, eq-eqb, false≢true, lt-ltb, ltb-true, ne_eqb}
 use Rattle.topo_core.specs.declared.darts.Dart.{Dart}
