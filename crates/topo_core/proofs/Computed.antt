@@ -1,6 +1,6 @@
 -- Tests that compute, and what they prove of routes, cuts and lawful pictures: the tools of the evidence.
 use Rattle.std.proofs.Common.{◌≡◌, ◌≢◌, ℕ, zero, suc, ◌+◌, ◌^◌, ◌≤◌, ◌<◌, Bool, true, false, not, ◌&&◌, ◌||◌, nat_le, nat_lt, List, [], ◌∷◌, length, take, Some, slice_get, slice_index, slice_index_or, refl, sym, ap, subst, ◌∙◌, arith, inl, inr}
-use Rattle.std.specs.Prelude.{◌==◌}
+use Rattle.std.specs.Prelude.{◌==◌, is_some}
 use Rattle.std.specs.List.{list_all, list_any}
 use Rattle.std.specs.Ordering.{is_gt}
 use Rattle.std.specs.declared.cmp.Ordering.TheVariants.{Greater}
@@ -14,11 +14,11 @@ use Rattle.topo_core.specs.declared.rows.EdgeRow.{EdgeRow}
 use Rattle.topo_core.specs.Cycles.{after, orbit}
 use Rattle.topo_core.specs.Darts.{dart_twin, same_dart, dart_le, dart_cmp}
 use Rattle.topo_core.specs.Systems.{System, SameFace, Connected, face_step, has_dart, darts_in}
-use Rattle.topo_core.specs.Picture.{darts, corner, around_vertex, edge_at, index_of, system}
-use Rattle.topo_core.specs.Routes.{Price, Costs, Crosses, IsFirst, IsCertificate, HasNoRoute}
+use Rattle.topo_core.specs.Picture.{darts, corner, around_vertex, edge_at, edge_row, index_of, system}
+use Rattle.topo_core.specs.Routes.{Price, Pricing, Costs, Crosses, IsFirst, IsCertificate, HasNoRoute}
 use Rattle.topo_core.specs.Changes.{without, opened, HasOneFace}
 use Rattle.topo_core.specs.RouteLaws.{TakesFirstDarts, arrival}
-use Rattle.topo_core.specs.Evidence.{by_kind, no_price, IsCutAt, IsNoCut}
+use Rattle.topo_core.specs.Evidence.{by_kind, IsCutAt, IsNoCut}
 use Rattle.topo_core.proofs.DartLaws.{for_each, same_dart_true}
 use Rattle.topo_core.proofs.Connection.{connected_by_spread, spreads_in}
 use Rattle.topo_core.proofs.Certificates.{Certified, first_by_heights}
@@ -32,6 +32,10 @@ left_true false b h = h
 right_true : (a b : Bool) → (a && b) ≡ true → b ≡ true
 right_true true b h = h
 right_true false b h = cc
+
+both_true : (a b : Bool) → a ≡ true → b ≡ true → (a && b) ≡ true
+both_true true b h k = k
+both_true false b h k = cc
 
 le_from_test : (m n : ℕ) → nat_le m n ≡ true → m ≤ n
 le_from_test m n e = grind (arith, nat_tests)
@@ -121,10 +125,17 @@ module _ (prices : List ℕ) (rows : Rows) where
   price_at d = slice_index_or prices (edge_at rows d.edge).kind 1
 
   price_is : (d : Dart) (p : ℕ) → Price (by_kind prices) rows d p → p ≡ price_at d
-  price_is d p price = price.asked ∙ ap (λ kind. slice_index_or prices kind 1) price.known.kind
+  price_is d p price = price.asked.0 ∙ ap (λ kind. slice_index_or prices kind 1) price.known.kind
 
-  price_there : (d : Dart) → in_range_test (edge_at rows d.edge) ≡ true → Price (by_kind prices) rows d (price_at d)
-  price_there d h = let row = edge_at rows d.edge in
+  -- the dart's edge has a price
+  abbrev pub has_price : Dart → Bool
+  has_price d = nat_lt 0 (price_at d)
+
+  pub price_has : (d : Dart) (p : ℕ) → Price (by_kind prices) rows d p → has_price d ≡ true
+  price_has d p price = let same = price_is d p price in let above = price.asked.1 in grind (arith, nat_tests)
+
+  price_there : (d : Dart) → in_range_test (edge_at rows d.edge) ≡ true → has_price d ≡ true → Price (by_kind prices) rows d (price_at d)
+  price_there d h has = let row = edge_at rows d.edge in
       let tests = four_tests (nat_lt row.id (2 ^ 32)) (nat_lt row.a (2 ^ 32)) (nat_lt row.b (2 ^ 32)) (nat_lt row.kind 64) h in
       record {
         facts = record {
@@ -138,16 +149,16 @@ module _ (prices : List ℕ) (rows : Rows) where
           known_kind = lt_from_test row.kind 64 tests.3;
         };
         known = record { id = refl; a = refl; b = refl; kind = refl };
-        asked = refl;
+        asked = (refl, (let above = lt_from_test 0 (price_at d) has in omega arith));
       }
 
   abbrev total_price : List Dart → ℕ
   total_price [] = 0
   total_price (d ∷ ds) = price_at d + total_price ds
 
-  costs_there : (ds : List Dart) → list_all (λ d. in_range_test (edge_at rows d.edge)) ds ≡ true → Costs (by_kind prices) rows ds (total_price ds)
+  costs_there : (ds : List Dart) → list_all (λ d. in_range_test (edge_at rows d.edge) && has_price d) ds ≡ true → Costs (by_kind prices) rows ds (total_price ds)
   costs_there [] h = refl
-  costs_there (d ∷ ds) h = (price_at d, total_price ds, price_there d (left_true _ _ h), costs_there ds (right_true _ _ h), refl)
+  costs_there (d ∷ ds) h = (price_at d, total_price ds, price_there d (left_true _ _ (left_true _ _ h)) (right_true _ _ (left_true _ _ h)), costs_there ds (right_true _ _ h), refl)
 
 -- ---- First routes
 
@@ -175,13 +186,13 @@ module _ (rows : Rows) (u v : ℕ) (plan : Planned) where
   is_even = list_all (λ d. height (face_step (system rows) d) == height d) (darts rows)
 
   abbrev is_gentle : Bool
-  is_gentle = list_all (λ d. nat_le (height d) (price_at plan.prices rows d + height (dart_twin d))) (darts rows)
+  is_gentle = list_all (λ d. not (has_price plan.prices rows d) || nat_le (height d) (price_at plan.prices rows d + height (dart_twin d))) (darts rows)
 
   abbrev meets_target : Bool
   meets_target = list_all (λ c. height c == 0) (around_vertex rows v)
 
   abbrev is_tight : Dart → Bool
-  is_tight y = height y == price_at plan.prices rows y + height (dart_twin y)
+  is_tight y = has_price plan.prices rows y && height y == price_at plan.prices rows y + height (dart_twin y)
 
   abbrev takes_first_test : Dart → List Dart → Bool
   takes_first_test c [] = true
@@ -203,7 +214,7 @@ module _ (rows : Rows) (u v : ℕ) (plan : Planned) where
     pub gentle : is_gentle ≡ true
     pub target : meets_target ≡ true
     pub walk : crosses_test (system rows) plan.from plan.crossed plan.to ≡ true
-    pub priced : list_all (λ d. in_range_test (edge_at rows d.edge)) plan.crossed ≡ true
+    pub priced : list_all (λ d. in_range_test (edge_at rows d.edge) && has_price plan.prices rows d) plan.crossed ≡ true
     pub least_height : list_all (λ c. nat_le cost (height c)) (around_vertex rows u) ≡ true
     pub first_start : list_all (λ c. not (height c == cost)) (take plan.start (around_vertex rows u)) ≡ true
     pub first_darts : takes_first_test plan.from plan.crossed ≡ true
@@ -227,30 +238,24 @@ module _ (rows : Rows) (u v : ℕ) (plan : Planned) where
     λ y known face tight.
         let held = left_true _ _ (left_true _ _ h) in
         let tests = for_each (λ y. not (is_tight y) || (not (has_dart (face_of (system rows) c) y) || dart_le x y)) (darts rows) (right_true _ _ (left_true _ _ h)) y known in
-        let is : is_tight y ≡ true = eq_test _ _ (tight.drop ∙ ap (λ p. p + height (dart_twin y)) (price_is plan.prices rows y tight.cost tight.asked)) in
+        let is : is_tight y ≡ true = both_true _ _ (price_has plan.prices rows y tight.cost tight.asked) (eq_test _ _ (tight.drop ∙ ap (λ p. p + height (dart_twin y)) (price_is plan.prices rows y tight.cost tight.asked))) in
         le_not_above x y (or_first (has_dart (face_of (system rows) c) y) (dart_le x y) (face_held (system rows) (face_of (system rows) c) c y held face) (or_first (is_tight y) _ is tests)),
     takes_first (dart_twin x) xs (right_true _ _ h),
   )
-
-  positive : (d : Dart) (p : ℕ) → list_all (nat_lt 0) plan.prices ≡ true → Price (by_kind plan.prices) rows d p → 1 ≤ p
-  positive d p all price = subst (λ q. 1 ≤ q) (sym price.asked) (each plan.prices price.facts.kind all) where
-    each : (prices : List ℕ) (kind : ℕ) → list_all (nat_lt 0) prices ≡ true → 1 ≤ slice_index_or prices kind 1
-    each [] kind all = omega arith
-    each (q ∷ prices) zero all = let first = lt_from_test 0 q (left_true _ _ all) in omega arith
-    each (q ∷ prices) (suc kind) all = each prices kind (right_true _ _ all)
 
   -- the heights of a plan that passes are a certificate
   pub certificate_by_tests : Passes → IsCertificate (by_kind plan.prices) rows v height
   certificate_by_tests passes = record {
     even = λ d known. eq_from_test _ _ (for_each (λ d. height (face_step (system rows) d) == height d) (darts rows) passes.even d known);
     gentle = λ d p known price. subst (λ q. height d ≤ q + height (dart_twin d)) (sym (price_is plan.prices rows d p price))
-        (le_from_test _ _ (for_each (λ d. nat_le (height d) (price_at plan.prices rows d + height (dart_twin d))) (darts rows) passes.gentle d known));
+        (le_from_test _ _ (or_first (has_price plan.prices rows d) _ (price_has plan.prices rows d p price)
+          (for_each (λ d. not (has_price plan.prices rows d) || nat_le (height d) (price_at plan.prices rows d + height (dart_twin d))) (darts rows) passes.gentle d known)));
     target = λ p c at. eq_from_test _ _ (at_place (λ c. height c == 0) (around_vertex rows v) passes.target p c at);
   }
 
   -- a plan that passes has the first of the least routes
-  pub first_by_tests : Passes → list_all (nat_lt 0) plan.prices ≡ true → IsFirst (by_kind plan.prices) rows u v planned_route cost
-  first_by_tests passes above = first_by_heights (by_kind plan.prices) rows u v height certified (λ d p. positive d p above) planned_route cost (record {
+  pub first_by_tests : Passes → IsFirst (by_kind plan.prices) rows u v planned_route cost
+  first_by_tests passes = first_by_heights (by_kind plan.prices) rows u v height certified (λ d p price. price.asked.1) planned_route cost (record {
     priced = record {
       route = record { from = plan.from; to = plan.to; starts = passes.starts; ends = passes.ends; walk = crosses_by_test (system rows) plan.from plan.crossed plan.to passes.walk };
       cost = costs_there plan.prices rows plan.crossed passes.priced;
@@ -269,23 +274,35 @@ module _ (rows : Rows) (u v : ℕ) (plan : Planned) where
       certificate = certificate_by_tests passes;
     }
 
--- ---- Where no edge has a price
+-- ---- No route
 
--- a walk from a corner of u to a corner of v has to cross something, where no face has both
-pub no_route_by_tests : (rows : Rows) (u v : ℕ)
-    → list_all (λ c. holds_face (system rows) (face_of (system rows) c) c && list_all (λ d. not (has_dart (face_of (system rows) c) d)) (around_vertex rows v)) (around_vertex rows u) ≡ true
-    → HasNoRoute no_price rows u v
-no_route_by_tests rows u v tests r n priced = by_walk r.crossed priced.route.walk priced.cost where
-  not_both : (b : Bool) → not b ≡ true → b ≡ true → ⊥
-  not_both true n h = cc
-  not_both false n h = cc
+-- Darts that hold each corner of u and none of v, and that neither a face nor a priced edge leads out of.
+module _ (price : Pricing) (may : Dart → Bool) (rows : Rows) (u v : ℕ) (ds : List Dart) where
+  pub record Encloses : Type 0 where
+    pub priced : (d : Dart) (p : ℕ) → Price price rows d p → may d ≡ true
+    pub from : list_all (has_dart ds) (around_vertex rows u) ≡ true
+    pub never_to : list_all (λ c. not (has_dart ds c)) (around_vertex rows v) ≡ true
+    pub faces : list_all (λ d. has_dart ds (face_step (system rows) d)) ds ≡ true
+    pub edges : list_all (λ d. not (may d) || has_dart ds (dart_twin d)) ds ≡ true
 
-  by_walk : (xs : List Dart) → Crosses (system rows) priced.route.from xs priced.route.to → Costs no_price rows xs n → ⊥
-  by_walk [] face costs = let c = priced.route.from in
-      let at_u = at_place (λ c. holds_face (system rows) (face_of (system rows) c) c && list_all (λ d. not (has_dart (face_of (system rows) c) d)) (around_vertex rows v)) (around_vertex rows u) tests r.start c priced.route.starts in
-      let at_v = at_place (λ d. not (has_dart (face_of (system rows) c) d)) (around_vertex rows v) (right_true _ _ at_u) r.end priced.route.to priced.route.ends in
-      not_both (has_dart (face_of (system rows) c) priced.route.to) at_v (face_held (system rows) (face_of (system rows) c) c priced.route.to (left_true _ _ at_u) face)
-  by_walk (x ∷ xs) walk costs = costs.2.asked
+  -- then there is no route from u to v
+  pub no_route_by_tests : Encloses → HasNoRoute price rows u v
+  no_route_by_tests encloses r n priced = never r.crossed priced.route.from n (at_place (has_dart ds) (around_vertex rows u) encloses.from r.start priced.route.from priced.route.starts) priced.route.walk priced.cost where
+    out : (b : Bool) → not b ≡ true → b ≡ true → ⊥
+    out true n h = cc
+    out false n h = cc
+
+    or_next : (a b : Bool) → a ≡ true → (not a || b) ≡ true → b ≡ true
+    or_next true b h k = k
+    or_next false b h k = cc
+
+    along : (c d : Dart) → has_dart ds c ≡ true → SameFace (system rows) c d → has_dart ds d ≡ true
+    along c d in_it face = face_held (system rows) ds c d (both_true _ _ in_it encloses.faces) face
+
+    never : (xs : List Dart) (c : Dart) (n : ℕ) → has_dart ds c ≡ true → Crosses (system rows) c xs priced.route.to → Costs price rows xs n → ⊥
+    never [] c n in_it face costs = out (has_dart ds priced.route.to) (at_place (λ c. not (has_dart ds c)) (around_vertex rows v) encloses.never_to r.end priced.route.to priced.route.ends) (along c priced.route.to in_it face)
+    never (x ∷ xs) c n in_it walk costs = never xs (dart_twin x) costs.1
+        (or_next (may x) _ (encloses.priced x costs.0 costs.2) (for_each (λ d. not (may d) || has_dart ds (dart_twin d)) ds encloses.edges x (along c x in_it walk.0))) walk.1 costs.3
 
 -- ---- Connectedness, lawful pictures and cuts
 
@@ -326,12 +343,12 @@ module _ (rows : Rows) (e : ℕ) where
   ]
 
   -- both forms of a cut at segment i
-  pub cut_by_tests : (i : ℕ) → i ≤ length (edge_at rows e).crossings → has_dart (face_of (opened rows e i) (ahead_on i)) (back_on i) ≡ true → have_two_faces i ≡ true
+  pub cut_by_tests : (i : ℕ) → is_some (edge_row rows e) ≡ true → i ≤ length (edge_at rows e).crossings → has_dart (face_of (opened rows e i) (ahead_on i)) (back_on i) ≡ true → have_two_faces i ≡ true
       → list_any (λ around. length around == 0) (system (without rows e)) ≡ true → list_any (λ around. length around == 0) (opened rows e (i + 1)) ≡ true
       → ((j : ℕ) → j < i → Connected (opened rows e (j + 1))) → IsCutAt rows e i
-  cut_by_tests i on_path one two bare bare_after whole = record {
+  cut_by_tests i there on_path one two bare bare_after whole = record {
     by_connection = record { falls_apart = bare_apart (system (without rows e)) bare; apart_after = bare_apart (opened rows e (i + 1)) bare_after; whole_before = whole };
-    by_faces = record { on_path = on_path; one_face = one_face_by_test i one; two_faces_before = λ j below. two_faces_by_test i j two below };
+    by_faces = record { there = there; on_path = on_path; one_face = one_face_by_test i one; two_faces_before = λ j below. two_faces_by_test i j two below };
   }
 
   -- no cut, in both forms

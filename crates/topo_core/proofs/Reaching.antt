@@ -1,19 +1,17 @@
 -- Where every edge has a price, a walk with a cost leads from any dart's face to any other's.
-use Rattle.std.proofs.Common.{◌≡◌, ◌∙◌, ap, ℕ, ◌+◌, ◌<◌, Bool, true, false, subst, List, [], ◌∷◌, ◌++◌, refl, sym, arith}
+use Rattle.std.proofs.Common.{◌≡◌, ◌∙◌, ap, ℕ, ◌+◌, ◌<◌, true, subst, List, [], ◌∷◌, ◌++◌, refl, sym, arith}
 use Rattle.std.specs.Prelude.{◌==◌, length, map, slice_get, Some}
-use Rattle.std.specs.List.{list_any}
 use Rattle.std.proofs.lemmas.Bool.{false≢true}
 use Rattle.topo_core.specs.declared.darts.Dart.{Dart}
 use Rattle.topo_core.specs.declared.rows.Rows.{Rows}
-use Rattle.topo_core.specs.Cycles.{SameCycle}
 use Rattle.topo_core.specs.Darts.{dart_twin}
 use Rattle.topo_core.specs.Items.{IsIn}
 use Rattle.topo_core.specs.Lawful.{IsEmbedding, IsWellFormed}
 use Rattle.topo_core.specs.Picture.{around_crossing, around_vertex, corner, darts, system, vertices}
 use Rattle.topo_core.specs.RouteLaws.{IsPriced, RoutesExist}
 use Rattle.topo_core.specs.Rotations.{along, Cross, Move, Turn}
-use Rattle.topo_core.specs.Routes.{Costs, Crosses, IsPricedRoute, Price, Pricing}
-use Rattle.topo_core.specs.Systems.{face_step, has_dart, SameFace, System, turn}
+use Rattle.topo_core.specs.Routes.{Costs, Crosses, Price, Pricing}
+use Rattle.topo_core.specs.Systems.{has_dart, SameFace, System, turn}
 use Rattle.topo_core.proofs.BarePoints.{any_of}
 use Rattle.topo_core.proofs.DartLaws.{twin-twin}
 use Rattle.topo_core.proofs.Members.{in_left, in_map, in_range}

@@ -1,5 +1,5 @@
 -- What an insertion, a deletion and a growth make of a picture's rows.
-use Rattle.std.specs.Prelude.{ℕ, zero, suc, ◌+◌, ◌<◌, ◌≤◌, ◌==◌, nat_lt, min, ◌&&◌, not, List, [], ◌∷◌, ◌++◌, map, filter, fold, length, take, drop, slice_index_or, slice_set, insert}
+use Rattle.std.specs.Prelude.{◌≡◌, ℕ, zero, suc, ◌+◌, ◌<◌, ◌≤◌, ◌==◌, nat_lt, min, ◌&&◌, not, List, [], ◌∷◌, ◌++◌, map, filter, fold, length, take, drop, slice_index_or, slice_set, insert, is_some, true}
 use Rattle.std.specs.List.{enumerate_from, position_or_len}
 use Rattle.topo_core.specs.declared.darts.Dart.{Dart}
 use Rattle.topo_core.specs.declared.darts.Way.{Way}
@@ -12,7 +12,7 @@ use Rattle.topo_core.specs.declared.rows.CrossRow.{CrossRow}
 use Rattle.topo_core.specs.declared.routes.Route.{Route}
 use Rattle.topo_core.specs.Items.{has_id}
 use Rattle.topo_core.specs.Systems.{System, SameFace, Connected, bypassed}
-use Rattle.topo_core.specs.Picture.{edge_at, system}
+use Rattle.topo_core.specs.Picture.{edge_at, edge_row, system}
 
 -- ---- A new edge in a rotation
 
@@ -113,8 +113,9 @@ pub record IsCut (rows : Rows) (e i : ℕ) : Type 0 where
 abbrev pub HasOneFace : Rows → ℕ → ℕ → Type 0
 HasOneFace rows e i = SameFace (opened rows e i) (record { edge = e; seg = i; way = Forward }) (record { edge = e; seg = i; way = Back })
 
--- a cut, by faces: segment i of e is the first with one face on both sides when the segments before it are out
+-- a cut, by faces: e is there, and its segment i is the first with one face on both sides when the segments before it are out
 pub record IsLocalCut (rows : Rows) (e i : ℕ) : Type 0 where
+  pub there : is_some (edge_row rows e) ≡ true
   pub on_path : i ≤ length (edge_at rows e).crossings
   pub one_face : HasOneFace rows e i
   pub two_faces_before : (j : ℕ) → j < i → HasOneFace rows e j → ⊥

@@ -1,5 +1,5 @@
 -- What the definitions say of the named pictures: each record is proved as the contract of a function without a body.
-use Rattle.std.specs.Prelude.{◌≡◌, ℕ, List, [], ◌∷◌, ◌++◌, map, length, sum_by, slice_index, slice_index_or, Some, None, false, true}
+use Rattle.std.specs.Prelude.{◌≡◌, ◌≤◌, ℕ, List, [], ◌∷◌, ◌++◌, map, length, sum_by, slice_index, slice_index_or, Some, None, false, true}
 use Rattle.topo_core.specs.declared.darts.Dart.{Dart}
 use Rattle.topo_core.specs.declared.darts.Sign.TheVariants.{LeftToRight, RightToLeft}
 use Rattle.topo_core.specs.declared.darts.Way.TheVariants.{Forward, Back}
@@ -45,9 +45,9 @@ turned (d ∷ ds) = ds ++ d ∷ []
 abbrev pub HasFaces : Rows → List (List Dart) → Type 0
 HasFaces rows faces = map (map (face_step (system rows))) faces ≡ map turned faces
 
--- the same price for all edges of a kind: the number at its place, and 1 past the end
+-- the same price for all edges of a kind: the number at its place, and 1 past the end. Where the number is 0, the edges have no price
 abbrev pub by_kind : List ℕ → Pricing
-by_kind prices facts n = n ≡ slice_index_or prices facts.kind 1
+by_kind prices facts n = (n ≡ slice_index_or prices facts.kind 1) × (1 ≤ n)
 
 -- no edge has a price
 abbrev pub no_price : Pricing
@@ -112,6 +112,9 @@ pub record BipyramidEvidence : Type 0 where
   pub certificate : IsCertificate (by_kind (1 ∷ 5 ∷ 2 ∷ 9 ∷ [])) bipyramid 4 (by_place bipyramid (0 ∷ 3 ∷ 0 ∷ 2 ∷ 0 ∷ 3 ∷ 3 ∷ 3 ∷ 3 ∷ 2 ∷ 2 ∷ 3 ∷ 0 ∷ 0 ∷ 0 ∷ 0 ∷ 0 ∷ 0 ∷ []))
   -- where all three cost the same, the first start position decides
   pub first_of_ties : IsFirst (by_kind (4 ∷ 4 ∷ 4 ∷ 4 ∷ [])) bipyramid 3 4 (route 0 (back 2 0 ∷ []) 1) 4
+  -- where the cheapest has no price, the next is crossed; where none of the three has one, there is no route
+  pub first_of_allowed : IsFirst (by_kind (1 ∷ 5 ∷ 0 ∷ 9 ∷ [])) bipyramid 3 4 (route 1 (back 0 0 ∷ []) 0) 5
+  pub none_allowed : HasNoRoute (by_kind (1 ∷ 0 ∷ 0 ∷ 0 ∷ [])) bipyramid 3 4
   -- where no edge has a price, there is no route between the apexes
   pub no_route : HasNoRoute no_price bipyramid 3 4
   pub joined : shown bipyramid 3 4 0 (route 2 (back 1 0 ∷ []) 2) ≡ joined_apexes RightToLeft

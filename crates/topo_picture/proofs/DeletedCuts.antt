@@ -1,6 +1,6 @@
 -- The first segment of an edge with one face on both sides is the first without which the picture falls apart; where there is none, it stays whole.
 use Rattle.std.proofs.Common.{◌≡◌, ◌≢◌, ℕ, zero, suc, ◌+◌, ◌-◌, ◌/◌, ◌<◌, ◌≤◌, ◌==◌, Bool, true, false, ◌&&◌, not, List, [], ◌∷◌, length, ◌⊎◌, inl, inr, refl, sym, ◌∙◌, ap, subst, arith}
-use Rattle.std.specs.Prelude.{Some, nat_lt}
+use Rattle.std.specs.Prelude.{Option, Some, is_some, nat_lt}
 use Rattle.std.specs.List.{list_any}
 use Rattle.std.proofs.lemmas.Bool.{cases_Bool, eq-eqb, false≢true, lt-ltb, ltb-true, ne_eqb}
 use Rattle.topo_core.specs.declared.darts.Dart.{Dart}
@@ -274,6 +274,7 @@ module _ (q : Rows) (e : ℕ) (row : EdgeRow) (good : IsWellFormed q) (known : e
         inl (
           w.0,
           record {
+            there = ap (λ (row : Option EdgeRow). is_some row) known;
             on_path = hi;
             one_face = (same_face_test w.0 hi).0 w.2.here;
             two_faces_before = λ j lj s. (same_face_test j (omega (arith, hi, lj))).1 (w.2.before j lj) s;

@@ -51,7 +51,7 @@ module _ (limits : Limits) (rows : Rows) (e : ℕ) (is : IsPicture limits rows) 
     below : (n i : ℕ) → i < n → i ≤ length (edge_at rows e).crossings → HasOneFace rows e i → ⊥
     below zero i before on_path one_face = omega arith
     below (suc n) i before on_path one_face =
-        none i (cut_of_picture i (record { on_path = on_path; one_face = one_face; two_faces_before = λ j least. below n j (omega arith) (omega arith) }))
+        none i (cut_of_picture i (record { there = there; on_path = on_path; one_face = one_face; two_faces_before = λ j least. below n j (omega arith) (omega arith) }))
 
 -- ---- What is seen
 

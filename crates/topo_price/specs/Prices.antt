@@ -1,5 +1,5 @@
--- What a stored closure promises, and the answers to questions for prices.
-use Rattle.std.specs.Prelude.{◌≡◌, ℕ, ◌≤◌, nat_le, not, ◌&&◌, Bool, true, List, [], ◌∷◌, ◌++◌, Option, Some, None, MatchOption, position}
+-- What a stored closure promises, and what a table of prices may have.
+use Rattle.std.specs.Prelude.{◌≡◌, ℕ, ◌≤◌, nat_le, not, ◌&&◌, Bool, true, List, Option, Some, None, MatchOption, position}
 use Rattle.topo_core.specs.declared.rows.Facts.{Facts}
 use Rattle.topo_core.specs.Routes.{Pricing}
 
@@ -31,9 +31,3 @@ is_good (Some n) = nat_le 1 n && nat_le n 1000
 -- the least kind with an entry that may not stand in a table
 abbrev pub first_bad : List (Option ℕ) → Option ℕ
 first_bad entries = position (λ entry. not (is_good entry)) entries
-
--- the answer to one more question stands at the end
-pub record Added (answers : Asking) (facts : Facts) (before after : List (Option ℕ)) : Type 0 where
-  pub answer : Option ℕ
-  pub answered : answers facts answer
-  pub kept : after ≡ before ++ answer ∷ []

@@ -3,10 +3,7 @@
 ghost use Rattle.std.specs.Prelude.{◌<◌};
 ghost use Rattle.topo_price.specs.Prices.{IsPromise};
 
-use std::alloc::{AllocError, Global};
-use std::test::Fail;
 use topo_core::rows::Facts;
-use topo_price::asked::Asked;
 use topo_price::table::{PriceFault, PriceTable};
 use topo_price::tariff::{Asks, Tariff};
 
@@ -22,28 +19,22 @@ fn facts(id: u32, kind: u8) -> Facts
 }
 
 /// The prices of edges of kinds 1 and 2 by a closure, whoever wrote it.
-fn asked_of<F: Asks + Drop>(alloc: Global, ask: F) -> Result<Asked, AllocError>
+fn prices_of<F: Asks + Drop>(ask: F) -> [Option<u32>; 2]
     requires callable { F.can_ask ask }
     requires promise { IsPromise (F.answers ask) }
 {
     let tariff = Tariff::new(ask);
-    let mut asked = Asked::new(alloc);
-    asked.ask(&tariff, &facts(0, 1))?;
-    asked.ask(&tariff, &facts(1, 2))?;
-    Ok(asked)
+    [tariff.price(&facts(0, 1)), tariff.price(&facts(1, 2))]
 }
 
 #[test]
-fn a_table_keeps_the_promise(rt: HostRuntime) -> Result<(), Fail> {
+fn a_table_keeps_the_promise(rt: HostRuntime) {
     let mut prices = [Some(1); 64];
     prices[1] = Some(5);
     prices[2] = None;
     let table = PriceTable::new(prices).expect(&rt, "a table");
-    let asked = asked_of(rt.alloc(), |facts: &Facts| table.price(facts.kind))?;
-    assert!(rt; asked.len() == 2);
-    assert!(rt; asked.price(0) == Some(5));
-    assert!(rt; asked.price(1) == None);
-    Ok(())
+    let prices = prices_of(|facts: &Facts| table.price(facts.kind));
+    assert!(rt; prices == [Some(5), None]);
 }
 
 #[test]

@@ -15,7 +15,6 @@ use topo_core::routes::Route;
 use topo_core::rows::Facts;
 use topo_frozen::Frozen;
 use topo_picture::Picture;
-use topo_price::asked::Asked;
 use topo_price::table::PriceTable;
 use topo_price::tariff::{Asks, Tariff};
 use topo_route::check::check;
@@ -101,23 +100,18 @@ fn judged_at(
     )
 }
 
-/// The prices of two edges of the triangle between the apexes, as they are kept.
-fn asked_of<F: Asks + Drop>(
-    rt: &impl Abort,
-    alloc: Global,
-    frozen: &Frozen,
-    ask: F,
-) -> Result<Asked, AllocError>
+/// The prices of two edges of the triangle between the apexes.
+fn prices_of<F: Asks + Drop>(rt: &impl Abort, frozen: &Frozen, ask: F) -> [Option<u32>; 2]
     requires callable { F.can_ask ask }
     requires promise { IsPromise (F.answers ask) }
 {
     let tariff = Tariff::new(ask);
-    let mut asked = Asked::new(alloc);
     assert!(rt; has_number(frozen, 0));
     assert!(rt; has_number(frozen, 2));
-    asked.ask(&tariff, &frozen.facts(0))?;
-    asked.ask(&tariff, &frozen.facts(2))?;
-    Ok(asked)
+    [
+        tariff.price(&frozen.facts(0)),
+        tariff.price(&frozen.facts(2)),
+    ]
 }
 
 /// A table of prices with these entries for kinds, and one price for all other kinds.
@@ -603,20 +597,12 @@ fn each_edge_is_asked_for_once(rt: HostRuntime) -> Result<(), Fail> {
     Ok(())
 }
 
-/// Both prices are kept, at the places in which they were asked for.
-fn are_kept(rt: &impl Abort, asked: &Asked) {
-    assert!(rt; asked.len() == 2);
-    assert!(rt; asked.price(0) == Some(5));
-    assert!(rt; asked.price(1) == Some(2));
-}
-
 #[test]
-fn answers_are_kept_in_order(rt: HostRuntime) -> Result<(), Fail> {
+fn edges_of_a_frozen_picture_have_the_prices_of_their_kinds(rt: HostRuntime) -> Result<(), Fail> {
     let frozen = frozen_of(rt.alloc(), BIPYRAMID)?;
     let table = table_of(&rt, Some(1), FIVE_TWO_NINE);
     let ask = |facts: &Facts| table.price(facts.kind);
-    let asked = asked_of(&rt, rt.alloc(), &frozen, ask)?;
-    are_kept(&rt, &asked);
+    assert!(rt; prices_of(&rt, &frozen, ask) == [Some(5), Some(2)]);
     Ok(())
 }
 

@@ -20,7 +20,7 @@ pub returns : goal.returns
 returns c = record {
   lawful = record { lawful = record { embedding = record { well_formed = record { paths = refl; crossings = refl; rotations = refl }; connected = connected_by_tests (system barrier) 10 refl refl }; genus_zero = refl }; vertex_count = refl; crossing_count = refl; edge_count = refl; total_segments = refl; total_faces = refl };
   faces = refl;
-  first = first_by_tests barrier 4 5 past past_passes refl;
+  first = first_by_tests barrier 4 5 past past_passes;
   passed = refl;
   passed_lawful = record { lawful = record { embedding = record { well_formed = record { paths = refl; crossings = refl; rotations = refl }; connected = connected_by_tests (system passed_barrier) 12 refl refl }; genus_zero = refl }; vertex_count = refl; crossing_count = refl; edge_count = refl; total_segments = refl; total_faces = refl };
   deleted = refl;
@@ -33,5 +33,5 @@ returns c = record {
   in_from_right = refl;
   back_on_right = refl;
   on_newcomer = refl;
-  cut = cut_by_tests barrier 3 1 (lit≤ tt) refl refl refl refl whole_before;
+  cut = cut_by_tests barrier 3 1 refl (lit≤ tt) refl refl refl refl whole_before;
 }

@@ -16,7 +16,7 @@ returns c = record {
   built = refl;
   lawful = record { lawful = record { embedding = record { well_formed = record { paths = refl; crossings = refl; rotations = refl }; connected = connected_by_tests (system hexagon) 8 refl refl }; genus_zero = refl }; vertex_count = refl; crossing_count = refl; edge_count = refl; total_segments = refl; total_faces = refl };
   faces = refl;
-  first = first_by_tests hexagon 2 5 across across_passes refl;
+  first = first_by_tests hexagon 2 5 across across_passes;
   crossed = refl;
   crossed_lawful = record { lawful = record { embedding = record { well_formed = record { paths = refl; crossings = refl; rotations = refl }; connected = connected_by_tests (system crossed_hexagon) 10 refl refl }; genus_zero = refl }; vertex_count = refl; crossing_count = refl; edge_count = refl; total_segments = refl; total_faces = refl };
 }

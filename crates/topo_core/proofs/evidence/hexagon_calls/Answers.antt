@@ -73,14 +73,14 @@ returns c = let wide = c.args.wide in let vertices = c.requires.vertices in let 
               (to_six, refl, refl, refl),
               (
                 ring,
-                (to_ring, first_by_tests path_of_six 5 0 closing closes refl, omega arith, refl, refl),
+                (to_ring, first_by_tests path_of_six 5 0 closing closes, omega arith, refl, refl),
                 (
                   parted,
-                  (to_parted, first_by_tests ring 0 3 parting parts refl, omega arith, refl, refl),
+                  (to_parted, first_by_tests ring 0 3 parting parts, omega arith, refl, refl),
                   (
                     hexagon,
-                    (to_hexagon, first_by_tests parted 1 4 around goes_around refl, omega arith, refl, refl),
-                    (crossed_hexagon, (to_crossed, first_by_tests hexagon 2 5 across goes_across refl, omega arith, refl, refl), refl),
+                    (to_hexagon, first_by_tests parted 1 4 around goes_around, omega arith, refl, refl),
+                    (crossed_hexagon, (to_crossed, first_by_tests hexagon 2 5 across goes_across, omega arith, refl, refl), refl),
                   ),
                 ),
               ),

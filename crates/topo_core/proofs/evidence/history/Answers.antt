@@ -36,7 +36,7 @@ pub returns : goal.returns
 returns c =
     let grow = grows c.args.wide c.requires.vertices c.requires.edges in
     let join = joins c.args.wide c.requires.edges in
-    let first = first_by_tests (grown seed 1 0 0) 1 2 beside_grown passes refl in record {
+    let first = first_by_tests (grown seed 1 0 0) 1 2 beside_grown passes in record {
       step = (grow, refl, refl, refl);
       replayed = (grown seed 1 0 0, (grow, refl, refl, refl), (grown seed 1 0 0, (inl refl, refl), (after_two, (join, first, omega arith, refl, refl), refl)));
       accepted = refl;

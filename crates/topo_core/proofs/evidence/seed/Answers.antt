@@ -23,6 +23,6 @@ returns c = record {
   grown_rotations = refl;
   grown_lawful = record { lawful = record { embedding = record { well_formed = record { paths = refl; crossings = refl; rotations = refl }; connected = connected_by_tests (system (grown seed 1 0 0)) 4 refl refl }; genus_zero = refl }; vertex_count = refl; crossing_count = refl; edge_count = refl; total_segments = refl; total_faces = refl };
   beside_grown = refl;
-  first_beside_grown = first_by_tests (grown seed 1 0 0) 1 2 beside_grown passes refl;
-  cut = cut_by_tests seed 0 0 (lit≤ tt) refl refl refl refl (λ j below. absurd (omega arith));
+  first_beside_grown = first_by_tests (grown seed 1 0 0) 1 2 beside_grown passes;
+  cut = cut_by_tests seed 0 0 refl (lit≤ tt) refl refl refl refl (λ j below. absurd (omega arith));
 }

@@ -50,6 +50,7 @@ overflow_cast-result c =
 
 pub returns-then-has_one_face : goal.returns-then-has_one_face
 returns-then-has_one_face c = record {
+  there = c.requires.there;
   on_path = (let placed = c.place_of_edge-place.ensures in
       let there : edge_row c.args.rows.now c.args.e ≡ Some placed.row = ap (λ (edges : List EdgeRow). find (λ row. row.id == c.args.e) edges) (sym c.as_slice-edges.ensures) ∙ placed.found in
       let path = ap length (path_is c.args.rows.now c.args.e placed.row there c.as_slice-edges.result.now c.as_slice-edges.ensures c.place_of_edge-place.result placed.at c.as_slice.result.now c.index-edges-place.result c.as_slice.ensures) in
