@@ -1,6 +1,7 @@
 pub mod AroundPoints
 pub mod Begins
 pub mod Finding
+pub mod Labelling
 pub mod Linking
 pub mod Lookups
 pub mod Noting

@@ -8,6 +8,7 @@ use Rattle.topo_core.specs.declared.rows.EdgeRow.{EdgeRow}
 use Rattle.topo_core.specs.declared.rows.CrossRow.{CrossRow}
 use Rattle.topo_core.specs.Lawful.{Lawful}
 use Rattle.topo_core.specs.Picture.{segment_count, index_of, ahead, around_vertex, around_crossing, turn_images}
+use Rattle.topo_frozen.specs.FaceLabels.{AreFaceLabels}
 
 -- for each edge the number of its first dart, where n darts come before, and last the number of all
 abbrev pub begins_from : ℕ → List EdgeRow → List ℕ
@@ -74,10 +75,11 @@ pub record LawfulRows : Type 0 where
   pub rows : Rows
   pub lawful : ∥ Lawful rows ∥₁
 
--- the lists hold what they should of the rows: where the darts of each edge begin, for each segment the place of its edge, and
--- the images of the turn
-pub record AreListsOf (rows : Rows) (begins turns : List ℕ) : Type 0 where
+-- the lists hold what they should of the rows: where the darts of each edge begin, for each segment the place of its edge,
+-- the images of the turn, and the labels of the faces
+pub record AreListsOf (rows : Rows) (begins turns faces : List ℕ) : Type 0 where
   pub edge_begins : begins ≡ begins_from 0 rows.edges
   pub images : turns ≡ turn_images rows
+  pub labels : AreFaceLabels turns faces
   pub few_darts : length turns < 4294967296
   pub few_vertices : length rows.rotations < 4294967296

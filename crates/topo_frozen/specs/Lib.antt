@@ -1,3 +1,4 @@
+pub mod FaceLabels
 pub mod FaultTexts
 pub mod Flats
 pub mod Ids

@@ -29,7 +29,7 @@ impl Model for Frozen {
 
     ghost view = { λ f. record { rows = f.rows; lawful = f.lawful } };
 
-    ghost invariant = { λ f. AreListsOf f.rows f.lists.begins.items f.lists.turns.items };
+    ghost invariant = { λ f. AreListsOf f.rows f.lists.begins.items f.lists.turns.items f.lists.faces.items };
 }
 
 impl Frozen {
@@ -124,6 +124,10 @@ impl Dual for Frozen {
 
     fn index(&self, dart: Dart) -> Option<u32> {
         self.as_numbered().index(dart)
+    }
+
+    fn same_face(&self, dart: u32, other: u32) -> bool {
+        self.as_numbered().same_face(dart, other)
     }
 
     ghost numbered = { λ f. refl };

@@ -9,6 +9,7 @@
 #![tactic(auto)]
 
 pub mod by_id;
+mod faces;
 mod faults;
 pub mod flat;
 pub mod frozen;

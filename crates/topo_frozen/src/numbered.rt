@@ -33,7 +33,7 @@ impl<'a> Model for Numbered<'a> {
 
     ghost view = { λ d. record { rows = d.rows.now; lawful = d.lawful } };
 
-    ghost invariant = { λ d. AreListsOf d.rows.now d.lists.now.begins.items d.lists.now.turns.items };
+    ghost invariant = { λ d. AreListsOf d.rows.now d.lists.now.begins.items d.lists.now.turns.items d.lists.now.faces.items };
 }
 
 impl<'a> Numbered<'a> {
@@ -132,6 +132,11 @@ impl Dual for Numbered<'_> {
 
     fn index(&self, dart: Dart) -> Option<u32> {
         number_of(self.rows, self.lists.begins.as_slice(), self.hints, dart)
+    }
+
+    fn same_face(&self, dart: u32, other: u32) -> bool {
+        let labels = self.lists.faces.as_slice();
+        labels[dart as usize] == labels[other as usize]
     }
 
     ghost numbered = { λ d. refl };

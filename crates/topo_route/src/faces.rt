@@ -1,4 +1,4 @@
-//! Steps from dart to dart by their numbers in canonical order, and walks round a face.
+//! Steps from dart to dart by their numbers in canonical order, and which darts have one face.
 
 ghost use Rattle.std.specs.Prelude.{◌≡◌, ◌<◌, ◌≤◌, ◌↔◌, IsTrue, length, Some, None, MatchOption, IfSome, slice_get};
 ghost use Rattle.topo_core.specs.Cycles.{SameCycle};
@@ -73,18 +73,9 @@ pub(crate) fn price_at<D: Dual, F: Asks>(dual: &D, tariff: &Tariff<F>, dart: u32
 
 /// Whether two darts have one face on their left.
 pub(crate) fn same_face<D: Dual>(dual: &D, a: u32, b: u32) -> bool
-    requires { a < length (darts (D.shows dual.now)) }
+    requires a_within { a < length (darts (D.shows dual.now)) }
+    requires b_within { b < length (darts (D.shows dual.now)) }
     ensures { IsTrue result ↔ SameCycle (next_of (D.shows dual.now)) a b }
 {
-    let mut at = a;
-    for _steps in 0..dart_count(dual) {
-        if at == b {
-            return true;
-        }
-        at = next_along(dual, at);
-        if at == a {
-            return false;
-        }
-    }
-    false
+    dual.same_face(a, b)
 }
