@@ -87,9 +87,9 @@ on_cycle_or_not f n h a b l = elim (cases_Bool (is_met f n a b)) [
 ]
 
 -- one that is walked round
-pub given_now : (f : ℕ → ℕ) (n s : ℕ) (l m : ℕ → ℕ) → IsPermutation f n → s < n → IsLabelledBelow f n s l → l s ≡ n
+pub given_now : (f : ℕ → ℕ) (n s : ℕ) (l m : ℕ → ℕ) → IsPermutation f n → s < n → IsLabelledBelow f n s l
     → ((a : ℕ) → SameCycle f s a → m a ≡ s) → ((a : ℕ) → (SameCycle f s a → ⊥) → m a ≡ l a) → IsLabelledBelow f n (s + 1) m
-given_now f n s l m h ls p blank face others = record {
+given_now f n s l m h ls p face others = record {
   given = λ a la. elim (on_cycle_or_not f n h s a ls) [
     | inl on ↦ λ e. (let is : m a ≡ s = face a on in let z : ⊥ = omega (arith, is, e, ls) in z)
     | inr off ↦ λ e. p.given a (let apart : a ≢ s = (λ d. off (record { steps = 0; leads = sym d })) in let v : a < s = omega (arith, apart) in v) (sym (others a off) ∙ e)

@@ -16,7 +16,7 @@ loop-start-preserved c =
     let Below = λ (xs : List ℕ). IsLabelledBelow f n (k + 1) (slice_index xs) in
     elim c.if-labels-start.branch [
       | then-labels-start w ↦ record {
-        labelled = subst Below (sym w.labels-is) (given_now f n k (slice_index old) _ permutes c.loop-start-test.true c.loop-start.invariant.labelled w.if-labels-start.true w.label_face.ensures.face w.label_face.ensures.others);
+        labelled = subst Below (sym w.labels-is) (given_now f n k (slice_index old) _ permutes c.loop-start-test.true c.loop-start.invariant.labelled w.label_face.ensures.face w.label_face.ensures.others);
       }
       | else-labels-start w ↦ record {
         labelled = subst Below (sym w.labels-is) (given_already f n k (slice_index old) c.loop-start.invariant.labelled w.if-labels-start.false);
