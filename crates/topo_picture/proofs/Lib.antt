@@ -11,6 +11,7 @@ pub mod InsertedNumbers
 pub mod InsertedPassage
 pub mod InsertedLawful
 pub mod InsertedSlab
+pub mod GrownSlab
 pub mod DeletedOpening
 pub mod DeletedCuts
 pub mod AlonePoints
