@@ -22,4 +22,5 @@ pub mod DeletedSegments
 pub mod DeletedCollapse
 pub mod DeletedLawful
 pub mod DeletedSlab
+pub mod DeletedMids
 pub mod DeletedPicture
