@@ -1,5 +1,5 @@
--- Slabs whose live darts stand for one another: the way back, one numbering after another, slabs of which all darts are live, and numbers that agree.
-use Rattle.std.proofs.Common.{◌≡◌, ℕ, ◌<◌, Bool, true, refl, sym, ◌∙◌, ap, subst}
+-- Slabs whose live darts stand for one another: the way back, one numbering after another, and slabs of which all darts are live.
+use Rattle.std.proofs.Common.{◌≡◌, ℕ, ◌<◌, Bool, true, refl, sym, ◌∙◌, ap}
 use Rattle.std.proofs.lemmas.Bool.{false≢true}
 use Rattle.topo_core.specs.Rotations.{twin}
 use Rattle.topo_perm.specs.Live.{IsSlab}
@@ -76,25 +76,4 @@ turn_of_slab h back f g n old live m all r = record {
   even = r.before.even;
   after_even = r.after.even;
   twins = record { each = λ a la. sym (r.into.twins a (record { within = la; alive = all a la })) };
-}
-
--- ---- Numbers that agree
-
-pub agreeing_numbers : (h k back f g : ℕ → ℕ) (n : ℕ) (live : ℕ → Bool) (m : ℕ) → RenumbersTurn h back f g n live m → ((a : ℕ) → a < n → h a ≡ k a) → RenumbersTurn k back f g n live m
-agreeing_numbers h k back f g n live m r same = record {
-  turn = record {
-    before = r.turn.before;
-    after = r.turn.after;
-    numbers = record {
-      within = λ a la. subst (λ (v : ℕ). v < m) (same a la) (r.turn.numbers.within a la);
-      alive = λ a la. ap live (sym (same a la)) ∙ r.turn.numbers.alive a la;
-      returns = λ a la. ap back (sym (same a la)) ∙ r.turn.numbers.returns a la;
-      back_within = r.turn.numbers.back_within;
-      back_returns = λ y ly e. sym (same (back y) (r.turn.numbers.back_within y ly e)) ∙ r.turn.numbers.back_returns y ly e;
-    };
-    map = record { each = λ a la. ap g (sym (same a la)) ∙ r.turn.map.each a la ∙ same (f a) (r.turn.before.within a la) };
-  };
-  even = r.even;
-  after_even = r.after_even;
-  twins = record { each = λ a la. ap twin (sym (same a la)) ∙ r.twins.each a la ∙ same (twin a) (twin-within n a r.even la) };
 }
