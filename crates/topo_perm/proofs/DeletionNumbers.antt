@@ -9,7 +9,7 @@ use Rattle.topo_perm.specs.Renumbering.{RenumbersTurn}
 use Rattle.topo_perm.specs.RenumberedEdits.{IsAlive, RenumbersSlab}
 use Rattle.topo_perm.specs.Runs.{Turning, Edit, IsRun}
 use Rattle.topo_perm.specs.Runs.Edit.{Unchord, Smooth}
-use Rattle.topo_perm.proofs.EditNumbers.{alive_twin, dead_apart, still_alive, unchord_numbers}
+use Rattle.topo_perm.proofs.EditNumbers.{alive_turn, alive_twin, dead_apart, still_alive, unchord_numbers}
 use Rattle.topo_perm.proofs.SplitNumbers.{smooth_numbers}
 use Rattle.topo_perm.proofs.Composing.{composed_numbers, slab_of_turn, turn_of_slab}
 use Rattle.topo_perm.proofs.Stages.{IsOpening, left_after, segment_left, step_adds}
@@ -63,6 +63,13 @@ pub record IsSmoothedUnder (f : ℕ → ℕ) (m : ℕ) (name nu : ℕ → ℕ) (
   pub renumbers : RenumbersTurn number back_number f v.turn m v.live limit
   pub forward : (d : ℕ) → d < m → name d % 2 ≡ 0 → number d ≡ nu (name d)
 
+-- two halves of two segments start at the point of x, which is live
+pub record IsSmoothable (v : Turning) (limit x : ℕ) : Type 0 where
+  pub there : IsAlive v.live limit x
+  pub two : v.turn (v.turn x) ≡ x
+  pub not_alone : v.turn x ≢ x
+  pub two_segments : v.turn x ≢ twin x
+
 module _ (middle : ℕ → Type 0) (rank : ℕ → ℕ) (live : ℕ → Bool) (t : ℕ → ℕ) (n : ℕ) (f : ℕ → ℕ) (m : ℕ) (name onto : ℕ → ℕ) (w : AreMidway middle rank live t n f m name onto) (p : IsPermutation f m) (even : m % 2 ≡ 0)
     (nu back : ℕ → ℕ) (limit : ℕ) (u : Turning) (r : RenumbersSlab nu back live t n u.live u.turn limit) where
   away : (a : ℕ) → a % 2 ≡ 0 → (xs : List ℕ) → AreMids middle live n xs → AllByRecursion (λ y. a ≢ y) xs → AllByRecursion (λ x. (a ≢ x) × (a ≢ twin x)) xs
@@ -110,6 +117,23 @@ module _ (middle : ℕ → Type 0) (rank : ℕ → ℕ) (live : ℕ → Bool) (t
         was = λ a at. before.was a (sub a at);
         stays = λ a at far. record { within = at.within; alive = left_other old x a far.0.0 far.0.1 ∙ (before.stays a at far.1).alive };
         gone = (takes.new, dead_still old new xs sub mids.3 before.gone);
+      }
+
+  -- with some midpoints smoothed, the point of another can be
+  pub smoothable : (x : ℕ) (xs : List ℕ) (v : Turning) → AreMids middle live n (x ∷ xs) → IsRun limit u (smooths_of nu xs) v → IsSmoothable v limit (nu x)
+  smoothable x xs v mids run =
+      let s : IsSmoothedTo middle rank live n f m name onto nu back limit xs v = smoothed xs v mids.3 run in
+      let first : IsMidpoint t m name onto rank x = w.midpoints x mids.0 mids.1 in
+      let xt : IsAlive s.left n x = s.stays x mids.0 (away x first.even xs mids.3 mids.2) in
+      let point : IsMidpoint s.turn m s.names onto rank x = s.midway.midpoints x xt mids.1 in
+      let next : IsAlive s.left n (s.turn x) = alive_turn s.left s.turn n x s.midway.slab xt in
+      let leads : v.turn (nu x) ≡ nu (s.turn x) = s.numbers.turns x xt in
+      let apart : (a : ℕ) → IsAlive s.left n a → s.turn x ≢ a → v.turn (nu x) ≢ nu a = λ a at ne e. ne (sym (s.numbers.into.returns (s.turn x) next) ∙ ap back (sym leads ∙ e) ∙ s.numbers.into.returns a at) in
+      record {
+        there = s.numbers.into.there x xt;
+        two = ap v.turn leads ∙ s.numbers.turns (s.turn x) next ∙ ap nu point.two;
+        not_alone = apart x xt (λ e. even_not_odd x (s.turn x) point.even point.odd (sym e));
+        two_segments = λ e. apart (twin x) (alive_twin s.left s.turn n x s.midway.slab xt) (no_loop middle rank s.left s.turn n f m s.names onto s.midway x xt mids.1) (e ∙ sym (s.numbers.into.twins x xt));
       }
 
   pub smoothed_numbers : (xs : List ℕ) (v : Turning) → AreMids middle live n xs → ((x : ℕ) → IsAlive live n x → middle x → IsIn x xs) → IsRun limit u (smooths_of nu xs) v → IsSmoothedUnder f m name nu v limit

@@ -11,6 +11,7 @@ pub mod InsertedNumbers
 pub mod InsertedPassage
 pub mod InsertedLawful
 pub mod InsertedSlab
+pub mod GrownSlab
 pub mod DeletedOpening
 pub mod DeletedCuts
 pub mod AlonePoints
@@ -21,4 +22,5 @@ pub mod DeletedSegments
 pub mod DeletedCollapse
 pub mod DeletedLawful
 pub mod DeletedSlab
+pub mod DeletedMids
 pub mod DeletedPicture

@@ -1,0 +1,58 @@
+-- The halves of rows, listed edge by edge.
+use Rattle.std.proofs.Common.{◌≡◌, ◌+◌, ◌*◌, ◌≤◌, append-nil, take, List, [], ◌∷◌, ◌++◌, length, refl, sym, ap, subst, ◌∙◌, arith, ℕ, inl, inr}
+use Rattle.std.specs.Prelude.{flat_map, replicate, slice_get, slice_index, slice_index_or, Some}
+use Rattle.std.proofs.lemmas.Bool.{cases_lt}
+use Rattle.std.proofs.lemmas.List.{get_or_append_left, get_or_at, length-append}
+use Rattle.std.proofs.lemmas.List.Concat.{flat_map-append}
+use Rattle.topo_core.specs.declared.rows.EdgeRow.{EdgeRow}
+use Rattle.topo_core.specs.Picture.{darts_of, segment_count}
+use Rattle.topo_frozen.specs.Flats.{begins_from}
+use Rattle.topo_frozen.proofs.Begins.{back_get, begins_at}
+use Rattle.topo_frozen.proofs.Rounds.{got_within}
+use Rattle.topo_embedded.specs.Making.{ArePathsOf, IsPathOf, labels_of}
+
+-- one item more
+pub path_more : (halves path more : List ℕ) (begin i x : ℕ) → IsPathOf halves begin i path → x ≡ slice_index halves (begin + 2 * i) → more ≡ path ++ x ∷ [] → IsPathOf halves begin (i + 1) more
+path_more halves path more begin i x p x_is is = record {
+  as_many = ap length is ∙ length-append path (x ∷ []) ∙ omega (arith, p.as_many);
+  each = λ j lj. ap (λ xs. slice_index xs j) is ∙ elim (cases_lt j i) [
+    | inl less ↦ get_or_append_left path (x ∷ []) 0 j (omega (arith, p.as_many)) ∙ p.each j less
+    | inr last ↦
+        let here : j ≡ length path = omega (arith, p.as_many) in
+        let at : i ≡ j = omega (arith, lj, last) in
+        ap (slice_index (path ++ x ∷ [])) here ∙ get_or_at path x [] 0 (length path) refl ∙ x_is ∙ ap (λ k. slice_index halves (begin + 2 * k)) at
+  ];
+}
+
+pub paths_more : (edges : List EdgeRow) (begins halves : List ℕ) (paths more : List (List ℕ)) (k : ℕ) (row : EdgeRow) (path : List ℕ) → ArePathsOf edges begins halves k paths → slice_get edges k ≡ Some row
+    → IsPathOf halves (slice_index begins k) (segment_count row) path → more ≡ paths ++ path ∷ [] → ArePathsOf edges begins halves (k + 1) more
+paths_more edges begins halves paths more k row path p at is_path is = record {
+  as_many = ap length is ∙ length-append paths (path ∷ []) ∙ omega (arith, p.as_many);
+  each = λ i other li got. subst (IsPathOf halves (slice_index begins i) (segment_count other)) (sym (ap (λ xs. slice_index_or xs i []) is)) (elim (cases_lt i k) [
+    | inl less ↦ subst (IsPathOf halves (slice_index begins i) (segment_count other)) (sym (get_or_append_left paths (path ∷ []) [] i (omega (arith, p.as_many)))) (p.each i other less got)
+    | inr last ↦
+        let here : k ≡ i = omega (arith, li, last) in
+        let place : i ≡ length paths = omega (arith, p.as_many) in
+        let both : Some row ≡ Some other = sym at ∙ ap (slice_get edges) here ∙ got in
+        let same : row ≡ other = cc in
+        subst (IsPathOf halves (slice_index begins i) (segment_count other)) (sym (ap (λ j. slice_index_or (paths ++ path ∷ []) j []) place ∙ get_or_at paths path [] [] (length paths) refl))
+        (subst (λ (j : ℕ). IsPathOf halves (slice_index begins j) (segment_count other) path) here (subst (λ (r : EdgeRow). IsPathOf halves (slice_index begins k) (segment_count r) path) same is_path))
+  ]);
+}
+
+-- the labels of one edge more
+pub labels_more : (edges : List EdgeRow) (row : EdgeRow) (i : ℕ) (labels more : List ℕ) → take (i + 1) edges ≡ take i edges ++ row ∷ [] → labels ≡ labels_of (take i edges) → more ≡ labels ++ replicate (segment_count row) row.id → more ≡ labels_of (take (i + 1) edges)
+labels_more edges row i labels more taken was is =
+    is ∙ ap (λ xs. xs ++ replicate (segment_count row) row.id) was
+    ∙ ap (λ xs. labels_of (take i edges) ++ xs) (sym (append-nil (replicate (segment_count row) row.id)))
+    ∙ sym (flat_map-append (λ r. replicate (segment_count r) r.id) (take i edges) (row ∷ []))
+    ∙ ap labels_of (sym taken)
+
+-- the halves along an edge are among all
+pub path_fits : (edges : List EdgeRow) (begins : List ℕ) (k : ℕ) (row : EdgeRow) → begins ≡ begins_from 0 edges → slice_get edges k ≡ Some row → slice_index begins k + 2 * segment_count row ≤ length (flat_map darts_of edges)
+path_fits edges begins k row begin at =
+    let b = begins_at 0 edges k row at in
+    let here : slice_index begins k ≡ 0 + b.before = ap (λ xs. slice_index xs k) begin ∙ b.here in
+    let last : ℕ = 2 * length row.crossings + 1 in
+    let got = b.listed last (omega arith) ∙ back_get row.id 0 (segment_count row) (length row.crossings) (omega arith) in
+    let within = got_within (flat_map darts_of edges) (b.before + last) _ got in omega arith

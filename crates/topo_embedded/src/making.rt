@@ -1,0 +1,60 @@
+//! The halves of rows, made anew.
+
+ghost use Rattle.std.specs.Prelude.{◌≡◌, ◌+◌, ◌*◌, ◌≤◌, ◌<◌, ◌^◌, IfOk, flat_map, length, sum_by};
+ghost use Rattle.topo_core.specs.Picture.{darts_of, segment_count};
+ghost use Rattle.topo_embedded.specs.Making.{ArePathsOf, IsPathOf, labels_of};
+ghost use Rattle.topo_frozen.specs.Flats.{begins_from};
+
+use std::alloc::{AllocError, Global};
+use topo_core::listed::Listed;
+use topo_core::rows::EdgeRow;
+use topo_map::Half;
+
+/// For each segment the id of its edge.
+pub(crate) fn labels_of(alloc: Global, edges: &[EdgeRow]) -> Result<Vec<u32>, AllocError>
+    requires few { 2 * sum_by segment_count edges.now < 2 ^ 32 }
+    ensures { IfOk result (λ labels. labels.items ≡ labels_of edges.now) }
+{
+    let mut labels = Vec::new(alloc);
+    for row in edges {
+        labels.resize(labels.len() + row.crossings.as_slice().len() + 1, row.id)?;
+    }
+    Ok(labels)
+}
+
+/// The first half of each of so many segments.
+fn path_of(
+    alloc: Global,
+    halves: &[Half],
+    begin: usize,
+    many: usize,
+) -> Result<Listed<Half>, AllocError>
+    requires fits { begin + 2 * many ≤ length halves.now }
+    ensures { IfOk result (IsPathOf halves.now begin many) }
+{
+    let mut path = Vec::with_capacity(alloc, many)?;
+    for i in 0..many {
+        path.push(halves[begin + 2 * i])?;
+    }
+    Ok(Listed::from_vec(path))
+}
+
+/// The halves along each edge, where the darts of the edges begin as said.
+pub(crate) fn paths_of(
+    alloc: Global,
+    edges: &[EdgeRow],
+    begins: &[u32],
+    halves: &[Half],
+) -> Result<Listed<Listed<Half>>, AllocError>
+    requires begins { begins.now ≡ begins_from 0 edges.now }
+    requires halves { length halves.now ≡ length (flat_map darts_of edges.now) }
+    ensures { IfOk result (ArePathsOf edges.now begins.now halves.now (length edges.now)) }
+{
+    let mut paths = Vec::with_capacity(alloc, edges.len())?;
+    for place in 0..edges.len() {
+        let many = edges[place].crossings.as_slice().len() + 1;
+        let path = path_of(alloc, halves, begins[place] as usize, many)?;
+        paths.push(path)?;
+    }
+    Ok(Listed::from_vec(paths))
+}
