@@ -249,7 +249,7 @@ module _ (rows : Rows) (u v : ℕ) (plan : Planned) where
     even = λ d known. eq_from_test _ _ (for_each (λ d. height (face_step (system rows) d) == height d) (darts rows) passes.even d known);
     gentle = λ d p known price. subst (λ q. height d ≤ q + height (dart_twin d)) (sym (price_is plan.prices rows d p price))
         (le_from_test _ _ (or_first (has_price plan.prices rows d) _ (price_has plan.prices rows d p price)
-          (for_each (λ d. not (has_price plan.prices rows d) || nat_le (height d) (price_at plan.prices rows d + height (dart_twin d))) (darts rows) passes.gentle d known)));
+        (for_each (λ d. not (has_price plan.prices rows d) || nat_le (height d) (price_at plan.prices rows d + height (dart_twin d))) (darts rows) passes.gentle d known)));
     target = λ p c at. eq_from_test _ _ (at_place (λ c. height c == 0) (around_vertex rows v) passes.target p c at);
   }
 
