@@ -1,8 +1,8 @@
 -- The midpoints that are left when an edge is taken out of a slab: one for each crossing on its path, read from the turn while the edge is still there.
-use Rattle.std.proofs.Common.{◌≡◌, ◌≢◌, ℕ, zero, suc, ◌+◌, ◌%◌, ◌<◌, ◌≤◌, ◌==◌, Bool, true, cond, List, [], ◌∷◌, length, inl, inr, refl, sym, ◌∙◌, ap, subst, arith}
+use Rattle.std.proofs.Common.{◌≡◌, ◌≢◌, ℕ, zero, suc, ◌+◌, ◌%◌, ◌<◌, ◌≤◌, ◌==◌, Bool, true, false, cond, List, [], ◌∷◌, length, inl, inr, refl, sym, ◌∙◌, ap, subst, arith}
 use Rattle.std.specs.Prelude.{Some, slice_get}
 use Rattle.std.specs.List.{AllByRecursion}
-use Rattle.std.proofs.lemmas.Bool.{cases_lt, cond-true, cond-false, eq-eqb, ne_eqb}
+use Rattle.std.proofs.lemmas.Bool.{cases_Bool, cases_lt, cond-true, cond-false, eq-eqb, ne_eqb}
 use Rattle.topo_core.specs.declared.darts.Dart.{Dart}
 use Rattle.topo_core.specs.declared.darts.Way.TheVariants.{Forward, Back}
 use Rattle.topo_core.specs.declared.rows.CrossRow.{CrossRow}
@@ -30,7 +30,7 @@ use Rattle.topo_perm.specs.Runs.{Turning, IsRun}
 use Rattle.topo_perm.proofs.DeletionNumbers.{AreMids, IsSmoothedUnder, smooths_of, unchords_of}
 use Rattle.topo_perm.proofs.Midpoints.{odd_twin}
 use Rattle.topo_picture.proofs.DeletedLawful.{hides, there}
-use Rattle.topo_picture.proofs.DeletedOpening.{last, left_turn, off_left, opened_by}
+use Rattle.topo_picture.proofs.DeletedOpening.{left_turn, off_left, opened_by}
 use Rattle.topo_picture.proofs.DeletedSlab.{Middle, deleted_slab, left, n, name, segments}
 use Rattle.topo_picture.proofs.InsertedNumbers.{number_less, turn_number}
 
@@ -49,7 +49,7 @@ in_first : (h : ℕ → ℕ) (i j : ℕ) → j < i → IsIn (h j) (first_of h i)
 in_first h zero j lj = absurd (omega (arith, lj))
 in_first h (suc i) j lj = elim (cases_lt j i) [
   | inl less ↦ inr (in_first h i j less)
-  | inr last ↦ inl (let same : j ≡ i = omega arith in ap h same)
+  | inr past ↦ inl (let same : j ≡ i = omega arith in ap h same)
 ]
 
 are_mids : (middle : ℕ → Type 0) (live : ℕ → Bool) (n : ℕ) (h : ℕ → ℕ) (count : ℕ) → ((i : ℕ) → i < count → IsAlive live n (h i) × middle (h i)) → ((i j : ℕ) → i < j → j < count → h j ≢ h i) → (i : ℕ) → i ≤ count → AreMids middle live n (first_of h i)
@@ -68,27 +68,24 @@ in_place x (y ∷ xs) (inr h) = let (i, less, at) = in_place x xs h in (suc i, o
 
 -- ---- The darts across
 
--- of the two darts that b and f turn to, the one with an even number
-abbrev pub even_across : (ℕ → ℕ) → ℕ → ℕ → ℕ
-even_across t b f = cond (t b % 2 == 0) (t b) (t f)
+abbrev pub is_even : ℕ → Bool
+is_even a = a % 2 == 0
 
-pub even_across-first : (t : ℕ → ℕ) (b f : ℕ) → t b % 2 ≡ 0 → even_across t b f ≡ t b
-even_across-first t b f e = cond-true _ _ _ (eq-eqb (t b % 2) 0 e)
+-- of the two darts that b and f turn to, the one that leads along its edge
+abbrev pub across : (ℕ → Bool) → (ℕ → ℕ) → ℕ → ℕ → ℕ
+across leads t b f = cond (leads (t b)) (t b) (t f)
 
-pub even_across-second : (t : ℕ → ℕ) (b f : ℕ) → t b % 2 ≡ 1 → even_across t b f ≡ t f
-even_across-second t b f e = cond-false _ _ _ (ne_eqb (t b % 2) 0 (λ w. absurd (omega arith)))
+across-first : (leads : ℕ → Bool) (t : ℕ → ℕ) (b f : ℕ) → leads (t b) ≡ true → across leads t b f ≡ t b
+across-first leads t b f e = cond-true _ _ _ e
 
--- under numbers that keep even ones even
-pub carried_across : (nu t g : ℕ → ℕ) (b f : ℕ) → g (nu b) ≡ nu (t b) → g (nu f) ≡ nu (t f) → nu (t b) % 2 ≡ t b % 2 → even_across g (nu b) (nu f) ≡ nu (even_across t b f)
-carried_across nu t g b f first second parity = elim (cases_lt (t b % 2) 1) [
-  | inl less ↦
-      let e : t b % 2 ≡ 0 = omega arith in
-      let same : g (nu b) % 2 ≡ 0 = ap (λ (v : ℕ). v % 2) first ∙ parity ∙ e in
-      even_across-first g (nu b) (nu f) same ∙ first ∙ ap nu (sym (even_across-first t b f e))
-  | inr more ↦
-      let e : t b % 2 ≡ 1 = omega arith in
-      let same : g (nu b) % 2 ≡ 1 = ap (λ (v : ℕ). v % 2) first ∙ parity ∙ e in
-      even_across-second g (nu b) (nu f) same ∙ second ∙ ap nu (sym (even_across-second t b f e))
+across-second : (leads : ℕ → Bool) (t : ℕ → ℕ) (b f : ℕ) → leads (t b) ≡ false → across leads t b f ≡ t f
+across-second leads t b f e = cond-false _ _ _ e
+
+-- under other numbers, of which it is known as well which lead along their edges
+pub carried_across : (leads leads' : ℕ → Bool) (nu t g : ℕ → ℕ) (b f : ℕ) → g (nu b) ≡ nu (t b) → g (nu f) ≡ nu (t f) → leads' (nu (t b)) ≡ leads (t b) → across leads' g (nu b) (nu f) ≡ nu (across leads t b f)
+carried_across leads leads' nu t g b f first second same = elim (cases_Bool (leads (t b))) [
+  | inl e ↦ across-first leads' g (nu b) (nu f) (ap leads' first ∙ same ∙ e) ∙ first ∙ ap nu (sym (across-first leads t b f e))
+  | inr e ↦ across-second leads' g (nu b) (nu f) (ap leads' first ∙ same ∙ e) ∙ second ∙ ap nu (sym (across-second leads t b f e))
 ]
 
 module _ (rows : Rows) (good : IsWellFormed rows) (e : ℕ) (row : EdgeRow) (known : edge_row rows e ≡ Some row) where
@@ -110,7 +107,7 @@ module _ (rows : Rows) (good : IsWellFormed rows) (e : ℕ) (row : EdgeRow) (kno
 
   -- the dart ahead of the crossing at a place of the path, on the other edge
   abbrev pub mid : ℕ → ℕ
-  mid i = even_across t (num (back e i)) (num (forward e (i + 1)))
+  mid i = across is_even t (num (back e i)) (num (forward e (i + 1)))
 
   -- what is at that place
   record IsMet (i : ℕ) : Type 0 where
@@ -143,10 +140,10 @@ module _ (rows : Rows) (good : IsWellFormed rows) (e : ℕ) (row : EdgeRow) (kno
         at = elim (two_orders rows e (without rows e) hidden c x is) [
           | inl r ↦
               let to : t (num (back e i)) ≡ num (ahead rows c x.id) = off_turn ∙ ap num r.from_second in
-              even_across-first t (num (back e i)) (num (forward e (i + 1))) (ap (λ (v : ℕ). v % 2) to ∙ index_forward rows (ahead rows c x.id) ahead_in refl) ∙ to
+              across-first is_even t (num (back e i)) (num (forward e (i + 1))) (ap is_even to ∙ eq-eqb (num (ahead rows c x.id) % 2) 0 (index_forward rows (ahead rows c x.id) ahead_in refl)) ∙ to
           | inr r ↦
               let to : t (num (back e i)) ≡ num (behind rows c x.id) = off_turn ∙ ap num r.from_first in
-              even_across-second t (num (back e i)) (num (forward e (i + 1))) (ap (λ (v : ℕ). v % 2) to ∙ odd_back (behind rows c x.id) behind_in refl) ∙ on_turn ∙ ap num r.from_second
+              across-second is_even t (num (back e i)) (num (forward e (i + 1))) (ap is_even to ∙ ne_eqb (num (behind rows c x.id) % 2) 0 (λ w. absurd (let odd = odd_back (behind rows c x.id) behind_in refl in omega arith))) ∙ on_turn ∙ ap num r.from_second
         ];
       }
 
@@ -215,7 +212,7 @@ module _ (rows : Rows) (good : IsWellFormed rows) (e : ℕ) (row : EdgeRow) (kno
   -- ---- While the edge goes
 
   -- with some segments before a crossing out, the dart ahead of it is found as before
-  pub mid_opened : (j i : ℕ) → j ≤ i → i < crossings → even_across (opened_by rows e row good known (without rows e) hidden j) (num (back e i)) (num (forward e (i + 1))) ≡ mid i
+  pub mid_opened : (j i : ℕ) → j ≤ i → i < crossings → across is_even (opened_by rows e row good known (without rows e) hidden j) (num (back e i)) (num (forward e (i + 1))) ≡ mid i
   mid_opened j i lj li =
       let g : ℕ → ℕ = opened_by rows e row good known (without rows e) hidden j in
       let first : g (num (back e i)) ≡ t (num (back e i)) = left_turn rows e row good known (without rows e) hidden j i Back lj (omega (arith, li)) ∙ sym (turn_number rows good (back e i) (hidden.edge_there i Back (omega (arith, li)))) in
