@@ -16,12 +16,12 @@ use crate::seats::Seats;
 use crate::service::ServiceOver;
 use crate::wait::wait_forever;
 use std::alloc::{AllocError, Global};
-use std::sync::ledger::Blank;
+use std::sync::ledger::{Blank, Book as Tally};
 use std::sync::{Arc, Mutex, Wait};
 use topo_book::Book;
 use topo_picture::Picture;
 use topo_price::tariff::{Asks, Tariff};
-use topo_versions::{Glass, Naming, Opened, Shelf, StoreWriter, Version};
+use topo_versions::{Front, Glass, Naming, Opened, Shelf, StoreWriter, Version};
 
 /// The end of a service that was not well, with the book and the passes as they were handed in.
 #[derive(Drop)]
@@ -46,6 +46,46 @@ impl Unopened {
             opened: Opened::new(),
         }
     }
+}
+
+/// The store of versions of a service whose book is new, for so many readers: the first version is the start.
+fn writer_of<F: Asks + Drop, K: Naming<F>>(
+    alloc: Global,
+    book: &Book<F>,
+    front: &Front<K>,
+    places: u32,
+) -> Result<StoreWriter<F, K>, AllocError>
+    requires start { (book.now.start ≡ K.start) × (book.now.history ≡ []) }
+    requires prices { K.closure ≡ Some book.now.tariff }
+    requires empty { front.now ≡ [] }
+    requires places { 0 < places }
+    ensures empty { IfOk result (λ w. w.desk.shown.value.entries ≡ []) }
+{
+    let shared = Arc::try_clone(book.shared_picture())?;
+    let first = Version::first(alloc, shared, front.again())?;
+    let second = first.again()?;
+    StoreWriter::<F, K>::new(alloc, first, second, places as usize)
+}
+
+/// What lies under the lock of a service with no call, for so many passes.
+fn desk_of<F: Asks + Drop, K: Naming<F>>(
+    alloc: Global,
+    opened: Opened,
+    calls: Tally<K>,
+    start: Picture,
+    tariff: &Arc<Tariff<F>>,
+    places: u32,
+) -> Result<Desk<F, K, StoreWriter<F, K>>, AllocError>
+    requires list { opened.seen.book ≡ K.book }
+    requires no_call { calls.total ≡ 0 }
+    requires start { start ≡ K.start }
+    requires prices { K.closure ≡ Some (arc_value tariff.now) }
+    requires places { 0 < places }
+{
+    let (head, front) = opened.named::<K>();
+    let book = Book::new(alloc, start, Arc::try_clone(tariff)?)?;
+    let writer = writer_of(alloc, &book, &front, places)?;
+    Ok(Desk::new(book, calls, head, front, writer))
 }
 
 /// A service over the version store.
@@ -93,16 +133,11 @@ impl<F: Asks + Drop, K: Naming<F>> Service<F, K> {
     {
         let Unopened { blank, opened } = unopened;
         let (calls, rest) = blank.open::<K>();
-        let (head, front) = opened.named::<K>();
-        let book = Book::new(alloc, start, Arc::try_clone(&tariff)?)?;
-        let shared = Arc::try_clone(book.shared_picture())?;
-        let first = Version::first(alloc, shared, front.again())?;
-        let second = first.again()?;
-        let writer = StoreWriter::<F, K>::new(alloc, first, second, places as usize)?;
+        let desk = desk_of(alloc, opened, calls, start, &tariff, places)?;
         Ok(ServiceOver {
             alloc,
             tariff,
-            desk: Mutex::new(Desk::new(book, calls, head, front, writer)),
+            desk: Mutex::new(desk),
             seats: Mutex::new(Seats::new(rest)),
             places,
             given: 0,
