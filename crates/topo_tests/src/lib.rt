@@ -16,6 +16,8 @@ mod first_routes;
 #[cfg(test)]
 mod generated;
 #[cfg(test)]
+mod long_routes;
+#[cfg(test)]
 mod numbered;
 #[cfg(test)]
 mod permutations;

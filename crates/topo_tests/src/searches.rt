@@ -84,7 +84,7 @@ fn plan_at(
 }
 
 /// What the check says of a plan with the prices of a table.
-fn judged_at(
+pub(crate) fn judged_at(
     rt: &impl Abort,
     frozen: &Frozen,
     table: &PriceTable,
