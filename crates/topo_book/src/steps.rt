@@ -29,7 +29,7 @@ use topo_route::search::first_route;
 /// Whether a plan has as many heights as the picture has darts. A plan of an earlier picture mostly has
 /// not, and need not be compared with the picture then.
 fn has_height_for_each_dart(picture: &Picture, plan: &Plan) -> bool {
-    plan.heights.as_slice().len() == 2 * picture.counts().segments as usize
+    plan.heights.len() == 2 * picture.counts().segments as usize
 }
 
 /// Whether a plan between these ends passes the check on the picture, of which nothing is copied: its

@@ -52,7 +52,7 @@ pub fn replay_bytes(alloc: Global, bytes: &[u8]) -> Result<String, RunFault>
         Err(fault) => return Err(RunFault::Script(fault)),
     };
     judge(alloc, &report)?;
-    match calls_line(alloc, report.history.as_slice().len()) {
+    match calls_line(alloc, report.history.len()) {
         Ok(line) => Ok(line),
         Err(_) => Err(RunFault::Memory),
     }

@@ -75,11 +75,11 @@ impl Rows {
     ghost use Rattle.std.specs.Prelude.{◌≡◌, length, option_copied};
     ghost use Rattle.topo_core.specs.Picture.{edge_row, edge_at, segment_count, rotation};
 
-    /// The row of an edge.
+    /// The row of an edge. It looks at one row after another, so it takes time by the number of edges.
     pub fn edge(&self, id: u32) -> Option<&EdgeRow>
         ensures { option_copied result ≡ edge_row self.now id }
     {
-        self.edges.as_slice().iter().find(|row| row.id == id)
+        self.edges.iter().find(|row| row.id == id)
     }
 
     /// How many edge ends stand at a vertex, and 0 where it is none.
@@ -87,7 +87,7 @@ impl Rows {
         ensures { result ≡ length (rotation self.now v) }
     {
         match self.rotations.as_slice().get(v as usize) {
-            Some(around) => around.as_slice().len(),
+            Some(around) => around.len(),
             None => 0,
         }
     }

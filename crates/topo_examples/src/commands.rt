@@ -146,7 +146,7 @@ fn count_calls(alloc: Global, bytes: &[u8]) -> Result<Vec<u8>, AllocError> {
     let mut line = String::from_str(alloc, "calls")?;
     let mut counted = 0;
     for caller in 0..16 {
-        if counted < made.history.as_slice().len() {
+        if counted < made.history.len() {
             let calls = calls_of(&made, caller);
             counted = calls.saturating_add(counted);
             line.push_str(format!(in alloc; " {calls}")?.as_str())?;

@@ -128,7 +128,7 @@ pub(crate) fn are_ends(rows: &Rows, u: u32, v: u32) -> bool
     ensures v_there { IsTrue result → v < length rows.now.rotations }
     ensures apart { IsTrue result → u ≢ v }
 {
-    let vertices = rows.rotations.as_slice().len();
+    let vertices = rows.rotations.len();
     (u as usize) < vertices && (v as usize) < vertices && u != v
 }
 

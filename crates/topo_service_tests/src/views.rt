@@ -268,7 +268,7 @@ fn has_apexes(frozen: &Frozen) -> bool
     ensures u_there { IsTrue result → 3 < length frozen.now.rows.rotations }
     ensures v_there { IsTrue result → 4 < length frozen.now.rows.rotations }
 {
-    frozen.rows().rotations.as_slice().len() > 4
+    frozen.rows().rotations.len() > 4
 }
 
 /// A plan between the apexes.

@@ -29,7 +29,7 @@ pub(crate) fn are_ends(frozen: &Frozen, u: u32, v: u32) -> bool
     ensures v_there { IsTrue result → v < length frozen.now.rows.rotations }
     ensures apart { IsTrue result → u ≢ v }
 {
-    let vertices = frozen.rows().rotations.as_slice().len();
+    let vertices = frozen.rows().rotations.len();
     (u as usize) < vertices && (v as usize) < vertices && u != v
 }
 

@@ -100,8 +100,11 @@ fn rows_are_found_by_id(rt: HostRuntime) -> Result<(), Fail> {
 
 #[test]
 fn lists_give_their_items_back(rt: HostRuntime) -> Result<(), Fail> {
-    let listed = Listed::from_vec(vec![in rt.alloc(); 3u32, 1]?);
+    let mut listed = Listed::from_vec(vec![in rt.alloc(); 3u32]?);
+    listed.push(1)?;
     assert!(rt; listed.as_slice() == [3, 1].as_slice());
+    assert!(rt; (listed.len(), listed[0], listed[1]) == (2, 3, 1));
+    assert!(rt; listed.iter().max() == Some(&3));
     assert!(rt; listed.into_vec().as_slice() == [3, 1].as_slice());
     Ok(())
 }
