@@ -18,7 +18,7 @@ use topo_core::rows::{CrossRow, EdgeRow, Rows};
 pub(crate) fn within_limits(limits: &Limits, rows: &Rows) -> bool
     ensures { result ≡ fits limits.now rows.now }
 {
-    rows.rotations.len() <= limits.vertices as usize
+    rows.rotations.as_slice().len() <= limits.vertices as usize
         && rows.next_edge <= limits.edges
         && rows.next_crossing <= limits.crossings
 }
@@ -113,7 +113,7 @@ pub(crate) fn are_paths_good(alloc: Global, rows: &Rows) -> Result<bool, AllocEr
         return Ok(false);
     }
     let ids = sorted_ids(alloc, rows.crossings.as_slice())?;
-    let vertices = rows.rotations.len();
+    let vertices = rows.rotations.as_slice().len();
     Ok(are_paths_over(vertices, ids.as_slice(), rows.edges.as_slice()))
 }
 

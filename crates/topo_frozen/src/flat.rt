@@ -24,7 +24,7 @@ pub(crate) fn fill_begins(begins: &mut Vec<u32>, edges: &[EdgeRow]) -> Result<()
     let mut next = 0;
     for row in edges {
         begins.push(next)?;
-        next += 2 * (row.crossings.len() as u32 + 1);
+        next += 2 * (row.crossings.as_slice().len() as u32 + 1);
     }
     begins.push(next)?;
     Ok(())
@@ -172,7 +172,7 @@ fn link_vertices(images: &mut [u32], rows: &Rows, begins: &[u32], hints: &Hints)
     requires room { length images.old ≡ length (darts rows.now) }
     ensures { images.new ≡ written images.old (flat_map (λ v. links (vertex_round rows.now v)) (vertices rows.now)) }
 {
-    for v in 0..rows.rotations.len() {
+    for v in 0..rows.rotations.as_slice().len() {
         link_vertex(images, rows, begins, hints, v as u32);
     }
 }
@@ -225,7 +225,7 @@ pub(crate) fn dart_count(rows: &Rows, begins: &[u32]) -> usize
     requires { begins.now ≡ begins_from 0 rows.now.edges }
     ensures { result ≡ length (darts rows.now) }
 {
-    let last = rows.edges.len();
+    let last = rows.edges.as_slice().len();
     begins[last] as usize
 }
 

@@ -79,8 +79,8 @@ impl Hints {
 
     /// Forgets ids where few of them are left, once an edge is gone with its crossings.
     pub fn settle(&mut self, rows: &Rows) {
-        forget_sparse(&mut self.edges, rows.edges.len());
-        forget_sparse(&mut self.crossings, rows.crossings.len());
+        forget_sparse(&mut self.edges, rows.edges.as_slice().len());
+        forget_sparse(&mut self.crossings, rows.crossings.as_slice().len());
     }
 }
 

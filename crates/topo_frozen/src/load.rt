@@ -136,7 +136,7 @@ fn has_genus_zero(alloc: Global, rows: &Rows, images: &[u32]) -> Result<bool, Al
     requires crossings { length rows.now.crossings < 2 ^ 32 }
     ensures { IfOk result (λ yes. IsTrue yes ↔ HasGenusZero rows.now) }
 {
-    let points = rows.rotations.len() + rows.crossings.len();
+    let points = rows.rotations.as_slice().len() + rows.crossings.as_slice().len();
     let segments = images.len() / 2;
     Ok(faces(alloc, images)? + points as u64 == segments as u64 + 2)
 }

@@ -41,7 +41,7 @@ fn searched_under(rows: &Rows, begins: &[u32], number: u32) -> usize
     ensures { result ≡ slice_index (places_from 0 rows.now.edges) (number / 2) }
 {
     let mut low = 0;
-    let mut high = rows.edges.len();
+    let mut high = rows.edges.as_slice().len();
     while high - low > 1 {
         let middle = low + (high - low) / 2;
         if begins[middle] <= number {
@@ -59,7 +59,7 @@ fn is_under(rows: &Rows, begins: &[u32], place: usize, number: u32) -> bool
     requires within { number < length (darts rows.now) }
     ensures { result ≡ true → place ≡ slice_index (places_from 0 rows.now.edges) (number / 2) }
 {
-    if place < rows.edges.len() {
+    if place < rows.edges.as_slice().len() {
         begins[place] <= number && number < begins[place + 1]
     } else {
         false
@@ -186,7 +186,7 @@ pub(crate) fn number_of(rows: &Rows, begins: &[u32], hints: &Hints, dart: Dart) 
     let edges = rows.edges.as_slice();
     let place = edge_place(edges, hints, dart.edge.number())?;
     let row = &edges[place];
-    if (dart.seg as usize) < row.crossings.len() + 1 {
+    if (dart.seg as usize) < row.crossings.as_slice().len() + 1 {
         let first = begins[place] + 2 * dart.seg;
         match dart.way {
             Way::Forward => Some(first),

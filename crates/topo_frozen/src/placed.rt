@@ -144,7 +144,7 @@ fn end_placed(rows: &Rows, hints: &Hints, v: u32, e: u32) -> PlacedDart
     if row.a == v {
         PlacedDart::new(place, 0, Way::Forward)
     } else {
-        PlacedDart::new(place, row.crossings.len(), Way::Back)
+        PlacedDart::new(place, row.crossings.as_slice().len(), Way::Back)
     }
 }
 
