@@ -14,3 +14,4 @@ pub mod LabelledAll
 pub mod FaceEdits
 pub mod Listing
 pub mod Joining
+pub mod EditSteps

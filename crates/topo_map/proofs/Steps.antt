@@ -39,7 +39,7 @@ darts s k = record {
     within = turns_within s k;
     apart = λ a b la lb e. sym (k.inverse.back a) ∙ ap (before_in s) e ∙ k.inverse.back b;
   };
-  even = (let e : half_limit ≡ 4294967296 = limit-is in let w : half_limit % 2 ≡ 0 = omega arith in w);
+  even = (let e : half_limit ≡ 4294967294 = limit-is in let w : half_limit % 2 ≡ 0 = omega arith in w);
 }
 
 pub whole : (s : Slab Segment) → IsKept s → IsWhole (holds s) (next_in s)
@@ -92,10 +92,10 @@ pub turned_live : (s s1 : Slab Segment) (f : ℕ → ℕ) (a b : ℕ) → IsTurn
 turned_live s s1 f a b t e h = ap (λ (l : ℕ → Bool). l a) t.live ∙ ap (holds s) e ∙ h
 
 same_room : (s s1 : Slab Segment) (f : ℕ → ℕ) → IsTurned s s1 f → room_of s1 ≡ room_of s
-same_room s s1 f t = ap (λ (n : ℕ). cond (nat_le n 2147483648) (n - slab_len s1) 0) t.capacity ∙ ap (λ (n : ℕ). cond (nat_le s.capacity 2147483648) (s.capacity - n) 0) t.len
+same_room s s1 f t = ap (λ (n : ℕ). cond (nat_le n 2147483647) (n - slab_len s1) 0) t.capacity ∙ ap (λ (n : ℕ). cond (nat_le s.capacity 2147483647) (s.capacity - n) 0) t.len
 
 same_limit : (s s1 : Slab Segment) (f : ℕ → ℕ) → IsTurned s s1 f → limit_of s1 ≡ limit_of s
-same_limit s s1 f t = ap (λ (n : ℕ). 2 * min n 2147483648) t.capacity
+same_limit s s1 f t = ap (λ (n : ℕ). 2 * min n 2147483647) t.capacity
 
 -- ---- Labels
 

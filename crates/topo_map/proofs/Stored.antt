@@ -14,7 +14,7 @@ use Rattle.topo_map.specs.declared.segments.Segment.{Segment}
 use Rattle.topo_map.proofs.Maps.{funext}
 use Rattle.topo_map.proofs.Slots.{turn_at, label-there, label-else, face-there, face-else, live-slot, live_at, updates, same_len}
 
-pub limit-is : half_limit ≡ 4294967296
+pub limit-is : half_limit ≡ 4294967294
 unfolding half_limit
 limit-is = refl
 
@@ -24,27 +24,27 @@ pub true_false : true ≡ false → ⊥
 true_false e = cc
 
 abbrev room_at : ℕ → ℕ → ℕ
-room_at cap len = cond (nat_le cap 2147483648) (cap - len) 0
+room_at cap len = cond (nat_le cap 2147483647) (cap - len) 0
 
 record HasRoom (cap len : ℕ) : Type 0 where
-  narrow : cap ≤ 2147483648
+  narrow : cap ≤ 2147483647
   below : len + 1 ≤ cap
 
 has_room : (cap len : ℕ) → 0 < room_at cap len → HasRoom cap len
-has_room cap len h = elim (cases_Bool (nat_le cap 2147483648)) [
+has_room cap len h = elim (cases_Bool (nat_le cap 2147483647)) [
   | inl t ↦
       let e : room_at cap len ≡ cap - len = cond-true _ _ _ t in
-      record { narrow = leb-true cap 2147483648 t; below = omega arith }
+      record { narrow = leb-true cap 2147483647 t; below = omega arith }
   | inr f ↦
       let e : room_at cap len ≡ 0 = cond-false _ _ _ f in
       absurd (omega arith)
 ]
 
 room_less : (cap len cap' len' : ℕ) → 0 < room_at cap len → cap' ≡ cap → len' ≡ len + 1 → room_at cap' len' + 1 ≡ room_at cap len
-room_less cap len cap' len' h ec el = elim (cases_Bool (nat_le cap 2147483648)) [
+room_less cap len cap' len' h ec el = elim (cases_Bool (nat_le cap 2147483647)) [
   | inl t ↦
       let e : room_at cap len ≡ cap - len = cond-true _ _ _ t in
-      let d : room_at cap' len' ≡ cap' - len' = cond-true _ _ _ (ap (λ (n : ℕ). nat_le n 2147483648) ec ∙ t) in
+      let d : room_at cap' len' ≡ cap' - len' = cond-true _ _ _ (ap (λ (n : ℕ). nat_le n 2147483647) ec ∙ t) in
       omega arith
   | inr f ↦
       let e : room_at cap len ≡ 0 = cond-false _ _ _ f in
@@ -56,10 +56,10 @@ record Frees (cap len cap' len' : ℕ) : Type 0 where
   one_more : 0 < room_at cap len → room_at cap' len' ≡ room_at cap len + 1
 
 room_more : (cap len cap' len' : ℕ) → cap' ≡ cap → len' + 1 ≡ len → Frees cap len cap' len'
-room_more cap len cap' len' ec el = elim (cases_Bool (nat_le cap 2147483648)) [
+room_more cap len cap' len' ec el = elim (cases_Bool (nat_le cap 2147483647)) [
   | inl t ↦
       let e : room_at cap len ≡ cap - len = cond-true _ _ _ t in
-      let d : room_at cap' len' ≡ cap' - len' = cond-true _ _ _ (ap (λ (n : ℕ). nat_le n 2147483648) ec ∙ t) in
+      let d : room_at cap' len' ≡ cap' - len' = cond-true _ _ _ (ap (λ (n : ℕ). nat_le n 2147483647) ec ∙ t) in
       record { never_less = omega arith; one_more = λ h. omega arith }
   | inr f ↦
       let e : room_at cap len ≡ 0 = cond-false _ _ _ f in
@@ -68,7 +68,7 @@ room_more cap len cap' len' ec el = elim (cases_Bool (nat_le cap 2147483648)) [
 
 pub below_limit : (s : Slab Segment) (a : ℕ) → IsKept s → length s.slots ≤ s.capacity → holds s a ≡ true → a < limit_of s
 below_limit s a k all h =
-    let lim : half_limit ≡ 4294967296 = limit-is in
+    let lim : half_limit ≡ 4294967294 = limit-is in
     let within : a < half_limit = k.within a h in
     let there : a / 2 < length s.slots = live-slot s a h in
     omega arith
@@ -142,9 +142,9 @@ pub inserted : (s new : Slab Segment) (key edge left right x : ℕ) → IsKept s
 inserted s new key edge left right x k room i ex =
     let kx : x / 2 ≡ key = omega arith in
     let r : HasRoom s.capacity (slab_len s) = has_room s.capacity (slab_len s) room in
-    let narrow : s.capacity ≤ 2147483648 = r.narrow in
+    let narrow : s.capacity ≤ 2147483647 = r.narrow in
     let below : key < s.capacity = i.below in
-    let lim : half_limit ≡ 4294967296 = limit-is in
+    let lim : half_limit ≡ 4294967294 = limit-is in
     let f : next_in new ≡ next_in s = same_turn nexts s new key (Some (isolated_segment key edge left right)) i.updates (λ a e. by_itself a key e) (turn-none nexts s key i.free) in
     let b : before_in new ≡ before_in s = same_turn befores s new key (Some (isolated_segment key edge left right)) i.updates (λ a e. by_itself a key e) (turn-none befores s key i.free) in
     record {
@@ -152,7 +152,7 @@ inserted s new key edge left right x k room i ex =
       within = omega arith;
       live = adds (holds s) (holds new) half_limit key x kx (live-was s key None i.free) (live-there s new key (Some (isolated_segment key edge left right)) i.updates) (live-else s new key (Some (isolated_segment key edge left right)) i.updates);
       room = room_less s.capacity (slab_len s) new.capacity (slab_len new) room i.capacity i.len;
-      limit = ap (λ (n : ℕ). 2 * min n 2147483648) i.capacity;
+      limit = ap (λ (n : ℕ). 2 * min n 2147483647) i.capacity;
       below = (let same : new.capacity ≡ s.capacity = i.capacity in omega arith);
       kept = record {
         inverse = inverse-same (next_in s) (before_in s) (next_in new) (before_in new) f b k.inverse;
@@ -207,7 +207,7 @@ removed s new key x seg k alone twin_alone i kx =
       live = adds (holds new) (holds s) half_limit key x kx (live-there s new key None i.updates) (live-was s key (Some seg) i.was) (λ a ne. sym (live-else s new key None i.updates a ne));
       room = r.never_less;
       freed = r.one_more;
-      limit = ap (λ (n : ℕ). 2 * min n 2147483648) i.capacity;
+      limit = ap (λ (n : ℕ). 2 * min n 2147483647) i.capacity;
       kept = record {
         inverse = inverse-same (next_in s) (before_in s) (next_in new) (before_in new) f b k.inverse;
         within = λ a h. elim (cases_eq (a / 2) key) [

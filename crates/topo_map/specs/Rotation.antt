@@ -6,6 +6,7 @@ use Rattle.topo_core.specs.Rotations.{twin, face_next, faces_of, IsConnected}
 use Rattle.topo_perm.specs.Joins.{IsConnectedAmong, AddsSegment}
 use Rattle.topo_perm.specs.Renumbering.{RenumbersTurn}
 use Rattle.topo_perm.specs.Live.{IsSlab, live_cycle_count, live_segments}
+use Rattle.topo_perm.specs.Runs.{Turning}
 
 -- a segment: the halves that follow its two, clockwise at their points, and the label of its edge
 pub record Slot : Type 0 where
@@ -45,13 +46,17 @@ turn r = turn_in r.slots
 abbrev pub is_live : Rotation → ℕ → Bool
 is_live r = live_in r.slots
 
+-- which halves are live, and how all turn
+abbrev pub turning_of : Rotation → Turning
+turning_of r = record { live = is_live r; turn = turn r }
+
 -- the label of the edge that a half is on
 abbrev pub edge_of : Rotation → ℕ → ℕ
 edge_of r = edge_in r.slots
 
 -- above all halves. It is a name and no numeral, since counts run up to it
 unfoldable pub half_limit : ℕ
-half_limit = 4294967296
+half_limit = 4294967294
 
 -- ---- What is counted
 

@@ -37,11 +37,11 @@ face_in s = turn_in (shown sides s)
 
 -- above all halves that there is place for
 abbrev pub limit_of : Slab Segment → ℕ
-limit_of s = 2 * min s.capacity 2147483648
+limit_of s = 2 * min s.capacity 2147483647
 
 -- how many segments fit with no memory, as long as their halves stay below the limit
 abbrev pub room_of : Slab Segment → ℕ
-room_of s = cond (nat_le s.capacity 2147483648) (s.capacity - slab_len s) 0
+room_of s = cond (nat_le s.capacity 2147483647) (s.capacity - slab_len s) 0
 
 -- what a contract sees
 abbrev pub view_of : Slab Segment → Rotation

@@ -1,6 +1,6 @@
 //! The embedding and its edits.
 
-ghost use Rattle.std.specs.Prelude.{◌≡◌, ◌≢◌, ◌↔◌, ◌*◌, ℕ, [], ◌∷◌, length, ◌<◌, ◌≤◌, true, IsTrue, IsOk, IfOk, OnOk};
+ghost use Rattle.std.specs.Prelude.{◌≡◌, ◌≢◌, ◌↔◌, ◌*◌, ℕ, [], ◌∷◌, length, ◌<◌, ◌≤◌, ◌^◌, true, IsTrue, IsOk, IfOk, OnOk};
 ghost use Rattle.topo_core.specs.Cycles.{IsPermutationList, SameCycle};
 ghost use Rattle.topo_core.specs.Edits.{IsChord, IsHang, IsSmooth, IsSplit, IsUnchord};
 ghost use Rattle.topo_core.specs.Rotations.{face_next, twin};
@@ -75,6 +75,7 @@ impl Embedding {
     pub fn limit(&self) -> usize
         ensures limit { result ≡ self.now.limit }
         ensures above { (a : ℕ) → is_live self.now a ≡ true → a < result }
+        ensures fits { result < 2 ^ 32 }
     {
         segments::limit(&self.segments)
     }

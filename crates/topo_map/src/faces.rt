@@ -17,7 +17,7 @@ use crate::segments::{Segment, contains, face, limit, next, put_before, set_face
 use slab::Slab;
 
 /// Above the numbers of all halves.
-pub(crate) const HALF_LIMIT: u64 = 4_294_967_296;
+pub(crate) const HALF_LIMIT: u64 = 4_294_967_294;
 
 /// A label for a new face, and what is unused then.
 pub(crate) fn take_label(unused: Option<u32>) -> (u32, Option<u32>)

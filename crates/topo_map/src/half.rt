@@ -52,11 +52,11 @@ impl Half {
         Half { number: 2 * key }
     }
 
-    // The half with this number.
-    pub(crate) fn numbered(number: u32) -> Self
+    /// The half that contracts know by this number.
+    pub fn numbered(number: u32) -> Self
         ensures { result ≡ number }
     {
-        Half { number }
+        Self { number }
     }
 
     // The key of the segment.

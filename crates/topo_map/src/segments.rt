@@ -2,7 +2,7 @@
 //! beside it. Both directions are kept, so that a half is put in or taken out in a constant number
 //! of steps.
 
-ghost use Rattle.std.specs.Prelude.{◌≡◌, ◌≢◌, ◌+◌, ◌<◌, ◌≤◌, true, length, OnOk, IsOk};
+ghost use Rattle.std.specs.Prelude.{◌≡◌, ◌≢◌, ◌+◌, ◌<◌, ◌≤◌, ◌^◌, true, length, OnOk, IsOk};
 ghost use Rattle.slab.specs.Slab.{slab_len};
 ghost use Rattle.topo_core.specs.Rotations.{twin};
 ghost use Rattle.topo_map.specs.Rotation.{AddsLabel, KeepsLabels};
@@ -13,8 +13,9 @@ use slab::Slab;
 use std::alloc::AllocError;
 use topo_core::darts::Way;
 
-/// A slab of more segments is used for no new one, so that each key fits its type.
-const MOST_SEGMENTS: usize = 2_147_483_648;
+/// A slab of more segments is used for no new one, so that each half's number fits its type, and what is
+/// above all of them too.
+const MOST_SEGMENTS: usize = 2_147_483_647;
 
 /// The halves after and before a half, clockwise at its point, and the label of the face on its left.
 #[derive(Clone, Copy)]
@@ -216,6 +217,7 @@ pub(crate) fn remove_isolated(segments: &mut Slab<Segment>, x: Half)
 pub(crate) fn limit(segments: &Slab<Segment>) -> usize
     ensures value { result ≡ limit_of segments.now }
     ensures slots { length segments.now.slots ≤ segments.now.capacity }
+    ensures fits { result < 2 ^ 32 }
 {
     2 * segments.capacity().min(MOST_SEGMENTS)
 }
@@ -240,7 +242,7 @@ pub(crate) fn reserve(segments: &mut Slab<Segment>, more: usize) -> Result<(), A
     ensures never_less { OnOk result (room_of segments.old ≤ room_of segments.new) }
     ensures succeeds { more ≤ room_of segments.old → IsOk result }
     ensures had_room { more ≤ room_of segments.old → segments.new ≡ segments.old }
-    ensures bounded { 2147483648 < slab_len segments.old + more → segments.new ≡ segments.old }
+    ensures bounded { 2147483647 < slab_len segments.old + more → segments.new ≡ segments.old }
 {
     if more <= room(segments) {
         return Ok(());

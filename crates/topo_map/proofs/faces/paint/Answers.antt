@@ -25,7 +25,7 @@ loop-steps-preserved c = record {
 
 pub returns-then-eq : goal.returns-then-eq
 returns-then-eq c =
-    let l : half_limit ≡ 4294967296 = limit-is in
+    let l : half_limit ≡ 4294967294 = limit-is in
     let below : c.loop-steps._steps < half_limit = omega arith in
     painted_all c.args.segments.now c.set_face.new.segments c.loop-steps._steps c.args.start c.args.label c.next-at.result below
     (painted_on c.args.segments.now c.loop-steps.segments c.set_face.new.segments c.loop-steps._steps c.args.start c.args.label c.loop-steps.at c.twin.result c.next-at.result c.requires.kept
@@ -34,6 +34,6 @@ returns-then-eq c =
 
 pub returns : goal.returns
 returns c =
-    let l : half_limit ≡ 4294967296 = limit-is in
+    let l : half_limit ≡ 4294967294 = limit-is in
     let all : c.loop-steps._steps ≡ half_limit = omega arith in
     painted_end c.args.segments.now c.loop-steps.segments c.loop-steps._steps c.args.start c.args.label c.loop-steps.at all c.loop-steps.invariant.walked

@@ -19,6 +19,6 @@ loop-steps-preserved c =
     }
 
 pub returns : goal.returns
-returns c = whole_degree c.args.self.now half_limit c.loop-steps.steps c.args.h 4294967296 c.laws.ensures.slab.permutation (c.laws.ensures.within c.args.h c.requires)
-    (let l : half_limit ≡ 4294967296 = limit-is in let e : c.loop-steps.steps ≡ half_limit = omega arith in e)
+returns c = whole_degree c.args.self.now half_limit c.loop-steps.steps c.args.h 4294967294 c.laws.ensures.slab.permutation (c.laws.ensures.within c.args.h c.requires)
+    (let l : half_limit ≡ 4294967294 = limit-is in let e : c.loop-steps.steps ≡ half_limit = omega arith in e)
     (sym limit-is) c.loop-steps.invariant.out

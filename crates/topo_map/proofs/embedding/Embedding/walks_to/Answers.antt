@@ -27,7 +27,7 @@ returns-then-eq-2 c =
     let f = face_next (turn c.args.self.now) in
     let ne : c.loop-steps.at ≢ c.args.b = λ e. false_true (c.if-eq.ensures ∙ eq-eqb _ _ e) in
     let home : c.face_next-at.result ≡ c.args.a = eqb-true _ _ (sym c.if-eq-2.ensures) in
-    let l : half_limit ≡ 4294967296 = limit-is in
+    let l : half_limit ≡ 4294967294 = limit-is in
     let below : c.loop-steps._steps < half_limit = omega arith in (
       λ w. absurd (false_true w),
       λ s. absurd (round_without f half_limit c.loop-steps._steps c.args.a c.args.b c.loop-steps.at
@@ -40,7 +40,7 @@ returns-then-eq-2 c =
 pub returns : goal.returns
 returns c =
     let f = face_next (turn c.args.self.now) in
-    let l : half_limit ≡ 4294967296 = limit-is in
+    let l : half_limit ≡ 4294967294 = limit-is in
     let all : c.loop-steps._steps ≡ half_limit = omega arith in (
       λ w. absurd (false_true w),
       λ s. absurd (never_met f half_limit c.loop-steps._steps c.args.a c.args.b
