@@ -67,7 +67,7 @@ fn take_turns<F: Asks + Drop, K: Naming<F>, R: Wait>(
     keep(b, views)?;
     let refused = service.insert(rt, b, 0, 0, 0)?;
     keep(b, views)?;
-    let _ = service.insert(rt, a, 0, 0, 0)?;
+    let _ = service.insert(rt, a, 1, 1, 0)?;
     let told = a.seen();
     let _ = service.insert(rt, b, 0, 1, 0)?;
     keep(a, views)?;
