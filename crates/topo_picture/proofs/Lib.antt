@@ -1,6 +1,8 @@
 pub mod Cutting
+pub mod FaceWalks
 pub mod Skipping
 pub mod Deleting
+pub mod UncrossedEdges
 pub mod Growing
 pub mod Leaving
 pub mod CrossedPaths
