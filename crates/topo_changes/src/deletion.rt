@@ -169,6 +169,10 @@ pub fn delete_rows(alloc: Global, rows: &mut Rows, hints: &mut Hints, e: u32)
 {
     let row = delete_edge(alloc, rows, hints, e);
     leave_ends(alloc, rows, &row);
+    let path = row.crossings.as_slice();
+    if path.is_empty() {
+        return;
+    }
     delete_crossings(alloc, rows, e);
-    hints.leave_crossings(rows, row.crossings.as_slice());
+    hints.leave_crossings(rows, path);
 }

@@ -59,7 +59,7 @@ impl Links {
     }
 
     /// What stands at a name.
-    pub(crate) fn link(&self, name: u32) -> Link
+    pub fn link(&self, name: u32) -> Link
         requires { name < length self.now.links }
         ensures { result ≡ link_at self.now name }
     {
@@ -67,7 +67,7 @@ impl Links {
     }
 
     /// The names at the ends of the edge at a place.
-    pub(crate) fn ends_at(&self, place: usize) -> Ends
+    pub fn ends_at(&self, place: usize) -> Ends
         requires { place < length self.now.ends }
         ensures { slice_get self.now.ends place ≡ Some result }
     {

@@ -1,11 +1,8 @@
 -- Walks along the faces of the rows while an edge is opened.
-use Rattle.std.proofs.Common.{◌≡◌, ◌≢◌, ◌↔◌, ◌+◌, ◌<◌, ◌≤◌, ◌%◌, ◌&&◌, ◌||◌, ◌==◌, ap, arith, Bool, false, inl, inr, length, List, refl, Some, subst, suc, [], sym, true, zero, ℕ, ◌∙◌}
-use Rattle.std.specs.Prelude.{map, nat_lt, slice_get, slice_index}
-use Rattle.std.specs.List.{position_or_len}
+use Rattle.std.proofs.Common.{◌≡◌, ◌≢◌, ◌↔◌, ◌+◌, ◌<◌, ◌≤◌, ◌%◌, ◌&&◌, ◌||◌, ◌==◌, ap, arith, Bool, false, inl, inr, length, refl, Some, subst, suc, sym, true, zero, ℕ, ◌∙◌}
+use Rattle.std.specs.Prelude.{nat_lt}
 use Rattle.std.proofs.lemmas.Bool.{cases_Bool, cases_eq, eq-eqb, false≢true, ne_eqb}
 use Rattle.std.proofs.lemmas.Bool.Decides.{nat_tests}
-use Rattle.std.proofs.lemmas.Option.{get_or_from_slice_get, slice_get_within}
-use Rattle.std.proofs.lemmas.List.{get_or-map, length-map}
 use Rattle.topo_core.specs.declared.darts.Dart.{Dart}
 use Rattle.topo_core.specs.declared.darts.Way.{Way}
 use Rattle.topo_core.specs.declared.darts.Way.TheVariants.{Back, Forward}
@@ -22,19 +19,16 @@ use Rattle.topo_core.specs.Pictures.{back, forward}
 use Rattle.topo_core.specs.Rotations.{face_next, twin}
 use Rattle.topo_core.specs.Systems.{has_dart, turn}
 use Rattle.topo_core.proofs.DartLaws.{same_dart_self, same_dart_true}
-use Rattle.topo_core.proofs.Numbering.{even_images, image_of, images_length, index_apart, index_twin, place_less, twin_in}
+use Rattle.topo_core.proofs.Numbering.{even_images, image_of, images_length, index_apart, index_twin, place_less, turn_stays, twin_in}
 use Rattle.topo_core.proofs.OpenedDarts.{rest_face_darts, rest_face_numbers}
 use Rattle.topo_core.proofs.Openings.{index_numbered, numbered_index, opens}
-use Rattle.topo_core.proofs.SystemDarts.{row_id}
+use Rattle.topo_core.proofs.Orbits.{SameCycle-sym}
 use Rattle.topo_perm.proofs.Walks.{face_next-permutation}
 use Rattle.topo_route.proofs.Rounds.{unmet_all, unmet_home}
-use Rattle.topo_frozen.proofs.Begins.{edge_ids_climb}
-use Rattle.topo_frozen.proofs.Sorting.{place_is}
-use Rattle.topo_frozen.proofs.Lookups.{dart_there, row_found}
-use Rattle.topo_frozen.specs.Placed.{IsPlaced, placed_dart, PlacedDart}
+use Rattle.topo_frozen.proofs.Lookups.{dart_there}
 use Rattle.topo_picture.proofs.Skipping.{or_at, Skips, skips_alike, skips_ends, skips_here, unchord_skips}
 
-not_opened : (e i : ℕ) → (e == e && nat_lt i i) ≡ false
+pub not_opened : (e i : ℕ) → (e == e && nat_lt i i) ≡ false
 not_opened e i = grind (arith, nat_tests)
 
 -- what is out with one segment more
@@ -43,9 +37,6 @@ opened_one_more e i d = by_way d.way where
   by_way : (w : Way) → (d.edge == e && nat_lt d.seg (suc i)) ≡ (((d.edge == e && nat_lt d.seg i) || (e == d.edge && i == d.seg && same_way Forward w)) || (e == d.edge && i == d.seg && same_way Back w))
   by_way Forward = grind (arith, nat_tests)
   by_way Back = grind (arith, nat_tests)
-
-a_dart : ℕ → ℕ → Way → PlacedDart
-a_dart place segment way = record { place = place; segment = segment; way = way }
 
 module _ (rows : Rows) (good : IsWellFormed rows) (e : ℕ) where
   -- the turn on numbers when nothing is out
@@ -61,30 +52,6 @@ module _ (rows : Rows) (good : IsWellFormed rows) (e : ℕ) where
 
   pub gone_number : (i : ℕ) (d : Dart) → has_dart (darts rows) d ≡ true → is_gone i (index_of rows d) ≡ is_opened e i d
   gone_number i d here = ap (is_opened e i) (numbered_index rows good.paths good.crossings good.rotations d here)
-
-  -- the id at a place
-  id_placed : (place : ℕ) (row : EdgeRow) → slice_get rows.edges place ≡ Some row → slice_index (map (λ (row : EdgeRow). row.id) rows.edges) place ≡ row.id
-  id_placed place row at =
-      let none : EdgeRow = record { id = 0; a = 0; b = 0; kind = 0; crossings = [] } in
-      get_or-map (λ (row : EdgeRow). row.id) rows.edges place none 0 (slice_get_within rows.edges place row at) ∙ ap (λ (r : EdgeRow). r.id) (get_or_from_slice_get rows.edges place row none at)
-
-  pub placed_here : (at : PlacedDart) → IsPlaced rows at → has_dart (darts rows) (placed_dart rows at) ≡ true
-  placed_here at placed = dart_there rows good.paths (placed_dart rows at) placed.row (ap (edge_row rows) (id_placed at.place placed.row placed.stands) ∙ row_found rows good.paths at.place placed.row placed.stands) placed.within
-
-  -- darts at two places are two
-  placed_apart : (a b : PlacedDart) → IsPlaced rows a → IsPlaced rows b → placed_dart rows a ≡ placed_dart rows b → a ≡ b
-  unfolding a_dart
-  placed_apart a b a_placed b_placed same =
-      let ids : List ℕ = map (λ (row : EdgeRow). row.id) rows.edges in
-      let as_many : length ids ≡ length rows.edges = length-map rows.edges (λ (row : EdgeRow). row.id) in
-      let up = edge_ids_climb rows ids good.paths refl in
-      let id_at : (p : PlacedDart) → IsPlaced rows p → position_or_len (λ y. y == slice_index ids p.place) ids ≡ p.place = λ p placed.
-      let inside : p.place < length rows.edges = slice_get_within rows.edges p.place placed.row placed.stands in
-      place_is ids p.place (slice_index ids p.place) up (omega arith) refl in
-      let places : a.place ≡ b.place = sym (id_at a a_placed) ∙ ap (λ (d : Dart). position_or_len (λ y. y == d.edge) ids) same ∙ id_at b b_placed in
-      let segments : a.segment ≡ b.segment = ap (λ (d : Dart). d.seg) same in
-      let ways : a.way ≡ b.way = ap (λ (d : Dart). d.way) same in
-      ap (λ p. a_dart p a.segment a.way) places ∙ ap (λ s. a_dart b.place s a.way) segments ∙ ap (λ w. a_dart b.place b.segment w) ways
 
   number_is : (c : Dart) (b : ℕ) → has_dart (darts rows) c ≡ true → b < length (darts rows) → (b == index_of rows c) ≡ same_dart c (dart_numbered rows b)
   number_is c b here less = elim (cases_Bool (same_dart c (dart_numbered rows b))) [
@@ -122,27 +89,26 @@ module _ (rows : Rows) (good : IsWellFormed rows) (e : ℕ) where
         (opened_skips i (omega arith)) a l (alike a l ∙ left))
 
     -- a walk that has passed so many darts that are out, from where it starts to turn
-    pub record Passes (out start : ℕ) (next : PlacedDart) (passed : ℕ) : Type 0 where
-      pub placed : IsPlaced rows next
-      pub place : index_of rows (placed_dart rows next) ≡ after whole_turn (suc passed) start
+    pub record Passes (out start : ℕ) (next : Dart) (passed : ℕ) : Type 0 where
+      pub here : has_dart (darts rows) next ≡ true
+      pub place : index_of rows next ≡ after whole_turn (suc passed) start
       pub over : (j : ℕ) → 0 < j → j ≤ passed → is_gone out (after whole_turn j start) ≡ true
 
-    pub passes_none : (out : ℕ) (from : Dart) (next : PlacedDart) → has_dart (darts rows) from ≡ true → IsPlaced rows next → placed_dart rows next ≡ turn (system rows) from
-        → Passes out (index_of rows from) next 0
-    passes_none out from next here placed is = record { placed = placed; place = ap (index_of rows) is ∙ turned_number from here; over = λ j some none. absurd (omega arith) }
+    turned_here : (d : Dart) → has_dart (darts rows) d ≡ true → has_dart (darts rows) (turn (system rows) d) ≡ true
+    turned_here d here = turn_stays rows good.paths good.crossings good.rotations d here
 
-    pub passes_more : (out start : ℕ) (next more : PlacedDart) (passed : ℕ) → Passes out start next passed → is_opened e out (placed_dart rows next) ≡ true → IsPlaced rows more
-        → placed_dart rows more ≡ turn (system rows) (placed_dart rows next) → Passes out start more (suc passed)
-    passes_more out start next more passed h gone placed is =
-        let here = placed_here next h.placed in
-        record {
-          placed = placed;
-          place = ap (index_of rows) is ∙ turned_number (placed_dart rows next) here ∙ ap whole_turn h.place;
-          over = λ j some few. elim (cases_eq j (suc passed)) [
-            | inl last ↦ ap (λ i. is_gone out (after whole_turn i start)) last ∙ ap (is_gone out) (sym h.place) ∙ gone_number out (placed_dart rows next) here ∙ gone
-            | inr before ↦ h.over j some (omega arith)
-          ];
-        }
+    pub passes_none : (out : ℕ) (from : Dart) → has_dart (darts rows) from ≡ true → Passes out (index_of rows from) (turn (system rows) from) 0
+    passes_none out from here = record { here = turned_here from here; place = turned_number from here; over = λ j some none. absurd (omega arith) }
+
+    pub passes_more : (out start : ℕ) (next : Dart) (passed : ℕ) → Passes out start next passed → is_opened e out next ≡ true → Passes out start (turn (system rows) next) (suc passed)
+    passes_more out start next passed h gone = record {
+      here = turned_here next h.here;
+      place = turned_number next h.here ∙ ap whole_turn h.place;
+      over = λ j some few. elim (cases_eq j (suc passed)) [
+        | inl last ↦ ap (λ i. is_gone out (after whole_turn i start)) last ∙ ap (is_gone out) (sym h.place) ∙ gone_number out next h.here ∙ gone
+        | inr before ↦ h.over j some (omega arith)
+      ];
+    }
 
     module _ (out : ℕ) (few : out ≤ segment_count row) (from : Dart) (here : has_dart (darts rows) from ≡ true) (left : is_opened e out from ≡ false) where
       abbrev pub other : Dart
@@ -154,17 +120,15 @@ module _ (rows : Rows) (good : IsWellFormed rows) (e : ℕ) where
       pub other_left : is_gone out (index_of rows other) ≡ false
       other_left = gone_number out other other_here ∙ left
 
-      pub passes_to : (next : PlacedDart) (passed : ℕ) → Passes out (index_of rows other) next passed → is_opened e out (placed_dart rows next) ≡ false
-          → index_of rows (placed_dart rows next) ≡ face_next (opened_turn rows e out) (index_of rows from)
+      pub passes_to : (next : Dart) (passed : ℕ) → Passes out (index_of rows other) next passed → is_opened e out next ≡ false → index_of rows next ≡ face_next (opened_turn rows e out) (index_of rows from)
       passes_to next passed h stays =
           let less = place_less (darts rows) other other_here in
-          let is_left : is_gone out (after whole_turn (suc passed) (index_of rows other)) ≡ false =
-          ap (is_gone out) (sym h.place) ∙ gone_number out (placed_dart rows next) (placed_here next h.placed) ∙ stays in
+          let is_left : is_gone out (after whole_turn (suc passed) (index_of rows other)) ≡ false = ap (is_gone out) (sym h.place) ∙ gone_number out next h.here ∙ stays in
           h.place
           ∙ sym (skips_here whole_turn (is_gone out) (index_of rows other) (opened_turn rows e out (index_of rows other)) passed (opened_skips out few (index_of rows other) less other_left) h.over is_left)
           ∙ ap (opened_turn rows e out) (index_twin rows from here)
 
-      pub passes_few : (next : PlacedDart) (passed : ℕ) → Passes out (index_of rows other) next passed → length (darts rows) ≤ passed → ⊥
+      pub passes_few : (next : Dart) (passed : ℕ) → Passes out (index_of rows other) next passed → length (darts rows) ≤ passed → ⊥
       passes_few next passed h many =
           skips_ends whole_turn (is_gone out) (length (darts rows)) (index_of rows other) passed ((opens rows good.paths good.crossings good.rotations e).permutes 0) (place_less (darts rows) other other_here) many other_left h.over
 
@@ -177,23 +141,11 @@ module _ (rows : Rows) (good : IsWellFormed rows) (e : ℕ) where
           (record { here = here_forward i less; stays = not_opened e i }) face,
     )
 
-    -- ---- A walk round the face of a segment
+    -- ---- Walks round the faces of a segment
 
-    module _ (place : ℕ) (at_place : slice_get rows.edges place ≡ Some row) (i : ℕ) (less : i < segment_count row) where
-      abbrev pub first : PlacedDart
-      first = record { place = place; segment = i; way = Forward }
-
-      abbrev face : ℕ → ℕ
+    module _ (i : ℕ) (less : i < segment_count row) where
+      abbrev pub face : ℕ → ℕ
       face = face_next (opened_turn rows e i)
-
-      abbrev number : ℕ
-      number = index_of rows (forward e i)
-
-      pub first_is : placed_dart rows first ≡ forward e i
-      first_is = ap (λ (id : ℕ). forward id i) (id_placed place row at_place ∙ row_id rows e row there)
-
-      pub first_placed : IsPlaced rows first
-      first_placed = record { row = row; stands = at_place; within = less }
 
       is_even : length (darts rows) % 2 ≡ 0
       is_even = ap (λ n. n % 2) (sym (images_length rows)) ∙ even_images rows
@@ -201,49 +153,52 @@ module _ (rows : Rows) (good : IsWellFormed rows) (e : ℕ) where
       permutes : IsPermutation face (length (darts rows))
       permutes = face_next-permutation (opened_turn rows e i) (length (darts rows)) ((opens rows good.paths good.crossings good.rotations e).permutes i) is_even
 
-      number_twin : index_of rows (back e i) ≡ twin number
-      number_twin = index_twin rows (forward e i) (here_forward i less)
+      -- the face on the left of one dart of the segment is that of the other, whichever is asked
+      pub one_face_forth : SameCycle face (index_of rows (forward e i)) (index_of rows (back e i)) → HasOneFace rows e i
+      one_face_forth same = (face_told i less).0 same
 
-      pub record Walks (at : PlacedDart) (steps : ℕ) : Type 0 where
-        pub placed : IsPlaced rows at
-        pub left : is_opened e i (placed_dart rows at) ≡ false
-        pub stands : index_of rows (placed_dart rows at) ≡ after face steps number
-        pub unmet : (j : ℕ) → j < steps → after face j number ≢ twin number
+      pub one_face_round : SameCycle face (index_of rows (back e i)) (index_of rows (forward e i)) → HasOneFace rows e i
+      one_face_round same = one_face_forth (SameCycle-sym face (length (darts rows)) permutes (index_of rows (back e i)) (index_of rows (forward e i)) (place_less (darts rows) (back e i) (here_back i less)) same)
 
-      pub walks_none : Walks first 0
-      walks_none = record { placed = first_placed; left = ap (is_opened e i) first_is ∙ not_opened e i; stands = ap (index_of rows) first_is; unmet = λ j none. absurd (omega arith) }
+      pub forth_of_face : HasOneFace rows e i → SameCycle face (index_of rows (forward e i)) (index_of rows (back e i))
+      forth_of_face one = (face_told i less).1 one
 
-      -- what is not the twin has another number
-      pub apart : (at twinned : PlacedDart) → IsPlaced rows at → IsPlaced rows twinned → placed_dart rows twinned ≡ dart_twin (placed_dart rows first) → at ≢ twinned → index_of rows (placed_dart rows at) ≢ twin number
-      apart at twinned at_placed twin_placed is differ same = differ (placed_apart at twinned at_placed twin_placed
-          (index_apart rows good.paths (placed_dart rows at) (placed_dart rows twinned) (placed_here at at_placed) (placed_here twinned twin_placed)
-          (same ∙ sym number_twin ∙ ap (λ (d : Dart). index_of rows (dart_twin d)) (sym first_is) ∙ ap (index_of rows) (sym is))))
+      pub round_of_face : HasOneFace rows e i → SameCycle face (index_of rows (back e i)) (index_of rows (forward e i))
+      round_of_face one = SameCycle-sym face (length (darts rows)) permutes (index_of rows (forward e i)) (index_of rows (back e i)) (place_less (darts rows) (forward e i) (here_forward i less)) (forth_of_face one)
 
-      pub walks_more : (at next : PlacedDart) (steps : ℕ) → Walks at steps → index_of rows (placed_dart rows at) ≢ twin number → IsPlaced rows next → is_opened e i (placed_dart rows next) ≡ false
-          → index_of rows (placed_dart rows next) ≡ face (index_of rows (placed_dart rows at)) → Walks next (suc steps)
-      walks_more at next steps h met placed left is = record {
-        placed = placed;
-        left = left;
-        stands = is ∙ ap face h.stands;
-        unmet = λ j few. elim (cases_eq j steps) [
-          | inl last ↦ λ same. met (h.stands ∙ ap (λ k. after face k number) (sym last) ∙ same)
-          | inr before ↦ h.unmet j (omega arith)
-        ];
-      }
+      module _ (from goal : Dart) (from_here : has_dart (darts rows) from ≡ true) (goal_here : has_dart (darts rows) goal ≡ true) where
+        -- so many steps from the one, and the other was not met
+        pub record Walks (d : Dart) (steps : ℕ) : Type 0 where
+          pub stands : index_of rows d ≡ after face steps (index_of rows from)
+          pub unmet : (j : ℕ) → j ≤ steps → after face j (index_of rows from) ≢ index_of rows goal
 
-      -- the twin is met
-      pub met : (at twinned : PlacedDart) (steps : ℕ) → Walks at steps → placed_dart rows twinned ≡ dart_twin (placed_dart rows first) → at ≡ twinned → HasOneFace rows e i
-      met at twinned steps h is same = (face_told i less).0 (record {
-        steps = steps;
-        leads = sym h.stands ∙ ap (λ (p : PlacedDart). index_of rows (placed_dart rows p)) same ∙ ap (index_of rows) is ∙ ap (λ (d : Dart). index_of rows (dart_twin d)) first_is;
-      })
+        unlike : (d : Dart) → has_dart (darts rows) d ≡ true → d ≢ goal → index_of rows d ≢ index_of rows goal
+        unlike d here differ same = differ (index_apart rows good.paths d goal here goal_here same)
 
-      -- back at the start without it
-      pub home : (next : PlacedDart) (steps : ℕ) → Walks next (suc steps) → next ≡ first → HasOneFace rows e i → ⊥
-      home next steps h same one = unmet_home face number (twin number) steps (sym h.stands ∙ ap (λ (p : PlacedDart). index_of rows (placed_dart rows p)) same ∙ ap (index_of rows) first_is) (λ j few. h.unmet j (omega arith))
-          (subst (SameCycle face number) number_twin ((face_told i less).1 one))
+        pub walks_none : from ≢ goal → Walks from 0
+        walks_none differ = record {
+          stands = refl;
+          unmet = λ j few same. unlike from from_here differ (let none : j ≡ 0 = omega arith in ap (λ k. after face k (index_of rows from)) (sym none) ∙ same);
+        }
 
-      -- as many steps as there are darts without it
-      pub never : (at : PlacedDart) (steps : ℕ) → Walks at steps → length (darts rows) ≤ steps → HasOneFace rows e i → ⊥
-      never at steps h many one = unmet_all face number (twin number) (length (darts rows)) permutes (place_less (darts rows) (forward e i) (here_forward i less)) (λ j few. h.unmet j (omega arith))
-          (subst (SameCycle face number) number_twin ((face_told i less).1 one))
+        module _ (d next : Dart) (steps : ℕ) (h : Walks d steps) (is : index_of rows next ≡ face (index_of rows d)) where
+          stands_next : index_of rows next ≡ after face (suc steps) (index_of rows from)
+          stands_next = is ∙ ap face h.stands
+
+          pub walks_more : has_dart (darts rows) next ≡ true → next ≢ goal → Walks next (suc steps)
+          walks_more here differ = record {
+            stands = stands_next;
+            unmet = λ j few. elim (cases_eq j (suc steps)) [
+              | inl last ↦ λ same. unlike next here differ (stands_next ∙ ap (λ k. after face k (index_of rows from)) (sym last) ∙ same)
+              | inr before ↦ h.unmet j (omega arith)
+            ];
+          }
+
+          pub walks_met : next ≡ goal → SameCycle face (index_of rows from) (index_of rows goal)
+          walks_met same = record { steps = suc steps; leads = sym stands_next ∙ ap (index_of rows) same }
+
+          pub walks_home : next ≡ from → SameCycle face (index_of rows from) (index_of rows goal) → ⊥
+          walks_home same one = unmet_home face (index_of rows from) (index_of rows goal) steps (sym stands_next ∙ ap (index_of rows) same) (λ j few. h.unmet j (omega arith)) one
+
+        pub walks_never : (d : Dart) (steps : ℕ) → Walks d steps → length (darts rows) ≤ steps → SameCycle face (index_of rows from) (index_of rows goal) → ⊥
+        walks_never d steps h many one = unmet_all face (index_of rows from) (index_of rows goal) (length (darts rows)) permutes (place_less (darts rows) from from_here) (λ j few. h.unmet j (omega arith)) one

@@ -1,4 +1,5 @@
 pub mod Cutting
+pub mod FaceWalks
 pub mod Skipping
 pub mod Growing
 pub mod Inserting

@@ -1,77 +1,95 @@
 //! Cuts: the first segment of an edge that has one face on both sides when those before it are out.
-//! The faces are walked on the rows, dart by dart, so that a test looks at these faces alone and takes
-//! no memory.
+//! The faces on both sides of a segment are walked in step, on the table of half-edges, so that a test
+//! costs no more than the smaller of them and takes no memory.
 
-ghost use Rattle.std.specs.Prelude.{◌≡◌, ◌≢◌, ◌+◌, ◌<◌, ◌≤◌, ◌^◌, ◌↔◌, false, true, IsTrue, is_some, length};
+ghost use Rattle.std.specs.Prelude.{◌≡◌, ◌+◌, ◌<◌, ◌^◌, ◌↔◌, ℕ, IsTrue, is_some, length, true};
 ghost use Rattle.topo_core.specs.Changes.{HasOneFace};
 ghost use Rattle.topo_core.specs.Lawful.{IsWellFormed};
-ghost use Rattle.topo_core.specs.Openings.{is_opened, opened_turn};
-ghost use Rattle.topo_core.specs.Picture.{darts, edge_at, edge_row, index_of};
-ghost use Rattle.topo_core.specs.Rotations.{face_next};
-ghost use Rattle.topo_frozen.specs.Placed.{IsPlaced, placed_dart};
-ghost use Rattle.topo_picture.specs.Cutting.{IsEdgeAt, IsFirstCut};
+ghost use Rattle.topo_core.specs.Openings.{is_opened};
+ghost use Rattle.topo_core.specs.Picture.{darts, edge_row};
+ghost use Rattle.topo_core.specs.Pictures.{forward};
+ghost use Rattle.topo_core.specs.Systems.{has_dart};
+ghost use Rattle.topo_core.specs.declared.darts.Dart.{Dart};
+ghost use Rattle.topo_core.specs.declared.rows.Rows.{Rows};
+ghost use Rattle.topo_links.specs.Shown.{straight_from};
+ghost use Rattle.topo_links.specs.Tables.{ShowsRows, link_at};
+ghost use Rattle.topo_picture.specs.Cutting.{IsFirstCut, IsLeft, IsNextLeft, IsOpenedIn};
 
-use topo_core::darts::Way;
 use topo_core::rows::Rows;
 use topo_frozen::Hints;
 use topo_frozen::by_id::place_of_edge;
-use topo_frozen::placed::{PlacedDart, opposite, turned};
+use topo_links::table::Links;
 
-/// Whether a dart lies on one of the first `out` segments of an edge.
-fn is_out(rows: &Rows, e: u32, out: usize, at: PlacedDart) -> bool
-    requires placed { IsPlaced rows.now at }
-    ensures { result ≡ is_opened e out (placed_dart rows.now at) }
+/// The dart straight on along its edge, past the crossing at the end of the segment.
+fn straight_on(links: &Links, dart: u32) -> u32
+    requires here { dart < length links.now.links }
+    requires back { (link_at links.now dart).twin < length links.now.links }
+    requires side { (link_at links.now (link_at links.now dart).twin).next < length links.now.links }
+    ensures { result ≡ straight_from links.now dart }
 {
-    rows.edges.as_slice()[at.place()].id == e && at.segment() < out
+    let back = links.link(dart).twin;
+    links.link(links.link(back).next).next
 }
 
-/// The next dart along the face when the first `out` segments of an edge are out.
-fn next_left(rows: &Rows, hints: &Hints, e: u32, out: usize, at: PlacedDart) -> PlacedDart
-    requires well_formed { IsWellFormed rows.now }
-    requires edge { is_some (edge_row rows.now e) ≡ true }
-    requires path { out ≤ length (edge_at rows.now e).crossings + 1 }
-    requires few { length (darts rows.now) < 2 ^ 32 }
-    requires placed { IsPlaced rows.now at }
-    requires left { is_opened e out (placed_dart rows.now at) ≡ false }
-    ensures placed { IsPlaced rows.now result }
-    ensures left { is_opened e out (placed_dart rows.now result) ≡ false }
-    ensures next { index_of rows.now (placed_dart rows.now result) ≡ face_next (opened_turn rows.now e out) (index_of rows.now (placed_dart rows.now at)) }
+/// Whether a dart lies on one of the first `out` segments of the edge whose first dart is `first`.
+fn is_among(links: &Links, first: u32, out: usize, dart: u32) -> bool
+    requires { (rows : Rows) × (e : ℕ) × (o : IsOpenedIn rows links.now e first out) × (d : Dart) × (has_dart (darts rows) d ≡ true) × (dart ≡ o.name d) }
+    ensures { (rows : Rows) (e : ℕ) (o : IsOpenedIn rows links.now e first out) (d : Dart) → has_dart (darts rows) d ≡ true → dart ≡ o.name d → result ≡ is_opened e out d }
 {
-    let mut next = turned(rows, hints, opposite(at));
+    let mut at = first;
+    for _passed in 0..out {
+        if at == dart || links.link(at).twin == dart {
+            return true;
+        }
+        at = straight_on(links, at);
+    }
+    false
+}
+
+/// Whether a dart is out when the first `out` segments of edge `e` are.
+fn is_out(links: &Links, e: u32, first: u32, out: usize, dart: u32) -> bool
+    requires { (rows : Rows) × (o : IsOpenedIn rows links.now e first out) × (d : Dart) × (has_dart (darts rows) d ≡ true) × (dart ≡ o.name d) }
+    ensures { (rows : Rows) (o : IsOpenedIn rows links.now e first out) (d : Dart) → has_dart (darts rows) d ≡ true → dart ≡ o.name d → result ≡ is_opened e out d }
+{
+    if links.link(dart).edge == e {
+        is_among(links, first, out, dart)
+    } else {
+        false
+    }
+}
+
+/// The next dart along the face when the first `out` segments of edge `e` are out.
+fn next_left(links: &Links, e: u32, first: u32, out: usize, dart: u32) -> u32
+    requires { (rows : Rows) × (o : IsOpenedIn rows links.now e first out) × (d : Dart) × IsLeft rows o.name e out d dart }
+    ensures { (rows : Rows) (o : IsOpenedIn rows links.now e first out) (d : Dart) → IsLeft rows o.name e out d dart → (next : Dart) × IsNextLeft rows o.name e out d next result }
+{
+    let mut next = links.link(links.link(dart).twin).next;
     for _passed in 0..u32::MAX {
-        if !is_out(rows, e, out, next) {
+        if !is_out(links, e, first, out, next) {
             return next;
         }
-        next = turned(rows, hints, next);
+        next = links.link(next).next;
     }
     next
 }
 
-/// Whether two are one dart.
-fn are_same(a: PlacedDart, b: PlacedDart) -> bool
-    ensures same { result ≡ true → a ≡ b }
-    ensures apart { result ≡ false → a ≢ b }
+/// Whether the segment at which edge `e` stands open has one face on both sides. Its dart forward is
+/// `dart`. The faces on both sides are walked in step: they are one as soon as either walk comes to the
+/// start of the other, and two as soon as either comes home.
+fn has_one_face(links: &Links, e: u32, first: u32, segment: usize, dart: u32) -> bool
+    requires { (rows : Rows) × (o : IsOpenedIn rows links.now e first segment) × (dart ≡ o.name (forward e segment)) }
+    ensures { (rows : Rows) (o : IsOpenedIn rows links.now e first segment) → dart ≡ o.name (forward e segment) → (IsTrue result ↔ HasOneFace rows e segment) }
 {
-    a.place() == b.place() && a.segment() == b.segment() && a.way() == b.way()
-}
-
-/// Whether a segment of the edge at a place has one face on both sides when those before it are out.
-fn has_one_face(rows: &Rows, hints: &Hints, e: u32, place: usize, segment: usize) -> bool
-    requires well_formed { IsWellFormed rows.now }
-    requires edge { IsEdgeAt rows.now place e }
-    requires path { segment ≤ length (edge_at rows.now e).crossings }
-    requires few { length (darts rows.now) < 2 ^ 32 }
-    ensures { IsTrue result ↔ HasOneFace rows.now e segment }
-{
-    let dart = PlacedDart::new(place, segment, Way::Forward);
-    let other = opposite(dart);
-    let mut at = dart;
+    let twin = links.link(dart).twin;
+    let mut left = dart;
+    let mut right = twin;
     for _steps in 0..u32::MAX {
-        if are_same(at, other) {
+        left = next_left(links, e, first, segment, left);
+        right = next_left(links, e, first, segment, right);
+        if left == twin || right == dart {
             return true;
         }
-        at = next_left(rows, hints, e, segment, at);
-        if are_same(at, dart) {
+        if left == dart || right == twin {
             return false;
         }
     }
@@ -79,18 +97,22 @@ fn has_one_face(rows: &Rows, hints: &Hints, e: u32, place: usize, segment: usize
 }
 
 /// The first segment of an edge with one face on both sides when those before it are out.
-pub(crate) fn first_cut(rows: &Rows, hints: &Hints, e: u32) -> Option<u32>
+pub(crate) fn first_cut(rows: &Rows, links: &Links, hints: &Hints, e: u32) -> Option<u32>
     requires well_formed { IsWellFormed rows.now }
+    requires shows { ShowsRows rows.now links.now }
     requires there { is_some (edge_row rows.now e) ≡ true }
     requires few { length (darts rows.now) < 2 ^ 32 }
     ensures { IsFirstCut rows.now e result }
 {
     let edges = rows.edges.as_slice();
     let place = place_of_edge(edges, hints, e);
+    let first = links.ends_at(place).a;
+    let mut dart = first;
     for segment in 0..edges[place].crossings.as_slice().len() + 1 {
-        if has_one_face(rows, hints, e, place, segment) {
+        if has_one_face(links, e, first, segment, dart) {
             return Some(segment as u32);
         }
+        dart = straight_on(links, dart);
     }
     None
 }

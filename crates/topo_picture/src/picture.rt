@@ -213,7 +213,7 @@ impl Picture {
         if !has_edge(&self.rows, &self.hints, edge) {
             return Err(Refusal::NoEdge);
         }
-        match first_cut(&self.rows, &self.hints, edge) {
+        match first_cut(&self.rows, &self.links, &self.hints, edge) {
             Some(segment) => Err(Refusal::Cut(segment)),
             None => Ok(()),
         }

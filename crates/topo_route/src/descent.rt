@@ -21,7 +21,8 @@ use std::alloc::{AllocError, Global};
 use topo_core::darts::Dart;
 use topo_price::tariff::Asks;
 
-/// The least height of a corner, and the greatest number where there is none.
+/// The least height of a corner, and the greatest number where there is none. No corner is asked after
+/// one of height 0.
 pub(crate) fn least_corner<W: Walked>(walked: &W, u: u32, heights: &Sheet) -> u64
     requires { length heights.now ≡ (W.named walked.now).size }
     ensures low { (p : ℕ) → (c : Dart) → corner (W.named walked.now).rows u p ≡ Some c → result ≤ height_of (W.named walked.now) heights.now c }
@@ -31,6 +32,9 @@ pub(crate) fn least_corner<W: Walked>(walked: &W, u: u32, heights: &Sheet) -> u6
     for position in 0..walked.degree(u) {
         if let Some(corner) = corner_at(walked, u, position) {
             let height = heights.get(corner);
+            if height == 0 {
+                return 0;
+            }
             if height < least {
                 least = height;
             }

@@ -1,7 +1,9 @@
-use Rattle.std.proofs.Common.{ap, arith, length}
+use Rattle.std.proofs.Common.{◌∙◌, ap, arith, length, sym}
+use Rattle.std.proofs.lemmas.Bool.{eqb-true}
 use Rattle.topo_core.specs.declared.rows.Rows.{Rows}
 use Rattle.topo_core.proofs.SystemDarts.{path_facts, row_in}
 use Rattle.topo_changes.proofs.Deleting.{parts_left}
+use Rattle.topo_changes.proofs.UncrossedEdges.{parts_left_uncrossed}
 use Rattle.topo_changes.proofs.deletion.delete_rows.Goals as goal
 
 pub leave_ends-requires-clause-a : goal.leave_ends-requires-clause-a
@@ -13,6 +15,13 @@ pub leave_ends-requires-clause-b : goal.leave_ends-requires-clause-b
 leave_ends-requires-clause-b c =
     let facts = path_facts c.args.rows.now c.requires.well_formed.paths c.delete_edge-row.result (row_in c.args.rows.now c.args.e c.delete_edge-row.result c.delete_edge-row.ensures.row) in
     let inside = facts.b_in in let as_many = ap (λ (r : Rows). length r.rotations) c.delete_edge-row.ensures.rows in omega arith
+
+pub returns-then-is_empty : goal.returns-then-is_empty
+returns-then-is_empty c =
+    parts_left_uncrossed c.args.rows.now c.requires.well_formed c.args.e c.delete_edge-row.result c.delete_edge-row.ensures.row
+    (ap length (sym c.as_slice-path.ensures) ∙ eqb-true (length c.as_slice-path.result.now) 0 (sym c.is_empty.ensures ∙ c.if-is_empty.true))
+    c.delete_edge-row.new.rows c.leave_ends.new.rows
+    c.delete_edge-row.ensures.rows c.leave_ends.ensures
 
 pub returns : goal.returns
 returns c =

@@ -1,67 +1,73 @@
-use Rattle.std.proofs.Common.{◌≤◌, ◌<◌, ◌∙◌, ap, arith, length, refl, subst, sym, ℕ}
+use Rattle.std.proofs.Common.{◌≡◌, ◌+◌, ◌∙◌, ap, arith, refl, subst, suc, sym, ℕ}
 use Rattle.std.proofs.lemmas.Bool.{false≢true}
-use Rattle.topo_core.specs.declared.rows.EdgeRow.{EdgeRow}
-use Rattle.topo_core.specs.Darts.{dart_twin}
-use Rattle.topo_core.specs.Picture.{segment_count}
-use Rattle.topo_frozen.specs.Placed.{IsPlaced, placed_dart}
-use Rattle.topo_core.proofs.SystemDarts.{edge_at_row}
-use Rattle.topo_picture.proofs.Cutting.{apart, first_placed, home, met, never, Walks, walks_more, walks_none}
+use Rattle.topo_links.specs.declared.table.Link.{Link}
+use Rattle.topo_picture.proofs.FaceWalks.{dart_inside, home_left, home_right, in_step_more, in_step_never, in_step_none, InStep, met_left, met_right}
 use Rattle.topo_picture.proofs.cuts.has_one_face.Goals as goal
+use Rattle.topo_picture.proofs.cuts.has_one_face.Goals.{then-left-dart-via-then-left-dart, then-left-dart-via-else-left-dart+then-right-twin, then-left-twin-via-then-left-twin, then-left-twin-via-else-left-twin+then-right-dart}
+
+pub link-twin-requires : goal.link-twin-requires
+link-twin-requires c = let (rows, o, is) = c.requires in dart_inside rows c.args.links.now c.args.e c.args.first c.args.segment o c.args.dart is
 
 pub loop-steps-init : goal.loop-steps-init
-loop-steps-init c = λ good row there at_place less.
-    subst (λ d. Walks c.args.rows.now good c.args.e row there c.args.place at_place c.args.segment less d 0) (sym c.new-dart.ensures) (walks_none c.args.rows.now good c.args.e row there c.args.place at_place c.args.segment less)
+loop-steps-init c = λ rows o is.
+    subst (λ (n : ℕ). InStep rows c.args.links.now c.args.e c.args.first c.args.segment o c.args.dart n 0) (sym (ap (λ (l : Link). l.twin) c.link-twin.ensures))
+    (in_step_none rows c.args.links.now c.args.e c.args.first c.args.segment o c.args.dart is)
 
-pub returns-then-are_same : goal.returns-then-are_same
-returns-then-are_same c =
-    let edge = c.requires.edge in
-    let good = c.requires.well_formed in
-    let less : c.args.segment < segment_count edge.row = (let path = subst (λ (r : EdgeRow). c.args.segment ≤ length r.crossings) (edge_at_row c.args.rows.now c.args.e edge.row edge.known) c.requires.path in omega arith) in (
-      λ yes. met c.args.rows.now good c.args.e edge.row edge.known c.args.place edge.there c.args.segment less c.loop-steps.at c.opposite-other.result c.loop-steps._steps (c.loop-steps.invariant good edge.row edge.known edge.there less)
-          (c.opposite-other.ensures.twin c.args.rows.now ∙ ap (λ d. dart_twin (placed_dart c.args.rows.now d)) c.new-dart.ensures) (c.are_same.ensures.same c.if-are_same.true),
-      λ one. refl,
-    )
+pub next_left-left-requires : goal.next_left-left-requires
+next_left-left-requires c =
+    let (rows, o, is) = c.requires in
+    let at = c.loop-steps.invariant rows o is in (rows, o, at.left_dart, at.left_is)
 
-pub next_left-at-requires-clause-placed : goal.next_left-at-requires-clause-placed
-next_left-at-requires-clause-placed c =
-    let edge = c.requires.edge in
-    let good = c.requires.well_formed in
-    let less : c.args.segment < segment_count edge.row = (let path = subst (λ (r : EdgeRow). c.args.segment ≤ length r.crossings) (edge_at_row c.args.rows.now c.args.e edge.row edge.known) c.requires.path in omega arith) in
-    (c.loop-steps.invariant good edge.row edge.known edge.there less).placed
-
-pub next_left-at-requires-clause-left : goal.next_left-at-requires-clause-left
-next_left-at-requires-clause-left c =
-    let edge = c.requires.edge in
-    let good = c.requires.well_formed in
-    let less : c.args.segment < segment_count edge.row = (let path = subst (λ (r : EdgeRow). c.args.segment ≤ length r.crossings) (edge_at_row c.args.rows.now c.args.e edge.row edge.known) c.requires.path in omega arith) in
-    (c.loop-steps.invariant good edge.row edge.known edge.there less).left
-
-pub returns-then-are_same-2 : goal.returns-then-are_same-2
-returns-then-are_same-2 c =
-    let edge = c.requires.edge in
-    let good = c.requires.well_formed in
-    let less : c.args.segment < segment_count edge.row = (let path = subst (λ (r : EdgeRow). c.args.segment ≤ length r.crossings) (edge_at_row c.args.rows.now c.args.e edge.row edge.known) c.requires.path in omega arith) in
-    let walks = c.loop-steps.invariant good edge.row edge.known edge.there less in
-    let unlike = apart c.args.rows.now good c.args.e edge.row edge.known c.args.place edge.there c.args.segment less c.loop-steps.at c.opposite-other.result walks.placed (c.opposite-other.ensures.placed c.args.rows.now (subst (IsPlaced c.args.rows.now) (sym c.new-dart.ensures) (first_placed c.args.rows.now good c.args.e edge.row edge.known c.args.place edge.there c.args.segment less))) (c.opposite-other.ensures.twin c.args.rows.now ∙ ap (λ d. dart_twin (placed_dart c.args.rows.now d)) c.new-dart.ensures) (c.are_same.ensures.apart c.if-are_same.false) in (
-      λ yes. absurd (false≢true yes),
-      λ one. absurd (home c.args.rows.now good c.args.e edge.row edge.known c.args.place edge.there c.args.segment less c.next_left-at.result c.loop-steps._steps
-          (walks_more c.args.rows.now good c.args.e edge.row edge.known c.args.place edge.there c.args.segment less c.loop-steps.at c.next_left-at.result c.loop-steps._steps walks unlike c.next_left-at.ensures.placed c.next_left-at.ensures.left c.next_left-at.ensures.next)
-          (c.are_same-in-loop-steps.ensures.same c.if-are_same-2.true ∙ c.new-dart.ensures) one),
-    )
-
-pub loop-steps-preserved : goal.loop-steps-preserved
-loop-steps-preserved c = λ good row there at_place less.
-    let walks = c.loop-steps.invariant good row there at_place less in
-    let unlike = apart c.args.rows.now good c.args.e row there c.args.place at_place c.args.segment less c.loop-steps.at c.opposite-other.result walks.placed (c.opposite-other.ensures.placed c.args.rows.now (subst (IsPlaced c.args.rows.now) (sym c.new-dart.ensures) (first_placed c.args.rows.now good c.args.e row there c.args.place at_place c.args.segment less))) (c.opposite-other.ensures.twin c.args.rows.now ∙ ap (λ d. dart_twin (placed_dart c.args.rows.now d)) c.new-dart.ensures) (c.are_same.ensures.apart c.if-are_same.false) in
-    subst (λ (n : ℕ). Walks c.args.rows.now good c.args.e row there c.args.place at_place c.args.segment less c.next_left-at.result n) (omega arith)
-    (walks_more c.args.rows.now good c.args.e row there c.args.place at_place c.args.segment less c.loop-steps.at c.next_left-at.result c.loop-steps._steps walks unlike c.next_left-at.ensures.placed c.next_left-at.ensures.left c.next_left-at.ensures.next)
+pub next_left-right-requires : goal.next_left-right-requires
+next_left-right-requires c =
+    let (rows, o, is) = c.requires in
+    let at = c.loop-steps.invariant rows o is in (rows, o, at.right_dart, at.right_is)
 
 pub returns : goal.returns
-returns c =
-    let edge = c.requires.edge in
-    let good = c.requires.well_formed in
-    let less : c.args.segment < segment_count edge.row = (let path = subst (λ (r : EdgeRow). c.args.segment ≤ length r.crossings) (edge_at_row c.args.rows.now c.args.e edge.row edge.known) c.requires.path in omega arith) in (
-      λ yes. absurd (false≢true yes),
-      λ one. absurd (never c.args.rows.now good c.args.e edge.row edge.known c.args.place edge.there c.args.segment less c.loop-steps.at c.loop-steps._steps (c.loop-steps.invariant good edge.row edge.known edge.there less)
-          (let few = c.requires.few in let end = c.loop-steps-test.false in omega arith) one),
-    )
+returns c = λ rows o is. (
+  λ yes. absurd (false≢true yes),
+  λ one. absurd (in_step_never rows c.args.links.now c.args.e c.args.first c.args.segment o c.args.dart is c.loop-steps.left c.loop-steps.right c.loop-steps._steps (c.loop-steps.invariant rows o is)
+      (let few = o.few in let end = c.loop-steps-test.false in omega arith) one),
+)
+
+pub returns-then-left-twin : goal.returns-then-left-twin
+returns-then-left-twin c = λ rows o is.
+    let at = c.loop-steps.invariant rows o is in
+    let left = c.next_left-left.ensures rows o at.left_dart at.left_is in
+    let right = c.next_left-right.ensures rows o at.right_dart at.right_is in
+    elim c.then-left-twin.branch [
+      | then-left-twin-via-then-left-twin w ↦ (
+        λ yes. met_left rows c.args.links.now c.args.e c.args.first c.args.segment o c.args.dart is c.loop-steps.left c.loop-steps.right c.loop-steps._steps at c.next_left-left.result c.next_left-right.result left right
+            (w.if-left-twin.true ∙ ap (λ (l : Link). l.twin) c.link-twin.ensures),
+        λ one. refl,
+      )
+      | then-left-twin-via-else-left-twin+then-right-dart w ↦ (
+        λ yes. met_right rows c.args.links.now c.args.e c.args.first c.args.segment o c.args.dart is c.loop-steps.left c.loop-steps.right c.loop-steps._steps at c.next_left-left.result c.next_left-right.result left right w.if-right-dart.true,
+        λ one. refl,
+      )
+    ]
+
+pub returns-then-left-dart : goal.returns-then-left-dart
+returns-then-left-dart c = λ rows o is.
+    let at = c.loop-steps.invariant rows o is in
+    let left = c.next_left-left.ensures rows o at.left_dart at.left_is in
+    let right = c.next_left-right.ensures rows o at.right_dart at.right_is in
+    elim c.then-left-dart.branch [
+      | then-left-dart-via-then-left-dart w ↦ (
+        λ yes. absurd (false≢true yes),
+        λ one. absurd (home_left rows c.args.links.now c.args.e c.args.first c.args.segment o c.args.dart is c.loop-steps.left c.loop-steps.right c.loop-steps._steps at c.next_left-left.result c.next_left-right.result left right w.if-left-dart.true one),
+      )
+      | then-left-dart-via-else-left-dart+then-right-twin w ↦ (
+        λ yes. absurd (false≢true yes),
+        λ one. absurd (home_right rows c.args.links.now c.args.e c.args.first c.args.segment o c.args.dart is c.loop-steps.left c.loop-steps.right c.loop-steps._steps at c.next_left-left.result c.next_left-right.result left right
+            (w.if-right-twin.true ∙ ap (λ (l : Link). l.twin) c.link-twin.ensures) one),
+      )
+    ]
+
+pub loop-steps-preserved : goal.loop-steps-preserved
+loop-steps-preserved c = λ rows o is.
+    let at = c.loop-steps.invariant rows o is in
+    subst (λ (n : ℕ). InStep rows c.args.links.now c.args.e c.args.first c.args.segment o c.next_left-left.result c.next_left-right.result n) (let one : suc c.loop-steps._steps ≡ c.loop-steps._steps + 1 = omega arith in one)
+    (in_step_more rows c.args.links.now c.args.e c.args.first c.args.segment o c.args.dart is c.loop-steps.left c.loop-steps.right c.loop-steps._steps at c.next_left-left.result c.next_left-right.result
+    (c.next_left-left.ensures rows o at.left_dart at.left_is) (c.next_left-right.ensures rows o at.right_dart at.right_is)
+    (λ same. c.if-left-twin.false (same ∙ sym (ap (λ (l : Link). l.twin) c.link-twin.ensures))) c.if-right-dart.false)

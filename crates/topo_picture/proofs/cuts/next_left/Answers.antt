@@ -1,54 +1,49 @@
-use Rattle.std.proofs.Common.{◌≡◌, ◌≤◌, ◌+◌, ◌∙◌, ap, arith, length, subst, sym, ℕ}
-use Rattle.topo_core.specs.declared.rows.EdgeRow.{EdgeRow}
+use Rattle.std.proofs.Common.{◌<◌, ◌∙◌, ap, arith, length, subst, suc, sym, ℕ}
 use Rattle.topo_core.specs.Darts.{dart_twin}
-use Rattle.topo_core.specs.Picture.{edge_row, index_of, segment_count, system}
-use Rattle.topo_core.specs.Systems.{turn}
-use Rattle.topo_core.proofs.Numbering.{twin_in}
-use Rattle.topo_core.proofs.SystemDarts.{edge_at_row, some_of}
-use Rattle.topo_frozen.specs.Placed.{placed_dart}
-use Rattle.topo_picture.proofs.Cutting.{Passes, passes_few, passes_more, passes_none, passes_to, placed_here}
+use Rattle.topo_core.specs.Picture.{index_of}
+use Rattle.topo_links.specs.declared.table.Link.{Link}
+use Rattle.topo_links.specs.Tables.{link_at}
+use Rattle.topo_picture.proofs.FaceWalks.{start_inside, start_twin_inside, Turns, turns_few, turns_inside, turns_more, turns_none, turns_to}
 use Rattle.topo_picture.proofs.cuts.next_left.Goals as goal
 
+pub link-requires : goal.link-requires
+link-requires c = let (rows, o, d, left) = c.requires in start_inside rows c.args.links.now c.args.e c.args.first c.args.out o d c.args.dart left
+
+pub link-next-requires : goal.link-next-requires
+link-next-requires c =
+    let (rows, o, d, left) = c.requires in
+    subst (λ (l : Link). l.twin < length c.args.links.now.links) (sym c.link.ensures) (start_twin_inside rows c.args.links.now c.args.e c.args.first c.args.out o d c.args.dart left)
+
 pub loop-passed-init : goal.loop-passed-init
-loop-passed-init c = λ good row there.
-    let twin : placed_dart c.args.rows.now c.opposite.result ≡ dart_twin (placed_dart c.args.rows.now c.args.at) = c.opposite.ensures.twin c.args.rows.now in
-    passes_none c.args.rows.now good c.args.e row there c.args.out (dart_twin (placed_dart c.args.rows.now c.args.at)) c.turned-next.result
-    (twin_in c.args.rows.now (placed_dart c.args.rows.now c.args.at) (placed_here c.args.rows.now good c.args.e c.args.at c.requires.placed))
-    c.turned-next.ensures.placed (c.turned-next.ensures.turn ∙ ap (turn (system c.args.rows.now)) twin)
+loop-passed-init c = λ rows o d left.
+    subst (λ (n : ℕ). Turns rows c.args.links.now c.args.e c.args.first c.args.out o (index_of rows (dart_twin d)) n 0)
+    (sym (ap (λ (l : Link). l.next) c.link-next.ensures ∙ ap (λ (l : Link). (link_at c.args.links.now l.twin).next) c.link.ensures))
+    (turns_none rows c.args.links.now c.args.e c.args.first c.args.out o d c.args.dart left)
 
 pub is_out-requires : goal.is_out-requires
-is_out-requires c = let row = some_of (edge_row c.args.rows.now c.args.e) c.requires.edge in record { placed = (c.loop-passed.invariant c.requires.well_formed row.0 row.1).placed }
+is_out-requires c =
+    let (rows, o, d, left) = c.requires in
+    let at = c.loop-passed.invariant rows o d left in
+    (rows, o, at.dart, at.passes.here, at.named)
 
-pub returns-then-not-is_out-clause-placed : goal.returns-then-not-is_out-clause-placed
-returns-then-not-is_out-clause-placed c = let row = some_of (edge_row c.args.rows.now c.args.e) c.requires.edge in (c.loop-passed.invariant c.requires.well_formed row.0 row.1).placed
+pub returns-then-not-is_out : goal.returns-then-not-is_out
+returns-then-not-is_out c = λ rows o d left.
+    let at = c.loop-passed.invariant rows o d left in
+    (at.dart, turns_to rows c.args.links.now c.args.e c.args.first c.args.out o d c.args.dart left c.loop-passed.next c.loop-passed._passed at (sym (c.is_out.ensures rows o at.dart at.passes.here at.named) ∙ c.if-not-is_out.true))
 
-pub returns-then-not-is_out-clause-next : goal.returns-then-not-is_out-clause-next
-returns-then-not-is_out-clause-next c =
-    let row = some_of (edge_row c.args.rows.now c.args.e) c.requires.edge in
-    let rows = c.args.rows.now in
-    let few : c.args.out ≤ segment_count row.0 = subst (λ (r : EdgeRow). c.args.out ≤ length r.crossings + 1) (edge_at_row rows c.args.e row.0 row.1) c.requires.path in
-    passes_to rows c.requires.well_formed c.args.e row.0 row.1 c.args.out few (placed_dart rows c.args.at) (placed_here rows c.requires.well_formed c.args.e c.args.at c.requires.placed) c.requires.left
-    c.loop-passed.next c.loop-passed._passed (c.loop-passed.invariant c.requires.well_formed row.0 row.1) (sym c.is_out.ensures ∙ c.if-not-is_out.true)
-
-pub turned-next-requires-in-loop-passed-clause-placed : goal.turned-next-requires-in-loop-passed-clause-placed
-turned-next-requires-in-loop-passed-clause-placed c = let row = some_of (edge_row c.args.rows.now c.args.e) c.requires.edge in (c.loop-passed.invariant c.requires.well_formed row.0 row.1).placed
+pub link-next-requires-in-loop-passed : goal.link-next-requires-in-loop-passed
+link-next-requires-in-loop-passed c =
+    let (rows, o, d, left) = c.requires in
+    turns_inside rows c.args.links.now c.args.e c.args.first c.args.out o d c.args.dart left c.loop-passed.next c.loop-passed._passed (c.loop-passed.invariant rows o d left)
 
 pub loop-passed-preserved : goal.loop-passed-preserved
-loop-passed-preserved c = λ good row there. subst (λ (n : ℕ). Passes c.args.rows.now good c.args.e row there c.args.out (index_of c.args.rows.now (dart_twin (placed_dart c.args.rows.now c.args.at))) c.turned-next-in-loop-passed.result n) (omega arith)
-    (passes_more c.args.rows.now good c.args.e row there c.args.out (index_of c.args.rows.now (dart_twin (placed_dart c.args.rows.now c.args.at))) c.loop-passed.next c.turned-next-in-loop-passed.result c.loop-passed._passed
-    (c.loop-passed.invariant good row there) (sym c.is_out.ensures ∙ c.if-not-is_out.false) c.turned-next-in-loop-passed.ensures.placed c.turned-next-in-loop-passed.ensures.turn)
+loop-passed-preserved c = λ rows o d left.
+    let at = c.loop-passed.invariant rows o d left in
+    let more = turns_more rows c.args.links.now c.args.e c.args.first c.args.out o d c.args.dart left c.loop-passed.next c.loop-passed._passed at (sym (c.is_out.ensures rows o at.dart at.passes.here at.named) ∙ c.if-not-is_out.false) in
+    subst (λ (n : ℕ). Turns rows c.args.links.now c.args.e c.args.first c.args.out o (index_of rows (dart_twin d)) c.link-next-in-loop-passed.result.next n) (omega arith)
+    (subst (λ (n : ℕ). Turns rows c.args.links.now c.args.e c.args.first c.args.out o (index_of rows (dart_twin d)) n (suc c.loop-passed._passed)) (sym (ap (λ (l : Link). l.next) c.link-next-in-loop-passed.ensures)) more)
 
-pub returns-clause-placed : goal.returns-clause-placed
-returns-clause-placed c = let row = some_of (edge_row c.args.rows.now c.args.e) c.requires.edge in (c.loop-passed.invariant c.requires.well_formed row.0 row.1).placed
-
-pub returns-clause-left : goal.returns-clause-left
-returns-clause-left c =
-    let row = some_of (edge_row c.args.rows.now c.args.e) c.requires.edge in
-    absurd (passes_few c.args.rows.now c.requires.well_formed c.args.e row.0 row.1 c.args.out (let few : c.args.out ≤ segment_count row.0 = subst (λ (r : EdgeRow). c.args.out ≤ length r.crossings + 1) (edge_at_row c.args.rows.now c.args.e row.0 row.1) c.requires.path in few) (placed_dart c.args.rows.now c.args.at) (placed_here c.args.rows.now c.requires.well_formed c.args.e c.args.at c.requires.placed) c.requires.left
-    c.loop-passed.next c.loop-passed._passed (c.loop-passed.invariant c.requires.well_formed row.0 row.1) (let few = c.requires.few in let end = c.loop-passed-test.false in omega arith))
-
-pub returns-clause-next : goal.returns-clause-next
-returns-clause-next c =
-    let row = some_of (edge_row c.args.rows.now c.args.e) c.requires.edge in
-    absurd (passes_few c.args.rows.now c.requires.well_formed c.args.e row.0 row.1 c.args.out (let few : c.args.out ≤ segment_count row.0 = subst (λ (r : EdgeRow). c.args.out ≤ length r.crossings + 1) (edge_at_row c.args.rows.now c.args.e row.0 row.1) c.requires.path in few) (placed_dart c.args.rows.now c.args.at) (placed_here c.args.rows.now c.requires.well_formed c.args.e c.args.at c.requires.placed) c.requires.left
-    c.loop-passed.next c.loop-passed._passed (c.loop-passed.invariant c.requires.well_formed row.0 row.1) (let few = c.requires.few in let end = c.loop-passed-test.false in omega arith))
+pub returns : goal.returns
+returns c = λ rows o d left.
+    absurd (turns_few rows c.args.links.now c.args.e c.args.first c.args.out o d c.args.dart left c.loop-passed.next c.loop-passed._passed (c.loop-passed.invariant rows o d left)
+    (let few = o.few in let end = c.loop-passed-test.false in omega arith))

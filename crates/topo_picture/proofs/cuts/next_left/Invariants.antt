@@ -1,13 +1,12 @@
-use Rattle.std.proofs.Common.{◌≡◌, Some}
-use Rattle.topo_core.specs.declared.rows.EdgeRow.{EdgeRow}
+use Rattle.topo_core.specs.declared.darts.Dart.{Dart}
+use Rattle.topo_core.specs.declared.rows.Rows.{Rows}
 use Rattle.topo_core.specs.Darts.{dart_twin}
-use Rattle.topo_core.specs.Lawful.{IsWellFormed}
-use Rattle.topo_core.specs.Picture.{edge_row, index_of}
-use Rattle.topo_frozen.specs.Placed.{placed_dart}
-use Rattle.topo_picture.proofs.Cutting.{Passes}
+use Rattle.topo_core.specs.Picture.{index_of}
+use Rattle.topo_picture.specs.Cutting.{IsLeft, IsOpenedIn}
+use Rattle.topo_picture.proofs.FaceWalks.{Turns}
 use Rattle.topo_picture.proofs.cuts.next_left.Given as goal
 
 -- the darts that were passed are out
 abbrev pub invariant-loop-passed : goal.invariant-loop-passed
-invariant-loop-passed l = (good : IsWellFormed l.rows) (row : EdgeRow) (there : edge_row l.rows l.e ≡ Some row)
-    → Passes l.rows good l.e row there l.out (index_of l.rows (dart_twin (placed_dart l.rows l.fn.at))) l.next l._passed
+invariant-loop-passed l = (rows : Rows) (o : IsOpenedIn rows l.links l.e l.first l.out) (d : Dart) → IsLeft rows o.name l.e l.out d l.fn.dart
+    → Turns rows l.links l.e l.first l.out o (index_of rows (dart_twin d)) l.next l._passed
