@@ -1,3 +1,5 @@
 pub mod Listing
 pub mod Numbers
 pub mod Made
+pub mod Apart
+pub mod Reading

@@ -1,18 +1,23 @@
 //! Rows with their embedding.
 
-ghost use Rattle.std.specs.Prelude.{◌≡◌, ◌*◌, ◌<◌, ◌^◌, true, IfOk, length, slice_index_or, sum_by};
+ghost use Rattle.std.specs.Prelude.{◌≡◌, ◌*◌, ◌<◌, ◌≤◌, ◌^◌, true, IfOk, is_some, length, option_map, slice_index_or, sum_by};
 ghost use Rattle.topo_core.specs.declared.darts.Dart.{Dart};
 ghost use Rattle.topo_core.specs.Lawful.{IsWellFormed};
-ghost use Rattle.topo_core.specs.Picture.{darts, segment_count, system};
+ghost use Rattle.topo_core.specs.Picture.{corner, darts, edge_at, edge_row, end_dart, segment_count, system};
+ghost use Rattle.topo_core.specs.Routes.{AreFactsOf};
 ghost use Rattle.topo_core.specs.Systems.{face_step, has_dart};
 ghost use Rattle.topo_embedded.specs.Halves.{IsHalf, half_in, path_of};
+ghost use Rattle.topo_embedded.specs.Walking.{named_in};
+ghost use Rattle.topo_route.specs.Names.{IsNamed};
 
 use crate::making::{labels_of, paths_of};
+use crate::walking::{end_of, led, place_on_path};
 use std::alloc::{AllocError, Global};
 use std::marker::Model;
 use topo_core::darts::{Dart, Way};
+use topo_core::ids::EdgeId;
 use topo_core::listed::Listed;
-use topo_core::rows::Rows;
+use topo_core::rows::{Facts, Rows};
 use topo_frozen::Hints;
 use topo_frozen::by_id::place_of_edge;
 use topo_frozen::flat::{begins_of, turns_from};
@@ -99,5 +104,70 @@ impl Embedded {
         ensures { (d : Dart) → has_dart (darts self.now.rows) d ≡ true → half_in self.now d ≡ half → result ≡ half_in self.now (face_step (system self.now.rows) d) }
     {
         self.segments.face_next(half)
+    }
+
+    /// A number that those of all halves are below.
+    pub fn size(&self) -> u32
+        ensures named { IsNamed (named_in self.now result) }
+        ensures many { length (darts self.now.rows) ≤ result }
+    {
+        self.segments.limit() as u32
+    }
+
+    /// The id of the edge of a half.
+    pub fn edge(&self, half: Half) -> u32
+        requires { IsHalf self.now half }
+        ensures { (d : Dart) → has_dart (darts self.now.rows) d ≡ true → half_in self.now d ≡ half → result ≡ d.edge }
+    {
+        self.segments.edge(half)
+    }
+
+    /// The facts of the edge of a half.
+    pub fn facts(&self, half: Half) -> Facts
+        requires { IsHalf self.now half }
+        ensures { (d : Dart) → has_dart (darts self.now.rows) d ≡ true → half_in self.now d ≡ half → AreFactsOf (edge_at self.now.rows d.edge) result }
+    {
+        let edges = self.rows.edges.as_slice();
+        let place = place_of_edge(edges, &self.hints, self.segments.edge(half));
+        match Facts::from_row(&edges[place]) {
+            Some(facts) => facts,
+            None => unreachable!(),
+        }
+    }
+
+    /// The dart of a half. It looks through the list of the edge's halves.
+    pub fn dart_of(&self, half: Half) -> Dart
+        requires { IsHalf self.now half }
+        ensures { (d : Dart) → has_dart (darts self.now.rows) d ≡ true → half_in self.now d ≡ half → result ≡ d }
+    {
+        let label = self.segments.edge(half);
+        let place = place_of_edge(self.rows.edges.as_slice(), &self.hints, label);
+        let path = self.paths.as_slice()[place].as_slice();
+        let (seg, way) = place_on_path(path, half);
+        let edge = EdgeId::new(label);
+        Dart { edge, seg, way }
+    }
+
+    // The half of edge `e` that starts at its end `v`.
+    fn end_half(&self, v: u32, e: u32) -> Half
+        requires { is_some (edge_row self.now.rows e) ≡ true }
+        ensures { result ≡ half_in self.now (end_dart self.now.rows v e) }
+    {
+        let edges = self.rows.edges.as_slice();
+        let place = place_of_edge(edges, &self.hints, e);
+        let (seg, way) = end_of(&edges[place], v);
+        led(self.paths.as_slice()[place].as_slice()[seg], way)
+    }
+
+    /// The half that names the corner at a position of a vertex; none where there is no such corner.
+    pub fn corner(&self, v: u32, position: u32) -> Option<Half>
+        ensures { result ≡ option_map (half_in self.now) (corner self.now.rows v position) }
+    {
+        if (position as usize) < self.rows.degree(v) {
+            let around = self.rows.rotations.as_slice()[v as usize].as_slice();
+            Some(self.end_half(v, around[position as usize]))
+        } else {
+            None
+        }
     }
 }

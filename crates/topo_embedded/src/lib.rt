@@ -9,5 +9,7 @@
 
 pub mod embedded;
 mod making;
+pub mod walking;
 
 pub use embedded::Embedded;
+pub use walking::EmbeddedRows;

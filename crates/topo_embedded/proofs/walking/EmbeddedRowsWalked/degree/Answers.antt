@@ -1,0 +1,15 @@
+use Rattle.std.proofs.Common.{arith, ap, length, ◌∙◌}
+use Rattle.topo_core.specs.declared.rows.Rows.{Rows}
+use Rattle.topo_core.specs.Picture.{rotation}
+use Rattle.topo_frozen.specs.Recovering.{well_formed_again}
+use Rattle.topo_frozen.proofs.RowCounts.{degree_most}
+use Rattle.topo_frozen.proofs.Verdicts.{darts_total}
+use Rattle.topo_embedded.proofs.walking.EmbeddedRowsWalked.degree.Goals as goal
+
+pub overflow_cast-result : goal.overflow_cast-result
+overflow_cast-result c =
+    let rows : Rows = c.self.inside.embedded.now.rows in
+    let most = degree_most rows (well_formed_again rows c.self.inside.lawful) c.self.invariant.1 c.args.v in
+    let total = darts_total rows.edges in
+    let few = c.self.invariant.0 in
+    let is = c.degree.ensures ∙ ap (λ (r : Rows). length (rotation r c.args.v)) c.rows.ensures in omega arith

@@ -1,0 +1,39 @@
+-- Rows with their embedding as a search walks on them: each dart goes by the number of its half.
+use Rattle.std.specs.Prelude.{◌≡◌, ℕ, ◌<◌, Bool, cond, List, length, slice_index_or}
+use Rattle.topo_core.specs.declared.darts.Way.{Way}
+use Rattle.topo_core.specs.declared.darts.Way.TheVariants.{Forward, Back}
+use Rattle.topo_core.specs.declared.rows.EdgeRow.{EdgeRow}
+use Rattle.topo_core.specs.Lawful.{Lawful}
+use Rattle.topo_route.specs.Names.{IsNamed, Named}
+use Rattle.topo_embedded.specs.Halves.{Drawn, by_way, half_in}
+
+-- one of the two halves at a place of a path is this one
+pub record IsOnPath (path : List ℕ) (half : ℕ) : Type 0 where
+  pub seg : ℕ
+  pub way : Way
+  pub within : seg < length path
+  pub is : by_way (slice_index_or path seg 0) way ≡ half
+
+-- the segment at an end of an edge, the first one or else the last, and the way from there
+abbrev pub end_seg : EdgeRow → Bool → ℕ
+end_seg row b = cond b 0 (length row.crossings)
+
+abbrev pub end_way : Bool → Way
+end_way b = cond b Forward Back
+
+-- the darts by their halves, all of which are below a size
+abbrev pub named_in : Drawn → ℕ → Named
+named_in p size = record { rows = p.rows; name = half_in p; size = size }
+
+-- lawful rows whose darts have halves of their own below a size
+pub record WalkedRows : Type 0 where
+  pub drawn : Drawn
+  pub size : ℕ
+  pub named : IsNamed (named_in drawn size)
+  pub lawful : ∥ Lawful drawn.rows ∥₁
+
+abbrev pub named_rows : WalkedRows → Named
+named_rows w = named_in w.drawn w.size
+
+pub names_apart : (w : WalkedRows) → IsNamed (named_rows w)
+names_apart w = w.named

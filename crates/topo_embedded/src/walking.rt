@@ -1,0 +1,159 @@
+//! Rows with their embedding as a search walks on them.
+
+ghost use Rattle.std.specs.Prelude.{◌≡◌, ◌==◌, ◌↔◌, ◌<◌, ◌^◌, IsTrue, length, slice_index_or};
+ghost use Rattle.std.specs.declared.cmp.Ordering.TheVariants.{Less};
+ghost use Rattle.topo_core.specs.Darts.{dart_cmp};
+ghost use Rattle.topo_core.specs.Lawful.{Lawful};
+ghost use Rattle.topo_embedded.specs.Halves.{by_way};
+ghost use Rattle.topo_embedded.specs.Walking.{IsOnPath, end_seg, end_way, named_in};
+ghost use Rattle.topo_route.specs.Names.{IsNamed};
+
+use crate::embedded::Embedded;
+use std::marker::Model;
+use topo_core::darts::{Dart, Way};
+use topo_core::rows::{EdgeRow, Facts};
+use topo_map::Half;
+use topo_route::walked::Walked;
+
+/// Where a half lies on the path of its edge, and which way it leads along it.
+pub(crate) fn place_on_path(path: &[Half], half: Half) -> (u32, Way)
+    requires there { IsOnPath path.now half }
+    requires few { length path.now < 2 ^ 32 }
+    ensures within { result.0 < length path.now }
+    ensures found { by_way (slice_index_or path.now result.0 0) result.1 ≡ half }
+{
+    let back = half.twin();
+    for seg in 0..path.len() {
+        if path[seg] == half {
+            return (seg as u32, Way::Forward);
+        }
+        if path[seg] == back {
+            return (seg as u32, Way::Back);
+        }
+    }
+    unreachable!()
+}
+
+/// A half along an edge, or its twin for the way back.
+pub(crate) fn led(half: Half, way: Way) -> Half
+    ensures { result ≡ by_way half way }
+{
+    match way {
+        Way::Forward => half,
+        Way::Back => half.twin(),
+    }
+}
+
+/// The segment of an edge that ends at its end `v`, and the way along it from there.
+pub(crate) fn end_of(row: &EdgeRow, v: u32) -> (usize, Way)
+    ensures seg { result.0 ≡ end_seg row.now (row.now.a == v) }
+    ensures way { result.1 ≡ end_way (row.now.a == v) }
+{
+    if row.a == v {
+        (0, Way::Forward)
+    } else {
+        (row.crossings.as_slice().len(), Way::Back)
+    }
+}
+
+/// Lawful rows with their embedding: what a search walks on that hands out no heights. Darts go by the
+/// numbers of their halves. The next dart along a face takes one read, the twin none, and no question
+/// takes memory. Where a dart lies on its edge is found by a look along the edge's list of halves, which a
+/// search asks only of darts that it may cross.
+#[derive(Drop)]
+pub struct EmbeddedRows<'a> {
+    embedded: &'a Embedded,
+    size: u32,
+    ghost named: { IsNamed (named_in embedded.now size) },
+    ghost lawful: { ∥ Lawful embedded.now.rows ∥₁ },
+}
+
+impl<'a> Model for EmbeddedRows<'a> {
+    ghost use Rattle.std.specs.Prelude.{◌<◌, ◌^◌, length};
+    ghost use Rattle.topo_core.specs.Picture.{darts};
+    ghost use Rattle.topo_embedded.specs.Walking.{WalkedRows};
+
+    ghost Value = { WalkedRows };
+
+    ghost view = { λ d. record { drawn = d.embedded.now; size = d.size; named = d.named; lawful = d.lawful } };
+
+    ghost invariant = { λ d. (length (darts d.embedded.now.rows) < 2 ^ 32) × (length d.embedded.now.rows.rotations < 2 ^ 32) };
+}
+
+impl<'a> EmbeddedRows<'a> {
+    ghost use Rattle.std.specs.Prelude.{◌≡◌, ◌<◌, ◌^◌, length};
+
+    /// These rows with their embedding.
+    pub fn new(embedded: &'a Embedded) -> Self
+        requires lawful { Lawful embedded.now.rows }
+        requires vertices { length embedded.now.rows.rotations < 2 ^ 32 }
+        ensures { result.drawn ≡ embedded.now }
+    {
+        let size = embedded.size();
+        EmbeddedRows { embedded, size }
+    }
+}
+
+impl Walked for EmbeddedRows<'_> {
+    ghost use Rattle.topo_frozen.specs.Recovering.{lawful_again};
+    ghost use Rattle.topo_embedded.specs.Walking.{named_rows, names_apart};
+
+    ghost named = { named_rows };
+
+    fn size(&self) -> u32 {
+        self.size
+    }
+
+    fn next(&self, dart: u32) -> u32 {
+        self.embedded.face_next(Half::numbered(dart)).number()
+    }
+
+    fn twin(&self, dart: u32) -> u32 {
+        Half::numbered(dart).twin().number()
+    }
+
+    fn facts(&self, dart: u32) -> Facts {
+        self.embedded.facts(Half::numbered(dart))
+    }
+
+    fn corner(&self, v: u32, position: u32) -> Option<u32> {
+        match self.embedded.corner(v, position) {
+            Some(half) => Some(half.number()),
+            None => None,
+        }
+    }
+
+    fn degree(&self, v: u32) -> u32 {
+        self.embedded.rows().degree(v) as u32
+    }
+
+    fn dart(&self, dart: u32) -> Dart {
+        self.embedded.dart_of(Half::numbered(dart))
+    }
+
+    fn precedes(&self, dart: u32, other: u32) -> bool {
+        let edge = self.embedded.edge(Half::numbered(dart));
+        let across = self.embedded.edge(Half::numbered(other));
+        if edge == across {
+            comes_before(self.dart(dart), self.dart(other))
+        } else {
+            edge < across
+        }
+    }
+
+    ghost lawful = { λ w. lawful_again w.drawn.rows w.lawful };
+
+    ghost has_names = { names_apart };
+}
+
+/// Whether one dart comes before another of the same edge.
+fn comes_before(dart: Dart, other: Dart) -> bool
+    requires { dart.edge ≡ other.edge }
+    ensures { IsTrue result ↔ dart_cmp dart other ≡ Less }
+{
+    if dart.seg == other.seg {
+        matches!((dart.way, other.way), (Way::Forward, Way::Back))
+    } else {
+        dart.seg < other.seg
+    }
+}
