@@ -3,3 +3,4 @@ pub mod Numbers
 pub mod Made
 pub mod Apart
 pub mod Reading
+pub mod Grown
