@@ -4,3 +4,4 @@ pub mod Made
 pub mod Apart
 pub mod Reading
 pub mod Grown
+pub mod LeftHalves
