@@ -1,14 +1,11 @@
 -- The halves along a path, when those ahead of some of its crossings go.
 use Rattle.std.proofs.Common.{◌≡◌, ◌+◌, ◌<◌, ◌≤◌, ap, arith, Bool, cond, false, get_or, inl, inr, length, List, [], ◌∷◌, not, refl, sym, suc, true, zero, ℕ, ◌∙◌}
-use Rattle.std.specs.Prelude.{◌-◌, filter}
+use Rattle.std.specs.Prelude.{◌-◌}
 use Rattle.std.proofs.lemmas.Bool.{cases_Bool, ne_eqb}
 use Rattle.topo_core.specs.Items.{has_id, IsIn, occurrences}
 use Rattle.topo_core.proofs.GonePaths.{item_place, left_of}
 use Rattle.topo_core.proofs.WovenPaths.{first_part, place_of}
-
--- what is left of a list
-abbrev pub spared : (ℕ → Bool) → List ℕ → List ℕ
-spared goes hs = filter (λ h. not (goes h)) hs
+use Rattle.topo_embedded.specs.Deleting.{spared}
 
 spared_taken : (goes : ℕ → Bool) (h : ℕ) (hs : List ℕ) → goes h ≡ true → spared goes (h ∷ hs) ≡ spared goes hs
 spared_taken goes h hs e = ap (λ (b : Bool). cond (not b) (h ∷ spared goes hs) (spared goes hs)) e

@@ -5,3 +5,4 @@ pub mod Apart
 pub mod Reading
 pub mod Grown
 pub mod LeftHalves
+pub mod Uncrossed
