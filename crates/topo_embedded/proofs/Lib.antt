@@ -6,3 +6,4 @@ pub mod Reading
 pub mod Grown
 pub mod LeftHalves
 pub mod Uncrossed
+pub mod Without

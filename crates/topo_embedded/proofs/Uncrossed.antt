@@ -99,7 +99,7 @@ module _ (p : Drawn) (good : IsWellFormed p.rows) (r : Rotation) (s : ShowsRows 
       abbrev q : Drawn
       q = record { rows = after; paths = paths }
 
-      half_after : (good_after : IsWellFormed after) (seg : ℕ) → has_dart (darts after) (forward c seg) ≡ true → half_in q (forward c seg) ≡ half_in p (lifted after p.rows (forward c seg))
+      pub half_after : (good_after : IsWellFormed after) (seg : ℕ) → has_dart (darts after) (forward c seg) ≡ true → half_in q (forward c seg) ≡ half_in p (lifted after p.rows (forward c seg))
       half_after good_after seg h =
           let at : StandsAt after (forward c seg) = stands_at after good_after (forward c seg) h in
           let here : path_of q c ≡ spared goes (path_of p c) = lists.each (position_or_len (λ row. row.id == c) after.edges) at.row at.at ∙ ap (λ f. spared goes (path_of p f)) at.id in
