@@ -22,3 +22,4 @@ pub mod DeletedCuts
 pub mod DeletedLawful
 pub mod DeletedSlab
 pub mod DeletedMids
+pub mod DeletedStages
