@@ -7,3 +7,4 @@ pub mod Grown
 pub mod LeftHalves
 pub mod Uncrossed
 pub mod Without
+pub mod Aheads

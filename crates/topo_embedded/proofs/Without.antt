@@ -31,7 +31,7 @@ use Rattle.topo_embedded.proofs.Numbers.{half_of_number, twin_half}
 use Rattle.topo_embedded.proofs.Uncrossed.{half_after, left_many}
 
 -- what stands at a place is an item
-listed_at : {X : Type 0} (x : X) (xs : List X) (i : ℕ) → slice_get xs i ≡ Some x → IsIn x xs
+pub listed_at : {X : Type 0} (x : X) (xs : List X) (i : ℕ) → slice_get xs i ≡ Some x → IsIn x xs
 listed_at x [] i h = cc
 listed_at x (y ∷ xs) zero h = inl (let same : x ≡ y = cc in same)
 listed_at x (y ∷ xs) (suc i) h = inr (listed_at x xs i h)
