@@ -1,5 +1,5 @@
 -- An edge that is taken out of a slab segment by segment: what is known on the way.
-use Rattle.std.proofs.Common.{◌≡◌, ℕ, suc, ◌+◌, ◌<◌, ◌≤◌, Bool, true, false, inl, inr, refl, ◌∙◌, ap, arith, length}
+use Rattle.std.proofs.Common.{◌≡◌, ◌≢◌, ℕ, suc, ◌+◌, ◌<◌, ◌≤◌, Bool, true, false, inl, inr, refl, sym, ◌∙◌, ap, arith, length}
 use Rattle.std.specs.Prelude.{◌&&◌, nat_lt, Some}
 use Rattle.std.proofs.lemmas.Bool.{cases_Bool, eq-eqb, ltb-true}
 use Rattle.topo_core.specs.declared.darts.Dart.{Dart}
@@ -11,10 +11,10 @@ use Rattle.topo_core.specs.Changes.{without}
 use Rattle.topo_core.specs.Cycles.{map_of}
 use Rattle.topo_core.specs.Deletions.{HidesTurns}
 use Rattle.topo_core.specs.Lawful.{HasGenusZero, IsWellFormed}
-use Rattle.topo_core.specs.Picture.{edge_row, index_of, system, turn_images}
+use Rattle.topo_core.specs.Picture.{darts, edge_row, index_of, system, turn_images}
 use Rattle.topo_core.specs.Pictures.{back, forward}
-use Rattle.topo_core.specs.Systems.{Connected}
-use Rattle.topo_core.proofs.Numbering.{turn_permutes}
+use Rattle.topo_core.specs.Systems.{Connected, has_dart, turn}
+use Rattle.topo_core.proofs.Numbering.{turn_permutes, turn_stays}
 use Rattle.topo_perm.specs.Live.{IsSlab}
 use Rattle.topo_perm.specs.Renumbering.{RenumbersTurn}
 use Rattle.topo_perm.specs.RenumberedEdits.{IsAlive, RenumbersSlab}
@@ -22,7 +22,7 @@ use Rattle.topo_perm.specs.Runs.{Turning, IsRun}
 use Rattle.topo_perm.proofs.DeletionNumbers.{IsSmoothable, opened_numbers, smoothable, smooths_of, unchords_of}
 use Rattle.topo_perm.proofs.Stages.{left_after, segment_left}
 use Rattle.topo_changes.proofs.DeletedLawful.{good_p, hides}
-use Rattle.topo_changes.proofs.DeletedOpening.{left_dart}
+use Rattle.topo_changes.proofs.DeletedOpening.{back_alone, left_dart, left_turn, turns_on}
 use Rattle.topo_changes.proofs.DeletedMids.{across, carried_across, crossings, first_of, is_even, mid, mid_opened, path_mids}
 use Rattle.topo_changes.proofs.DeletedSlab.{Middle, half, left, midway, n, name, onto, opened, opening, rank, shut_slab}
 use Rattle.topo_changes.proofs.InsertedNumbers.{even_count, number_less}
@@ -74,19 +74,49 @@ module _ (rows : Rows) (good : IsWellFormed rows) (e : ℕ) (row : EdgeRow) (kno
         alive = (segment_left t many h (last + 1) (opening rows good e row known connected zero_genus) i (omega arith)).0;
       })
 
-      -- the midpoint behind it is found
-      pub mid_found : i < last → (leads : ℕ → Bool) → ((a : ℕ) → a < many → leads (nu a) ≡ is_even a) → across leads w.turn (nu (num (back e i))) (nu (num (forward e (i + 1)))) ≡ nu (middle_at i)
+      -- where the dart back turns, on another edge
+      abbrev pub over_dart : i < last → Dart
+      over_dart li = turn (system rows) (back e i)
+
+      pub over_off : (li : i < last) → (has_dart (darts rows) (over_dart li) ≡ true) × ((over_dart li).edge ≢ e)
+      over_off li = (
+        turn_stays rows good.paths good.crossings good.rotations (back e i) (hidden.edge_there i Back (omega arith)),
+        elim (turns_on rows e row good known (without rows e) hidden i Back (omega arith)) [
+          | inl off ↦ λ w. off.other (ap (λ (d : Dart). d.edge) (sym off.leads) ∙ w)
+          | inr alone ↦ absurd (let end : i ≡ last = back_alone rows e row good known (without rows e) hidden i (omega arith) alone in omega arith)
+        ],
+      )
+
+      over_number : (li : i < last) → t i (num (back e i)) ≡ num (over_dart li)
+      over_number li = left_turn rows e row good known (without rows e) hidden i i Back (omega arith) (omega arith)
+
+      back_left : i < last → IsAlive (left_after h i) many (num (back e i))
+      back_left li = record {
+        within = number_less rows good (back e i) (hidden.edge_there i Back (omega arith));
+        alive = left_at i i Back (omega arith) (omega arith);
+      }
+
+      forward_left : i < last → IsAlive (left_after h i) many (num (forward e (i + 1)))
+      forward_left li = record {
+        within = there (i + 1) (omega arith);
+        alive = left_at i (i + 1) Forward (omega arith) (omega arith);
+      }
+
+      pub back_alive : i < last → IsAlive w.live limit (nu (num (back e i)))
+      back_alive li = (stage_numbers i (omega arith) w run).into.there (num (back e i)) (back_left li)
+
+      pub forward_alive : i < last → IsAlive w.live limit (nu (num (forward e (i + 1))))
+      forward_alive li = (stage_numbers i (omega arith) w run).into.there (num (forward e (i + 1))) (forward_left li)
+
+      pub over_turn : (li : i < last) → w.turn (nu (num (back e i))) ≡ nu (num (over_dart li))
+      over_turn li = (stage_numbers i (omega arith) w run).turns (num (back e i)) (back_left li) ∙ ap nu (over_number li)
+
+      -- so the midpoint behind the segment is found
+      pub mid_found : (li : i < last) → (leads : ℕ → Bool) → leads (nu (num (over_dart li))) ≡ is_even (num (over_dart li)) → across leads w.turn (nu (num (back e i))) (nu (num (forward e (i + 1)))) ≡ nu (middle_at i)
       mid_found li leads same =
           let s = stage_numbers i (omega arith) w run in
-          let b : IsAlive (left_after h i) many (num (back e i)) = record {
-            within = number_less rows good (back e i) (hidden.edge_there i Back (omega arith));
-            alive = left_at i i Back (omega arith) (omega arith);
-          } in
-          let f : IsAlive (left_after h i) many (num (forward e (i + 1))) = record {
-            within = there (i + 1) (omega arith);
-            alive = left_at i (i + 1) Forward (omega arith) (omega arith);
-          } in
-          carried_across is_even leads nu (t i) w.turn (num (back e i)) (num (forward e (i + 1))) (s.turns (num (back e i)) b) (s.turns (num (forward e (i + 1))) f) (same (t i (num (back e i))) (s.before.permutation.within (num (back e i)) b.within))
+          carried_across is_even leads nu (t i) w.turn (num (back e i)) (num (forward e (i + 1))) (s.turns (num (back e i)) (back_left li)) (s.turns (num (forward e (i + 1))) (forward_left li))
+          (ap (λ k. leads (nu k)) (over_number li) ∙ same ∙ sym (ap is_even (over_number li)))
           ∙ ap nu (mid_opened rows good e row known i i (omega arith) li)
 
     -- the point of the next midpoint can be smoothed
