@@ -1,5 +1,5 @@
 -- Corners of vertices, and their darts.
-use Rattle.std.proofs.Common.{◌≡◌, ◌≤◌, ◌-◌, ◌<◌, ◌||◌, ap, arith, Bool, false, inl, inr, length, List, refl, Some, sym, true, ℕ, [], ◌∙◌}
+use Rattle.std.proofs.Common.{◌≡◌, ◌≤◌, ◌<◌, ◌||◌, ap, arith, Bool, false, inl, inr, length, List, refl, Some, sym, true, ℕ, [], ◌∙◌}
 use Rattle.std.specs.Prelude.{is_some, slice_get, slice_index, slice_index_or, ◌==◌}
 use Rattle.std.specs.List.{position_or_len}
 use Rattle.std.proofs.lemmas.Bool.{cases_Bool, eqb-true}

@@ -45,7 +45,7 @@ all_first : (P : ℕ → Type 0) (h : ℕ → ℕ) (i : ℕ) → ((j : ℕ) → 
 all_first P h zero each = tt
 all_first P h (suc i) each = (each i (omega arith), all_first P h i (λ j lj. each j (omega (arith, lj))))
 
-in_first : (h : ℕ → ℕ) (i j : ℕ) → j < i → IsIn (h j) (first_of h i)
+pub in_first : (h : ℕ → ℕ) (i j : ℕ) → j < i → IsIn (h j) (first_of h i)
 in_first h zero j lj = absurd (omega (arith, lj))
 in_first h (suc i) j lj = elim (cases_lt j i) [
   | inl less ↦ inr (in_first h i j less)
@@ -61,7 +61,7 @@ are_mids middle live n h count each apart (suc i) li = (
   are_mids middle live n h count each apart i (omega (arith, li)),
 )
 
-in_place : (x : ℕ) (xs : List ℕ) → IsIn x xs → (i : ℕ) × (i < length xs) × (slice_get xs i ≡ Some x)
+pub in_place : (x : ℕ) (xs : List ℕ) → IsIn x xs → (i : ℕ) × (i < length xs) × (slice_get xs i ≡ Some x)
 in_place x [] h = absurd h
 in_place x (y ∷ xs) (inl e) = (0, omega arith, ap Some (sym e))
 in_place x (y ∷ xs) (inr h) = let (i, less, at) = in_place x xs h in (suc i, omega (arith, less), at)
@@ -166,7 +166,7 @@ module _ (rows : Rows) (good : IsWellFormed rows) (e : ℕ) (row : EdgeRow) (kno
     abbrev many : ℕ
     many = n rows good e row known connected zero_genus
 
-    mid_is : (i : ℕ) → i < crossings → IsAlive stays many (mid i) × middle (mid i)
+    pub mid_is : (i : ℕ) → i < crossings → IsAlive stays many (mid i) × middle (mid i)
     mid_is i less =
         let m : IsMet i = met i less in
         let d : Dart = ahead rows m.other m.crossing.id in

@@ -64,17 +64,17 @@ module _ (rows : Rows) (good : IsWellFormed rows) (e : ℕ) (row : EdgeRow) (kno
   abbrev pub rank : ℕ → ℕ
   rank = place rows e after good (good_p rows good e row known) (there rows good e row known) (hides rows good e row known)
 
-  opening : IsOpening opened n half segments
+  pub opening : IsOpening opened n half segments
   opening = is_opening rows e row good known after (hides rows good e row known) connected (genus rows good e row known connected zero_genus)
 
-  midway : AreMidway Middle rank left (opened segments) n (map_of (turn_images after)) m name onto
+  pub midway : AreMidway Middle rank left (opened segments) n (map_of (turn_images after)) m name onto
   midway = midway_here rows e after good (good_p rows good e row known) (there rows good e row known) (hides rows good e row known) (slab_all rows e row good known after (hides rows good e row known))
 
   module _ (nu back : ℕ → ℕ) (limit : ℕ) (t : Turning) (r : RenumbersTurn nu back (map_of (turn_images rows)) t.turn n t.live limit) (slab : IsSlab t.live t.turn limit) where
     whole : RenumbersSlab nu back (λ _. true) (map_of (turn_images rows)) n t.live t.turn limit
     whole = slab_of_turn nu back (map_of (turn_images rows)) t.turn n t.live limit r slab
 
-    shut_slab : RenumbersSlab nu back (left_after half 0) (opened 0) n t.live t.turn limit
+    pub shut_slab : RenumbersSlab nu back (left_after half 0) (opened 0) n t.live t.turn limit
     shut_slab = record {
       before = record { permutation = permutes rows e row good known after (hides rows good e row known) 0; even = even_count rows good; twins = λ a la. refl; free = λ a la w. absurd (false≢true (sym w)) };
       after = slab;

@@ -23,3 +23,4 @@ pub mod DeletedCuts
 pub mod DeletedLawful
 pub mod DeletedSlab
 pub mod DeletedMids
+pub mod DeletedStages

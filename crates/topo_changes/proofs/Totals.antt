@@ -1,5 +1,5 @@
 -- Each crossing stands on two paths, so segments are counted by edges and crossings.
-use Rattle.std.proofs.Common.{◌≡◌, ◌+◌, ◌-◌, ◌*◌, ◌≤◌, ap, arith, Bool, cond, inl, inr, length, List, refl, sym, true, ℕ, [], ◌∙◌, ◌∷◌}
+use Rattle.std.proofs.Common.{◌≡◌, ◌+◌, ◌*◌, ◌≤◌, ap, arith, Bool, cond, inl, inr, length, List, refl, sym, true, ℕ, [], ◌∙◌, ◌∷◌}
 use Rattle.std.specs.Prelude.{map, sum_by, ◌==◌}
 use Rattle.std.specs.List.{list_all}
 use Rattle.std.proofs.lemmas.Bool.{cases_Bool, eq-eqb, eqb-true}

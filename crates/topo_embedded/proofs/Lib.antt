@@ -3,3 +3,8 @@ pub mod Numbers
 pub mod Made
 pub mod Apart
 pub mod Reading
+pub mod Grown
+pub mod LeftHalves
+pub mod Uncrossed
+pub mod Without
+pub mod Aheads
