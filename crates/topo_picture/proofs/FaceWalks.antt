@@ -1,5 +1,5 @@
 -- Walks on the table of half-edges beside an edge that is opened: what stands at the names that they read, and what they tell.
-use Rattle.std.proofs.Common.{◌≡◌, ◌≢◌, ◌+◌, ◌<◌, ◌≤◌, ◌&&◌, ◌==◌, ap, arith, false, inl, inr, length, subst, suc, sym, true, ℕ, ◌∙◌}
+use Rattle.std.proofs.Common.{◌≡◌, ◌≢◌, ◌+◌, ◌<◌, ◌≤◌, ◌&&◌, ◌==◌, ◌-◌, ap, arith, false, inl, inr, length, subst, suc, sym, true, ℕ, ◌∙◌}
 use Rattle.std.specs.Prelude.{is_some, nat_lt}
 use Rattle.std.proofs.lemmas.Bool.{cases_eq}
 use Rattle.std.proofs.lemmas.Bool.Decides.{nat_tests}
@@ -14,7 +14,8 @@ use Rattle.topo_core.specs.Openings.{is_opened}
 use Rattle.topo_core.specs.Picture.{darts, edge_at, edge_row, index_of, segment_count, system}
 use Rattle.topo_core.specs.Pictures.{back, forward}
 use Rattle.topo_core.specs.Systems.{has_dart, turn}
-use Rattle.topo_core.proofs.Numbering.{turn_stays, twin_in}
+use Rattle.topo_core.proofs.DartLaws.{twin-twin}
+use Rattle.topo_core.proofs.Numbering.{turn_stays, turns_apart, twin_in}
 use Rattle.topo_core.proofs.SystemDarts.{edge_at_row}
 use Rattle.topo_links.specs.Tables.{link_at, Table}
 use Rattle.topo_links.proofs.Found.{edge_is, further, name_in}
@@ -105,6 +106,47 @@ module _ (rows : Rows) (t : Table) (e first out : ℕ) (o : IsOpenedIn rows t e 
 
     pub not_found : (at : ℕ) → Seeks at out → is_opened e out d ≡ false
     not_found at h = not_among e d.edge d.seg out h.later
+
+  -- ---- The segments that it mostly lies on
+
+  module _ (ahead : ℕ) (is_name : ahead ≡ o.name (forward e out)) (d : Dart) (here : has_dart (darts rows) d ≡ true) (n : ℕ) (is : n ≡ o.name d) where
+    ahead_here : (w : Way) → has_dart (darts rows) (record { edge = e; seg = out; way = w }) ≡ true
+    ahead_here w = on_edge rows o.well_formed e out w known (within out (omega arith))
+
+    pub is_ahead : n ≡ ahead → is_opened e out d ≡ false
+    is_ahead same = ap (is_opened e out) (o.naming.apart d (forward e out) here (ahead_here Forward) (sym is ∙ same ∙ is_name)) ∙ not_opened e out
+
+    pub is_ahead_back : (link_at t n).twin ≡ ahead → is_opened e out d ≡ false
+    is_ahead_back same =
+        let twins : dart_twin d ≡ forward e out = o.naming.apart (dart_twin d) (forward e out) (twin_here d here n is) (ahead_here Forward) (sym (twin_is d here n is) ∙ same ∙ is_name) in
+        ap (is_opened e out) (sym (twin-twin d) ∙ ap dart_twin twins) ∙ not_opened e out
+
+    pub turn_inside : (link_at t n).next < length t.links
+    turn_inside = inside (turn (system rows) d) (turn_here d here n is) (link_at t n).next (turn_is d here n is)
+
+    -- it leads straight on to the segment ahead
+    pub is_before : 0 < out → (link_at t (link_at t n).next).next ≡ ahead → is_opened e out d ≡ true
+    is_before some same =
+        let s = out - 1 in
+        let turned = turn (system rows) in
+        let b_here : has_dart (darts rows) (back e s) ≡ true = on_edge rows o.well_formed e s Back known (within s (omega arith)) in
+        let f_here : has_dart (darts rows) (forward e s) ≡ true = on_edge rows o.well_formed e s Forward known (within s (omega arith)) in
+        let straight : (link_at t (link_at t (link_at t (o.name (forward e s))).twin).next).next ≡ o.name (forward e (s + 1)) = next_is rows o.well_formed t o.name o.naming e s known (within s (omega arith)) (o.name (forward e s)) (λ i. o.name (forward e s)) (within (s + 1) (omega arith)) in
+        let twin_name : (link_at t (o.name (forward e s))).twin ≡ o.name (back e s) = o.naming.twins (forward e s) f_here in
+        let b_turn : (link_at t (o.name (back e s))).next ≡ o.name (turned (back e s)) = o.naming.turns (back e s) b_here in
+        let b_turn_here : has_dart (darts rows) (turned (back e s)) ≡ true = turn_here (back e s) b_here (o.name (back e s)) (λ i. o.name (back e s)) in
+        let b_turns : (link_at t (o.name (turned (back e s)))).next ≡ o.name (turned (turned (back e s))) = o.naming.turns (turned (back e s)) b_turn_here in
+        let last : s + 1 ≡ out = omega arith in
+        let from_back : o.name (turned (turned (back e s))) ≡ ahead = sym b_turns ∙ ap (λ k. (link_at t k).next) (sym b_turn ∙ ap (λ k. (link_at t k).next) (sym twin_name)) ∙ straight ∙ ap (λ k. o.name (forward e k)) last ∙ sym is_name in
+        let d_turn_here = turn_here d here n is in
+        let d_turns : (link_at t (link_at t n).next).next ≡ o.name (turned (turned d)) = turn_is (turned d) d_turn_here (link_at t n).next (turn_is d here n is) in
+        let both : o.name (turned (turned d)) ≡ o.name (turned (turned (back e s))) = sym d_turns ∙ same ∙ sym from_back in
+        let d_twice_here = turn_here (turned d) d_turn_here (link_at t n).next (turn_is d here n is) in
+        let b_twice_here = turn_here (turned (back e s)) b_turn_here (o.name (turned (back e s))) (λ i. o.name (turned (back e s))) in
+        let twice : turned (turned d) ≡ turned (turned (back e s)) = o.naming.apart (turned (turned d)) (turned (turned (back e s))) d_twice_here b_twice_here both in
+        let apart = turns_apart rows o.well_formed.paths o.well_formed.crossings o.well_formed.rotations in
+        let is_back : d ≡ back e s = apart d (back e s) here b_here (apart (turned d) (turned (back e s)) d_turn_here b_turn_here twice) in
+        found_on d here n is Back s (omega arith) (is ∙ ap o.name is_back)
 
   -- ---- A walk past what is out
 

@@ -31,8 +31,24 @@ fn straight_on(links: &Links, dart: u32) -> u32
     links.link(links.link(back).next).next
 }
 
-/// Whether a dart lies on one of the first `out` segments of the edge whose first dart is `first`.
-fn is_among(links: &Links, first: u32, out: usize, dart: u32) -> bool
+/// Whether a dart lies on one of the first `out` segments of the edge whose first dart is `first`, and
+/// whose dart forward on the segment behind them is `ahead`. A walk round a face mostly meets the last of
+/// them, or comes home to the segment behind, so these are looked at first.
+fn is_among(links: &Links, first: u32, out: usize, ahead: u32, dart: u32) -> bool
+    requires { (rows : Rows) × (e : ℕ) × (o : IsOpenedIn rows links.now e first out) × (ahead ≡ o.name (forward e out)) × (d : Dart) × (has_dart (darts rows) d ≡ true) × (dart ≡ o.name d) }
+    ensures { (rows : Rows) (e : ℕ) (o : IsOpenedIn rows links.now e first out) (d : Dart) → ahead ≡ o.name (forward e out) → has_dart (darts rows) d ≡ true → dart ≡ o.name d → result ≡ is_opened e out d }
+{
+    if dart == ahead || links.link(dart).twin == ahead {
+        return false;
+    }
+    if out > 0 && links.link(links.link(dart).next).next == ahead {
+        return true;
+    }
+    is_met(links, first, out, dart)
+}
+
+/// Whether a walk over the first `out` segments of the edge whose first dart is `first` meets a dart.
+fn is_met(links: &Links, first: u32, out: usize, dart: u32) -> bool
     requires { (rows : Rows) × (e : ℕ) × (o : IsOpenedIn rows links.now e first out) × (d : Dart) × (has_dart (darts rows) d ≡ true) × (dart ≡ o.name d) }
     ensures { (rows : Rows) (e : ℕ) (o : IsOpenedIn rows links.now e first out) (d : Dart) → has_dart (darts rows) d ≡ true → dart ≡ o.name d → result ≡ is_opened e out d }
 {
@@ -47,25 +63,25 @@ fn is_among(links: &Links, first: u32, out: usize, dart: u32) -> bool
 }
 
 /// Whether a dart is out when the first `out` segments of edge `e` are.
-fn is_out(links: &Links, e: u32, first: u32, out: usize, dart: u32) -> bool
-    requires { (rows : Rows) × (o : IsOpenedIn rows links.now e first out) × (d : Dart) × (has_dart (darts rows) d ≡ true) × (dart ≡ o.name d) }
-    ensures { (rows : Rows) (o : IsOpenedIn rows links.now e first out) (d : Dart) → has_dart (darts rows) d ≡ true → dart ≡ o.name d → result ≡ is_opened e out d }
+fn is_out(links: &Links, e: u32, first: u32, out: usize, ahead: u32, dart: u32) -> bool
+    requires { (rows : Rows) × (o : IsOpenedIn rows links.now e first out) × (ahead ≡ o.name (forward e out)) × (d : Dart) × (has_dart (darts rows) d ≡ true) × (dart ≡ o.name d) }
+    ensures { (rows : Rows) (o : IsOpenedIn rows links.now e first out) (d : Dart) → ahead ≡ o.name (forward e out) → has_dart (darts rows) d ≡ true → dart ≡ o.name d → result ≡ is_opened e out d }
 {
     if links.link(dart).edge == e {
-        is_among(links, first, out, dart)
+        is_among(links, first, out, ahead, dart)
     } else {
         false
     }
 }
 
 /// The next dart along the face when the first `out` segments of edge `e` are out.
-fn next_left(links: &Links, e: u32, first: u32, out: usize, dart: u32) -> u32
-    requires { (rows : Rows) × (o : IsOpenedIn rows links.now e first out) × (d : Dart) × IsLeft rows o.name e out d dart }
-    ensures { (rows : Rows) (o : IsOpenedIn rows links.now e first out) (d : Dart) → IsLeft rows o.name e out d dart → (next : Dart) × IsNextLeft rows o.name e out d next result }
+fn next_left(links: &Links, e: u32, first: u32, out: usize, ahead: u32, dart: u32) -> u32
+    requires { (rows : Rows) × (o : IsOpenedIn rows links.now e first out) × (ahead ≡ o.name (forward e out)) × (d : Dart) × IsLeft rows o.name e out d dart }
+    ensures { (rows : Rows) (o : IsOpenedIn rows links.now e first out) (d : Dart) → ahead ≡ o.name (forward e out) → IsLeft rows o.name e out d dart → (next : Dart) × IsNextLeft rows o.name e out d next result }
 {
     let mut next = links.link(links.link(dart).twin).next;
     for _passed in 0..u32::MAX {
-        if !is_out(links, e, first, out, next) {
+        if !is_out(links, e, first, out, ahead, next) {
             return next;
         }
         next = links.link(next).next;
@@ -84,8 +100,8 @@ fn has_one_face(links: &Links, e: u32, first: u32, segment: usize, dart: u32) ->
     let mut left = dart;
     let mut right = twin;
     for _steps in 0..u32::MAX {
-        left = next_left(links, e, first, segment, left);
-        right = next_left(links, e, first, segment, right);
+        left = next_left(links, e, first, segment, dart, left);
+        right = next_left(links, e, first, segment, dart, right);
         if left == twin || right == dart {
             return true;
         }

@@ -16,12 +16,12 @@ loop-steps-init c = λ rows o is.
 pub next_left-left-requires : goal.next_left-left-requires
 next_left-left-requires c =
     let (rows, o, is) = c.requires in
-    let at = c.loop-steps.invariant rows o is in (rows, o, at.left_dart, at.left_is)
+    let at = c.loop-steps.invariant rows o is in (rows, o, is, at.left_dart, at.left_is)
 
 pub next_left-right-requires : goal.next_left-right-requires
 next_left-right-requires c =
     let (rows, o, is) = c.requires in
-    let at = c.loop-steps.invariant rows o is in (rows, o, at.right_dart, at.right_is)
+    let at = c.loop-steps.invariant rows o is in (rows, o, is, at.right_dart, at.right_is)
 
 pub returns : goal.returns
 returns c = λ rows o is. (
@@ -33,8 +33,8 @@ returns c = λ rows o is. (
 pub returns-then-left-twin : goal.returns-then-left-twin
 returns-then-left-twin c = λ rows o is.
     let at = c.loop-steps.invariant rows o is in
-    let left = c.next_left-left.ensures rows o at.left_dart at.left_is in
-    let right = c.next_left-right.ensures rows o at.right_dart at.right_is in
+    let left = c.next_left-left.ensures rows o at.left_dart is at.left_is in
+    let right = c.next_left-right.ensures rows o at.right_dart is at.right_is in
     elim c.then-left-twin.branch [
       | then-left-twin-via-then-left-twin w ↦ (
         λ yes. met_left rows c.args.links.now c.args.e c.args.first c.args.segment o c.args.dart is c.loop-steps.left c.loop-steps.right c.loop-steps._steps at c.next_left-left.result c.next_left-right.result left right
@@ -50,8 +50,8 @@ returns-then-left-twin c = λ rows o is.
 pub returns-then-left-dart : goal.returns-then-left-dart
 returns-then-left-dart c = λ rows o is.
     let at = c.loop-steps.invariant rows o is in
-    let left = c.next_left-left.ensures rows o at.left_dart at.left_is in
-    let right = c.next_left-right.ensures rows o at.right_dart at.right_is in
+    let left = c.next_left-left.ensures rows o at.left_dart is at.left_is in
+    let right = c.next_left-right.ensures rows o at.right_dart is at.right_is in
     elim c.then-left-dart.branch [
       | then-left-dart-via-then-left-dart w ↦ (
         λ yes. absurd (false≢true yes),
@@ -69,5 +69,5 @@ loop-steps-preserved c = λ rows o is.
     let at = c.loop-steps.invariant rows o is in
     subst (λ (n : ℕ). InStep rows c.args.links.now c.args.e c.args.first c.args.segment o c.next_left-left.result c.next_left-right.result n) (let one : suc c.loop-steps._steps ≡ c.loop-steps._steps + 1 = omega arith in one)
     (in_step_more rows c.args.links.now c.args.e c.args.first c.args.segment o c.args.dart is c.loop-steps.left c.loop-steps.right c.loop-steps._steps at c.next_left-left.result c.next_left-right.result
-    (c.next_left-left.ensures rows o at.left_dart at.left_is) (c.next_left-right.ensures rows o at.right_dart at.right_is)
+    (c.next_left-left.ensures rows o at.left_dart is at.left_is) (c.next_left-right.ensures rows o at.right_dart is at.right_is)
     (λ same. c.if-left-twin.false (same ∙ sym (ap (λ (l : Link). l.twin) c.link-twin.ensures))) c.if-right-dart.false)

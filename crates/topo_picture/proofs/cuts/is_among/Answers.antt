@@ -1,48 +1,35 @@
-use Rattle.std.proofs.Common.{◌≡◌, ◌∙◌, ap, arith, subst, suc, sym, ℕ}
+use Rattle.std.proofs.Common.{◌<◌, ◌∙◌, ap, length, subst, sym}
 use Rattle.topo_links.specs.declared.table.Link.{Link}
-use Rattle.topo_picture.proofs.FaceWalks.{at_inside, back_inside, found_back, found_forward, not_found, Seeks, seeks_more, seeks_none, side_inside}
+use Rattle.topo_links.specs.Tables.{link_at}
+use Rattle.topo_picture.proofs.FaceWalks.{inside, is_ahead, is_ahead_back, is_before, turn_inside}
 use Rattle.topo_picture.proofs.cuts.is_among.Goals as goal
-use Rattle.topo_picture.proofs.cuts.is_among.Goals.{then-at-dart-via-then-at-dart, then-at-dart-via-else-at-dart+then-link-dart}
-
-pub loop-passed-init : goal.loop-passed-init
-loop-passed-init c = λ rows e o d here is. seeks_none rows c.args.links.now e c.args.first c.args.out o d here c.args.dart is
+use Rattle.topo_picture.proofs.cuts.is_among.Goals.{then-dart-ahead-via-then-dart-ahead, then-dart-ahead-via-else-dart-ahead+then-link-ahead}
 
 pub link-requires : goal.link-requires
-link-requires c =
-    let (rows, e, o, d, here, is) = c.requires in
-    at_inside rows c.args.links.now e c.args.first c.args.out o d here c.args.dart is c.loop-passed.at c.loop-passed._passed (c.loop-passed.invariant rows e o d here is) c.loop-passed-test.true
+link-requires c = let (rows, e, o, ahead, d, here, is) = c.requires in inside rows c.args.links.now e c.args.first c.args.out o d here c.args.dart is
 
-pub returns-then-at-dart : goal.returns-then-at-dart
-returns-then-at-dart c = λ rows e o d here is. elim c.then-at-dart.branch [
-  | then-at-dart-via-then-at-dart w ↦ sym (found_forward rows c.args.links.now e c.args.first c.args.out o d here c.args.dart is c.loop-passed.at c.loop-passed._passed (c.loop-passed.invariant rows e o d here is) c.loop-passed-test.true w.if-at-dart.true)
-  | then-at-dart-via-else-at-dart+then-link-dart w ↦ sym (found_back rows c.args.links.now e c.args.first c.args.out o d here c.args.dart is c.loop-passed.at c.loop-passed._passed (c.loop-passed.invariant rows e o d here is) c.loop-passed-test.true
-      (sym (ap (λ (l : Link). l.twin) w.link.ensures) ∙ w.if-link-dart.true))
+pub returns-then-dart-ahead : goal.returns-then-dart-ahead
+returns-then-dart-ahead c = λ rows e o d ahead here is. elim c.then-dart-ahead.branch [
+  | then-dart-ahead-via-then-dart-ahead w ↦ sym (is_ahead rows c.args.links.now e c.args.first c.args.out o c.args.ahead ahead d here c.args.dart is w.if-dart-ahead.true)
+  | then-dart-ahead-via-else-dart-ahead+then-link-ahead w ↦ sym (is_ahead_back rows c.args.links.now e c.args.first c.args.out o c.args.ahead ahead d here c.args.dart is
+      (sym (ap (λ (l : Link). l.twin) w.link.ensures) ∙ w.if-link-ahead.true))
 ]
 
-pub straight_on-at-requires-clause-here : goal.straight_on-at-requires-clause-here
-straight_on-at-requires-clause-here c =
-    let (rows, e, o, d, here, is) = c.requires in
-    at_inside rows c.args.links.now e c.args.first c.args.out o d here c.args.dart is c.loop-passed.at c.loop-passed._passed (c.loop-passed.invariant rows e o d here is) c.loop-passed-test.true
+pub link-requires-then-out-gt0 : goal.link-requires-then-out-gt0
+link-requires-then-out-gt0 c = let (rows, e, o, ahead, d, here, is) = c.requires in inside rows c.args.links.now e c.args.first c.args.out o d here c.args.dart is
 
-pub straight_on-at-requires-clause-back : goal.straight_on-at-requires-clause-back
-straight_on-at-requires-clause-back c =
-    let (rows, e, o, d, here, is) = c.requires in
-    back_inside rows c.args.links.now e c.args.first c.args.out o d here c.args.dart is c.loop-passed.at c.loop-passed._passed (c.loop-passed.invariant rows e o d here is) c.loop-passed-test.true
+pub link-requires-then-out-gt0-2 : goal.link-requires-then-out-gt0-2
+link-requires-then-out-gt0-2 c =
+    let (rows, e, o, ahead, d, here, is) = c.requires in
+    subst (λ (l : Link). l.next < length c.args.links.now.links) (sym c.link-then-out-gt0.ensures) (turn_inside rows c.args.links.now e c.args.first c.args.out o c.args.ahead ahead d here c.args.dart is)
 
-pub straight_on-at-requires-clause-side : goal.straight_on-at-requires-clause-side
-straight_on-at-requires-clause-side c =
-    let (rows, e, o, d, here, is) = c.requires in
-    side_inside rows c.args.links.now e c.args.first c.args.out o d here c.args.dart is c.loop-passed.at c.loop-passed._passed (c.loop-passed.invariant rows e o d here is) c.loop-passed-test.true
+pub returns-then-link-ahead-2 : goal.returns-then-link-ahead-2
+returns-then-link-ahead-2 c = λ rows e o d ahead here is.
+    sym (is_before rows c.args.links.now e c.args.first c.args.out o c.args.ahead ahead d here c.args.dart is c.if-out-gt0.true
+    (sym (ap (λ (l : Link). (link_at c.args.links.now l.next).next) c.link-then-out-gt0.ensures) ∙ sym (ap (λ (l : Link). l.next) c.link-then-out-gt0-2.ensures) ∙ c.if-link-ahead-2.true))
 
-pub loop-passed-preserved : goal.loop-passed-preserved
-loop-passed-preserved c = λ rows e o d here is.
-    let more = seeks_more rows c.args.links.now e c.args.first c.args.out o d here c.args.dart is c.loop-passed.at c.loop-passed._passed (c.loop-passed.invariant rows e o d here is) c.loop-passed-test.true
-    c.if-at-dart.false (λ same. c.if-link-dart.false (ap (λ (l : Link). l.twin) c.link.ensures ∙ same)) in
-    subst (λ (n : ℕ). Seeks rows c.args.links.now e c.args.first c.args.out o d here c.args.dart is c.straight_on-at.result n) (omega arith)
-    (subst (λ (n : ℕ). Seeks rows c.args.links.now e c.args.first c.args.out o d here c.args.dart is n (suc c.loop-passed._passed)) (sym c.straight_on-at.ensures) more)
+pub is_met-requires : goal.is_met-requires
+is_met-requires c = let (rows, e, o, ahead, d, here, is) = c.requires in (rows, e, o, d, here, is)
 
 pub returns : goal.returns
-returns c = λ rows e o d here is.
-    let all : c.loop-passed._passed ≡ c.args.out = (let past = c.loop-passed-test.false in let end = c.loop-passed.auto._passed-end in omega arith) in
-    sym (not_found rows c.args.links.now e c.args.first c.args.out o d here c.args.dart is c.loop-passed.at
-    (subst (λ (n : ℕ). Seeks rows c.args.links.now e c.args.first c.args.out o d here c.args.dart is c.loop-passed.at n) all (c.loop-passed.invariant rows e o d here is)))
+returns c = λ rows e o d ahead here is. c.is_met.ensures rows e o d here is

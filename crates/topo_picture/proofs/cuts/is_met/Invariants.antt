@@ -5,7 +5,7 @@ use Rattle.topo_core.specs.Picture.{darts}
 use Rattle.topo_core.specs.Systems.{has_dart}
 use Rattle.topo_picture.specs.Cutting.{IsOpenedIn}
 use Rattle.topo_picture.proofs.FaceWalks.{Seeks}
-use Rattle.topo_picture.proofs.cuts.is_among.Given as goal
+use Rattle.topo_picture.proofs.cuts.is_met.Given as goal
 
 -- the walk along the edge has not met the dart
 abbrev pub invariant-loop-passed : goal.invariant-loop-passed
