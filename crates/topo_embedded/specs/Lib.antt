@@ -1,3 +1,4 @@
 pub mod Halves
 pub mod Making
 pub mod Walking
+pub mod Inserting
