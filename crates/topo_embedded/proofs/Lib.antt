@@ -5,3 +5,8 @@ pub mod Apart
 pub mod Reading
 pub mod Pieces
 pub mod PutPaths
+pub mod Grown
+pub mod LeftHalves
+pub mod Uncrossed
+pub mod Without
+pub mod Aheads

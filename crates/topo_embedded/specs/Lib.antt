@@ -2,3 +2,4 @@ pub mod Halves
 pub mod Making
 pub mod Walking
 pub mod Inserting
+pub mod Deleting

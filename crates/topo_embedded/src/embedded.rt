@@ -10,6 +10,7 @@ ghost use Rattle.topo_embedded.specs.Halves.{IsHalf, half_in, path_of};
 ghost use Rattle.topo_embedded.specs.Walking.{named_in};
 ghost use Rattle.topo_route.specs.Names.{IsNamed};
 
+use crate::growth::grow_drawn;
 use crate::making::{labels_of, paths_of};
 use crate::walking::{end_of, led, place_on_path};
 use std::alloc::{AllocError, Global};
@@ -169,5 +170,44 @@ impl Embedded {
         } else {
             None
         }
+    }
+}
+
+impl Embedded {
+    ghost use Rattle.std.specs.Prelude.{◌+◌, OnErr, OnOk};
+    ghost use Rattle.topo_core.specs.Changes.{grown};
+    ghost use Rattle.topo_core.specs.Picture.{rotation};
+
+    /// Puts a new vertex on a new edge of the given kind into the corner at a position of `u`. An error
+    /// is want of memory, and then all is as before.
+    pub fn grow(
+        &mut self,
+        alloc: Global,
+        u: u32,
+        position: u32,
+        kind: u32,
+    ) -> Result<(), AllocError>
+        requires vertex { u < length self.old.rows.rotations }
+        requires position { position < length (rotation self.old.rows u) }
+        requires known { kind < 64 }
+        requires vertices { length self.old.rows.rotations < 2 ^ 32 }
+        requires edges { self.old.rows.next_edge + 1 < 2 ^ 32 }
+        ensures ok { OnOk result (self.new.rows ≡ grown self.old.rows u position kind) }
+        ensures err { OnErr result (self.new ≡ self.old) }
+    {
+        let Some(named) = self.corner(u, position) else {
+            unreachable!()
+        };
+        grow_drawn(
+            alloc,
+            &mut self.rows,
+            &mut self.paths,
+            &mut self.segments,
+            &mut self.hints,
+            named,
+            u,
+            position,
+            kind,
+        )
     }
 }

@@ -8,6 +8,7 @@
 #![tactic(auto)]
 
 pub mod embedded;
+mod growth;
 mod making;
 pub mod walking;
 

@@ -27,7 +27,7 @@ use Rattle.topo_links.specs.declared.table.Link.{Link}
 use Rattle.topo_links.specs.declared.staging.Staged.{Staged}
 use Rattle.topo_links.specs.Staging.{IsSettled, IsStagedGrowth}
 use Rattle.topo_links.specs.Tables.{ends_of, first_dart, IsNaming, last_dart, link_at, ShowsRows, Table}
-use Rattle.topo_links.proofs.GrownCorner.{grown_good, grown_turns, known_below, leads_on, new_row, old_edge}
+use Rattle.topo_changes.proofs.GrownCorner.{grown_good, grown_turns, known_below, leads_on, new_row, old_edge}
 use Rattle.topo_links.proofs.Straight.{edge_there}
 
 module _ (rows : Rows) (u p kind : ℕ) (good : IsWellFormed rows) (u_in : u < length rows.rotations) (p_in : p < length (rotation rows u)) (known : kind < 64)

@@ -5,7 +5,6 @@ pub mod EndNames
 pub mod Found
 pub mod FoundNames
 pub mod Grown
-pub mod GrownCorner
 pub mod GrownLinks
 pub mod Inserted
 pub mod InsertedLinks

@@ -13,8 +13,8 @@ use Rattle.topo_core.proofs.ShownRows.{shown_new_row}
 use Rattle.topo_core.proofs.UndoneInsertions.{insertion_undone}
 use Rattle.topo_frozen.specs.Shown.{IsPicture, Shown}
 use Rattle.topo_picture.specs.Undoing.{IsShownOn}
-use Rattle.topo_picture.proofs.DeletedLawful.{cut_by_faces, cut_is_by_faces, no_cut, whole_without}
-use Rattle.topo_picture.proofs.WithoutCounts.{vertices_without}
+use Rattle.topo_changes.proofs.DeletedLawful.{cut_by_faces, cut_is_by_faces, no_cut, whole_without}
+use Rattle.topo_changes.proofs.WithoutCounts.{vertices_without}
 
 pub found_listed : (e : ℕ) (edges : List EdgeRow) → is_some (find (λ row. row.id == e) edges) ≡ list_any (λ row. row.id == e) edges
 found_listed e [] = refl

@@ -8,12 +8,8 @@
 //! they fail.
 #![tactic(auto)]
 
-mod copies;
 pub mod counts;
 mod cuts;
-mod deletion;
-mod growth;
-mod insertion;
 pub mod laws;
 mod linking;
 pub mod picture;

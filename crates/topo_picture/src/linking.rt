@@ -7,9 +7,9 @@ ghost use Rattle.topo_core.specs.Lawful.{IsWellFormed};
 ghost use Rattle.topo_core.specs.Picture.{rotation, segment_count};
 ghost use Rattle.topo_links.specs.Tables.{ShowsRows};
 
-use crate::growth::grow_rows;
-use crate::insertion::apply_rows;
 use std::alloc::{AllocError, Global};
+use topo_changes::growth::grow_rows;
+use topo_changes::insertion::apply_rows;
 use topo_core::routes::Route;
 use topo_core::rows::Rows;
 use topo_frozen::Hints;

@@ -1,12 +1,13 @@
 //! A picture, with its limits.
 
-use crate::copies::copy_rows;
 use crate::counts::Counts;
 use crate::cuts::first_cut;
-use crate::deletion::delete_rows;
 use crate::linking::{apply_linked, grow_linked};
 use std::alloc::{AllocError, Global};
 use std::marker::Model;
+use topo_changes::copies::copy_rows;
+use topo_changes::deletion::delete_rows;
+use topo_changes::growth::one_listed;
 use topo_core::calls::Refusal;
 use topo_core::ids::{EdgeId, VertexId};
 use topo_core::limits::Limits;
@@ -405,15 +406,6 @@ fn seed_rows(alloc: Global) -> Result<Rows, AllocError>
         next_edge: 1,
         next_crossing: 0,
     })
-}
-
-/// The list of one number.
-pub(crate) fn one_listed(alloc: Global, x: u32) -> Result<Listed<u32>, AllocError>
-    ensures { IfOk result (λ list. list ≡ x ∷ []) }
-{
-    let mut items = Vec::new(alloc);
-    items.push(x)?;
-    Ok(Listed::from_vec(items))
 }
 
 /// Whether there is an edge with this id.

@@ -1,7 +1,7 @@
 use Rattle.std.proofs.Common.{◌∙◌, ap}
 use Rattle.std.specs.Prelude.{is_some, slice_index}
 use Rattle.topo_core.specs.Picture.{edge_row, end_dart}
-use Rattle.topo_links.proofs.Corners.{around_read, corner_known, entry_known}
+use Rattle.topo_changes.proofs.Corners.{around_read, corner_known, entry_known}
 use Rattle.topo_links.proofs.names.corner_name.Goals as goal
 
 pub end_name-requires-clause-there : goal.end_name-requires-clause-there

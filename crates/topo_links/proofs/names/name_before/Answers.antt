@@ -2,7 +2,8 @@ use Rattle.std.proofs.Common.{◌∙◌, ap, length}
 use Rattle.std.specs.Prelude.{is_some, slice_index}
 use Rattle.topo_core.specs.Picture.{edge_row, end_dart, rotation}
 use Rattle.topo_links.specs.Naming.{place_before}
-use Rattle.topo_links.proofs.Corners.{around_read, before_inside, entry_known, stands_before}
+use Rattle.topo_changes.proofs.Corners.{around_read, entry_known}
+use Rattle.topo_links.proofs.Corners.{before_inside, stands_before}
 use Rattle.topo_links.proofs.names.name_before.Goals as goal
 
 pub end_name-requires-clause-there : goal.end_name-requires-clause-there

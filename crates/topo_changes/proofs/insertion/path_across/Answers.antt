@@ -1,0 +1,23 @@
+use Rattle.std.proofs.Common.{◌∙◌, ◌+◌, ◌∷◌, ◌++◌, [], ap, sym}
+use Rattle.std.specs.Prelude.{map}
+use Rattle.std.specs.List.{enumerate_from}
+use Rattle.std.proofs.lemmas.List.{take_all}
+use Rattle.topo_core.specs.declared.darts.Dart.{Dart}
+use Rattle.topo_core.specs.declared.darts.Way.TheVariants.{Forward}
+use Rattle.topo_changes.proofs.CrossedPaths.{numbered_step}
+use Rattle.topo_changes.proofs.insertion.path_across.Goals as goal
+
+any_dart : Dart
+any_dart = record { edge = 0; seg = 0; way = Forward }
+
+pub loop-i-preserved : goal.loop-i-preserved
+loop-i-preserved c =
+    c.in_ok-push.ensures.items
+    ∙ ap (λ path. path ++ (c.args.first + c.loop-i.i) ∷ []) c.loop-i.invariant
+    ∙ sym (numbered_step (λ x. x.0) c.args.first c.args.darts.now c.loop-i.i any_dart c.loop-i-test.true)
+
+pub returns : goal.returns
+returns c =
+    c.from_vec.ensures
+    ∙ c.loop-i.invariant
+    ∙ ap (λ darts. map (λ x. x.0) (enumerate_from c.args.first darts)) (take_all c.loop-i.i c.args.darts.now c.loop-i-test.false)

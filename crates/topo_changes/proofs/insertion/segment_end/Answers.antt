@@ -1,0 +1,31 @@
+use Rattle.std.proofs.Common.{◌+◌, ap, arith, drop, get_or}
+use Rattle.std.proofs.lemmas.List.{at_drop_all, at_drop_more}
+use Rattle.topo_changes.specs.Inserting.{segment_end}
+use Rattle.topo_changes.proofs.CrossedPaths.{counts, ends_here, goes_past}
+use Rattle.topo_changes.proofs.insertion.segment_end.Goals as goal
+use Rattle.topo_changes.proofs.insertion.segment_end.Goals.{then-x-first+else-left-eq0, else-x-first}
+
+pub returns-then-left-eq0 : goal.returns-then-left-eq0
+returns-then-left-eq0 c =
+    let path = c.args.path.now in
+    let next = at_drop_more (segment_end c.args.first c.loop-i.left) path c.loop-i.i 0 c.loop-i-test.true in
+    let here = ends_here c.args.first c.loop-i.left (get_or path c.loop-i.i 0) (drop (c.loop-i.i + 1) path) c.if-x-first.true c.if-left-eq0.true in
+    omega arith
+
+pub loop-i-preserved : goal.loop-i-preserved
+loop-i-preserved c =
+    let path = c.args.path.now in
+    let next = at_drop_more (segment_end c.args.first c.loop-i.left) path c.loop-i.i 0 c.loop-i-test.true in
+    elim c.if-x-first.branch [
+      | then-x-first+else-left-eq0 w ↦
+          let here = counts c.args.first c.loop-i.left (get_or path c.loop-i.i 0) (drop (c.loop-i.i + 1) path) w.if-x-first.true (omega arith) in
+          let same = ap (λ left. segment_end c.args.first left (drop (c.loop-i.i + 1) path)) w.left-is in omega arith
+      | else-x-first w ↦
+          let here = goes_past c.args.first c.loop-i.left (get_or path c.loop-i.i 0) (drop (c.loop-i.i + 1) path) w.if-x-first.false in
+          let same = ap (λ left. segment_end c.args.first left (drop (c.loop-i.i + 1) path)) w.left-is in omega arith
+    ]
+
+pub returns : goal.returns
+returns c =
+    let rest = at_drop_all (segment_end c.args.first c.loop-i.left) c.args.path.now c.loop-i.i c.loop-i-test.false in
+    omega arith

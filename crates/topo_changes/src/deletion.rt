@@ -1,0 +1,174 @@
+//! Deletion on plain rows. It takes no memory, so it cannot fail.
+
+ghost use Rattle.std.specs.Prelude.{Some, ◌&&◌, ◌≡◌, ◌<◌, ◌≤◌, ◌==◌, ℕ, true, not, filter, find, is_some, length, map, slice_index, slice_index_or, slice_set, [], ◌∷◌};
+ghost use Rattle.topo_core.specs.Changes.{from_least, uncrossed_row, without};
+ghost use Rattle.topo_core.specs.Items.{IsIn};
+ghost use Rattle.topo_core.specs.Lawful.{IsWellFormed};
+ghost use Rattle.topo_core.specs.Picture.{edge_at, edge_row};
+ghost use Rattle.topo_frozen.specs.Ids.{IdsRise};
+ghost use Rattle.topo_changes.specs.Deleting.{IsCrossed, rotation_without, left_by, other_edge};
+
+use std::alloc::Global;
+use std::mem;
+use topo_core::listed::Listed;
+use topo_core::rows::{CrossRow, EdgeRow, Rows};
+use topo_frozen::Hints;
+use topo_frozen::by_id::{place_of_crossing, place_of_edge};
+
+/// Takes an id out of a list.
+fn take_id(alloc: Global, list: &mut Listed<u32>, id: u32)
+    ensures { list.new ≡ filter (λ y. not (y == id)) list.old }
+{
+    let mut items = mem::replace(list, Listed::new(alloc)).into_vec();
+    items.retain(|y| *y != id);
+    *list = Listed::from_vec(items);
+}
+
+/// The first place of the least number.
+fn place_of_least(ids: &[u32]) -> usize
+    ensures within { result ≤ length ids.now }
+    ensures inside { 0 < length ids.now → result < length ids.now }
+    ensures least { (k : ℕ) → k < length ids.now → slice_index ids.now result ≤ slice_index ids.now k }
+    ensures first { (k : ℕ) → k < result → slice_index ids.now result < slice_index ids.now k }
+{
+    let mut place = 0;
+    for i in 0..ids.len() {
+        if ids[i] < ids[place] {
+            place = i;
+        }
+    }
+    place
+}
+
+/// Lists the same cycle from its least id on.
+fn begin_at_least(ids: &mut [u32])
+    ensures { ids.new ≡ from_least ids.old }
+{
+    let place = place_of_least(ids);
+    ids.rotate_left(place);
+}
+
+/// Takes an edge out of a rotation, which then begins again at its least id.
+fn leave_rotation(alloc: Global, around: &mut Listed<u32>, e: u32)
+    ensures { around.new ≡ rotation_without e around.old }
+{
+    let mut items = mem::replace(around, Listed::new(alloc)).into_vec();
+    items.retain(|f| *f != e);
+    begin_at_least(&mut items);
+    *around = Listed::from_vec(items);
+}
+
+/// Takes an edge out of the rotation of a vertex.
+fn leave_vertex(alloc: Global, rotations: &mut Vec<Listed<u32>>, v: u32, e: u32)
+    requires { v < length rotations.old.items }
+    ensures { rotations.new.items ≡ left_by e v rotations.old.items }
+{
+    leave_rotation(alloc, &mut rotations[v as usize], e);
+}
+
+/// The other edge of a crossing of `e`.
+fn edge_across(crossings: &[CrossRow], hints: &Hints, e: u32, x: u32) -> u32
+    requires rise { IdsRise (map (λ row. row.id) crossings.now) }
+    requires there { is_some (find (λ row. row.id == x) crossings.now) ≡ true }
+    ensures { result ≡ other_edge crossings.now e x }
+{
+    let row = &crossings[place_of_crossing(crossings, hints, x)];
+    if row.crossed == e {
+        row.newcomer
+    } else {
+        row.crossed
+    }
+}
+
+/// Takes a crossing of `e` out of the path of the other edge.
+fn leave_path(
+    alloc: Global,
+    edges: &mut Vec<EdgeRow>,
+    crossings: &[CrossRow],
+    hints: &Hints,
+    e: u32,
+    x: u32,
+)
+    requires crossings_rise { IdsRise (map (λ row. row.id) crossings.now) }
+    requires edges_rise { IdsRise (map (λ row. row.id) edges.old.items) }
+    requires crossed { IsCrossed crossings.now e edges.old.items x }
+    ensures { edges.new.items ≡ map (uncrossed_row (x ∷ [])) edges.old.items }
+{
+    let place = place_of_edge(edges.as_slice(), hints, edge_across(crossings, hints, e, x));
+    take_id(alloc, &mut edges[place].crossings, x);
+}
+
+/// Takes the crossings of `e` out of the paths of the other edges.
+fn leave_paths(
+    alloc: Global,
+    edges: &mut Vec<EdgeRow>,
+    crossings: &[CrossRow],
+    hints: &Hints,
+    e: u32,
+    path: &[u32],
+)
+    requires crossings_rise { IdsRise (map (λ row. row.id) crossings.now) }
+    requires edges_rise { IdsRise (map (λ row. row.id) edges.old.items) }
+    requires crossed { (x : ℕ) → IsIn x path.now → IsCrossed crossings.now e edges.old.items x }
+    ensures { edges.new.items ≡ map (uncrossed_row path.now) edges.old.items }
+{
+    for x in path {
+        leave_path(alloc, edges, crossings, hints, e, *x);
+    }
+}
+
+/// Takes out the row of an edge, and its crossings out of the paths of the others.
+fn delete_edge(alloc: Global, rows: &mut Rows, hints: &mut Hints, e: u32) -> EdgeRow
+    requires well_formed { IsWellFormed rows.old }
+    requires there { is_some (edge_row rows.old e) ≡ true }
+    ensures row { edge_row rows.old e ≡ Some result }
+    ensures rows { rows.new ≡ record rows.old { edges = map (uncrossed_row result.crossings) (filter (λ row. not (row.id == e)) rows.old.edges) } }
+{
+    let mut edges = mem::replace(&mut rows.edges, Listed::new(alloc)).into_vec();
+    let place = place_of_edge(edges.as_slice(), hints, e);
+    let row = edges.remove(place);
+    hints.leave(e);
+    leave_paths(
+        alloc,
+        &mut edges,
+        rows.crossings.as_slice(),
+        hints,
+        e,
+        row.crossings.as_slice(),
+    );
+    rows.edges = Listed::from_vec(edges);
+    row
+}
+
+/// Takes an edge out of the rotations of its two ends.
+fn leave_ends(alloc: Global, rows: &mut Rows, row: &EdgeRow)
+    requires a { row.now.a < length rows.old.rotations }
+    requires b { row.now.b < length rows.old.rotations }
+    ensures { rows.new ≡ record rows.old { rotations = left_by row.now.id row.now.b (left_by row.now.id row.now.a rows.old.rotations) } }
+{
+    let mut rotations = mem::replace(&mut rows.rotations, Listed::new(alloc)).into_vec();
+    leave_vertex(alloc, &mut rotations, row.a, row.id);
+    leave_vertex(alloc, &mut rotations, row.b, row.id);
+    rows.rotations = Listed::from_vec(rotations);
+}
+
+/// Takes out the rows of the crossings of an edge.
+fn delete_crossings(alloc: Global, rows: &mut Rows, e: u32)
+    ensures { rows.new ≡ record rows.old { crossings = filter (λ x. not (x.crossed == e) && not (x.newcomer == e)) rows.old.crossings } }
+{
+    let mut crossings = mem::replace(&mut rows.crossings, Listed::new(alloc)).into_vec();
+    crossings.retain(|x| x.crossed != e && x.newcomer != e);
+    rows.crossings = Listed::from_vec(crossings);
+}
+
+/// Takes out an edge and its crossings. The counters stay.
+pub fn delete_rows(alloc: Global, rows: &mut Rows, hints: &mut Hints, e: u32)
+    requires well_formed { IsWellFormed rows.old }
+    requires there { is_some (edge_row rows.old e) ≡ true }
+    ensures { rows.new ≡ without rows.old e }
+{
+    let row = delete_edge(alloc, rows, hints, e);
+    leave_ends(alloc, rows, &row);
+    delete_crossings(alloc, rows, e);
+    hints.leave_crossings(rows, row.crossings.as_slice());
+}

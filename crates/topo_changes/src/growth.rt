@@ -1,0 +1,115 @@
+//! Growth on plain rows. What can fail comes first, so that a failure leaves the rows as they were.
+
+ghost use Rattle.std.specs.Prelude.{◌≡◌, ◌+◌, ◌<◌, ◌≤◌, ◌^◌, IfOk, OnOk, OnErr, length, slice_index_or, [], ◌∷◌, ◌++◌};
+ghost use Rattle.topo_core.specs.Picture.{rotation};
+ghost use Rattle.topo_core.specs.Changes.{put_in, with_end, grown};
+
+use std::alloc::{AllocError, Global};
+use std::mem;
+use topo_core::listed::Listed;
+use topo_core::rows::{EdgeRow, Rows};
+
+/// The list of one number.
+pub fn one_listed(alloc: Global, x: u32) -> Result<Listed<u32>, AllocError>
+    ensures { IfOk result (λ list. list ≡ x ∷ []) }
+{
+    let mut items = Vec::new(alloc);
+    items.push(x)?;
+    Ok(Listed::from_vec(items))
+}
+
+/// Puts `e` into the corner at a position of the list.
+pub(crate) fn put_into(
+    alloc: Global,
+    around: &mut Listed<u32>,
+    position: u32,
+    e: u32,
+) -> Result<(), AllocError>
+    requires { position ≤ length around.old }
+    ensures ok { OnOk result (around.new ≡ put_in position e around.old) }
+    ensures err { OnErr result (around.new ≡ around.old) }
+{
+    let mut items = mem::replace(around, Listed::new(alloc)).into_vec();
+    let done = if position == 0 {
+        items.push(e)
+    } else {
+        items.insert(position as usize, e)
+    };
+    *around = Listed::from_vec(items);
+    done?;
+    Ok(())
+}
+
+/// Puts `e` into the corner at a position of `v`, and a new vertex with `e` alone at the end.
+fn grow_rotations(
+    alloc: Global,
+    rotations: &mut Vec<Listed<u32>>,
+    v: u32,
+    position: u32,
+    e: u32,
+) -> Result<(), AllocError>
+    requires vertex { v < length rotations.old.items }
+    requires position { position ≤ length (slice_index_or rotations.old.items v []) }
+    ensures ok { OnOk result (rotations.new.items ≡ with_end rotations.old.items v position e ++ (e ∷ []) ∷ []) }
+    ensures err { OnErr result (rotations.new.items ≡ rotations.old.items) }
+{
+    rotations.push(one_listed(alloc, e)?)?;
+    if put_into(alloc, &mut rotations[v as usize], position, e).is_err() {
+        let _ = rotations.pop();
+        return Err(AllocError);
+    }
+    Ok(())
+}
+
+/// Puts a new vertex on a new edge into the corner at a position of `u`.
+pub fn grow_rows(
+    alloc: Global,
+    rows: &mut Rows,
+    u: u32,
+    position: u32,
+    kind: u32,
+) -> Result<(), AllocError>
+    requires vertex { u < length rows.old.rotations }
+    requires position { position < length (rotation rows.old u) }
+    requires vertices { length rows.old.rotations < 2 ^ 32 }
+    requires edges { rows.old.next_edge + 1 < 2 ^ 32 }
+    ensures ok { OnOk result (rows.new ≡ grown rows.old u position kind) }
+    ensures err { OnErr result (rows.new ≡ rows.old) }
+{
+    let mut rotations = mem::replace(&mut rows.rotations, Listed::new(alloc)).into_vec();
+    let mut edges = mem::replace(&mut rows.edges, Listed::new(alloc)).into_vec();
+    let row = EdgeRow {
+        id: rows.next_edge,
+        a: u,
+        b: rotations.len() as u32,
+        kind,
+        crossings: Listed::new(alloc),
+    };
+    let done = grow_lists(alloc, &mut rotations, &mut edges, row, position);
+    rows.rotations = Listed::from_vec(rotations);
+    rows.edges = Listed::from_vec(edges);
+    done?;
+    rows.next_edge += 1;
+    Ok(())
+}
+
+/// Puts the new edge into both lists, or leaves them as they were.
+fn grow_lists(
+    alloc: Global,
+    rotations: &mut Vec<Listed<u32>>,
+    edges: &mut Vec<EdgeRow>,
+    row: EdgeRow,
+    position: u32,
+) -> Result<(), AllocError>
+    requires vertex { row.a < length rotations.old.items }
+    requires position { position ≤ length (slice_index_or rotations.old.items row.a []) }
+    ensures rotations { OnOk result (rotations.new.items ≡ with_end rotations.old.items row.a position row.id ++ (row.id ∷ []) ∷ []) }
+    ensures edges { OnOk result (edges.new.items ≡ edges.old.items ++ row ∷ []) }
+    ensures rotations_stay { OnErr result (rotations.new.items ≡ rotations.old.items) }
+    ensures edges_stay { OnErr result (edges.new.items ≡ edges.old.items) }
+{
+    edges.reserve(1)?;
+    grow_rotations(alloc, rotations, row.a, position, row.id)?;
+    edges.push(row).unwrap();
+    Ok(())
+}

@@ -1,0 +1,321 @@
+//! Insertion on plain rows. What can fail comes before what cannot, and what was changed before a
+//! failure is changed back.
+
+ghost use Rattle.std.specs.Prelude.{◌≡◌, ◌≢◌, ◌+◌, ◌<◌, ◌≤◌, ◌^◌, ℕ, List, true, nat_lt, IfOk, OnOk, OnErr, length, map, filter, take, slice_index_or, [], ◌∷◌, ◌++◌};
+ghost use Rattle.std.specs.List.{enumerate_from, list_all};
+ghost use Rattle.topo_core.specs.Changes.{new_crossing, shown, sign_of, with_end};
+ghost use Rattle.topo_core.specs.Insertions.{IsInsertable};
+ghost use Rattle.topo_core.specs.Lawful.{IsWellFormed};
+ghost use Rattle.topo_changes.specs.Inserting.{AreOnPaths, EdgesRise, crossed_by, crossed_path, paths_below, repathed, segment_end};
+
+use crate::growth::put_into;
+use std::alloc::{AllocError, Global};
+use std::mem;
+use topo_core::darts::{Dart, Sign, Way};
+use topo_core::listed::Listed;
+use topo_core::routes::Route;
+use topo_core::rows::{CrossRow, EdgeRow, Rows};
+use topo_frozen::Hints;
+use topo_frozen::by_id::edge_place;
+
+/// The place on a path where a segment ends, when only the crossings with ids before `first` count.
+fn segment_end(path: &[u32], segment: u32, first: u32) -> usize
+    ensures { result ≡ segment_end first segment path.now }
+{
+    let mut left = segment;
+    for (i, x) in path.iter().enumerate() {
+        if *x < first {
+            if left == 0 {
+                return i;
+            }
+            left -= 1;
+        }
+    }
+    path.len()
+}
+
+/// Puts crossing `x` on a path at the end of a segment, when only the crossings with ids before
+/// `first` count.
+fn cross_path(
+    alloc: Global,
+    path: &mut Listed<u32>,
+    segment: u32,
+    first: u32,
+    x: u32,
+) -> Result<(), AllocError>
+    ensures ok { OnOk result (path.new ≡ crossed_path first segment x path.old) }
+    ensures err { OnErr result (path.new ≡ path.old) }
+{
+    let at = segment_end(path.as_slice(), segment, first);
+    let mut items = mem::replace(path, Listed::new(alloc)).into_vec();
+    let done = items.insert(at, x);
+    *path = Listed::from_vec(items);
+    done?;
+    Ok(())
+}
+
+/// Takes the ids from `first` on out of a list.
+fn keep_below(alloc: Global, list: &mut Listed<u32>, first: u32)
+    ensures { list.new ≡ filter (λ x. nat_lt x first) list.old }
+{
+    let mut items = mem::replace(list, Listed::new(alloc)).into_vec();
+    items.retain(|x| *x < first);
+    *list = Listed::from_vec(items);
+}
+
+/// Puts crossing `x` on the path of edge `e`.
+fn cross_edge(
+    alloc: Global,
+    edges: &mut [EdgeRow],
+    hints: &Hints,
+    e: u32,
+    segment: u32,
+    first: u32,
+    x: u32,
+) -> Result<(), AllocError>
+    requires { EdgesRise edges.old }
+    ensures ok { OnOk result (edges.new ≡ map (repathed e (crossed_path first segment x)) edges.old) }
+    ensures err { OnErr result (edges.new ≡ edges.old) }
+{
+    match edge_place(edges, hints, e) {
+        Some(i) => cross_path(alloc, &mut edges[i].crossings, segment, first, x),
+        None => Ok(()),
+    }
+}
+
+/// Takes the crossings from `first` on out of the path of edge `e`.
+fn uncross_edge(alloc: Global, edges: &mut [EdgeRow], hints: &Hints, e: u32, first: u32)
+    requires { EdgesRise edges.old }
+    ensures { edges.new ≡ map (repathed e (filter (λ x. nat_lt x first))) edges.old }
+{
+    match edge_place(edges, hints, e) {
+        Some(i) => keep_below(alloc, &mut edges[i].crossings, first),
+        None => {}
+    }
+}
+
+/// Puts crossings on the segments of the darts, with ids from `first` on, as far as there is memory,
+/// and answers how many.
+fn cross_some(
+    alloc: Global,
+    edges: &mut [EdgeRow],
+    hints: &Hints,
+    darts: &[Dart],
+    first: u32,
+) -> usize
+    requires rise { EdgesRise edges.old }
+    requires below { paths_below first edges.old ≡ true }
+    requires there { AreOnPaths edges.old darts.now }
+    requires ids { first + length darts.now < 2 ^ 32 }
+    ensures within { result ≤ length darts.now }
+    ensures crossed { edges.new ≡ map (crossed_by first (take result darts.now)) edges.old }
+{
+    for (i, dart) in darts.iter().enumerate() {
+        let x = first + i as u32;
+        if cross_edge(alloc, edges, hints, dart.edge.number(), dart.seg, first, x).is_err() {
+            return i;
+        }
+    }
+    darts.len()
+}
+
+/// Takes the crossings of the darts out again, the last one first.
+fn uncross(alloc: Global, edges: &mut [EdgeRow], hints: &Hints, darts: &[Dart], first: u32)
+    requires rise { EdgesRise edges.old }
+    requires ids { first + length darts.now < 2 ^ 32 }
+    ensures { (was : List EdgeRow) → paths_below first was ≡ true → edges.old ≡ map (crossed_by first darts.now) was → edges.new ≡ was }
+{
+    let mut n = darts.len();
+    while n > 0 {
+        n -= 1;
+        uncross_edge(
+            alloc,
+            edges,
+            hints,
+            darts[n].edge.number(),
+            first + n as u32,
+        );
+    }
+}
+
+/// Puts crossings on the segments of the darts, with ids from `first` on, or none where memory is short.
+fn cross(
+    alloc: Global,
+    edges: &mut [EdgeRow],
+    hints: &Hints,
+    darts: &[Dart],
+    first: u32,
+) -> Result<(), AllocError>
+    requires rise { EdgesRise edges.old }
+    requires below { paths_below first edges.old ≡ true }
+    requires there { AreOnPaths edges.old darts.now }
+    requires ids { first + length darts.now < 2 ^ 32 }
+    ensures ok { OnOk result (edges.new ≡ map (crossed_by first darts.now) edges.old) }
+    ensures err { OnErr result (edges.new ≡ edges.old) }
+{
+    let done = cross_some(alloc, edges, hints, darts, first);
+    if done < darts.len() {
+        uncross(alloc, edges, hints, &darts[..done], first);
+        return Err(AllocError);
+    }
+    Ok(())
+}
+
+/// Puts the edge of a row into the corners where a route starts and ends, or into none.
+fn join_ends(
+    alloc: Global,
+    rotations: &mut [Listed<u32>],
+    row: &EdgeRow,
+    route: &Route,
+) -> Result<(), AllocError>
+    requires a { row.now.a < length rotations.old }
+    requires b { row.now.b < length rotations.old }
+    requires apart { row.now.a ≢ row.now.b }
+    requires start { route.now.start ≤ length (slice_index_or rotations.old row.now.a []) }
+    requires end { route.now.end ≤ length (slice_index_or rotations.old row.now.b []) }
+    requires new { list_all (λ e. nat_lt e row.now.id) (slice_index_or rotations.old row.now.a []) ≡ true }
+    ensures ok { OnOk result (rotations.new ≡ with_end (with_end rotations.old row.now.a route.now.start row.now.id) row.now.b route.now.end row.now.id) }
+    ensures err { OnErr result (rotations.new ≡ rotations.old) }
+{
+    put_into(alloc, &mut rotations[row.a as usize], route.start, row.id)?;
+    if put_into(alloc, &mut rotations[row.b as usize], route.end, row.id).is_err() {
+        keep_below(alloc, &mut rotations[row.a as usize], row.id);
+        return Err(AllocError);
+    }
+    Ok(())
+}
+
+/// The ids of the crossings of the darts, from `first` on: the path of an edge that crosses them.
+fn path_across(alloc: Global, darts: &[Dart], first: u32) -> Result<Listed<u32>, AllocError>
+    requires { first + length darts.now < 2 ^ 32 }
+    ensures { IfOk result (λ path. path ≡ map (λ x. x.0) (enumerate_from first darts.now)) }
+{
+    let mut path = Vec::with_capacity(alloc, darts.len())?;
+    for i in 0..darts.len() {
+        path.push(first + i as u32)?;
+    }
+    Ok(Listed::from_vec(path))
+}
+
+/// The sign of a crossing where the newcomer crosses a dart of this direction.
+fn sign_of(way: Way) -> Sign
+    ensures { result ≡ sign_of way }
+{
+    match way {
+        Way::Forward => Sign::LeftToRight,
+        Way::Back => Sign::RightToLeft,
+    }
+}
+
+/// The crossings of an edge that crosses the darts, with ids from `first` on.
+fn crossings_of(
+    alloc: Global,
+    darts: &[Dart],
+    first: u32,
+    edge: u32,
+) -> Result<Vec<CrossRow>, AllocError>
+    requires { first + length darts.now < 2 ^ 32 }
+    ensures { IfOk result (λ made. made.items ≡ map (new_crossing edge) (enumerate_from first darts.now)) }
+{
+    let mut made = Vec::with_capacity(alloc, darts.len())?;
+    for i in 0..darts.len() {
+        let dart = darts[i];
+        made.push(CrossRow {
+            id: first + i as u32,
+            crossed: dart.edge.number(),
+            newcomer: edge,
+            sign: sign_of(dart.way),
+        })?;
+    }
+    Ok(made)
+}
+
+/// Puts the edge of a row and its crossings into the three lists, or leaves them as they were.
+fn insert_lists(
+    alloc: Global,
+    rotations: &mut [Listed<u32>],
+    edges: &mut Vec<EdgeRow>,
+    crossings: &mut Vec<CrossRow>,
+    hints: &Hints,
+    row: EdgeRow,
+    route: &Route,
+    first: u32,
+) -> Result<(), AllocError>
+    requires a { row.a < length rotations.old }
+    requires b { row.b < length rotations.old }
+    requires apart { row.a ≢ row.b }
+    requires start { route.now.start ≤ length (slice_index_or rotations.old row.a []) }
+    requires end { route.now.end ≤ length (slice_index_or rotations.old row.b []) }
+    requires new { list_all (λ e. nat_lt e row.id) (slice_index_or rotations.old row.a []) ≡ true }
+    requires rise { EdgesRise edges.old.items }
+    requires below { paths_below first edges.old.items ≡ true }
+    requires there { AreOnPaths edges.old.items route.now.crossed }
+    requires ids { first + length route.now.crossed < 2 ^ 32 }
+    ensures rotations { OnOk result (rotations.new ≡ with_end (with_end rotations.old row.a route.now.start row.id) row.b route.now.end row.id) }
+    ensures edges { OnOk result (edges.new.items ≡ map (crossed_by first route.now.crossed) edges.old.items ++ row ∷ []) }
+    ensures crossings { OnOk result (crossings.new.items ≡ crossings.old.items ++ map (new_crossing row.id) (enumerate_from first route.now.crossed)) }
+    ensures rotations_stay { OnErr result (rotations.new ≡ rotations.old) }
+    ensures edges_stay { OnErr result (edges.new.items ≡ edges.old.items) }
+    ensures crossings_stay { OnErr result (crossings.new.items ≡ crossings.old.items) }
+{
+    let darts = route.crossed.as_slice();
+    let made = crossings_of(alloc, darts, first, row.id)?;
+    edges.reserve(1)?;
+    crossings.reserve(made.len())?;
+    cross(alloc, edges, hints, darts, first)?;
+    if join_ends(alloc, rotations, &row, route).is_err() {
+        uncross(alloc, edges, hints, darts, first);
+        return Err(AllocError);
+    }
+    edges.push(row).unwrap();
+    crossings.extend_from_slice(made.as_slice()).unwrap();
+    Ok(())
+}
+
+/// Puts a new edge from `u` to `v` along a route, with a crossing on each segment that the route
+/// crosses.
+pub fn apply_rows(
+    alloc: Global,
+    rows: &mut Rows,
+    hints: &Hints,
+    u: u32,
+    v: u32,
+    kind: u32,
+    route: &Route,
+) -> Result<(), AllocError>
+    requires formed { IsWellFormed rows.old }
+    requires insertable { IsInsertable rows.old u v kind route.now }
+    requires edges { rows.old.next_edge + 1 < 2 ^ 32 }
+    requires crossings { rows.old.next_crossing + length route.now.crossed < 2 ^ 32 }
+    ensures ok { OnOk result (rows.new ≡ shown rows.old u v kind route.now) }
+    ensures err { OnErr result (rows.new ≡ rows.old) }
+{
+    let first = rows.next_crossing;
+    let row = EdgeRow {
+        id: rows.next_edge,
+        a: u,
+        b: v,
+        kind,
+        crossings: path_across(alloc, route.crossed.as_slice(), first)?,
+    };
+    let mut rotations = mem::replace(&mut rows.rotations, Listed::new(alloc)).into_vec();
+    let mut edges = mem::replace(&mut rows.edges, Listed::new(alloc)).into_vec();
+    let mut crossings = mem::replace(&mut rows.crossings, Listed::new(alloc)).into_vec();
+    let done = insert_lists(
+        alloc,
+        &mut rotations,
+        &mut edges,
+        &mut crossings,
+        hints,
+        row,
+        route,
+        first,
+    );
+    rows.rotations = Listed::from_vec(rotations);
+    rows.edges = Listed::from_vec(edges);
+    rows.crossings = Listed::from_vec(crossings);
+    done?;
+    rows.next_edge += 1;
+    rows.next_crossing += route.crossed.as_slice().len() as u32;
+    Ok(())
+}

@@ -1,0 +1,86 @@
+//! Growth of rows with their embedding. What can fail comes first, so that a failure leaves them as they were.
+
+ghost use Rattle.std.specs.Prelude.{◌≡◌, ◌+◌, ◌<◌, ◌^◌, Some, OnOk, OnErr, length};
+ghost use Rattle.topo_core.specs.Changes.{grown};
+ghost use Rattle.topo_core.specs.Lawful.{IsWellFormed};
+ghost use Rattle.topo_core.specs.Picture.{corner, rotation};
+ghost use Rattle.topo_core.specs.declared.darts.Dart.{Dart};
+ghost use Rattle.topo_embedded.specs.Halves.{ShowsRows, half_in};
+
+use std::alloc::{AllocError, Global};
+use std::mem;
+use topo_changes::growth::grow_rows;
+use topo_core::listed::Listed;
+use topo_core::rows::Rows;
+use topo_frozen::Hints;
+use topo_map::{Embedding, Half};
+
+/// Puts a new vertex on a new edge into a corner of the rows, and its segment before the half of that
+/// corner, or leaves all as it was.
+fn grow_lists(
+    alloc: Global,
+    rows: &mut Rows,
+    paths: &mut Vec<Listed<Half>>,
+    segments: &mut Embedding,
+    named: Half,
+    u: u32,
+    position: u32,
+    kind: u32,
+) -> Result<(), AllocError>
+    requires formed { IsWellFormed rows.old }
+    requires vertex { u < length rows.old.rotations }
+    requires position { position < length (rotation rows.old u) }
+    requires known { kind < 64 }
+    requires vertices { length rows.old.rotations < 2 ^ 32 }
+    requires edges { rows.old.next_edge + 1 < 2 ^ 32 }
+    requires shows { ShowsRows (record { rows = rows.old; paths = paths.old.items }) segments.old }
+    requires named { (c : Dart) → corner rows.old u position ≡ Some c → named ≡ half_in (record { rows = rows.old; paths = paths.old.items }) c }
+    ensures ok { OnOk result (rows.new ≡ grown rows.old u position kind) }
+    ensures err { OnErr result (rows.new ≡ rows.old) }
+    ensures err_paths { OnErr result (paths.new.items ≡ paths.old.items) }
+    ensures shows { ShowsRows (record { rows = rows.new; paths = paths.new.items }) segments.new }
+{
+    segments.reserve(1)?;
+    paths.reserve(1)?;
+    let mut path = Vec::with_capacity(alloc, 1)?;
+    let edge = rows.next_edge;
+    grow_rows(alloc, rows, u, position, kind)?;
+    segments.laws();
+    path.push(segments.hang(named, edge)).unwrap();
+    paths.push(Listed::from_vec(path)).unwrap();
+    Ok(())
+}
+
+/// As `grow_rows`, and keeps the halves and the hints in step with the rows. The half names the corner.
+pub(crate) fn grow_drawn(
+    alloc: Global,
+    rows: &mut Rows,
+    paths: &mut Listed<Listed<Half>>,
+    segments: &mut Embedding,
+    hints: &mut Hints,
+    named: Half,
+    u: u32,
+    position: u32,
+    kind: u32,
+) -> Result<(), AllocError>
+    requires formed { IsWellFormed rows.old }
+    requires vertex { u < length rows.old.rotations }
+    requires position { position < length (rotation rows.old u) }
+    requires known { kind < 64 }
+    requires vertices { length rows.old.rotations < 2 ^ 32 }
+    requires edges { rows.old.next_edge + 1 < 2 ^ 32 }
+    requires shows { ShowsRows (record { rows = rows.old; paths = paths.old }) segments.old }
+    requires named { (c : Dart) → corner rows.old u position ≡ Some c → named ≡ half_in (record { rows = rows.old; paths = paths.old }) c }
+    ensures ok { OnOk result (rows.new ≡ grown rows.old u position kind) }
+    ensures err { OnErr result (rows.new ≡ rows.old) }
+    ensures err_paths { OnErr result (paths.new ≡ paths.old) }
+    ensures shows { ShowsRows (record { rows = rows.new; paths = paths.new }) segments.new }
+{
+    hints.reserve(0)?;
+    let mut lists = mem::replace(paths, Listed::new(alloc)).into_vec();
+    let done = grow_lists(alloc, rows, &mut lists, segments, named, u, position, kind);
+    *paths = Listed::from_vec(lists);
+    done?;
+    hints.join(rows, 0);
+    Ok(())
+}

@@ -1,7 +1,0 @@
-use Rattle.std.proofs.Common.{◌≡◌, take}
-use Rattle.std.specs.Prelude.{map}
-use Rattle.topo_picture.specs.Inserting.{crossed_by}
-use Rattle.topo_picture.proofs.insertion.cross_some.Given as goal
-
-abbrev pub invariant-loop-i : goal.invariant-loop-i
-invariant-loop-i l = l.edges ≡ map (crossed_by l.first (take l.i l.darts)) l.fn.edges
