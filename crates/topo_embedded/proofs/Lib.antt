@@ -10,3 +10,4 @@ pub mod LeftHalves
 pub mod Uncrossed
 pub mod Without
 pub mod Aheads
+pub mod Inserted
