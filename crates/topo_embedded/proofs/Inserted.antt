@@ -77,14 +77,14 @@ module _ (p : Drawn) (good : IsWellFormed p.rows) (r : Rotation) (s : ShowsRows 
   abbrev put : Dart → ℕ
   put d = put_in p good r s u v kind route once now js all d
 
-  path_old : (e : ℕ) (row : EdgeRow) → edge_row p.rows e ≡ Some row → path_of inserted e ≡ put_halves js (path_of p e)
+  pub path_old : (e : ℕ) (row : EdgeRow) → edge_row p.rows e ≡ Some row → path_of inserted e ≡ put_halves js (path_of p e)
   path_old e row found =
       let place = place_old p.rows route e p.rows.edges (newcomer_row p.rows u v kind route ∷ []) row found in
       let k : ℕ = position_or_len (λ (x : EdgeRow). x.id == e) p.rows.edges in
       let inside : k < length (map (put_halves js) p.paths) = omega (arith, s.as_many, got_within p.rows.edges k row (found_place (λ x. x.id == e) p.rows.edges row found), length-map p.paths (put_halves js)) in
       ap (λ (j : ℕ). slice_index_or (map (put_halves js) p.paths ++ line ∷ []) j []) place ∙ get_or_append_left (map (put_halves js) p.paths) (line ∷ []) [] k inside ∙ got_map (put_halves js) (put_none js) p.paths k
 
-  path_new : path_of inserted p.rows.next_edge ≡ line
+  pub path_new : path_of inserted p.rows.next_edge ≡ line
   path_new =
       let f : ℕ = p.rows.next_edge in
       let place = place_new p.rows route f p.rows.edges (newcomer_row p.rows u v kind route) (λ x h. ne_eqb x.id f (λ e. (let less = edge_below p.rows good.paths x h in absurd (omega arith)))) (eqb_self f) in

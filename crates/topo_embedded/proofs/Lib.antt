@@ -11,3 +11,4 @@ pub mod Uncrossed
 pub mod Without
 pub mod Aheads
 pub mod Inserted
+pub mod InsertedShows
