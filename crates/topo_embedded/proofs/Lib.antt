@@ -12,3 +12,5 @@ pub mod Without
 pub mod Aheads
 pub mod Inserted
 pub mod InsertedShows
+pub mod InsertedNames
+pub mod Insertion
