@@ -3,8 +3,14 @@ pub mod Numbers
 pub mod Made
 pub mod Apart
 pub mod Reading
+pub mod Pieces
+pub mod PutPaths
 pub mod Grown
 pub mod LeftHalves
 pub mod Uncrossed
 pub mod Without
 pub mod Aheads
+pub mod Inserted
+pub mod InsertedShows
+pub mod InsertedNames
+pub mod Insertion

@@ -1,4 +1,5 @@
 pub mod Halves
 pub mod Making
 pub mod Walking
+pub mod Inserting
 pub mod Deleting

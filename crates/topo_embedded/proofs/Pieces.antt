@@ -1,0 +1,293 @@
+-- One segment of an edge that a route crosses or not: the halves that are along it then.
+use Rattle.std.proofs.Common.{◌≡◌, ◌≢◌, ◌<◌, ◌+◌, ◌⊎◌, ap, append-nil, arith, Bool, cond, false, inl, inr, length, List, [], ◌∷◌, ◌++◌, refl, subst, sym, true, ℕ, ◌∙◌}
+use Rattle.std.specs.Prelude.{◌&&◌, ◌==◌, filter, flat_map, map}
+use Rattle.std.specs.List.{AllByRecursion, enumerate_from}
+use Rattle.std.proofs.lemmas.Bool.{and_from, cases_Bool, cases_eq, cond-false, cond-true, eq-eqb, eqb-true, false≢true, ne_eqb}
+use Rattle.std.proofs.lemmas.Grind.{flat_map-append}
+use Rattle.topo_core.specs.declared.darts.Dart.{Dart}
+use Rattle.topo_core.specs.declared.darts.Way.{Way}
+use Rattle.topo_core.specs.declared.darts.Way.TheVariants.{Forward, Back}
+use Rattle.topo_core.specs.Darts.{dart_twin, reversed}
+use Rattle.topo_core.specs.Insertions.{CrossesOnce, same_segment}
+use Rattle.topo_core.specs.Lawful.{IsWellFormed}
+use Rattle.topo_core.specs.Picture.{darts, index_of}
+use Rattle.topo_core.specs.Pictures.{back, forward}
+use Rattle.topo_core.specs.Rotations.{twin}
+use Rattle.topo_core.specs.Systems.{has_dart}
+use Rattle.topo_core.proofs.Members.{left_true, right_true}
+use Rattle.topo_core.proofs.Numbering.{index_apart, index_twin, twin_in}
+use Rattle.topo_core.proofs.Counting.{eqb_symm}
+use Rattle.topo_core.proofs.DartLaws.{twin-twin as twin_twin_dart}
+use Rattle.topo_core.proofs.SimpleRoutes.{same_or_twins}
+use Rattle.topo_core.proofs.SystemDarts.{eqb_self}
+use Rattle.topo_perm.proofs.Bends.{Bend}
+use Rattle.topo_perm.proofs.Faces.{twin-other, twin-twin}
+use Rattle.topo_perm.proofs.PassageNumbers.{bent_number}
+use Rattle.topo_map.specs.Rotation.{Rotation, is_live}
+use Rattle.topo_embedded.specs.Halves.{Drawn, ShowsRows, by_way, half_at, half_in}
+use Rattle.topo_embedded.specs.Inserting.{piece, put_halves}
+use Rattle.topo_embedded.proofs.Apart.{halves_apart, twin_in_path}
+use Rattle.topo_embedded.proofs.Numbers.{half_alive, half_of_number}
+
+-- ---- Lists
+
+pub put_append : (js : List Bend) (xs ys : List ℕ) → put_halves js (xs ++ ys) ≡ put_halves js xs ++ put_halves js ys
+put_append [] xs ys = refl
+put_append (j ∷ js) xs ys = ap (flat_map (piece j)) (put_append js xs ys) ∙ flat_map-append (piece j) (put_halves js xs) (put_halves js ys)
+
+pub put_none : (js : List Bend) → put_halves js [] ≡ []
+put_none [] = refl
+put_none (j ∷ js) = ap (flat_map (piece j)) (put_none js)
+
+-- ---- One half
+
+piece_other : (j : Bend) (h : ℕ) → h ≢ j.near → h ≢ twin j.near → piece j h ≡ h ∷ []
+piece_other j h ne nt = cond-false _ _ _ (ne_eqb h j.near ne) ∙ cond-false _ _ _ (ne_eqb h (twin j.near) nt)
+
+abbrev pub first_of : Way → Bend → ℕ → ℕ
+first_of Forward j h = h
+first_of Back j h = twin j.beyond
+
+abbrev pub last_of : Way → Bend → ℕ → ℕ
+last_of Forward j h = j.beyond
+last_of Back j h = h
+
+piece_split : (j : Bend) (h : ℕ) (w : Way) → j.near ≡ by_way h w → piece j h ≡ first_of w j h ∷ last_of w j h ∷ []
+piece_split j h Forward is = cond-true _ _ _ (eq-eqb h j.near (sym is))
+piece_split j h Back is =
+    let other : h ≢ j.near = λ e. twin-other h (sym (e ∙ is)) in
+    let here : h ≡ twin j.near = sym (ap twin is ∙ twin-twin h) in
+    cond-false _ _ _ (ne_eqb h j.near other) ∙ cond-true _ _ _ (eq-eqb h (twin j.near) here)
+
+put_on_one : (j : Bend) (h : ℕ) → flat_map (piece j) (h ∷ []) ≡ piece j h
+put_on_one j h = append-nil (piece j h)
+
+put_on_two : (j : Bend) (a b : ℕ) → a ≢ j.near → a ≢ twin j.near → b ≢ j.near → b ≢ twin j.near → flat_map (piece j) (a ∷ b ∷ []) ≡ a ∷ b ∷ []
+put_on_two j a b na ta nb tb = ap (λ xs. xs ++ (piece j b ++ [])) (piece_other j a na ta) ∙ ap (λ xs. (a ∷ []) ++ (xs ++ [])) (piece_other j b nb tb)
+
+-- ---- Crossed darts and their bends
+
+-- the bend is on the half of the dart, and the half beyond it is new
+pub record IsCrossedAt (p : Drawn) (r : Rotation) (d : Dart) (j : Bend) : Type 0 where
+  pub there : has_dart (darts p.rows) d ≡ true
+  pub dart : j.dart ≡ index_of p.rows d
+  pub near : j.near ≡ half_in p d
+  pub new : is_live r j.beyond ≡ false
+  pub new_back : is_live r (twin j.beyond) ≡ false
+
+abbrev pub AreCrossedAt : Drawn → Rotation → List Dart → List Bend → Type 0
+AreCrossedAt p r [] [] = Unit {0}
+AreCrossedAt p r [] (j ∷ js) = ⊥
+AreCrossedAt p r (d ∷ ds) [] = ⊥
+AreCrossedAt p r (d ∷ ds) (j ∷ js) = IsCrossedAt p r d j × AreCrossedAt p r ds js
+
+-- the dart d with number x and the bend j stand at one place of the lists
+abbrev pub AreAt : ℕ → Dart → Bend → ℕ → List Dart → List Bend → Type 0
+AreAt x d j n [] js = ⊥
+AreAt x d j n (c ∷ ds) [] = ⊥
+AreAt x d j n (c ∷ ds) (k ∷ js) = ((x ≡ n) × (d ≡ c) × (j ≡ k)) ⊎ AreAt x d j (n + 1) ds js
+
+-- the numbers of the darts on a segment
+abbrev pub ids_on : Dart → List (ℕ × Dart) → List ℕ
+ids_on d xs = map (λ x. x.0) (filter (λ x. same_segment x.1 d) xs)
+
+skipped : (d : Dart) (x : ℕ × Dart) (xs : List (ℕ × Dart)) → same_segment x.1 d ≡ false → ids_on d (x ∷ xs) ≡ ids_on d xs
+skipped d x xs e = ap (λ (t : Bool). map {A = ℕ × Dart} (λ x. x.0) (cond t (x ∷ filter (λ x. same_segment x.1 d) xs) (filter (λ x. same_segment x.1 d) xs))) e
+
+taken : (d : Dart) (x : ℕ × Dart) (xs : List (ℕ × Dart)) → same_segment x.1 d ≡ true → ids_on d (x ∷ xs) ≡ x.0 ∷ ids_on d xs
+taken d x xs e = ap (λ (t : Bool). map {A = ℕ × Dart} (λ x. x.0) (cond t (x ∷ filter (λ x. same_segment x.1 d) xs) (filter (λ x. same_segment x.1 d) xs))) e
+
+module _ (p : Drawn) (good : IsWellFormed p.rows) (r : Rotation) (s : ShowsRows p r) where
+  abbrev Is : Dart → Type 0
+  Is d = has_dart (darts p.rows) d ≡ true
+
+  alive : (d : Dart) → Is d → is_live r (half_in p d) ≡ true
+  alive d h = half_alive p good r s (half_in p d) (record { dart = d; there = h; is = refl })
+
+  alive_back : (d : Dart) → Is d → is_live r (twin (half_in p d)) ≡ true
+  alive_back d h = ap (is_live r) (twin_in_path p d) ∙ alive (dart_twin d) (twin_in p.rows d h)
+
+  -- a half that is not live is none of a dart
+  strange : (x : ℕ) (d : Dart) → Is d → is_live r x ≡ false → (x ≢ half_in p d) × (x ≢ twin (half_in p d))
+  strange x d h dead = (λ e. false≢true (sym dead ∙ ap (is_live r) e ∙ alive d h), λ e. false≢true (sym dead ∙ ap (is_live r) e ∙ alive_back d h))
+
+  -- ---- One segment, with its dart forward
+
+  module _ (e g : ℕ) (here : has_dart (darts p.rows) (forward e g) ≡ true) where
+    abbrev h : ℕ
+    h = half_in p (forward e g)
+
+    there : Is (back e g)
+    there = twin_in p.rows (forward e g) here
+
+    on_itself : (w : Way) → same_segment (record { edge = e; seg = g; way = w }) (forward e g) ≡ true
+    on_itself w = and_from (e == e) (g == g) (eqb_self e) (eqb_self g)
+
+    -- a dart of another segment
+    off_segment : (d : Dart) (w : Way) → same_segment d (forward e g) ≡ false → d ≢ record { edge = e; seg = g; way = w }
+    off_segment d w off same = false≢true (sym off ∙ ap (λ (c : Dart). same_segment c (forward e g)) same ∙ on_itself w)
+
+    off_half : (d : Dart) → Is d → same_segment d (forward e g) ≡ false → (h ≢ half_in p d) × (h ≢ twin (half_in p d))
+    off_half d hd off = (
+      λ same. off_segment d Forward off (sym (halves_apart p good r s (forward e g) d here hd same)),
+      λ same.
+          let w : forward e g ≡ dart_twin d = halves_apart p good r s (forward e g) (dart_twin d) here (twin_in p.rows d hd) (same ∙ twin_in_path p d) in
+          off_segment d Back off (sym (twin_twin_dart d) ∙ ap dart_twin (sym w)),
+    )
+
+    -- no dart of the list is on the segment
+    pub record IsUncrossed (n : ℕ) (ds : List Dart) (js : List Bend) : Type 0 where
+      pub ids : ids_on (forward e g) (enumerate_from n ds) ≡ []
+      pub one : put_halves js (h ∷ []) ≡ h ∷ []
+      pub first : bent_number (half_at p) js (index_of p.rows (forward e g)) ≡ h
+      pub last : bent_number (half_at p) js (index_of p.rows (back e g)) ≡ twin h
+
+    -- that with number x is, the way w
+    pub record IsCrossed (number : ℕ) (way : Way) (bend : Bend) (n : ℕ) (ds : List Dart) (js : List Bend) : Type 0 where
+      pub at : AreAt number (record { edge = e; seg = g; way = way }) bend n ds js
+      pub near : bend.near ≡ by_way h way
+      pub ids : ids_on (forward e g) (enumerate_from n ds) ≡ number ∷ []
+      pub two : put_halves js (h ∷ []) ≡ first_of way bend h ∷ last_of way bend h ∷ []
+      pub first : bent_number (half_at p) js (index_of p.rows (forward e g)) ≡ first_of way bend h
+      pub last : bent_number (half_at p) js (index_of p.rows (back e g)) ≡ twin (last_of way bend h)
+
+    seg_there : (w : Way) → Is (record { edge = e; seg = g; way = w })
+    seg_there Forward = here
+    seg_there Back = there
+
+    abbrev on_seg : Way → Dart
+    on_seg w = record { edge = e; seg = g; way = w }
+
+    -- ---- A crossed dart elsewhere
+
+    bent_past : (d : Dart) (j : Bend) (js : List Bend) (w : Way) → IsCrossedAt p r d j → same_segment d (forward e g) ≡ false → bent_number (half_at p) (j ∷ js) (index_of p.rows (on_seg w)) ≡ bent_number (half_at p) js (index_of p.rows (on_seg w))
+    bent_past d j js w c off = cond-false _ _ _ (ne_eqb _ _ (λ same.
+        let other : on_seg w ≡ dart_twin d = index_apart p.rows good.paths (on_seg w) (dart_twin d) (seg_there w) (twin_in p.rows d c.there) (same ∙ ap twin c.dart ∙ sym (index_twin p.rows d c.there)) in
+        off_segment d (reversed w) off (sym (twin_twin_dart d) ∙ ap dart_twin (sym other))))
+
+    past_uncrossed : (n : ℕ) (d : Dart) (ds : List Dart) (j : Bend) (js : List Bend) → IsCrossedAt p r d j → same_segment d (forward e g) ≡ false → IsUncrossed (n + 1) ds js → IsUncrossed n (d ∷ ds) (j ∷ js)
+    past_uncrossed n d ds j js c off u =
+        let (ne, nt) = off_half d c.there off in record {
+          ids = skipped (forward e g) (n, d) (enumerate_from (n + 1) ds) off ∙ u.ids;
+          one = ap (flat_map (piece j)) u.one ∙ put_on_one j h ∙ piece_other j h (λ q. ne (q ∙ c.near)) (λ q. nt (q ∙ ap twin c.near));
+          first = bent_past d j js Forward c off ∙ u.first;
+          last = bent_past d j js Back c off ∙ u.last;
+        }
+
+    -- what is along a crossed segment is not split again
+    two_stay : (d : Dart) (j k : Bend) (w : Way) → IsCrossedAt p r d j → same_segment d (forward e g) ≡ false → is_live r k.beyond ≡ false → is_live r (twin k.beyond) ≡ false
+        → flat_map (piece j) (first_of w k h ∷ last_of w k h ∷ []) ≡ first_of w k h ∷ last_of w k h ∷ []
+    two_stay d j k Forward c off dead dead_back =
+        let (ne, nt) = off_half d c.there off in
+        let (be, bt) = strange k.beyond d c.there dead in
+        put_on_two j h k.beyond (λ q. ne (q ∙ c.near)) (λ q. nt (q ∙ ap twin c.near)) (λ q. be (q ∙ c.near)) (λ q. bt (q ∙ ap twin c.near))
+    two_stay d j k Back c off dead dead_back =
+        let (ne, nt) = off_half d c.there off in
+        let (be, bt) = strange (twin k.beyond) d c.there dead_back in
+        put_on_two j (twin k.beyond) h (λ q. be (q ∙ c.near)) (λ q. bt (q ∙ ap twin c.near)) (λ q. ne (q ∙ c.near)) (λ q. nt (q ∙ ap twin c.near))
+
+    -- the bend at a place is new
+    new_at : (x : ℕ) (d : Dart) (k : Bend) (n : ℕ) (ds : List Dart) (js : List Bend) → AreCrossedAt p r ds js → AreAt x d k n ds js → IsCrossedAt p r d k
+    new_at x d k n [] js a i = absurd i
+    new_at x d k n (c ∷ ds) [] a i = absurd i
+    new_at x d k n (c ∷ ds) (j ∷ js) a (inl same) = subst (λ (b : Bend). IsCrossedAt p r d b) (sym same.2) (subst (λ (b : Dart). IsCrossedAt p r b j) (sym same.1) a.0)
+    new_at x d k n (c ∷ ds) (j ∷ js) a (inr i) = new_at x d k (n + 1) ds js a.1 i
+
+    past_crossed : (x : ℕ) (w : Way) (k : Bend) (n : ℕ) (d : Dart) (ds : List Dart) (j : Bend) (js : List Bend) → IsCrossedAt p r d j → same_segment d (forward e g) ≡ false → AreCrossedAt p r ds js → IsCrossed x w k (n + 1) ds js
+        → IsCrossed x w k n (d ∷ ds) (j ∷ js)
+    past_crossed x w k n d ds j js c off all u =
+        let new = new_at x (on_seg w) k (n + 1) ds js all u.at in record {
+          at = inr u.at;
+          near = u.near;
+          ids = skipped (forward e g) (n, d) (enumerate_from (n + 1) ds) off ∙ u.ids;
+          two = ap (flat_map (piece j)) u.two ∙ two_stay d j k w c off new.new new.new_back;
+          first = bent_past d j js Forward c off ∙ u.first;
+          last = bent_past d j js Back c off ∙ u.last;
+        }
+
+    -- ---- A crossed dart on the segment
+
+    on_way : (d : Dart) → same_segment d (forward e g) ≡ true → (w : Way) × (d ≡ on_seg w)
+    on_way d on = elim (same_or_twins d (forward e g) on) [
+      | inl same ↦ (Forward, sym same)
+      | inr turned ↦ (Back, sym turned)
+    ]
+
+    bent_first : (j : Bend) (js : List Bend) (w : Way) → j.dart ≡ index_of p.rows (on_seg w) → bent_number (half_at p) js (index_of p.rows (forward e g)) ≡ h → bent_number (half_at p) (j ∷ js) (index_of p.rows (forward e g)) ≡ first_of w j h
+    bent_first j js Forward is rest = cond-false _ _ _ (ne_eqb _ _ (λ same. twin-other (index_of p.rows (forward e g)) (sym (same ∙ ap twin is)))) ∙ rest
+    bent_first j js Back is rest = cond-true _ _ _ (eq-eqb _ _ (sym (ap twin is ∙ ap twin (index_twin p.rows (forward e g) here) ∙ twin-twin (index_of p.rows (forward e g)))))
+
+    bent_last : (j : Bend) (js : List Bend) (w : Way) → j.dart ≡ index_of p.rows (on_seg w) → bent_number (half_at p) js (index_of p.rows (back e g)) ≡ twin h → bent_number (half_at p) (j ∷ js) (index_of p.rows (back e g)) ≡ twin (last_of w j h)
+    bent_last j js Forward is rest = cond-true _ _ _ (eq-eqb _ _ (index_twin p.rows (forward e g) here ∙ sym (ap twin is)))
+    bent_last j js Back is rest = cond-false _ _ _ (ne_eqb _ _ (λ same. twin-other (index_of p.rows (back e g)) (sym (same ∙ ap twin is)))) ∙ rest
+
+    here_crossed : (n : ℕ) (d : Dart) (w : Way) (ds : List Dart) (j : Bend) (js : List Bend) → IsCrossedAt p r d j → d ≡ on_seg w → IsUncrossed (n + 1) ds js → IsCrossed n w j n (d ∷ ds) (j ∷ js)
+    here_crossed n d w ds j js c is u =
+        let on : same_segment d (forward e g) ≡ true = ap (λ (b : Dart). same_segment b (forward e g)) is ∙ on_itself w in
+        let near : j.near ≡ by_way h w = c.near ∙ ap (half_in p) is in
+        let dart : j.dart ≡ index_of p.rows (on_seg w) = c.dart ∙ ap (index_of p.rows) is in
+        record {
+          at = inl (refl, sym is, refl);
+          near = near;
+          ids = taken (forward e g) (n, d) (enumerate_from (n + 1) ds) on ∙ ap (λ (xs : List ℕ). n ∷ xs) u.ids;
+          two = ap (flat_map (piece j)) u.one ∙ put_on_one j h ∙ piece_split j h w near;
+          first = bent_first j js w dart u.first;
+          last = bent_last j js w dart u.last;
+        }
+
+    -- ---- All crossed darts
+
+    none_crossed : (n : ℕ) (ds : List Dart) (js : List Bend) → AreCrossedAt p r ds js → AllByRecursion (λ c. same_segment c (forward e g) ≡ false) ds → IsUncrossed n ds js
+    none_crossed n [] [] all off = record {
+      ids = refl;
+      one = refl;
+      first = half_of_number p good (forward e g) here;
+      last = half_of_number p good (back e g) there;
+    }
+    none_crossed n [] (j ∷ js) all off = absurd all
+    none_crossed n (d ∷ ds) [] all off = absurd all
+    none_crossed n (d ∷ ds) (j ∷ js) all off = past_uncrossed n d ds j js all.0 off.0 (none_crossed (n + 1) ds js all.1 off.1)
+
+    others_off : (d : Dart) (ds : List Dart) → same_segment d (forward e g) ≡ true → AllByRecursion (λ c. same_segment d c ≡ false) ds → AllByRecursion (λ c. same_segment c (forward e g) ≡ false) ds
+    others_off d [] on off = tt
+    others_off d (c ∷ ds) on off = (same_to_off d c on off.0, others_off d ds on off.1) where
+      same_to_off : (d c : Dart) → same_segment d (forward e g) ≡ true → same_segment d c ≡ false → same_segment c (forward e g) ≡ false
+      same_to_off d c on off =
+          let edges : e ≡ d.edge = sym (eqb-true d.edge e (left_true (d.edge == e) (d.seg == g) on)) in
+          let segs : g ≡ d.seg = sym (eqb-true d.seg g (right_true (d.edge == e) (d.seg == g) on)) in
+          ap (λ (k : ℕ). same_segment c (forward k g)) edges ∙ ap (λ (k : ℕ). same_segment c (forward d.edge k)) segs
+          ∙ ap (λ (b : Bool). b && c.seg == d.seg) (eqb_symm c.edge d.edge) ∙ ap (λ (b : Bool). d.edge == c.edge && b) (eqb_symm c.seg d.seg) ∙ off
+
+    -- at most one crosses it
+    abbrev pub SomeCrossed : ℕ → List Dart → List Bend → Type 0
+    SomeCrossed n ds js = (x : ℕ) × (w : Way) × (j : Bend) × IsCrossed x w j n ds js
+
+    pub crossed_or_not : (n : ℕ) (ds : List Dart) (js : List Bend) → AreCrossedAt p r ds js → CrossesOnce ds → IsUncrossed n ds js ⊎ SomeCrossed n ds js
+    crossed_or_not n [] [] all once = inl (none_crossed n [] [] all tt)
+    crossed_or_not n [] (j ∷ js) all once = absurd all
+    crossed_or_not n (d ∷ ds) [] all once = absurd all
+    crossed_or_not n (d ∷ ds) (j ∷ js) all once = elim (cases_Bool (same_segment d (forward e g))) [
+      | inl on ↦ (let (w, is) = on_way d on in inr (n, w, j, here_crossed n d w ds j js all.0 is (none_crossed (n + 1) ds js all.1 (others_off d ds on once.0))))
+      | inr off ↦ elim (crossed_or_not (n + 1) ds js all.1 once.1) [
+        | inl u ↦ inl (past_uncrossed n d ds j js all.0 off u)
+        | inr u ↦ inr (u.0, u.1, u.2, past_crossed u.0 u.1 u.2 n d ds j js all.0 off all.1 u.3)
+      ]
+    ]
+
+    off_at : (c : Dart) (x : ℕ) (d : Dart) (k : Bend) (n : ℕ) (ds : List Dart) (js : List Bend) → AllByRecursion (λ b. same_segment c b ≡ false) ds → AreAt x d k n ds js → same_segment c d ≡ false
+    off_at c x d k n [] js off i = absurd i
+    off_at c x d k n (b ∷ ds) [] off i = absurd i
+    off_at c x d k n (b ∷ ds) (j ∷ js) off (inl same) = ap (same_segment c) same.1 ∙ off.0
+    off_at c x d k n (b ∷ ds) (j ∷ js) off (inr i) = off_at c x d k (n + 1) ds js off.1 i
+
+    -- the one that does
+    pub crossed_there : (x : ℕ) (w : Way) (k : Bend) (n : ℕ) (ds : List Dart) (js : List Bend) → AreCrossedAt p r ds js → CrossesOnce ds → AreAt x (on_seg w) k n ds js → IsCrossed x w k n ds js
+    crossed_there x w k n [] js all once i = absurd i
+    crossed_there x w k n (d ∷ ds) [] all once i = absurd i
+    crossed_there x w k n (d ∷ ds) (j ∷ js) all once (inl same) =
+        let on : same_segment d (forward e g) ≡ true = ap (λ (b : Dart). same_segment b (forward e g)) (sym same.1) ∙ on_itself w in
+        subst (λ (y : ℕ). IsCrossed y w k n (d ∷ ds) (j ∷ js)) (sym same.0)
+        (subst (λ (b : Bend). IsCrossed n w b n (d ∷ ds) (j ∷ js)) (sym same.2) (here_crossed n d w ds j js all.0 (sym same.1) (none_crossed (n + 1) ds js all.1 (others_off d ds on once.0))))
+    crossed_there x w k n (d ∷ ds) (j ∷ js) all once (inr i) =
+        let apart : same_segment d (on_seg w) ≡ false = off_at d x (on_seg w) k (n + 1) ds js once.0 i in
+        past_crossed x w k n d ds j js all.0 apart all.1 (crossed_there x w k (n + 1) ds js all.1 once.1 i)
