@@ -16,3 +16,4 @@ pub mod picture;
 
 pub use counts::Counts;
 pub use picture::Picture;
+pub use topo_frozen::{Frozen, LoadFault};
