@@ -106,7 +106,7 @@ fn show<F: Asks, K: Naming<F>, W: Shelf<F, K>, R: Wait>(
     let share = Arc::try_clone(picture)?;
     let entry = next.entry();
     let version = Version::<F, K>::after(alloc, front.again(), entry.copy(alloc)?, share)?;
-    writer.publish(rt, version)?;
+    writer.publish(rt, &version)?;
     if !front.add(head, entry) {
         wait_forever(rt);
     }
