@@ -35,7 +35,7 @@ use Rattle.topo_embedded.proofs.PutPaths.{back_put, forward_put, here, onward_pu
 
 -- ---- Lists
 
-got_map : (f : List ℕ → List ℕ) → f [] ≡ [] → (xs : List (List ℕ)) (k : ℕ) → slice_index_or (map f xs) k [] ≡ f (slice_index_or xs k [])
+pub got_map : (f : List ℕ → List ℕ) → f [] ≡ [] → (xs : List (List ℕ)) (k : ℕ) → slice_index_or (map f xs) k [] ≡ f (slice_index_or xs k [])
 got_map f none [] k = sym none
 got_map f none (x ∷ xs) zero = refl
 got_map f none (x ∷ xs) (suc k) = got_map f none xs k
