@@ -1,5 +1,5 @@
 -- The labels of the halves along edges, while crossed halves are split and the new edge is drawn.
-use Rattle.std.proofs.Common.{◌≡◌, ◌<◌, ap, arith, Bool, inl, inr, length, List, [], ◌∷◌, ◌++◌, refl, subst, suc, sym, true, zero, ℕ, ◌∙◌, ◌⊎◌}
+use Rattle.std.proofs.Common.{◌≡◌, ◌<◌, ap, arith, inl, inr, length, List, [], ◌∷◌, ◌++◌, refl, subst, suc, sym, true, zero, ℕ, ◌∙◌, ◌⊎◌}
 use Rattle.std.specs.Prelude.{flat_map, map, None, slice_get, slice_index_or, Some}
 use Rattle.std.specs.List.{AllByRecursion}
 use Rattle.std.proofs.lemmas.Bool.{cases_eq, cond-false, cond-true, eq-eqb, ne_eqb}
@@ -18,7 +18,7 @@ use Rattle.topo_frozen.proofs.Rounds.{got_within}
 use Rattle.topo_embedded.specs.Halves.{by_way}
 use Rattle.topo_embedded.specs.Inserting.{piece, put_halves}
 use Rattle.topo_embedded.proofs.Inserted.{got_map}
-use Rattle.topo_embedded.proofs.InsertedShows.{AreLabelledPaths, IsLabelledPath}
+use Rattle.topo_embedded.proofs.InsertedShows.{AreLabelledPaths}
 use Rattle.topo_embedded.proofs.Pieces.{put_none}
 
 -- both halves of a segment are live, and their edge has this id
