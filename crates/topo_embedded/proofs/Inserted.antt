@@ -1,5 +1,5 @@
 -- Rows with their embedding after an insertion: each dart has the half with its number.
-use Rattle.std.proofs.Common.{◌≡◌, ◌≢◌, ◌<◌, ◌≤◌, ◌+◌, ◌⊎◌, ap, arith, Bool, cond, false, inl, inr, length, List, [], ◌∷◌, ◌++◌, not, refl, subst, suc, sym, true, zero, ℕ, ◌∙◌}
+use Rattle.std.proofs.Common.{◌≡◌, ◌<◌, ◌≤◌, ◌+◌, ap, arith, Bool, cond, false, inl, inr, length, List, [], ◌∷◌, ◌++◌, not, refl, subst, suc, sym, true, zero, ℕ, ◌∙◌}
 use Rattle.std.specs.Prelude.{◌==◌, find, map, slice_index_or, Some}
 use Rattle.std.specs.List.{enumerate_from, position_or_len}
 use Rattle.std.proofs.lemmas.Bool.{cases_Bool, ne_eqb}
@@ -10,16 +10,15 @@ use Rattle.topo_core.specs.declared.darts.Way.TheVariants.{Forward, Back}
 use Rattle.topo_core.specs.declared.rows.EdgeRow.{EdgeRow}
 use Rattle.topo_core.specs.declared.rows.Rows.{Rows}
 use Rattle.topo_core.specs.declared.routes.Route.{Route}
-use Rattle.topo_core.specs.Changes.{crossed_row, numbered, shown}
+use Rattle.topo_core.specs.Changes.{crossed_row, shown}
 use Rattle.topo_core.specs.Darts.{reversed}
 use Rattle.topo_core.specs.Insertions.{CrossesOnce, ShowsTurns, backward, lifted, onward, onward_by}
 use Rattle.topo_core.specs.Items.{IsIn}
 use Rattle.topo_core.specs.Lawful.{IsWellFormed}
-use Rattle.topo_core.specs.Picture.{darts, edge_row, index_of, segment_count}
+use Rattle.topo_core.specs.Picture.{darts, edge_row, index_of}
 use Rattle.topo_core.specs.Pictures.{back, forward}
 use Rattle.topo_core.specs.Rotations.{twin}
 use Rattle.topo_core.specs.Systems.{has_dart}
-use Rattle.topo_core.proofs.Numbering.{index_twin}
 use Rattle.topo_core.proofs.ShownPlaces.{lifted_edge}
 use Rattle.topo_core.proofs.ShownRows.{edge_below, newcomer_row}
 use Rattle.topo_core.proofs.SystemDarts.{eqb_self}
@@ -31,11 +30,11 @@ use Rattle.topo_embedded.specs.Halves.{Drawn, ShowsRows, by_way, half_at, half_i
 use Rattle.topo_embedded.specs.Inserting.{put_halves}
 use Rattle.topo_embedded.proofs.Numbers.{StandsAt, found_place, stands_at}
 use Rattle.topo_embedded.proofs.Pieces.{AreAt, AreCrossedAt, crossed_there, put_none}
-use Rattle.topo_embedded.proofs.PutPaths.{back_put, forward_put, here, onward_put, backward_put, put_in, put_many}
+use Rattle.topo_embedded.proofs.PutPaths.{back_put, forward_put, here, onward_put, backward_put, put_in}
 
 -- ---- Lists
 
-got_map : (f : List ℕ → List ℕ) → f [] ≡ [] → (xs : List (List ℕ)) (k : ℕ) → slice_index_or (map f xs) k [] ≡ f (slice_index_or xs k [])
+pub got_map : (f : List ℕ → List ℕ) → f [] ≡ [] → (xs : List (List ℕ)) (k : ℕ) → slice_index_or (map f xs) k [] ≡ f (slice_index_or xs k [])
 got_map f none [] k = sym none
 got_map f none (x ∷ xs) zero = refl
 got_map f none (x ∷ xs) (suc k) = got_map f none xs k

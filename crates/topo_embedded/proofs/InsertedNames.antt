@@ -1,5 +1,5 @@
 -- What the law of insertions says of numbers, dart by dart.
-use Rattle.std.proofs.Common.{◌≡◌, ◌<◌, ◌≤◌, ◌+◌, ◌-◌, ap, arith, inl, inr, length, List, [], ◌∷◌, refl, subst, suc, sym, true, zero, ℕ, ◌∙◌}
+use Rattle.std.proofs.Common.{◌≡◌, ◌≤◌, ◌+◌, ◌-◌, ap, arith, inl, inr, length, List, [], ◌∷◌, subst, suc, sym, true, zero, ℕ, ◌∙◌}
 use Rattle.std.specs.Prelude.{map, slice_index_or}
 use Rattle.std.specs.List.{enumerate_from}
 use Rattle.topo_core.specs.declared.darts.Dart.{Dart}
@@ -8,25 +8,24 @@ use Rattle.topo_core.specs.declared.rows.Rows.{Rows}
 use Rattle.topo_core.specs.declared.routes.Route.{Route}
 use Rattle.topo_core.specs.Changes.{shown}
 use Rattle.topo_core.specs.Cycles.{map_of}
-use Rattle.topo_core.specs.Darts.{dart_twin}
-use Rattle.topo_core.specs.Insertions.{ShowsTurns, backward, lifted, onward}
+use Rattle.topo_core.specs.Insertions.{backward, lifted, onward}
 use Rattle.topo_core.specs.Items.{IsIn}
 use Rattle.topo_core.specs.Lawful.{IsWellFormed}
 use Rattle.topo_core.specs.Picture.{darts, index_of, turn_images}
-use Rattle.topo_core.specs.Pictures.{back, forward}
+use Rattle.topo_core.specs.Pictures.{forward}
 use Rattle.topo_core.specs.Rotations.{twin}
 use Rattle.topo_core.specs.Systems.{has_dart}
 use Rattle.topo_core.proofs.Numbering.{index_less, index_twin}
 use Rattle.topo_perm.specs.Runs.{Turning}
 use Rattle.topo_perm.proofs.Bends.{Bend}
 use Rattle.topo_perm.proofs.Links.{Link, chords_of}
-use Rattle.topo_perm.proofs.PassageNumbers.{AreBendsAt, IsPassageUnder, bent_number}
+use Rattle.topo_perm.proofs.PassageNumbers.{AreBendsAt, IsPassageUnder}
 use Rattle.topo_perm.proofs.RunNumbers.{AreNumbered}
 use Rattle.topo_map.specs.Rotation.{Rotation}
 use Rattle.topo_changes.proofs.InsertedLawful.{HasPassage}
 use Rattle.topo_changes.proofs.InsertedNumbers.{dart_of_number}
 use Rattle.topo_changes.proofs.InsertedPassage.{bends_of, links_of, name, path_bends, path_links}
-use Rattle.topo_embedded.specs.Halves.{Drawn, ShowsRows, half_at}
+use Rattle.topo_embedded.specs.Halves.{Drawn, half_at}
 use Rattle.topo_embedded.proofs.Inserted.{AreInserted}
 use Rattle.topo_embedded.proofs.Pieces.{AreAt, AreCrossedAt}
 

@@ -1,12 +1,12 @@
 -- The embedding after an insertion shows the rows with the new edge.
-use Rattle.std.proofs.Common.{◌≡◌, ◌<◌, ◌≤◌, ◌+◌, ap, arith, inl, inr, length, List, [], ◌∷◌, ◌++◌, refl, subst, sym, true, ℕ, ◌∙◌}
+use Rattle.std.proofs.Common.{◌≡◌, ◌<◌, ◌+◌, ap, arith, inl, inr, length, List, [], ◌∷◌, refl, subst, sym, true, ℕ, ◌∙◌}
 use Rattle.std.specs.Prelude.{◌==◌, map, Option, slice_get, slice_index_or, Some, unwrap_or}
 use Rattle.std.specs.List.{position_or_len}
 use Rattle.std.proofs.lemmas.List.{length-append, length-map}
 use Rattle.std.proofs.lemmas.List.FromFn.{length-enumerate_from}
 use Rattle.topo_core.specs.declared.darts.Dart.{Dart}
 use Rattle.topo_core.specs.declared.darts.Way.{Way}
-use Rattle.topo_core.specs.declared.darts.Way.TheVariants.{Forward, Back}
+use Rattle.topo_core.specs.declared.darts.Way.TheVariants.{Forward}
 use Rattle.topo_core.specs.declared.rows.EdgeRow.{EdgeRow}
 use Rattle.topo_core.specs.declared.rows.Rows.{Rows}
 use Rattle.topo_core.specs.declared.routes.Route.{Route}
@@ -14,8 +14,7 @@ use Rattle.topo_core.specs.Changes.{crossed_row, numbered, shown}
 use Rattle.topo_core.specs.Cycles.{map_of}
 use Rattle.topo_core.specs.Insertions.{CrossesOnce, ShowsTurns}
 use Rattle.topo_core.specs.Lawful.{IsWellFormed}
-use Rattle.topo_core.specs.Picture.{darts, edge_row, index_of, segment_count, turn_images}
-use Rattle.topo_core.specs.Rotations.{twin}
+use Rattle.topo_core.specs.Picture.{darts, edge_row, segment_count, turn_images}
 use Rattle.topo_core.specs.Systems.{has_dart}
 use Rattle.topo_core.proofs.Numbering.{has_at, images_length, index_of_get}
 use Rattle.topo_core.proofs.ShownRows.{newcomer_row, shown_edges}

@@ -1,5 +1,5 @@
 -- Splits of the crossed halves and chords from corner to corner lead from the embedding of rows to that of the rows with the new edge.
-use Rattle.std.proofs.Common.{◌≡◌, ◌≢◌, ◌<◌, ◌+◌, ap, arith, length, List, [], ◌∷◌, ◌++◌, refl, sym, ℕ, ◌∙◌}
+use Rattle.std.proofs.Common.{◌≡◌, ◌+◌, arith, length, List, [], ◌∷◌, ◌++◌, refl, sym, ℕ, ◌∙◌}
 use Rattle.std.specs.Prelude.{map}
 use Rattle.std.proofs.lemmas.List.{length-map}
 use Rattle.topo_core.specs.declared.darts.Dart.{Dart}

@@ -14,3 +14,4 @@ pub mod Inserted
 pub mod InsertedShows
 pub mod InsertedNames
 pub mod Insertion
+pub mod InsertedLabels

@@ -1,5 +1,5 @@
 -- The halves along an edge once the crossed ones are split: at the places where the darts of its segments stand then.
-use Rattle.std.proofs.Common.{◌≡◌, ◌≢◌, ◌<◌, ◌≤◌, ◌+◌, ◌-◌, ◌⊎◌, ap, arith, Bool, cond, drop, false, inl, inr, length, List, [], ◌∷◌, ◌++◌, refl, subst, suc, sym, take, true, zero, ℕ, ◌∙◌}
+use Rattle.std.proofs.Common.{◌≡◌, ◌<◌, ◌+◌, ◌-◌, ◌⊎◌, ap, arith, drop, inl, inr, length, List, [], ◌∷◌, ◌++◌, refl, suc, sym, take, true, zero, ℕ, ◌∙◌}
 use Rattle.std.specs.Prelude.{◌==◌, slice_index_or, Some}
 use Rattle.std.proofs.Math.Seq.{drop-cons}
 use Rattle.std.proofs.lemmas.Bool.{cond-false, cond-true, eq-eqb, ne_eqb}
@@ -10,7 +10,7 @@ use Rattle.topo_core.specs.declared.darts.Way.TheVariants.{Forward, Back}
 use Rattle.topo_core.specs.declared.rows.EdgeRow.{EdgeRow}
 use Rattle.topo_core.specs.declared.rows.Rows.{Rows}
 use Rattle.topo_core.specs.declared.routes.Route.{Route}
-use Rattle.topo_core.specs.Changes.{new_on, numbered, shown}
+use Rattle.topo_core.specs.Changes.{new_on, shown}
 use Rattle.topo_core.specs.Insertions.{CrossesOnce, backward, lifted, onward}
 use Rattle.topo_core.specs.Lawful.{IsWellFormed}
 use Rattle.topo_core.specs.Picture.{darts, edge_at, edge_row, index_of, place_on, segment_count}
@@ -24,11 +24,11 @@ use Rattle.topo_perm.proofs.Bends.{Bend}
 use Rattle.topo_perm.proofs.Faces.{twin-twin}
 use Rattle.topo_perm.proofs.PassageNumbers.{bent_number}
 use Rattle.topo_map.specs.Rotation.{Rotation}
-use Rattle.topo_embedded.specs.Halves.{Drawn, ShowsRows, by_way, half_at, half_in, path_of}
+use Rattle.topo_embedded.specs.Halves.{Drawn, ShowsRows, by_way, half_at, path_of}
 use Rattle.topo_embedded.specs.Inserting.{put_halves}
 use Rattle.topo_frozen.proofs.Lookups.{dart_there}
 use Rattle.topo_embedded.proofs.Numbers.{found_place}
-use Rattle.topo_embedded.proofs.Pieces.{AreAt, AreCrossedAt, IsCrossed, IsUncrossed, SomeCrossed, crossed_or_not, crossed_there, first_of, last_of, put_append, put_none}
+use Rattle.topo_embedded.proofs.Pieces.{AreCrossedAt, IsCrossed, IsUncrossed, SomeCrossed, crossed_or_not, first_of, last_of, put_append, put_none}
 
 -- ---- Parts of a path
 
