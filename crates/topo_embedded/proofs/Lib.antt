@@ -15,3 +15,4 @@ pub mod InsertedShows
 pub mod InsertedNames
 pub mod Insertion
 pub mod InsertedLabels
+pub mod FaceWalks

@@ -10,6 +10,7 @@ ghost use Rattle.topo_embedded.specs.Halves.{IsHalf, half_in, path_of};
 ghost use Rattle.topo_embedded.specs.Walking.{named_in};
 ghost use Rattle.topo_route.specs.Names.{IsNamed};
 
+use crate::cuts::first_cut;
 use crate::growth::grow_drawn;
 use crate::making::{labels_of, paths_of};
 use crate::walking::{end_of, led, place_on_path};
@@ -170,6 +171,21 @@ impl Embedded {
         } else {
             None
         }
+    }
+}
+
+impl Embedded {
+    ghost use Rattle.topo_changes.specs.Cuts.{IsFirstCut};
+
+    /// The first segment of an edge that has one face on both sides when those before it are out, if one
+    /// has. Lawful rows fall apart without these segments, and stay connected where there is none. It takes
+    /// no memory.
+    pub fn first_cut(&self, edge: u32) -> Option<u32>
+        requires { is_some (edge_row self.now.rows edge) ≡ true }
+        ensures { IsFirstCut self.now.rows edge result }
+    {
+        let place = place_of_edge(self.rows.edges.as_slice(), &self.hints, edge);
+        first_cut(&self.segments, edge, self.paths.as_slice()[place].as_slice())
     }
 }
 

@@ -144,16 +144,6 @@ pub record AtPlace (rows : Rows) (e place : ℕ) (row : EdgeRow) : Type 0 where
   pub is_row : edge_row rows e ≡ Some row
   pub at : slice_get rows.edges place ≡ Some row
 
--- an id that finds a row is among the ids
-pub id_there : (e : ℕ) (edges : List EdgeRow) (ids : List ℕ) → is_some (find (λ row. row.id == e) edges) ≡ true → ids ≡ map (λ row. row.id) edges → list_any (λ y. y == e) ids ≡ true
-id_there e edges ids h ids_are = ap (list_any (λ y. y == e)) ids_are ∙ among edges h where
-  among : (edges : List EdgeRow) → is_some (find (λ row. row.id == e) edges) ≡ true → list_any (λ y. y == e) (map (λ row. row.id) edges) ≡ true
-  among [] h = cc
-  among (row ∷ rest) h = elim (cases_Bool (row.id == e)) [
-    | inl t ↦ ap (λ b. b || list_any (λ y. y == e) (map (λ row. row.id) rest)) t
-    | inr f ↦ ap (λ b. b || list_any (λ y. y == e) (map (λ row. row.id) rest)) f ∙ among rest (sym (ap is_some (ap (λ (b : Bool). cond b (Some row) (find (λ row. row.id == e) rest)) f)) ∙ h)
-  ]
-
 module _ (rows : Rows) (paths : has_good_paths rows ≡ true) (v e place : ℕ) (row : EdgeRow) (there : AtPlace rows e place row) where
   is_e : row.id ≡ e
   is_e = row_id rows e row there.is_row

@@ -20,9 +20,6 @@ pub record IsWalked (f : ℕ → ℕ) (start k at : ℕ) (old new : List ℕ) : 
   pub face : (j : ℕ) → j < k → slice_index new (after f j start) ≡ start
   pub others : (a : ℕ) → (SameCycle f start a → ⊥) → slice_index new a ≡ slice_index old a
 
-pub walk_begun : (f : ℕ → ℕ) (start : ℕ) (labels : List ℕ) → IsWalked f start 0 start labels labels
-walk_begun f start labels = record { place = refl; face = λ j l. absurd (let z : ⊥ = omega arith in z); others = λ a apart. refl }
-
 pub walk_on : (f : ℕ → ℕ) (start k at : ℕ) (old new : List ℕ) → at < length new → IsWalked f start k at old new → IsWalked f start (k + 1) (f at) old (slice_set new at start)
 walk_on f start k at old new within w = record {
   place = ap f w.place ∙ sym (after-one f k start);

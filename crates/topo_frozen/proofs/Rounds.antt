@@ -342,9 +342,6 @@ module _ (rows : Rows) (good : IsWellFormed rows) where
   pub paths_known : list_all (λ row. list_all (λ x. is_some (cross_row rows x)) row.crossings) rows.edges ≡ true
   paths_known = all_from (λ row. list_all (λ x. is_some (cross_row rows x)) row.crossings) rows.edges (λ row h. all_from (λ x. is_some (cross_row rows x)) row.crossings (λ x k. crossing_there rows good.paths row h x k))
 
-  pub cross_ids_climb : (ids : List ℕ) → ids ≡ map (λ c. c.id) rows.crossings → IsStrictlyIncreasing ids
-  cross_ids_climb ids are = subst IsStrictlyIncreasing (sym are) (rises_strictly rows.next_crossing (map (λ c. c.id) rows.crossings) cross_ids_rise)
-
 -- ---- Steps of loops
 
 pub range_push : (a n : ℕ) → range_with_len a (n + 1) ≡ range_with_len a n ++ (a + n) ∷ []

@@ -18,15 +18,6 @@ pub record PlacedDart : Type 0 where
   pub segment : ℕ
   pub way : Way
 
--- the way that a word keeps
-abbrev pub way_kept : ℕ → Way
-way_kept back = cond (back == 0) Forward Back
-
--- the word that keeps a way
-abbrev pub word_of : Way → ℕ
-word_of Forward = 0
-word_of Back = 1
-
 -- a row stands at the place, and has the segment
 pub record IsPlaced (rows : Rows) (at : PlacedDart) : Type 0 where
   pub row : EdgeRow

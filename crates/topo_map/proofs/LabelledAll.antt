@@ -144,18 +144,6 @@ pub record AreBlankBelow (s s1 : Slab Segment) (k : ℕ) : Type 0 where
   pub same : Repaints s s1 (face_in s1)
   pub blank : (a : ℕ) → a < k → holds s a ≡ true → face_in s1 a ≡ 0
 
-pub blank_below : (s : Slab Segment) → AreBlankBelow s s 0
-blank_below s = record { same = unpainted s; blank = λ a l h. absurd (let z : ⊥ = omega arith in z) }
-
-pub blank_on : (s s1 s2 : Slab Segment) (k y : ℕ) → AreBlankBelow s s1 k → y ≡ k → Repaints s1 s2 (face_in s2) → (holds s1 y ≡ true → face_in s2 y ≡ 0) → ((a : ℕ) → a ≢ y → face_in s2 a ≡ face_in s1 a) → AreBlankBelow s s2 (k + 1)
-blank_on s s1 s2 k y w ey r here others = record {
-  same = then_painted s s1 s2 (face_in s1) (face_in s2) w.same r;
-  blank = λ a la h. elim (cases_eq a y) [
-    | inl e ↦ ap (face_in s2) e ∙ here (painted_live s s1 (face_in s1) y w.same (ap (holds s) (sym e) ∙ h))
-    | inr ne ↦ others a ne ∙ w.blank a (let z : a < k = omega arith in z) h
-  ];
-}
-
 pub blank_all : (s s1 : Slab Segment) (k : ℕ) → AreBlankBelow s s1 k → ((a : ℕ) → holds s a ≡ true → a < k) → AreBlank s1
 blank_all s s1 k w small a h =
     let was : holds s a ≡ true = ap (λ (p : ℕ → Bool). p a) (sym w.same.live) ∙ h in

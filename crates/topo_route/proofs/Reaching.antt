@@ -70,10 +70,6 @@ module _ (price : Pricing) (g : Named) (lawful : Lawful g.rows) (has : IsNamed g
       } in
       subst (λ c. Reaches price g.rows v c (p + h)) (sym (dart_of_twin g lawful has k l)) across
 
-  -- a corner of the target costs nothing
-  pub reaches_corner : (position : ℕ) (c : Dart) → corner g.rows v position ≡ Some c → Reaches price g.rows v c 0
-  reaches_corner position c at = record { crossed = []; position = position; to = c; ends = at; walk = record { steps = 0; leads = refl }; cost = refl }
-
 -- ---- When all are settled
 
 reached_most : (heights : List ℕ) → reached heights ≤ length heights

@@ -23,7 +23,7 @@ use std::sync::{Arc, Wait};
 use topo_book::{Book, Hint, Next};
 use topo_core::calls::{Call, Entry};
 use topo_price::tariff::Asks;
-use topo_versions::{Front, Glass, Head, Lends, Naming, Shelf, Version};
+use topo_versions::{Front, Glass, Head, Lends, Naming, Shelf};
 
 /// The book, the number of its calls, and the versions. Contracts see the book.
 ///
@@ -105,8 +105,7 @@ fn show<F: Asks, K: Naming<F>, W: Shelf<F, K>, R: Wait>(
     };
     let share = Arc::try_clone(picture)?;
     let entry = next.entry();
-    let version = Version::<F, K>::after(alloc, front.again(), entry.copy(alloc)?, share)?;
-    writer.publish(rt, &version)?;
+    writer.publish(rt, alloc, front.again(), entry.copy(alloc)?, share)?;
     if !front.add(head, entry) {
         wait_forever(rt);
     }
