@@ -1,5 +1,5 @@
 -- Walks on the embedding beside an edge that is opened: what the halves are that they read, and what they tell.
-use Rattle.std.proofs.Common.{◌≡◌, ◌≢◌, ◌+◌, ◌<◌, ◌≤◌, ◌&&◌, ◌==◌, ap, arith, false, inl, inr, length, List, refl, Some, subst, suc, sym, true, ℕ, ◌∙◌}
+use Rattle.std.proofs.Common.{◌≡◌, ◌≢◌, ◌+◌, ◌<◌, ◌≤◌, ◌&&◌, ◌==◌, ap, arith, false, inl, inr, length, List, [], refl, Some, subst, suc, sym, true, ℕ, ◌∙◌}
 use Rattle.std.specs.Prelude.{is_some, nat_lt, slice_index_or}
 use Rattle.std.specs.List.{position_or_len}
 use Rattle.std.proofs.lemmas.Bool.{cases_eq}
@@ -19,7 +19,9 @@ use Rattle.topo_core.specs.Pictures.{back, forward}
 use Rattle.topo_core.specs.Rotations.{face_next, twin}
 use Rattle.topo_core.specs.Systems.{has_dart, turn as dart_turn}
 use Rattle.topo_core.proofs.Numbering.{turn_stays, twin_in}
+use Rattle.topo_core.proofs.SystemDarts.{edge_at_row}
 use Rattle.topo_frozen.proofs.Lookups.{dart_there}
+use Rattle.topo_frozen.proofs.Rounds.{got_within}
 use Rattle.topo_map.specs.Rotation.{Rotation, edge_of, is_live, turn}
 use Rattle.topo_map.proofs.Stored.{limit-is}
 use Rattle.topo_changes.specs.Cuts.{IsLeft, IsNextLeft}
@@ -58,6 +60,19 @@ module _ (p : Drawn) (r : Rotation) (e out : ℕ) (path : List ℕ) (o : IsOpene
       let same : at.row ≡ o.row = cc in
       ap length o.own ∙ o.shows.along (position_or_len (λ row. row.id == e) rows.edges) at.row at.at ∙ ap segment_count same
 
+  pub path_is : length path ≡ length (edge_at rows e).crossings + 1
+  path_is = path_many ∙ ap segment_count (sym (edge_at_row rows e o.row o.there))
+
+  pub opened_to : (i : ℕ) → i < length path → IsOpenedOn p r e i path
+  opened_to i less = record {
+    well_formed = good;
+    shows = o.shows;
+    row = o.row;
+    there = o.there;
+    inside = omega (arith, less, path_many);
+    own = o.own;
+  }
+
   pub out_inside : out < length path
   out_inside = let inside = o.inside in omega (arith, path_many)
 
@@ -69,7 +84,8 @@ module _ (p : Drawn) (r : Rotation) (e out : ℕ) (path : List ℕ) (o : IsOpene
   path_few =
       let at : StandsAt rows (forward e 0) = stands_at rows good (forward e 0) (dart_on 0 Forward (omega arith)) in
       let read : EdgeRead rows e (position_or_len (λ row. row.id == e) rows.edges) at.row = record { found = at.found; at = at.at; id = at.id; first = refl } in
-      let list = list_few p good r o.shows e (position_or_len (λ row. row.id == e) rows.edges) at.row read (path_of p e) path refl o.own in
+      let inside : position_or_len (λ row. row.id == e) rows.edges < length p.paths = let many = o.shows.as_many in omega (arith, many, got_within rows.edges (position_or_len (λ row. row.id == e) rows.edges) at.row at.at) in
+      let list = list_few p good r o.shows e (position_or_len (λ row. row.id == e) rows.edges) at.row read (path_of p e) path (get_or_default p.paths (position_or_len (λ row. row.id == e) rows.edges) [] (path_of p e) inside) o.own in
       omega (arith, list, few)
 
   -- ---- What a half is
@@ -172,10 +188,10 @@ module _ (p : Drawn) (r : Rotation) (e out : ℕ) (path : List ℕ) (o : IsOpene
 
   -- ---- Walks round both faces
 
-  forward_here : has_dart (darts rows) (forward e out) ≡ true
+  pub forward_here : has_dart (darts rows) (forward e out) ≡ true
   forward_here = dart_on out Forward o.inside
 
-  back_here : has_dart (darts rows) (back e out) ≡ true
+  pub back_here : has_dart (darts rows) (back e out) ≡ true
   back_here = dart_on out Back o.inside
 
   abbrev pub WalksForth : Dart → ℕ → Type 0
