@@ -103,9 +103,8 @@ fn show<F: Asks, K: Naming<F>, W: Shelf<F, K>, R: Wait>(
     let Some(picture) = next.shared() else {
         return Ok(());
     };
-    let share = Arc::try_clone(picture)?;
     let entry = next.entry();
-    writer.publish(rt, alloc, front.again(), entry.copy(alloc)?, share)?;
+    writer.publish(rt, alloc, front, entry, picture)?;
     if !front.add(head, entry) {
         wait_forever(rt);
     }

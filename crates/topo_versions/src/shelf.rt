@@ -31,14 +31,14 @@ pub trait Shelf<F: Asks, K: Naming<F>> {
         &mut self,
         rt: &R,
         alloc: Global,
-        front: Front<K>,
-        entry: Entry,
-        picture: Arc<Picture>,
+        front: &Front<K>,
+        entry: &Entry,
+        picture: &Arc<Picture>,
     ) -> Result<(), AllocError>
-        requires goes_on { published self.old ≡ front }
-        requires room { length front + 1 < 2 ^ 64 }
-        requires follows { IsVersionFrom (prices_named F.answers K.closure) K.start (front ++ entry ∷ []) (arc_value picture) }
-        ensures ok { OnOk result (published self.new ≡ front ++ entry ∷ []) }
+        requires goes_on { published self.old ≡ front.now }
+        requires room { length front.now + 1 < 2 ^ 64 }
+        requires follows { IsVersionFrom (prices_named F.answers K.closure) K.start (front.now ++ entry.now ∷ []) (arc_value picture.now) }
+        ensures ok { OnOk result (published self.new ≡ front.now ++ entry.now ∷ []) }
         ensures err { OnErr result (published self.new ≡ published self.old) };
 
     /// Ends it.

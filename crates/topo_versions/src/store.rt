@@ -141,17 +141,18 @@ impl<F: Asks + Drop, K: Naming<F>> Shelf<F, K> for StoreWriter<F, K> {
         &mut self,
         rt: &R,
         alloc: Global,
-        front: Front<K>,
-        entry: Entry,
-        picture: Arc<Picture>,
+        front: &Front<K>,
+        entry: &Entry,
+        picture: &Arc<Picture>,
     ) -> Result<(), AllocError>
-        requires goes_on { self.old.desk.shown.value.entries ≡ front }
-        requires room { length front + 1 < 2 ^ 64 }
-        requires follows { IsVersionFrom (prices_named F.answers K.closure) K.start (front ++ entry ∷ []) (arc_value picture) }
-        ensures ok { OnOk result (self.new.desk.shown.value.entries ≡ front ++ entry ∷ []) }
+        requires goes_on { self.old.desk.shown.value.entries ≡ front.now }
+        requires room { length front.now + 1 < 2 ^ 64 }
+        requires follows { IsVersionFrom (prices_named F.answers K.closure) K.start (front.now ++ entry.now ∷ []) (arc_value picture.now) }
+        ensures ok { OnOk result (self.new.desk.shown.value.entries ≡ front.now ++ entry.now ∷ []) }
         ensures err { OnErr result (self.new.desk.shown.value.entries ≡ self.old.desk.shown.value.entries) }
     {
-        let next = Version::after(alloc, front, entry, picture)?;
+        let share = Arc::try_clone(picture)?;
+        let next = Version::after(alloc, front.again(), entry.copy(alloc)?, share)?;
         replace_with(self, next, |writer, next| publish_whole(rt, writer, next))
     }
 
