@@ -15,3 +15,5 @@ pub mod InsertedShows
 pub mod InsertedNames
 pub mod Insertion
 pub mod InsertedLabels
+pub mod OpenedPath
+pub mod SmoothedPath

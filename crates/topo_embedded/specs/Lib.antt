@@ -3,3 +3,4 @@ pub mod Making
 pub mod Walking
 pub mod Inserting
 pub mod Deleting
+pub mod Opening

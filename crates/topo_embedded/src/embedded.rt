@@ -10,6 +10,7 @@ ghost use Rattle.topo_embedded.specs.Halves.{IsHalf, half_in, path_of};
 ghost use Rattle.topo_embedded.specs.Walking.{named_in};
 ghost use Rattle.topo_route.specs.Names.{IsNamed};
 
+use crate::deletion::delete_drawn;
 use crate::growth::grow_drawn;
 use crate::making::{labels_of, paths_of};
 use crate::walking::{end_of, led, place_on_path};
@@ -209,5 +210,26 @@ impl Embedded {
             position,
             kind,
         )
+    }
+}
+
+impl Embedded {
+    ghost use Rattle.topo_core.specs.Changes.{without};
+    ghost use Rattle.topo_core.specs.Lawful.{Lawful};
+
+    /// Takes an edge out, with its crossings. It takes no memory.
+    pub fn delete(&mut self, alloc: Global, edge: u32)
+        requires lawful { Lawful self.old.rows }
+        requires there { is_some (edge_row self.old.rows edge) ≡ true }
+        ensures { self.new.rows ≡ without self.old.rows edge }
+    {
+        delete_drawn(
+            alloc,
+            &mut self.rows,
+            &mut self.paths,
+            &mut self.segments,
+            &mut self.hints,
+            edge,
+        );
     }
 }
