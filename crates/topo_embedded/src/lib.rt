@@ -7,6 +7,7 @@
 //! (`ShowsRows`), which the edits of the embedding keep.
 #![tactic(auto)]
 
+mod copies;
 mod deletion;
 pub mod embedded;
 mod growth;
