@@ -53,7 +53,7 @@ module _ (p : Drawn) (good : IsWellFormed p.rows) (r : Rotation) (s : ShowsRows 
       let at : StandsAt p.rows (forward e 0) = stands_at p.rows good (forward e 0) (dart_of_segment p.rows good e 0 Forward there (omega arith)) in
       s.along (position_or_len (λ row. row.id == e) p.rows.edges) at.row at.at ∙ sym (ap segment_count (edge_at_row p.rows e at.row at.found))
 
-  -- a half stands on the list of its edge where it leads along it
+  -- a half is on the list of its edge where it leads along it
   pub on_list : (c seg : ℕ) → has_dart (darts p.rows) (forward c seg) ≡ true → has_id (path_of p c) (half_in p (forward c seg)) ≡ true
   on_list c seg h =
       let inside = segment_of_dart p.rows good (forward c seg) h in

@@ -237,7 +237,7 @@ module _ (rows : Rows) (others : List (List ℕ)) (e : ℕ) (mids : List ℕ) (o
     left_edges : (without rows e).edges ≡ map uncrossed (remove rows.edges at)
     left_edges = ap (map uncrossed) (sym edges_left)
 
-    -- where what stands at a place now stood before
+    -- where what is at a place now was before
     record WasAt (k : ℕ) : Type 0 where
       place : ℕ
       within : place < length rows.edges

@@ -14,7 +14,7 @@ use Rattle.topo_changes.proofs.DeletedMids.{across, first_of, is_even}
 use Rattle.topo_embedded.specs.Deleting.{spared}
 use Rattle.topo_embedded.specs.Halves.{Drawn, ShowsRows, half_at, path_of}
 
--- whether a half stands on the list of its edge, and so leads along it
+-- whether a half is on the list of its edge, and so leads along it
 abbrev pub leads_in : Rows → List (List ℕ) → (ℕ → ℕ) → ℕ → Bool
 leads_in rows paths label h = has_id (slice_index_or paths (position_or_len (λ row. row.id == label h) rows.edges) []) h
 
@@ -33,7 +33,7 @@ pub record IsSetOut (rows : Rows) (others : List (List ℕ)) (e : ℕ) (path : L
   pub own : path ≡ path_of (record { rows = rows; paths = paths }) e
   pub same : (c : ℕ) → is_some (edge_row rows c) ≡ true → c ≢ e → path_of (record { rows = rows; paths = others }) c ≡ path_of (record { rows = rows; paths = paths }) c
 
--- the first i segments of e are out, and at the places of those with a crossing behind them stand the midpoints
+-- the first i segments of e are out, and the midpoints are at the places of those with a crossing behind them
 pub record IsOpenTo (p : Drawn) (e : ℕ) (r : Rotation) (i : ℕ) (now : Rotation) (path : List ℕ) : Type 0 where
   pub run : IsRun half_limit (turning_of r) (unchords_of (λ j. half_at p (index_of p.rows (forward e j))) i) (turning_of now)
   pub whole : IsEmbedding now

@@ -21,14 +21,14 @@ use topo_frozen::Hints;
 use topo_frozen::by_id::place_of_edge;
 use topo_map::{Embedding, Half};
 
-/// Whether a half stands on a list.
+/// Whether a half is on a list.
 fn is_on(path: &[Half], half: Half) -> bool
     ensures { result ≡ has_id path.now half }
 {
     path.iter().any(|at| *at == half)
 }
 
-/// Whether a half stands on the list of its edge, and so leads along it.
+/// Whether a half is on the list of its edge, and so leads along it.
 fn leads_along(
     rows: &Rows,
     paths: &[Listed<Half>],
