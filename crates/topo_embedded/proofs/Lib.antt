@@ -16,3 +16,5 @@ pub mod InsertedNames
 pub mod Insertion
 pub mod InsertedLabels
 pub mod FaceWalks
+pub mod OpenedPath
+pub mod SmoothedPath

@@ -4,3 +4,4 @@ pub mod Walking
 pub mod Inserting
 pub mod Deleting
 pub mod Cutting
+pub mod Opening

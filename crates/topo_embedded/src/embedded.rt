@@ -10,12 +10,15 @@ ghost use Rattle.topo_embedded.specs.Halves.{IsHalf, half_in, path_of};
 ghost use Rattle.topo_embedded.specs.Walking.{named_in};
 ghost use Rattle.topo_route.specs.Names.{IsNamed};
 
+use crate::copies::copy_paths;
 use crate::cuts::first_cut;
+use crate::deletion::delete_drawn;
 use crate::growth::grow_drawn;
 use crate::making::{labels_of, paths_of};
 use crate::walking::{end_of, led, place_on_path};
 use std::alloc::{AllocError, Global};
 use std::marker::Model;
+use topo_changes::copies::copy_rows;
 use topo_core::darts::{Dart, Way};
 use topo_core::ids::EdgeId;
 use topo_core::listed::Listed;
@@ -62,6 +65,22 @@ impl Embedded {
         let labels = labels_of(alloc, edges)?;
         let (segments, halves) = Embedding::from_turns(alloc, turns.as_slice(), labels.as_slice())?;
         let paths = paths_of(alloc, edges, begins.as_slice(), halves.as_slice())?;
+        Ok(Embedded {
+            rows,
+            paths,
+            segments,
+            hints,
+        })
+    }
+
+    /// An equal one, in memory of its own.
+    pub fn copy(&self, alloc: Global) -> Result<Self, AllocError>
+        ensures { IfOk result (λ e. e ≡ self.now) }
+    {
+        let rows = copy_rows(alloc, &self.rows)?;
+        let paths = copy_paths(alloc, self.paths.as_slice())?;
+        let segments = self.segments.copy()?;
+        let hints = self.hints.copy(alloc)?;
         Ok(Embedded {
             rows,
             paths,
@@ -225,5 +244,26 @@ impl Embedded {
             position,
             kind,
         )
+    }
+}
+
+impl Embedded {
+    ghost use Rattle.topo_core.specs.Changes.{without};
+    ghost use Rattle.topo_core.specs.Lawful.{Lawful};
+
+    /// Takes an edge out, with its crossings. It takes no memory.
+    pub fn delete(&mut self, alloc: Global, edge: u32)
+        requires lawful { Lawful self.old.rows }
+        requires there { is_some (edge_row self.old.rows edge) ≡ true }
+        ensures { self.new.rows ≡ without self.old.rows edge }
+    {
+        delete_drawn(
+            alloc,
+            &mut self.rows,
+            &mut self.paths,
+            &mut self.segments,
+            &mut self.hints,
+            edge,
+        );
     }
 }

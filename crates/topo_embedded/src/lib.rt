@@ -7,7 +7,9 @@
 //! (`ShowsRows`), which the edits of the embedding keep.
 #![tactic(auto)]
 
+mod copies;
 mod cuts;
+mod deletion;
 pub mod embedded;
 mod growth;
 mod making;
