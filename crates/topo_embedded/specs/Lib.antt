@@ -3,3 +3,5 @@ pub mod Making
 pub mod Walking
 pub mod Inserting
 pub mod Deleting
+pub mod Padding
+pub mod Crossing

@@ -9,7 +9,9 @@
 
 pub mod embedded;
 mod growth;
+mod insertion;
 mod making;
+mod padding;
 pub mod walking;
 
 pub use embedded::Embedded;
