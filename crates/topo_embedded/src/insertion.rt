@@ -90,8 +90,8 @@ fn draw(
     line[0] = segments.chord(start, to, edge);
 }
 
-/// The memory that an insertion takes: room for segments, for halves in the lists of the crossed edges, and a list for the
-/// new edge.
+/// The memory that an insertion takes: room for segments, and for halves in the lists of the crossed edges,
+/// and a list for the new edge.
 fn make_room(
     alloc: Global,
     paths: &mut Vec<Listed<Half>>,

@@ -37,8 +37,8 @@ impl Crossed {
     }
 }
 
-/// Puts one more half at the end of the list of each crossed dart, as far as there is memory, and answers for
-/// how many.
+/// Puts one more half at the end of the list of each crossed dart, as far as there is memory, and answers
+/// for how many.
 fn pad_some(paths: &mut [Listed<Half>], crossed: &[Crossed]) -> usize
     requires { ArePlaced (length paths.old) crossed.now }
     ensures within { result ≤ length crossed.now }
