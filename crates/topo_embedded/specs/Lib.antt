@@ -5,3 +5,5 @@ pub mod Inserting
 pub mod Deleting
 pub mod Cutting
 pub mod Opening
+pub mod Padding
+pub mod Crossing

@@ -12,7 +12,9 @@ mod cuts;
 mod deletion;
 pub mod embedded;
 mod growth;
+mod insertion;
 mod making;
+mod padding;
 pub mod walking;
 
 pub use embedded::Embedded;

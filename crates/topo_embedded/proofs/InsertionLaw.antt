@@ -17,12 +17,12 @@ use Rattle.topo_perm.proofs.Passages.{AreAlong}
 use Rattle.topo_map.specs.Rotation.{IsEmbedding, Rotation, edge_of, half_limit, turning_of}
 use Rattle.topo_changes.proofs.InsertedLawful.{HasPassage}
 use Rattle.topo_changes.proofs.InsertedSlab.{AreCrossedHalves, inserted_slab}
+use Rattle.topo_embedded.specs.Crossing.{AreCrossedAt, halves_of}
 use Rattle.topo_embedded.specs.Halves.{Drawn, ShowsRows, half_at}
 use Rattle.topo_embedded.specs.Inserting.{put_halves}
-use Rattle.topo_embedded.proofs.InsertedNames.{halves_of, numbers_inserted}
+use Rattle.topo_embedded.proofs.InsertedNames.{numbers_inserted}
 use Rattle.topo_embedded.proofs.InsertedShows.{AreLabelledPaths, inserted_shows}
 use Rattle.topo_embedded.proofs.Numbers.{half_of_number}
-use Rattle.topo_embedded.proofs.Pieces.{AreCrossedAt}
 
 as_many : (p : Drawn) (r : Rotation) (ds : List Dart) (js : List Bend) → AreCrossedAt p r ds js → length js ≡ length ds
 as_many p r [] [] a = refl
