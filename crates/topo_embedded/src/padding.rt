@@ -27,6 +27,7 @@ impl Crossed {
         ensures dart { result.dart ≡ dart }
         ensures place { result.place ≡ place }
         ensures near { result.near ≡ near }
+        ensures beyond { result.beyond ≡ near }
     {
         Crossed {
             dart,
