@@ -74,8 +74,7 @@ fn begun<F: Asks + Drop + Send + Sync, R: Threads + Wait + Print + Eprint + Allo
     named::<F, Brand, R>(rt, Unopened::new(), copy, tariff)
 }
 
-/// The same, over the service that K names. The service and its passes are owned here alone, and nothing
-/// returns early while they are.
+/// The same, over the service that K names.
 fn named<
     F: Asks + Drop + Send + Sync,
     K: Naming<F> + Send + Sync,
@@ -87,11 +86,20 @@ fn named<
     requires start { start ≡ K.start }
     requires prices { K.closure ≡ Some (arc_value tariff) }
 {
-    let alloc = rt.alloc();
-    let Ok(mut service) = Service::<F, K>::new(alloc, unopened, start, tariff) else {
+    let Ok(service) = Service::<F, K>::new(rt.alloc(), unopened, start, tariff) else {
         return Ok(false);
     };
-    let mut passes = Vec::new(alloc);
+    use_and_close(rt, service)
+}
+
+/// Uses a service and closes it. The service and its passes are owned here alone, and nothing returns early
+/// while they are.
+fn use_and_close<
+    F: Asks + Drop + Send + Sync,
+    K: Naming<F> + Send + Sync,
+    R: Threads + Wait + Print + Eprint + AllocGlobal + Sync,
+>(rt: &R, mut service: Service<F, K>) -> Result<bool> {
+    let mut passes = Vec::new(rt.alloc());
     let told = use_passes(rt, &mut service, &mut passes);
     let end = service.close(rt, passes);
     finish(rt, told, &end)
