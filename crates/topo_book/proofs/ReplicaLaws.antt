@@ -89,9 +89,6 @@ module _ (price : Pricing) (start : Shown) (history : List Entry) where
   pub all_left : (replicas left : List Replica) → AreReplicas price start history replicas → All (Contains replicas) left → AreReplicas price start history left
   all_left replicas left all among = λ k d before. All-contains (λ (r : Replica). IsReplica price start history r.entries (arc_value r.picture)) replicas _ all (among k d before)
 
-  pub one_taken : (replicas : List Replica) (replica : Replica) → AreReplicas price start history replicas → Contains replicas replica → IsReplica price start history replica.entries (arc_value replica.picture)
-  one_taken replicas replica all among = All-contains (λ (r : Replica). IsReplica price start history r.entries (arc_value r.picture)) replicas replica all among
-
 -- ---- Books with the replicas that they keep
 
 module _ {price : Pricing} {start : Shown} {history : List Entry} {picture : Shown} {kept : List Replica} (book : IsBookWith price start history picture kept) where

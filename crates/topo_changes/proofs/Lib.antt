@@ -24,3 +24,5 @@ pub mod DeletedLawful
 pub mod DeletedSlab
 pub mod DeletedMids
 pub mod DeletedStages
+pub mod Skipping
+pub mod OpenedFaces

@@ -1,2 +1,3 @@
 pub mod Deleting
 pub mod Inserting
+pub mod Cuts

@@ -16,7 +16,7 @@ use Rattle.topo_core.specs.Picture.{cross_row, edge_at, edge_row, rotation}
 use Rattle.topo_core.specs.Lawful.{has_good_crossings, has_good_path, has_good_paths, is_good_crossing}
 use Rattle.topo_core.specs.Changes.{crossed_row, new_crossing, numbered, put_in, shown, with_end}
 use Rattle.topo_core.proofs.Counting.{eqb_less, ids_above}
-use Rattle.topo_core.proofs.Growing.{below_limit, found_more, in_append, none_found, rises_push, some_found_more}
+use Rattle.topo_core.proofs.Growing.{below_limit, in_append, none_found, rises_push, some_found_more}
 use Rattle.topo_core.proofs.Members.{found, in_map, left_true, right_true}
 use Rattle.topo_core.proofs.SystemDarts.{edge_at_row, eqb_self, row_id, row_in, some_of}
 
@@ -85,20 +85,11 @@ number_of n d (c ∷ ds) (inr h) = let rest = number_of (n + 1) d ds h in (rest.
 pub find_numbered : {X : Type 0} (n x : ℕ) (d : X) (ds : List X) → IsIn (x, d) (enumerate_from n ds) → find (λ y. y.0 == x) (enumerate_from n ds) ≡ Some (x, d)
 find_numbered n x d ds h = find_by_id (λ y. y.0) (n + length ds) (enumerate_from n ds) (rises_on [] n ds refl) (x, d) h
 
--- a number has one item
-pub number_apart : {X : Type 0} (n x : ℕ) (c d : X) (ds : List X) → IsIn (x, c) (enumerate_from n ds) → IsIn (x, d) (enumerate_from n ds) → c ≡ d
-number_apart n x c d ds h k =
-    let held : Some c ≡ Some d = ap (option_map (λ y. y.1)) (sym (find_numbered n x c ds h) ∙ find_numbered n x d ds k) in cc
-
 -- ---- Rows by their ids
 
 -- the row of an edge is found by its id
 pub row_found : (rows : Rows) → has_good_paths rows ≡ true → (row : EdgeRow) → IsIn row rows.edges → edge_row rows row.id ≡ Some row
 row_found rows paths row h = find_by_id (λ row. row.id) rows.next_edge rows.edges (left_true _ (list_all (has_good_path rows) rows.edges) paths) row h
-
--- the row of a crossing is found by its id
-pub crossing_found : (rows : Rows) → has_good_crossings rows ≡ true → (x : CrossRow) → IsIn x rows.crossings → cross_row rows x.id ≡ Some x
-crossing_found rows crossings x h = find_by_id (λ x. x.id) rows.next_crossing rows.crossings (left_true _ (list_all (is_good_crossing rows) rows.crossings) crossings) x h
 
 -- ids of edges are below the next one
 pub edge_below : (rows : Rows) → has_good_paths rows ≡ true → (row : EdgeRow) → IsIn row rows.edges → row.id < rows.next_edge
@@ -178,10 +169,6 @@ module _ (rows : Rows) (u v kind : ℕ) (r : Route) where
       ]
 
   -- ---- Its crossings
-
-  -- an old crossing has its row
-  pub shown_old_crossing : (x : ℕ) (row : CrossRow) → cross_row rows x ≡ Some row → cross_row after x ≡ Some row
-  shown_old_crossing x row there = found_more (λ row. row.id == x) rows.crossings (map (new_crossing rows.next_edge) (numbered rows r)) row there
 
   pub shown_old_crossing_there : (x : ℕ) → is_some (cross_row rows x) ≡ true → is_some (cross_row after x) ≡ true
   shown_old_crossing_there x known = some_found_more (λ row. row.id == x) rows.crossings (map (new_crossing rows.next_edge) (numbered rows r)) known

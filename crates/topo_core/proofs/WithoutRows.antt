@@ -242,10 +242,6 @@ module _ (rows : Rows) (e : ℕ) where
     not-true (has_id gone x.id) (filter_passes (λ x. not (has_id gone x.id)) x rows.crossings h),
   )
 
-  -- and each that is left is one of the picture
-  pub without_crossing_in : (x : CrossRow) → IsIn x rows.crossings → has_id gone x.id ≡ false → IsIn x after.crossings
-  without_crossing_in x h stays = filter_in (λ x. not (has_id gone x.id)) x rows.crossings (ap not stays) h
-
   -- ---- Its rotations
 
   -- as many vertices

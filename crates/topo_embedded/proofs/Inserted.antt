@@ -26,10 +26,11 @@ use Rattle.topo_perm.proofs.Bends.{Bend}
 use Rattle.topo_perm.proofs.PassageNumbers.{bent_number}
 use Rattle.topo_map.specs.Rotation.{Rotation}
 use Rattle.topo_frozen.proofs.Rounds.{got_within}
+use Rattle.topo_embedded.specs.Crossing.{AreCrossedAt}
 use Rattle.topo_embedded.specs.Halves.{Drawn, ShowsRows, by_way, half_at, half_in, path_of}
 use Rattle.topo_embedded.specs.Inserting.{put_halves}
 use Rattle.topo_embedded.proofs.Numbers.{StandsAt, found_place, stands_at}
-use Rattle.topo_embedded.proofs.Pieces.{AreAt, AreCrossedAt, crossed_there, put_none}
+use Rattle.topo_embedded.proofs.Pieces.{AreAt, crossed_there, put_none}
 use Rattle.topo_embedded.proofs.PutPaths.{back_put, forward_put, here, onward_put, backward_put, put_in}
 
 -- ---- Lists

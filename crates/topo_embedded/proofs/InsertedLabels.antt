@@ -1,7 +1,6 @@
 -- The labels of the halves along edges, while crossed halves are split and the new edge is drawn.
-use Rattle.std.proofs.Common.{◌≡◌, ◌<◌, ap, arith, inl, inr, length, List, [], ◌∷◌, ◌++◌, refl, subst, suc, sym, true, zero, ℕ, ◌∙◌, ◌⊎◌}
+use Rattle.std.proofs.Common.{◌≡◌, ◌<◌, ap, arith, inl, inr, length, List, [], ◌∷◌, ◌++◌, refl, subst, suc, sym, zero, ℕ, ◌∙◌, ◌⊎◌}
 use Rattle.std.specs.Prelude.{flat_map, map, None, slice_get, slice_index_or, Some}
-use Rattle.std.specs.List.{AllByRecursion}
 use Rattle.std.proofs.lemmas.Bool.{cases_eq, cond-false, cond-true, eq-eqb, ne_eqb}
 use Rattle.std.proofs.lemmas.List.{get_or_append_left, get_or_at, length-map}
 use Rattle.topo_core.specs.declared.darts.Way.{Way}
@@ -15,24 +14,12 @@ use Rattle.topo_perm.proofs.Bends.{Bend}
 use Rattle.topo_perm.proofs.Faces.{twin-twin}
 use Rattle.topo_map.specs.Rotation.{AddsLabel, Grows, Rotation, edge_of, is_live}
 use Rattle.topo_frozen.proofs.Rounds.{got_within}
+use Rattle.topo_embedded.specs.Crossing.{HasLabel, HaveLabel, HaveLabels}
 use Rattle.topo_embedded.specs.Halves.{by_way}
 use Rattle.topo_embedded.specs.Inserting.{piece, put_halves}
 use Rattle.topo_embedded.proofs.Inserted.{got_map}
 use Rattle.topo_embedded.proofs.InsertedShows.{AreLabelledPaths}
 use Rattle.topo_embedded.proofs.Pieces.{put_none}
-
--- both halves of a segment are live, and their edge has this id
-pub record HasLabel (r : Rotation) (id : ℕ) (h : ℕ) : Type 0 where
-  pub alive : is_live r h ≡ true
-  pub alive_back : is_live r (twin h) ≡ true
-  pub here : edge_of r h ≡ id
-  pub behind : edge_of r (twin h) ≡ id
-
-abbrev pub HaveLabel : Rotation → ℕ → List ℕ → Type 0
-HaveLabel r id path = AllByRecursion (HasLabel r id) path
-
-abbrev pub HaveLabels : Rotation → List EdgeRow → List (List ℕ) → Type 0
-HaveLabels r edges paths = (k : ℕ) (row : EdgeRow) → slice_get edges k ≡ Some row → HaveLabel r row.id (slice_index_or paths k [])
 
 -- ---- One edit more
 

@@ -1,6 +1,6 @@
 -- What the law of insertions says of numbers, dart by dart.
 use Rattle.std.proofs.Common.{◌≡◌, ◌≤◌, ◌+◌, ◌-◌, ap, arith, inl, inr, length, List, [], ◌∷◌, subst, suc, sym, true, zero, ℕ, ◌∙◌}
-use Rattle.std.specs.Prelude.{map, slice_index_or}
+use Rattle.std.specs.Prelude.{slice_index_or}
 use Rattle.std.specs.List.{enumerate_from}
 use Rattle.topo_core.specs.declared.darts.Dart.{Dart}
 use Rattle.topo_core.specs.declared.darts.Way.TheVariants.{Forward}
@@ -25,13 +25,10 @@ use Rattle.topo_map.specs.Rotation.{Rotation}
 use Rattle.topo_changes.proofs.InsertedLawful.{HasPassage}
 use Rattle.topo_changes.proofs.InsertedNumbers.{dart_of_number}
 use Rattle.topo_changes.proofs.InsertedPassage.{bends_of, links_of, name, path_bends, path_links}
+use Rattle.topo_embedded.specs.Crossing.{AreCrossedAt, halves_of}
 use Rattle.topo_embedded.specs.Halves.{Drawn, half_at}
 use Rattle.topo_embedded.proofs.Inserted.{AreInserted}
-use Rattle.topo_embedded.proofs.Pieces.{AreAt, AreCrossedAt}
-
--- the halves of a line of links
-abbrev pub halves_of : List Link → List ℕ
-halves_of is = map (λ l. l.half) is
+use Rattle.topo_embedded.proofs.Pieces.{AreAt}
 
 -- what stands at one place of both lists is numbered and on a crossed half
 at_number : (x : ℕ) (d : Dart) (j : Bend) (n : ℕ) (ds : List Dart) (js : List Bend) → AreAt x d j n ds js → IsIn (x, d) (enumerate_from n ds)

@@ -24,12 +24,12 @@ use Rattle.topo_perm.proofs.Bends.{Bend}
 use Rattle.topo_map.specs.Rotation.{Rotation, edge_of, half_limit, is_live, turn}
 use Rattle.topo_frozen.specs.Ids.{IsPlaceOf}
 use Rattle.topo_frozen.proofs.Finding.{edges_rise, placed_here}
+use Rattle.topo_embedded.specs.Crossing.{AreCrossedAt}
 use Rattle.topo_embedded.specs.Halves.{Drawn, ShowsRows, by_way, half_at, half_in, path_of}
 use Rattle.topo_embedded.specs.Inserting.{put_halves}
 use Rattle.topo_embedded.proofs.Inserted.{AreInserted, all_have, inserted, path_new, path_old}
 use Rattle.topo_embedded.proofs.Made.{agreeing_numbers}
 use Rattle.topo_embedded.proofs.Numbers.{StandsAt, stands_at}
-use Rattle.topo_embedded.proofs.Pieces.{AreCrossedAt}
 use Rattle.topo_embedded.proofs.PutPaths.{put_many}
 
 -- both halves of each segment of a path have the label

@@ -13,5 +13,13 @@ pub mod Aheads
 pub mod Inserted
 pub mod InsertedShows
 pub mod InsertedNames
-pub mod Insertion
+pub mod InsertionLaw
 pub mod InsertedLabels
+pub mod FaceWalks
+pub mod OpenedPath
+pub mod SmoothedPath
+pub mod Pads
+pub mod OnPaths
+pub mod Splits
+pub mod Draws
+pub mod Routed

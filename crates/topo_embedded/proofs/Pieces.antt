@@ -24,6 +24,7 @@ use Rattle.topo_perm.proofs.Bends.{Bend}
 use Rattle.topo_perm.proofs.Faces.{twin-other, twin-twin}
 use Rattle.topo_perm.proofs.PassageNumbers.{bent_number}
 use Rattle.topo_map.specs.Rotation.{Rotation, is_live}
+use Rattle.topo_embedded.specs.Crossing.{AreCrossedAt, IsCrossedAt}
 use Rattle.topo_embedded.specs.Halves.{Drawn, ShowsRows, by_way, half_at, half_in}
 use Rattle.topo_embedded.specs.Inserting.{piece, put_halves}
 use Rattle.topo_embedded.proofs.Apart.{halves_apart, twin_in_path}
@@ -66,20 +67,6 @@ put_on_two : (j : Bend) (a b : ℕ) → a ≢ j.near → a ≢ twin j.near → b
 put_on_two j a b na ta nb tb = ap (λ xs. xs ++ (piece j b ++ [])) (piece_other j a na ta) ∙ ap (λ xs. (a ∷ []) ++ (xs ++ [])) (piece_other j b nb tb)
 
 -- ---- Crossed darts and their bends
-
--- the bend is on the half of the dart, and the half beyond it is new
-pub record IsCrossedAt (p : Drawn) (r : Rotation) (d : Dart) (j : Bend) : Type 0 where
-  pub there : has_dart (darts p.rows) d ≡ true
-  pub dart : j.dart ≡ index_of p.rows d
-  pub near : j.near ≡ half_in p d
-  pub new : is_live r j.beyond ≡ false
-  pub new_back : is_live r (twin j.beyond) ≡ false
-
-abbrev pub AreCrossedAt : Drawn → Rotation → List Dart → List Bend → Type 0
-AreCrossedAt p r [] [] = Unit {0}
-AreCrossedAt p r [] (j ∷ js) = ⊥
-AreCrossedAt p r (d ∷ ds) [] = ⊥
-AreCrossedAt p r (d ∷ ds) (j ∷ js) = IsCrossedAt p r d j × AreCrossedAt p r ds js
 
 -- the dart d with number x and the bend j stand at one place of the lists
 abbrev pub AreAt : ℕ → Dart → Bend → ℕ → List Dart → List Bend → Type 0

@@ -30,7 +30,7 @@ both_tests true b f g = sym (f refl)
 both_tests false true f g = g refl
 both_tests false false f g = refl
 
-not_true : (b : Bool) → (b ≡ true → ⊥) → b ≡ false
+pub not_true : (b : Bool) → (b ≡ true → ⊥) → b ≡ false
 not_true true wrong = absurd (wrong refl)
 not_true false wrong = refl
 

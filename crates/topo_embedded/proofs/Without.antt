@@ -36,6 +36,11 @@ listed_at x [] i h = cc
 listed_at x (y ∷ xs) zero h = inl (let same : x ≡ y = cc in same)
 listed_at x (y ∷ xs) (suc i) h = inr (listed_at x xs i h)
 
+-- what is seen of rows well formed is so without the edge
+pub without_formed : (p : Drawn) (rows after : Rows) (paths : List (List ℕ)) (e : ℕ) → (let q : Drawn = record { rows = rows; paths = paths } in q ≡ p) → IsWellFormed rows → is_some (edge_row p.rows e) ≡ true → after ≡ without rows e → IsWellFormed after
+without_formed p rows after paths e view good there is =
+    subst IsWellFormed (sym is) (without_well_formed rows e good (ap (λ (q : Drawn). is_some (edge_row q.rows e)) view ∙ there))
+
 module _ (p : Drawn) (good : IsWellFormed p.rows) (r : Rotation) (s : ShowsRows p r) (e : ℕ) (there : is_some (edge_row p.rows e) ≡ true) (goes : ℕ → Bool) (are : AreAheads p e goes) where
   abbrev after : Rows
   after = without p.rows e

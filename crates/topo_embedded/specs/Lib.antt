@@ -3,3 +3,7 @@ pub mod Making
 pub mod Walking
 pub mod Inserting
 pub mod Deleting
+pub mod Cutting
+pub mod Opening
+pub mod Padding
+pub mod Crossing

@@ -10,14 +10,21 @@ ghost use Rattle.topo_embedded.specs.Halves.{IsHalf, half_in, path_of};
 ghost use Rattle.topo_embedded.specs.Walking.{named_in};
 ghost use Rattle.topo_route.specs.Names.{IsNamed};
 
+use crate::copies::copy_paths;
+use crate::cuts::first_cut;
+use crate::deletion::delete_drawn;
 use crate::growth::grow_drawn;
+use crate::insertion::insert_drawn;
 use crate::making::{labels_of, paths_of};
+use crate::padding::Crossed;
 use crate::walking::{end_of, led, place_on_path};
 use std::alloc::{AllocError, Global};
 use std::marker::Model;
+use topo_changes::copies::copy_rows;
 use topo_core::darts::{Dart, Way};
 use topo_core::ids::EdgeId;
 use topo_core::listed::Listed;
+use topo_core::routes::Route;
 use topo_core::rows::{Facts, Rows};
 use topo_frozen::Hints;
 use topo_frozen::by_id::place_of_edge;
@@ -61,6 +68,22 @@ impl Embedded {
         let labels = labels_of(alloc, edges)?;
         let (segments, halves) = Embedding::from_turns(alloc, turns.as_slice(), labels.as_slice())?;
         let paths = paths_of(alloc, edges, begins.as_slice(), halves.as_slice())?;
+        Ok(Embedded {
+            rows,
+            paths,
+            segments,
+            hints,
+        })
+    }
+
+    /// An equal one, in memory of its own.
+    pub fn copy(&self, alloc: Global) -> Result<Self, AllocError>
+        ensures { IfOk result (λ e. e ≡ self.now) }
+    {
+        let rows = copy_rows(alloc, &self.rows)?;
+        let paths = copy_paths(alloc, self.paths.as_slice())?;
+        let segments = self.segments.copy()?;
+        let hints = self.hints.copy(alloc)?;
         Ok(Embedded {
             rows,
             paths,
@@ -174,6 +197,21 @@ impl Embedded {
 }
 
 impl Embedded {
+    ghost use Rattle.topo_changes.specs.Cuts.{IsFirstCut};
+
+    /// The first segment of an edge that has one face on both sides when those before it are out, if one
+    /// has. Lawful rows fall apart without these segments, and stay connected where there is none. It takes
+    /// no memory.
+    pub fn first_cut(&self, edge: u32) -> Option<u32>
+        requires { is_some (edge_row self.now.rows edge) ≡ true }
+        ensures { IsFirstCut self.now.rows edge result }
+    {
+        let place = place_of_edge(self.rows.edges.as_slice(), &self.hints, edge);
+        first_cut(&self.segments, edge, self.paths.as_slice()[place].as_slice())
+    }
+}
+
+impl Embedded {
     ghost use Rattle.std.specs.Prelude.{◌+◌, OnErr, OnOk};
     ghost use Rattle.topo_core.specs.Changes.{grown};
     ghost use Rattle.topo_core.specs.Picture.{rotation};
@@ -209,5 +247,105 @@ impl Embedded {
             position,
             kind,
         )
+    }
+}
+
+impl Embedded {
+    ghost use Rattle.std.specs.List.{All, position_or_len};
+    ghost use Rattle.std.specs.Prelude.{◌==◌, ◌+◌, OnErr, OnOk};
+    ghost use Rattle.topo_core.specs.Changes.{shown};
+    ghost use Rattle.topo_core.specs.Insertions.{IsInsertable};
+    ghost use Rattle.topo_core.specs.Routes.{IsSimpleRoute};
+    ghost use Rattle.topo_embedded.specs.Crossing.{IsMarked, crossed_darts};
+
+    // The darts that a route crosses, with their halves.
+    fn crossed_of(&self, alloc: Global, across: &[Dart]) -> Result<Vec<Crossed>, AllocError>
+        requires { All (λ d. has_dart (darts self.now.rows) d ≡ true) across.now }
+        ensures marked { IfOk result (λ crossed. All (IsMarked self.now) crossed.items) }
+        ensures darts { IfOk result (λ crossed. crossed_darts crossed.items ≡ across.now) }
+    {
+        let mut crossed = Vec::with_capacity(alloc, across.len())?;
+        for i in 0..across.len() {
+            crossed.push(self.marked(&across[i]))?;
+        }
+        Ok(crossed)
+    }
+
+    // A dart with its half, and none beyond it yet.
+    fn marked(&self, dart: &Dart) -> Crossed
+        requires { has_dart (darts self.now.rows) dart.now ≡ true }
+        ensures marked { IsMarked self.now result }
+        ensures dart { result.dart ≡ dart.now }
+    {
+        let place = self.place_of(dart);
+        let near = self.half_of(*dart);
+        Crossed::new(*dart, place, near)
+    }
+
+    // The place of a dart's edge among the edges.
+    fn place_of(&self, dart: &Dart) -> usize
+        requires { has_dart (darts self.now.rows) dart.now ≡ true }
+        ensures { result ≡ position_or_len (λ row. row.id == dart.now.edge) self.now.rows.edges }
+    {
+        let edges = self.rows.edges.as_slice();
+        place_of_edge(edges, &self.hints, dart.edge.number())
+    }
+
+    /// Draws a new edge of the given kind along a route that meets no face twice, from the first of the ends
+    /// to the second. An error is want of memory, and then all is as before.
+    pub fn insert(
+        &mut self,
+        alloc: Global,
+        ends: (u32, u32),
+        kind: u32,
+        route: &Route,
+    ) -> Result<(), AllocError>
+        requires insertable { IsInsertable self.old.rows ends.0 ends.1 kind route.now }
+        requires simple { IsSimpleRoute self.old.rows ends.0 ends.1 route.now }
+        requires edges { self.old.rows.next_edge + 1 < 2 ^ 32 }
+        requires crossing_ids { self.old.rows.next_crossing + length route.now.crossed < 2 ^ 32 }
+        ensures ok { OnOk result (self.new.rows ≡ shown self.old.rows ends.0 ends.1 kind route.now) }
+        ensures err { OnErr result (self.new ≡ self.old) }
+    {
+        let Some(start) = self.corner(ends.0, route.start) else {
+            unreachable!()
+        };
+        let Some(end) = self.corner(ends.1, route.end) else {
+            unreachable!()
+        };
+        let mut crossed = self.crossed_of(alloc, route.crossed.as_slice())?;
+        insert_drawn(
+            alloc,
+            &mut self.rows,
+            &mut self.paths,
+            &mut self.segments,
+            &mut self.hints,
+            &mut crossed,
+            (start, end),
+            ends,
+            kind,
+            route,
+        )
+    }
+}
+
+impl Embedded {
+    ghost use Rattle.topo_core.specs.Changes.{without};
+    ghost use Rattle.topo_core.specs.Lawful.{Lawful};
+
+    /// Takes an edge out, with its crossings. It takes no memory.
+    pub fn delete(&mut self, alloc: Global, edge: u32)
+        requires lawful { Lawful self.old.rows }
+        requires there { is_some (edge_row self.old.rows edge) ≡ true }
+        ensures { self.new.rows ≡ without self.old.rows edge }
+    {
+        delete_drawn(
+            alloc,
+            &mut self.rows,
+            &mut self.paths,
+            &mut self.segments,
+            &mut self.hints,
+            edge,
+        );
     }
 }

@@ -7,9 +7,14 @@
 //! (`ShowsRows`), which the edits of the embedding keep.
 #![tactic(auto)]
 
+mod copies;
+mod cuts;
+mod deletion;
 pub mod embedded;
 mod growth;
+mod insertion;
 mod making;
+mod padding;
 pub mod walking;
 
 pub use embedded::Embedded;

@@ -1,6 +1,6 @@
 -- How darts turn round vertices and crossings, as the lists of the rows say it.
-use Rattle.std.proofs.Common.{◌≡◌, ◌≤◌, ◌+◌, ◌<◌, ◌||◌, ap, arith, Bool, cond, eqb, false, get_or, inl, inr, length, List, not, refl, Some, subst, suc, sym, true, ℕ, [], ◌∙◌, ◌∷◌}
-use Rattle.std.specs.Prelude.{find, is_some, map, slice_get, slice_index, slice_index_or, ◌==◌}
+use Rattle.std.proofs.Common.{◌≡◌, ◌≤◌, ◌+◌, ◌<◌, ◌||◌, ap, arith, Bool, cond, eqb, false, inl, inr, length, List, not, refl, Some, suc, sym, true, ℕ, [], ◌∙◌, ◌∷◌}
+use Rattle.std.specs.Prelude.{is_some, map, slice_get, slice_index, slice_index_or, ◌==◌}
 use Rattle.std.specs.List.{position_or_len}
 use Rattle.std.proofs.lemmas.Bool.{cases_Bool, cases_lt, eqb-true, false≢true, or_left, or_right}
 use Rattle.std.proofs.lemmas.List.{get_or-map as get_or-map_inside, get_or_default, get_or_past}
@@ -26,15 +26,13 @@ use Rattle.topo_core.proofs.Numbering.{distinct_system}
 use Rattle.topo_core.proofs.Points.{turn_at_point}
 use Rattle.topo_core.proofs.RoundPoints.{next_of_four, point_distinct}
 use Rattle.topo_core.proofs.Standing.{good_crossing, good_rotation}
-use Rattle.topo_core.proofs.SystemDarts.{crossing_there, edge_at_row, eqb_self, in_at, path_facts, row_id, some_of}
+use Rattle.topo_core.proofs.SystemDarts.{crossing_there, edge_at_row, eqb_self, in_at, some_of}
 use Rattle.topo_core.proofs.Turning.{distinct_tail, head_not_later, IsDistinct, next_around}
 use Rattle.topo_core.proofs.WithoutRows.{has_id_in, in_has_id}
-use Rattle.topo_frozen.specs.Ids.{IsPlaceOf}
-use Rattle.topo_frozen.specs.Placed.{CrossesAt, entry_after, IsPlaced, passing, placed_dart, way_after, PlacedDart}
-use Rattle.topo_frozen.proofs.Begins.{AtPlace}
+use Rattle.topo_frozen.specs.Placed.{CrossesAt, entry_after, passing, placed_dart, way_after, PlacedDart}
 use Rattle.topo_frozen.proofs.Linking.{in_has}
 use Rattle.topo_frozen.proofs.Lookups.{item_at, row_found}
-use Rattle.topo_frozen.proofs.Rounds.{edge_known, got_within, on_path, place_got}
+use Rattle.topo_frozen.proofs.Rounds.{edge_known, got_within, on_path}
 use Rattle.topo_frozen.proofs.Sorting.{counted_in, in_counted}
 
 -- ---- Round a list
@@ -126,33 +124,11 @@ pub record PassesAt (rows : Rows) (e x place before : ℕ) (row : EdgeRow) : Typ
   pub ahead_is : record { edge = slice_index (map (λ row. row.id) rows.edges) place; seg = before + 1; way = Forward } ≡ ahead rows e x
   pub behind_is : record { edge = slice_index (map (λ row. row.id) rows.edges) place; seg = before; way = Back } ≡ behind rows e x
 
-pub passes_at : (rows : Rows) (e x place before : ℕ) (row : EdgeRow) (path : List ℕ) → AtPlace rows e place row → path ≡ row.crossings → before ≡ position_or_len (λ y. y == x) path → has_id (edge_at rows e).crossings x ≡ true → PassesAt rows e x place before row
-passes_at rows e x place before row path at same is on =
-    let edge_is = edge_at_row rows e row at.is_row in
-    let named : slice_index (map (λ row. row.id) rows.edges) place ≡ e = edge_named rows place row at.at ∙ row_id rows e row at.is_row in
-    let here : before ≡ position_or_len (λ y. y == x) row.crossings = is ∙ ap (position_or_len (λ y. y == x)) same in
-    let there : before ≡ place_on rows e x = here ∙ ap (λ (r : EdgeRow). position_or_len (λ y. y == x) r.crossings) (sym edge_is) in
-    let item = in_has_id x row.crossings (sym (ap (λ (r : EdgeRow). has_id r.crossings x) edge_is) ∙ on) in
-    let got = place_got x row.crossings (in_counted x row.crossings item) in record {
-      inside = (let less = got_within row.crossings (position_or_len (λ y. y == x) row.crossings) x got in omega arith);
-      ahead_is = ap (λ f. record { edge = f; seg = before + 1; way = Forward }) named ∙ ap (λ n. record { edge = e; seg = n + 1; way = Forward }) there;
-      behind_is = ap (λ f. record { edge = f; seg = before; way = Back }) named ∙ ap (λ n. record { edge = e; seg = n; way = Back }) there;
-    }
-
 -- what is read at the place of a crossing
 pub record AtCrossing (rows : Rows) (e x : ℕ) (c : CrossRow) : Type 0 where
   pub inside : IsIn c rows.crossings
   pub named : c.id ≡ x
   pub ends : (eqb e c.crossed || eqb e c.newcomer) ≡ true
-
-pub at_crossing_place : (rows : Rows) (e x place : ℕ) (crossings : List CrossRow) (d : CrossRow) → crossings ≡ rows.crossings → IsPlaceOf crossings (λ row. row.id) x place → CrossesAt rows e x → AtCrossing rows e x (get_or crossings place d)
-at_crossing_place rows e x place crossings d same p crosses =
-    let read : get_or crossings place d ≡ p.row = get_or_from_slice_get crossings place p.row d p.at in
-    let both : Some crosses.row ≡ Some p.row = sym crosses.found ∙ ap (λ (cs : List CrossRow). find (λ row. row.id == x) cs) (sym same) ∙ p.found in
-    let one_row : crosses.row ≡ p.row = cc in
-    let is : crosses.row ≡ get_or crossings place d = one_row ∙ sym read in
-    let told = found (λ (c : CrossRow). c.id == x) crosses.row rows.crossings crosses.found in
-    subst (AtCrossing rows e x) is (record { inside = told.0; named = eqb-true crosses.row.id x told.1; ends = crosses.ends })
 
 -- ---- In well-formed rows
 
@@ -218,36 +194,11 @@ module _ (rows : Rows) (good : IsWellFormed rows) where
     pub on : has_id (edge_at rows (cond crossed c.newcomer c.crossed)).crossings x ≡ true
     pub turn : passing rows (cond crossed c.newcomer c.crossed) x (way_after c.sign crossed w) ≡ turn (system rows) (passing rows e x w)
 
-  pub turns_across : (e x : ℕ) (w : Way) (c : CrossRow) → AtCrossing rows e x c → TurnsAcross e x w c (eqb e c.crossed)
-  turns_across e x w c p = elim (cases_Bool (eqb e c.crossed)) [
-    | inl t ↦ subst (TurnsAcross e x w c) (sym t) (record {
-      known = newcomer_known c p.inside;
-      on = ap (has_id (edge_at rows c.newcomer).crossings) (sym p.named) ∙ on_newcomer c p.inside;
-      turn = ap (λ y. passing rows c.newcomer y (way_after c.sign true w)) (sym p.named) ∙ sym (turn_of_crossed c p.inside w)
-          ∙ ap (λ y. turn (system rows) (passing rows c.crossed y w)) p.named ∙ ap (λ f. turn (system rows) (passing rows f x w)) (sym (eqb-true e c.crossed t));
-    })
-    | inr n ↦ subst (TurnsAcross e x w c) (sym n) (record {
-      known = crossed_known c p.inside;
-      on = ap (has_id (edge_at rows c.crossed).crossings) (sym p.named) ∙ on_crossed c p.inside;
-      turn = ap (λ y. passing rows c.crossed y (way_after c.sign false w)) (sym p.named) ∙ sym (turn_of_newcomer c p.inside w)
-          ∙ ap (λ y. turn (system rows) (passing rows c.newcomer y w)) p.named
-          ∙ ap (λ f. turn (system rows) (passing rows f x w)) (sym (eqb-true e c.newcomer (or_second (eqb e c.crossed) (eqb e c.newcomer) n p.ends)));
-    })
-  ]
-
   -- ---- A dart by the place of its edge
 
   pub record Stands (at : PlacedDart) (row : EdgeRow) : Type 0 where
     pub stands : slice_get rows.edges at.place ≡ Some row
     pub within : at.segment < segment_count row
-
-  -- what is read at the place
-  pub stands_read : (at : PlacedDart) → IsPlaced rows at → (edges : List EdgeRow) (row : EdgeRow) → edges ≡ rows.edges → row ≡ get_or edges at.place row → Stands at row
-  stands_read at p edges row same read =
-      let is : row ≡ p.row = read ∙ get_or_from_slice_get edges at.place p.row row (ap (λ (es : List EdgeRow). slice_get es at.place) same ∙ p.stands) in record {
-        stands = p.stands ∙ ap Some (sym is);
-        within = subst (λ (r : EdgeRow). at.segment < segment_count r) (sym is) p.within;
-      }
 
   module _ (at : PlacedDart) (row : EdgeRow) (s : Stands at row) where
     row_inside : IsIn row rows.edges
@@ -259,34 +210,15 @@ module _ (rows : Rows) (good : IsWellFormed rows) where
     is_dart : placed_dart rows at ≡ record { edge = row.id; seg = at.segment; way = at.way }
     is_dart = ap (λ e. record { edge = e; seg = at.segment; way = at.way }) (edge_named rows at.place row s.stands)
 
-    -- at the ends of the edge
-    pub a_inside : row.a < length rows.rotations
-    a_inside = (path_facts rows good.paths row row_inside).a_in
-
-    pub b_inside : row.b < length rows.rotations
-    b_inside = (path_facts rows good.paths row row_inside).b_in
-
     stands_at : (v : ℕ) → v < length rows.rotations → (eqb row.a v || eqb row.b v) ≡ true → has_id (rotation rows v) row.id ≡ true
     stands_at v inside ends =
         let counted = (good_rotation rows good.rotations v (in_range 0 (length rows.rotations) v (omega arith) (omega arith))).counted row row_inside in
         let once : one (eqb row.a v || eqb row.b v) ≡ 1 = ap one ends in
         has_id_in row.id (rotation rows v) (counted_in row.id (rotation rows v) (omega arith))
 
-    pub stands_at_a : has_id (rotation rows row.a) row.id ≡ true
-    stands_at_a = stands_at row.a a_inside (or_left (eqb row.a row.a) (eqb row.b row.a) (eqb_self row.a))
-
-    pub stands_at_b : has_id (rotation rows row.b) row.id ≡ true
-    stands_at_b = stands_at row.b b_inside (or_right (eqb row.a row.b) (eqb row.b row.b) (eqb_self row.b))
-
     by_end : (v : ℕ) (t : Bool) → eqb row.a v ≡ t → end_dart rows v row.id ≡ cond t (record { edge = row.id; seg = 0; way = Forward }) (record { edge = row.id; seg = length row.crossings; way = Back })
     by_end v t is = ap (λ (r : EdgeRow). cond (r.a == v) (record { edge = row.id; seg = 0; way = Forward }) (record { edge = row.id; seg = length r.crossings; way = Back })) (edge_at_row rows row.id row row_there)
         ∙ ap (λ (b : Bool). cond b (record { edge = row.id; seg = 0; way = Forward }) (record { edge = row.id; seg = length row.crossings; way = Back })) is
-
-    pub starts_at_a : at.way ≡ Forward → at.segment ≡ 0 → placed_dart rows at ≡ end_dart rows row.a row.id
-    starts_at_a goes first = is_dart ∙ ap (λ w. record { edge = row.id; seg = at.segment; way = w }) goes ∙ ap (λ n. record { edge = row.id; seg = n; way = Forward }) first ∙ sym (by_end row.a true (eqb_self row.a))
-
-    pub starts_at_b : at.way ≡ Back → at.segment ≡ length row.crossings → placed_dart rows at ≡ end_dart rows row.b row.id
-    starts_at_b goes last = is_dart ∙ ap (λ w. record { edge = row.id; seg = at.segment; way = w }) goes ∙ ap (λ n. record { edge = row.id; seg = n; way = Back }) last ∙ sym (by_end row.b false (path_facts rows good.paths row row_inside).apart)
 
     -- at a crossing of its path
     module _ (i : ℕ) (below : i < length row.crossings) where

@@ -1,7 +1,7 @@
 -- Where the darts of each edge begin, and the numbers of darts.
-use Rattle.std.proofs.Common.{◌≡◌, ◌||◌, ◌+◌, ◌*◌, ◌<◌, ap, arith, Bool, cond, eqb, false, inl, inr, length, List, not, refl, Some, subst, suc, sym, true, zero, ℕ, [], ◌++◌, ◌∙◌, ◌∷◌}
+use Rattle.std.proofs.Common.{◌≡◌, ◌+◌, ◌*◌, ◌<◌, ap, arith, Bool, cond, eqb, false, inl, inr, length, List, not, refl, Some, subst, suc, sym, true, zero, ℕ, [], ◌++◌, ◌∙◌, ◌∷◌}
 use Rattle.std.specs.Prelude.{find, flat_map, is_some, map, slice_get, slice_index, ◌==◌}
-use Rattle.std.specs.List.{list_all, list_any, position_or_len, range_with_len}
+use Rattle.std.specs.List.{list_all, position_or_len, range_with_len}
 use Rattle.std.specs.List.Sorted.{IsStrictlyIncreasing}
 use Rattle.std.proofs.lemmas.Bool.{cases_Bool}
 use Rattle.std.proofs.lemmas.List.{length-append}
@@ -143,16 +143,6 @@ found_at e (row ∷ rest) h = elim (cases_Bool (row.id == e)) [
 pub record AtPlace (rows : Rows) (e place : ℕ) (row : EdgeRow) : Type 0 where
   pub is_row : edge_row rows e ≡ Some row
   pub at : slice_get rows.edges place ≡ Some row
-
--- an id that finds a row is among the ids
-pub id_there : (e : ℕ) (edges : List EdgeRow) (ids : List ℕ) → is_some (find (λ row. row.id == e) edges) ≡ true → ids ≡ map (λ row. row.id) edges → list_any (λ y. y == e) ids ≡ true
-id_there e edges ids h ids_are = ap (list_any (λ y. y == e)) ids_are ∙ among edges h where
-  among : (edges : List EdgeRow) → is_some (find (λ row. row.id == e) edges) ≡ true → list_any (λ y. y == e) (map (λ row. row.id) edges) ≡ true
-  among [] h = cc
-  among (row ∷ rest) h = elim (cases_Bool (row.id == e)) [
-    | inl t ↦ ap (λ b. b || list_any (λ y. y == e) (map (λ row. row.id) rest)) t
-    | inr f ↦ ap (λ b. b || list_any (λ y. y == e) (map (λ row. row.id) rest)) f ∙ among rest (sym (ap is_some (ap (λ (b : Bool). cond b (Some row) (find (λ row. row.id == e) rest)) f)) ∙ h)
-  ]
 
 module _ (rows : Rows) (paths : has_good_paths rows ≡ true) (v e place : ℕ) (row : EdgeRow) (there : AtPlace rows e place row) where
   is_e : row.id ≡ e

@@ -1,5 +1,5 @@
 -- How faces get their labels: by a walk round each that has none.
-use Rattle.std.proofs.Common.{◌≡◌, ◌≢◌, ℕ, ◌+◌, ◌<◌, List, length, slice_index, slice_set, get_or-set_same, get_or-set_other, inl, inr, refl, sym, ◌∙◌, ap, arith, subst}
+use Rattle.std.proofs.Common.{◌≡◌, ◌≢◌, ℕ, ◌+◌, ◌<◌, List, length, slice_index, slice_set, get_or-set_same, get_or-set_other, inl, inr, sym, ◌∙◌, ap, arith, subst}
 use Rattle.std.specs.Prelude.{◌↔◌, ◌⊎◌}
 use Rattle.std.proofs.lemmas.Bool.{cases_Bool, cases_eq, both_ways}
 use Rattle.topo_core.specs.declared.rows.Rows.{Rows}
@@ -19,9 +19,6 @@ pub record IsWalked (f : ℕ → ℕ) (start k at : ℕ) (old new : List ℕ) : 
   pub place : at ≡ after f k start
   pub face : (j : ℕ) → j < k → slice_index new (after f j start) ≡ start
   pub others : (a : ℕ) → (SameCycle f start a → ⊥) → slice_index new a ≡ slice_index old a
-
-pub walk_begun : (f : ℕ → ℕ) (start : ℕ) (labels : List ℕ) → IsWalked f start 0 start labels labels
-walk_begun f start labels = record { place = refl; face = λ j l. absurd (let z : ⊥ = omega arith in z); others = λ a apart. refl }
 
 pub walk_on : (f : ℕ → ℕ) (start k at : ℕ) (old new : List ℕ) → at < length new → IsWalked f start k at old new → IsWalked f start (k + 1) (f at) old (slice_set new at start)
 walk_on f start k at old new within w = record {

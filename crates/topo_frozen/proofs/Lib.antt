@@ -7,7 +7,6 @@ pub mod Lookups
 pub mod Noting
 pub mod PairCounts
 pub mod PairTests
-pub mod PlacedNumbers
 pub mod Places
 pub mod Rounds
 pub mod RowCounts

@@ -2,7 +2,6 @@
 use Rattle.std.proofs.Common.{append-nil, drop, take, set, ◌≡◌, ◌&&◌, ◌||◌, ◌+◌, ◌-◌, ◌*◌, ◌<◌, ◌≤◌, ap, arith, Bool, cond, eqb, false, get_or, inl, inr, length, List, not, refl, Some, subst, suc, sym, true, zero, ℕ, [], ◌++◌, ◌∙◌, ◌∷◌}
 use Rattle.std.specs.Prelude.{count_by, find, is_some, map, Option, flat_map, option_map, slice_get, slice_index, sum_by, unwrap_or, ◌==◌}
 use Rattle.std.specs.List.{list_all, position_or_len, range_with_len}
-use Rattle.std.specs.List.Sorted.{IsStrictlyIncreasing}
 use Rattle.std.proofs.lemmas.Bool.Decides.{nat_tests}
 use Rattle.std.proofs.lemmas.Bool.{cases_Bool, eq-eqb, eqb-true, false≢true}
 use Rattle.std.proofs.lemmas.List.Sums.{sum_by-cons}
@@ -341,9 +340,6 @@ module _ (rows : Rows) (good : IsWellFormed rows) where
   -- what a path names is known
   pub paths_known : list_all (λ row. list_all (λ x. is_some (cross_row rows x)) row.crossings) rows.edges ≡ true
   paths_known = all_from (λ row. list_all (λ x. is_some (cross_row rows x)) row.crossings) rows.edges (λ row h. all_from (λ x. is_some (cross_row rows x)) row.crossings (λ x k. crossing_there rows good.paths row h x k))
-
-  pub cross_ids_climb : (ids : List ℕ) → ids ≡ map (λ c. c.id) rows.crossings → IsStrictlyIncreasing ids
-  cross_ids_climb ids are = subst IsStrictlyIncreasing (sym are) (rises_strictly rows.next_crossing (map (λ c. c.id) rows.crossings) cross_ids_rise)
 
 -- ---- Steps of loops
 

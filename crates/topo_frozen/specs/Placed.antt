@@ -1,5 +1,5 @@
 -- Darts by the places of their edges.
-use Rattle.std.specs.Prelude.{◌≡◌, ◌==◌, ◌<◌, ◌+◌, ◌||◌, ℕ, Bool, true, false, cond, List, map, slice_get, slice_index, slice_index_or, Some}
+use Rattle.std.specs.Prelude.{◌≡◌, ◌==◌, ◌<◌, ◌+◌, ◌||◌, ℕ, Bool, true, false, List, map, slice_get, slice_index, slice_index_or, Some}
 use Rattle.std.specs.List.{position_or_len}
 use Rattle.topo_core.specs.declared.darts.Dart.{Dart}
 use Rattle.topo_core.specs.declared.darts.Sign.{Sign}
@@ -17,15 +17,6 @@ pub record PlacedDart : Type 0 where
   pub place : ℕ
   pub segment : ℕ
   pub way : Way
-
--- the way that a word keeps
-abbrev pub way_kept : ℕ → Way
-way_kept back = cond (back == 0) Forward Back
-
--- the word that keeps a way
-abbrev pub word_of : Way → ℕ
-word_of Forward = 0
-word_of Back = 1
 
 -- a row stands at the place, and has the segment
 pub record IsPlaced (rows : Rows) (at : PlacedDart) : Type 0 where

@@ -4,8 +4,7 @@
 //! first that fails, in time that grows with the rows but for a logarithm. A `Numbered` is lawful rows
 //! with their darts as numbers in flat lists, all borrowed: what the check of a plan walks on, and a
 //! search that hands one out. A `Frozen` owns its rows and lists, and answers the same; threads share
-//! it. `by_id` finds rows by their ids, `placed` turns darts that are known by the places of their
-//! edges, and `hints` says where both look first.
+//! it. `by_id` finds rows by their ids, and `hints` names the places where it looks first.
 #![tactic(auto)]
 
 pub mod by_id;
@@ -19,7 +18,6 @@ pub mod load;
 pub mod numbered;
 pub mod numbers;
 mod pairs;
-pub mod placed;
 
 pub use frozen::Frozen;
 pub use hints::Hints;

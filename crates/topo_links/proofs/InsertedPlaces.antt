@@ -37,9 +37,6 @@ round_place i (suc (suc (suc j))) = New i Back
 
 -- ---- Names of the new edge's darts
 
-pub forward_first : (first : ℕ) → forward_name first 0 ≡ first
-forward_first first = refl
-
 pub forward_later : (first i : ℕ) → forward_name first (i + 1) ≡ round_name first i 1
 forward_later first i =
     let test : (i + 1 == 0) ≡ false = ne_eqb (i + 1) 0 (λ e. omega (arith, e)) in

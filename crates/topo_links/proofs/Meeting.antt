@@ -35,17 +35,6 @@ twin_keeps links n x m h = elim (cases_Bool (m == n)) [
 
 -- ---- The crossings one by one
 
--- none is met yet
-pub none_met : (links : List Link) (s : Staged) → AreMet links s 0 links
-none_met links s = record {
-  as_many = refl;
-  edges = λ m. refl;
-  turns = λ m. refl;
-  onward = λ i h. absurd (omega (arith, h));
-  backward = λ i h. absurd (omega (arith, h));
-  twins = λ m on back. refl;
-}
-
 module _ (links : List Link) (s : Staged) (ready : IsReady links s) (i : ℕ) (within : i < s.crossings) (now : List Link) (met : AreMet links s i now) where
   abbrev near : ℕ
   near = met_onward links s i

@@ -60,14 +60,6 @@ alone_more s s' hs new x y k i ey en = record {
 
 -- ---- Turns
 
-pub joined_none : (s : Slab Segment) (hs ts : List ℕ) → AreAlone s hs → AreJoinedBelow s hs ts 0
-joined_none s hs ts k = record {
-  listed = k.listed;
-  within = k.kept.within;
-  next = λ a l. absurd (let w : ⊥ = omega arith in w);
-  before = λ a l. absurd (let w : ⊥ = omega arith in w);
-}
-
 half-apart : (live : ℕ → Bool) (hs : List ℕ) (a b : ℕ) → IsListed live hs → a < length hs → b < length hs → a ≢ b → map_of hs a ≢ map_of hs b
 half-apart live hs a b k la lb ne e = ne (sym (k.returns a la) ∙ ap k.place e ∙ k.returns b lb)
 

@@ -12,7 +12,7 @@ use Rattle.topo_map.specs.Labels.{painted, AreLabels, IsPainted, IsTakenLabel}
 use Rattle.topo_map.specs.declared.segments.Segment.{Segment}
 use Rattle.topo_map.proofs.Painting.{lies, painted-in, painted_below}
 use Rattle.topo_map.proofs.Painting.Lies.{Within, Beyond}
-use Rattle.topo_map.proofs.Walked.{painted_live, repainted, then_painted, unpainted}
+use Rattle.topo_map.proofs.Walked.{painted_live, repainted, then_painted}
 use Rattle.topo_map.proofs.Attaching.{faces_permuted, labelled_by}
 
 -- a face has one label, and 0 or one that no other face has; the halves below k have one
@@ -143,18 +143,6 @@ all_given s s1 k unused p small = record {
 pub record AreBlankBelow (s s1 : Slab Segment) (k : ℕ) : Type 0 where
   pub same : Repaints s s1 (face_in s1)
   pub blank : (a : ℕ) → a < k → holds s a ≡ true → face_in s1 a ≡ 0
-
-pub blank_below : (s : Slab Segment) → AreBlankBelow s s 0
-blank_below s = record { same = unpainted s; blank = λ a l h. absurd (let z : ⊥ = omega arith in z) }
-
-pub blank_on : (s s1 s2 : Slab Segment) (k y : ℕ) → AreBlankBelow s s1 k → y ≡ k → Repaints s1 s2 (face_in s2) → (holds s1 y ≡ true → face_in s2 y ≡ 0) → ((a : ℕ) → a ≢ y → face_in s2 a ≡ face_in s1 a) → AreBlankBelow s s2 (k + 1)
-blank_on s s1 s2 k y w ey r here others = record {
-  same = then_painted s s1 s2 (face_in s1) (face_in s2) w.same r;
-  blank = λ a la h. elim (cases_eq a y) [
-    | inl e ↦ ap (face_in s2) e ∙ here (painted_live s s1 (face_in s1) y w.same (ap (holds s) (sym e) ∙ h))
-    | inr ne ↦ others a ne ∙ w.blank a (let z : a < k = omega arith in z) h
-  ];
-}
 
 pub blank_all : (s s1 : Slab Segment) (k : ℕ) → AreBlankBelow s s1 k → ((a : ℕ) → holds s a ≡ true → a < k) → AreBlank s1
 blank_all s s1 k w small a h =

@@ -7,7 +7,7 @@ use Rattle.topo_core.specs.Edits.{IsIsolated, IsUnchord}
 use Rattle.topo_perm.specs.Edits.{IsApart, IsAllowedHang, IsAllowedUnchord, IsAllowedSplit, IsAllowedSmooth}
 use Rattle.topo_perm.specs.Joins.{AddsSegment}
 use Rattle.topo_perm.proofs.Faces.{twin-twin, twin-other}
-use Rattle.topo_perm.proofs.Splitting.{without-self, without-onward, without-elsewhere}
+use Rattle.topo_perm.proofs.Splitting.{without-self, without-elsewhere}
 use Rattle.topo_perm.proofs.EditCounts.{put-elsewhere}
 use Rattle.topo_perm.proofs.SlabEdits.{segments_grow}
 use Rattle.topo_map.specs.Rotation.{half_limit, AddsLabel, CountsFewer, CountsMore, IsOneFace, IsWhole, KeepsLabels, Grows, PartsFaces, Shrinks}
@@ -273,17 +273,6 @@ pub record IsSmoothed (s s' : Slab Segment) (x : ℕ) : Type 0 where
   pub allowed : IsAllowedSmooth (next_in s) (next_in s') half_limit x
   pub taken : IsTaken s s' x
   pub counts : CountsFewer (view_of s) (view_of s') 1 0
-
-pub smooth_other_alone : (s s1 : Slab Segment) (x t : ℕ) → next_in s (next_in s x) ≡ x → next_in s x ≢ x → t ≡ next_in s x → IsTurned s s1 (without (next_in s) x) → next_in s1 t ≡ t
-smooth_other_alone s s1 x t back na et u =
-    ap (next_in s1) et ∙ ap (λ (f : ℕ → ℕ). f (next_in s x)) u.next ∙ without-onward (next_in s) x (next_in s x) na back ∙ sym et
-
-pub smooth_alone : (s s1 s2 s3 : Slab Segment) (x t y : ℕ) → next_in s x ≢ x → t ≡ next_in s x → y ≡ twin x → IsTurned s s1 (without (next_in s) x) → IsTurned s1 s2 (put (next_in s1) t y) → IsTurned s2 s3 (without (next_in s2) y) → next_in s3 x ≡ x
-smooth_alone s s1 s2 s3 x t y na et ey u v w =
-    let yx : x ≢ y = λ e. twin-other x (sym (e ∙ ey)) in
-    let a : next_in s1 x ≡ x = ap (λ (f : ℕ → ℕ). f x) u.next ∙ without-self (next_in s) x x refl in
-    let b : next_in s2 x ≡ x = ap (λ (f : ℕ → ℕ). f x) v.next ∙ put-elsewhere (next_in s1) t y x (λ e. na (sym (e ∙ et))) (λ e. yx (sym a ∙ e)) ∙ a in
-    ap (λ (f : ℕ → ℕ). f x) w.next ∙ without-elsewhere (next_in s2) y x yx (λ e. yx (sym b ∙ e)) ∙ b
 
 pub smoothed_out : (s s1 s2 s3 s4 : Slab Segment) (x t y : ℕ) → IsKept s → holds s x ≡ true → next_in s (next_in s x) ≡ x → next_in s x ≢ x → next_in s x ≢ twin x → t ≡ next_in s x → y ≡ twin x → IsTurned s s1 (without (next_in s) x) → IsTurned s1 s2 (put (next_in s1) t y) → IsTurned s2 s3 (without (next_in s2) y) → IsRemoved s3 s4 x → IsSmoothed s s4 x
 smoothed_out s s1 s2 s3 s4 x t y i alive back na nl et ey u v w r =

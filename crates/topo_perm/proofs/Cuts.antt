@@ -101,14 +101,6 @@ stage_along f n s l h even t (Cross ∷ ms) a la =
 pub stage_complete : (f : ℕ → ℕ) (n : ℕ) (s : ℕ → Bool) (l : ℕ → ℕ) → IsPermutation f n → n % 2 ≡ 0 → Stage f n s l → (a b : ℕ) → a < n → Joined f (partly s) a b → l a ≡ l b
 stage_complete f n s l h even t a b la j = stage_along f n s l h even t j.moves a la ∙ ap l j.leads
 
-pub stage_count : (f : ℕ → ℕ) (n : ℕ) (s : ℕ → Bool) (l : ℕ → ℕ) → IsPermutation f n → n % 2 ≡ 0 → Stage f n s l → IsClassCount (Joined f (partly s)) n (class_count (same_label l) n)
-stage_count f n s l h even t = record {
-  test = same_label l;
-  sound = λ a b la lb e. t.sound a b la lb (eqb-true _ _ e);
-  complete = λ a b la lb j. eq-eqb _ _ (stage_complete f n s l h even t a b la j);
-  count = refl;
-}
-
 -- no segment
 none_below : (n : ℕ) → count_below (λ _. false) n ≡ 0
 none_below zero = refl

@@ -3,7 +3,7 @@ use Rattle.std.proofs.Common.{◌≡◌, ◌≢◌, ℕ, ◌+◌, ◌%◌, ◌<�
 use Rattle.std.proofs.lemmas.Bool.{cases_eq}
 use Rattle.topo_core.specs.Cycles.{IsPermutation, SameCycle, after, cycle_count}
 use Rattle.topo_core.specs.Rotations.{twin, face_next}
-use Rattle.topo_perm.proofs.Points.{IsExchangeBelow, HasBefore, before_of, bypass_exchange, bypass_splits, exchanged_splits, exchanged_joins, exchanged_keeps, exchanged_spread, exchanged_apart, exchanged-permutation}
+use Rattle.topo_perm.proofs.Points.{IsExchangeBelow, HasBefore, before_of, bypass_exchange, bypass_splits, exchanged_splits, exchanged_joins, exchanged_keeps, exchanged-permutation}
 use Rattle.topo_perm.proofs.Walks.{twin-within, twin-cases, face_next-permutation}
 use Rattle.topo_core.proofs.Orbits.{IsPeriod, wraps, SameCycle-trans, SameCycle-sym}
 use Rattle.topo_core.specs.Edits.{IsBefore, IsIsolated}
@@ -164,46 +164,6 @@ chord_faces f g n x c d k =
     let less = hang_faces f k.half n x c k.hung in
     let more = close_faces k.half g n (twin x) d k.permutation k.hung.even lt k.apart k.before (subst (λ v. SameCycle (face_next k.half) v d) (sym (twin-twin x)) to_d) in
     omega (arith, less, more)
-
--- a segment with different faces on its two sides, taken out: its corners lie in one face
-pub unchord_one_face : (f half g : ℕ → ℕ) (n x c d : ℕ) → Hung f half n x c → IsPermutation g n → c < n → d ≢ x → d ≢ twin x → IsBefore half g n (twin x) d → (SameCycle (face_next g) x (twin x) → ⊥) → SameCycle (face_next f) c d
-unchord_one_face f half g n x c d h hg lc nx nt b differ =
-    let lx : x < n = h.within in
-    let lt : twin x < n = twin-within n x h.even lx in
-    let p : Insertion f half n x c = insertion f half n x c h.permutation lx h.not_self h.before in
-    let q : Insertion half g n (twin x) d = insertion half g n (twin x) d hg lt nt b in
-    let lp : twin p.place < n = twin-within n p.place h.even p.within in
-    let lq : twin q.place < n = twin-within n q.place h.even q.within in
-    let hf : IsPermutation (face_next f) n = face_next-permutation f n p.permutation h.even in
-    let hh : IsPermutation (face_next half) n = face_next-permutation half n h.permutation h.even in
-    let hgf : IsPermutation (face_next g) n = face_next-permutation g n hg h.even in
-    let ex : IsExchangeBelow (face_next f) (face_next half) n (twin p.place) (twin x) = exchange_faces f half n p.place x h.even p.exchange in
-    let ey : IsExchangeBelow (face_next half) (face_next g) n (twin q.place) (twin (twin x)) = exchange_faces half g n q.place (twin x) h.even q.exchange in
-    let ez : IsExchangeBelow (face_next half) (face_next g) n (twin q.place) x = subst (λ v. IsExchangeBelow (face_next half) (face_next g) n (twin q.place) v) (twin-twin x) ey in
-    -- in g the corner before d leads to x's twin, and so not to x
-    let to_twin : SameCycle (face_next g) (twin q.place) (twin x) = record { steps = 1; leads = ap g (twin-twin q.place) ∙ q.leads } in
-    let apart : SameCycle (face_next g) (twin q.place) x → ⊥ =
-    λ s. differ (SameCycle-trans (face_next g) x (twin q.place) (twin x) (SameCycle-sym (face_next g) n hgf (twin q.place) x lq s) to_twin) in
-    let other : twin q.place ≢ x = λ e. q.other (sym (twin-twin q.place) ∙ ap twin e) in
-    -- so without it the two corners lie in one face
-    let near : SameCycle (face_next half) (twin q.place) x = exchanged_apart (face_next g) (face_next half) n (twin q.place) x hgf lq lx other (IsExchangeBelow-back _ _ _ _ _ ez) apart in
-    let to_d : SameCycle (face_next half) (twin q.place) d = record { steps = 1; leads = ap half (twin-twin q.place) ∙ q.led } in
-    let to_c : SameCycle (face_next half) x c =
-    record { steps = 2; leads = ap (face_next half) (hang_twin f half n x c h) ∙ ap half (twin-twin x) ∙ h.before.turns } in
-    let met : SameCycle (face_next half) c d =
-    SameCycle-trans (face_next half) c x d (SameCycle-sym (face_next half) n hh x c lx to_c)
-    (SameCycle-trans (face_next half) x (twin q.place) d (SameCycle-sym (face_next half) n hh (twin q.place) x lq near) to_d) in
-    -- and they did before x was there
-    elim (exchanged_spread (face_next f) (face_next half) n (twin p.place) (twin x) hf lp lt ex c d lc met) [
-      | inl s ↦ s
-      | inr v ↦ elim v [
-        | inl s ↦ elim (isolated_face f x d h.isolated s.1) [ inl e ↦ absurd (nt e) | inr e ↦ absurd (nx e) ]
-        | inr s ↦ elim (isolated_face f x c h.isolated (SameCycle-sym (face_next f) n hf c (twin x) lc s.0)) [
-          | inl e ↦ absurd (h.not_twin e)
-          | inr e ↦ absurd (h.not_self e)
-        ]
-      ]
-    ]
 
 -- a segment with different faces on its two sides, taken out: as many faces, the segment's own counted afterwards. d may be x, as at a loop whose ends are neighbours
 pub unchord_faces : (f half g : ℕ → ℕ) (n x c d : ℕ) → Hung f half n x c → IsPermutation g n → d ≢ twin x → IsBefore half g n (twin x) d → (SameCycle (face_next g) x (twin x) → ⊥) → cycle_count (face_next f) n ≡ cycle_count (face_next g) n

@@ -21,8 +21,9 @@ use Rattle.topo_links.specs.Tables.{link_at, Table}
 use Rattle.topo_links.proofs.Found.{edge_is, further, name_in}
 use Rattle.topo_links.proofs.Straight.{on_edge}
 use Rattle.topo_links.proofs.Walking.{back_in, back_is, here_in, next_is, side_in}
-use Rattle.topo_picture.specs.Cutting.{IsLeft, IsNextLeft, IsOpenedIn}
-use Rattle.topo_picture.proofs.Cutting.{forth_of_face, not_opened, one_face_forth, one_face_round, Passes, passes_few, passes_more, passes_none, passes_to, round_of_face, Walks, walks_home, walks_met, walks_more, walks_never, walks_none}
+use Rattle.topo_changes.specs.Cuts.{IsLeft, IsNextLeft}
+use Rattle.topo_picture.specs.Cutting.{IsOpenedIn}
+use Rattle.topo_changes.proofs.OpenedFaces.{forth_of_face, not_opened, one_face_forth, one_face_round, Passes, passes_few, passes_more, passes_none, passes_to, round_of_face, Walks, walks_home, walks_met, walks_more, walks_never, walks_none}
 
 among : (e f s out : ℕ) → f ≡ e → s < out → (f == e && nat_lt s out) ≡ true
 among e f s out same less = grind (arith, nat_tests)

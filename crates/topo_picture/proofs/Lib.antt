@@ -1,6 +1,4 @@
-pub mod Cutting
 pub mod FaceWalks
-pub mod Skipping
 pub mod Growing
 pub mod Inserting
 pub mod Totals

@@ -13,7 +13,8 @@ ghost use Rattle.topo_core.specs.declared.darts.Dart.{Dart};
 ghost use Rattle.topo_core.specs.declared.rows.Rows.{Rows};
 ghost use Rattle.topo_links.specs.Shown.{straight_from};
 ghost use Rattle.topo_links.specs.Tables.{ShowsRows, link_at};
-ghost use Rattle.topo_picture.specs.Cutting.{IsFirstCut, IsLeft, IsNextLeft, IsOpenedIn};
+ghost use Rattle.topo_changes.specs.Cuts.{IsFirstCut, IsLeft, IsNextLeft};
+ghost use Rattle.topo_picture.specs.Cutting.{IsOpenedIn};
 
 use topo_core::rows::Rows;
 use topo_frozen::Hints;

@@ -1,5 +1,5 @@
 -- Chains of entries: one entry more, and one less.
-use Rattle.std.proofs.Common.{◌≡◌, ℕ, zero, suc, ◌+◌, ◌-◌, ◌<◌, ◌≤◌, ◌||◌, ◌==◌, Bool, true, false, List, [], ◌∷◌, ◌++◌, length, refl, sym, ap, ◌∙◌, arith, get_or, length-append, inl, inr, get_or-set_same, get_or-set_other}
+use Rattle.std.proofs.Common.{◌≡◌, ℕ, zero, suc, ◌+◌, ◌-◌, ◌<◌, ◌≤◌, ◌||◌, ◌==◌, Bool, true, false, List, [], ◌∷◌, ◌++◌, length, refl, sym, ap, ◌∙◌, arith, get_or, length-append, inl, inr}
 use Rattle.std.specs.Prelude.{flat_map, slice_index, slice_index_or}
 use Rattle.std.specs.List.{list_any}
 use Rattle.std.proofs.Math.ListN.{replicate, set, get_or-append}
@@ -118,12 +118,6 @@ module _ (entries : List Entry) (heads : List ℕ) (down : GoesDown entries) (st
     ]
   ]
 
-  pub stay_longer : StaysBelow longer (set heads b (length longer))
-  stay_longer k = elim (cases_eq k b) [
-    | inl here ↦ let is : slice_index (set heads b (length longer)) k ≡ length longer = ap (slice_index (set heads b (length longer))) here ∙ get_or-set_same heads b (length longer) 0 within in omega arith
-    | inr ne ↦ let is = get_or-set_other heads b k (length longer) 0 ne in let low = stay k in let long = length-append entries (e ∷ []) in omega arith
-  ]
-
   same_others : all_chained longer heads ≡ all_chained entries heads
   same_others = same_lists (chained longer) (chained entries) heads (λ i d l.
       let h = get_or heads i d in
@@ -147,10 +141,6 @@ module _ (entries : List Entry) (heads : List ℕ) (down : GoesDown entries) (st
 pub all_empty : (entries : List Entry) (heads : List ℕ) → ((i : ℕ) → i < length heads → slice_index heads i ≡ 0) → all_chained entries heads ≡ []
 all_empty entries [] h = refl
 all_empty entries (x ∷ heads) h = ap (λ y. chained entries y ++ all_chained entries heads) (h 0 (omega arith)) ∙ all_empty entries heads (λ i l. h (suc i) (omega arith))
-
--- of the numbers from a to b and from 0 to a
-pub both_ranges : (P : ℕ → Type 0) (a b : ℕ) → ((i : ℕ) → a ≤ i → i < b → P i) → ((i : ℕ) → 0 ≤ i → i < a → P i) → (i : ℕ) → i < b → P i
-both_ranges P a b high low i l = elim (cases_lt i a) [ inl less ↦ low i (omega arith) less | inr more ↦ high i (omega arith) l ]
 
 pub all_zero : (n b : ℕ) → slice_index (replicate n 0) b ≡ 0
 all_zero n b = elim (cases_lt b n) [

@@ -68,12 +68,6 @@ module _ (rows : Rows) (lawful : Lawful rows) where
   pub next_number : (d : Dart) → has_dart (darts rows) d ≡ true → next_of rows (index_of rows d) ≡ index_of rows (face_step (system rows) d)
   next_number d h = (face_carried rows good.paths good.crossings good.rotations).carried d h
 
-  pub next_dart : (k : ℕ) → k < length (darts rows) → dart_of rows (next_of rows k) ≡ face_step (system rows) (dart_of rows k)
-  next_dart k l =
-      ap (λ i. dart_of rows (next_of rows i)) (sym (number_of k l))
-      ∙ ap (dart_of rows) (next_number (dart_of rows k) (dart_in k l))
-      ∙ dart_of_number (face_step (system rows) (dart_of rows k)) (face_stays (dart_of rows k) (dart_in k l))
-
   pub twin_dart : (k : ℕ) → k < length (darts rows) → dart_of rows (twin k) ≡ dart_twin (dart_of rows k)
   twin_dart k l =
       ap (λ i. dart_of rows (twin i)) (sym (number_of k l))

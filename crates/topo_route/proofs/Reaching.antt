@@ -1,5 +1,5 @@
 -- Walks to the target, step by step, and what heights are once nothing waits.
-use Rattle.std.proofs.Common.{◌≡◌, ◌≢◌, ℕ, zero, suc, ◌+◌, ◌*◌, ◌^◌, ◌<◌, ◌≤◌, ◌==◌, Bool, true, cond, List, [], ◌∷◌, length, Some, inl, inr, refl, sym, ap, subst, ◌∙◌, arith}
+use Rattle.std.proofs.Common.{◌≡◌, ◌≢◌, ℕ, zero, suc, ◌+◌, ◌*◌, ◌^◌, ◌<◌, ◌≤◌, ◌==◌, Bool, true, cond, List, [], ◌∷◌, length, inl, inr, refl, sym, ap, subst, ◌∙◌, arith}
 use Rattle.std.specs.Prelude.{slice_index}
 use Rattle.std.proofs.lemmas.Bool.{cases_Bool, cases_eq}
 use Rattle.std.proofs.lemmas.List.Sums.{sum_by-cons}
@@ -8,7 +8,7 @@ use Rattle.topo_core.specs.declared.rows.Rows.{Rows}
 use Rattle.topo_core.specs.Cycles.{SameCycle, after}
 use Rattle.topo_core.specs.Darts.{dart_twin}
 use Rattle.topo_core.specs.Lawful.{Lawful}
-use Rattle.topo_core.specs.Picture.{corner, darts, system}
+use Rattle.topo_core.specs.Picture.{darts, system}
 use Rattle.topo_core.specs.Routes.{Costs, Crosses, IsCertificate, IsHeight, KeepsPromise, Price, Pricing, Reaches, unreached}
 use Rattle.topo_core.specs.Systems.{SameFace, face_step, has_dart}
 use Rattle.topo_core.proofs.Certificates.{face_height, face_in, height_bounds}
@@ -69,10 +69,6 @@ module _ (price : Pricing) (g : Named) (lawful : Lawful g.rows) (has : IsNamed g
         cost = (p, h, other, walk.cost, refl);
       } in
       subst (λ c. Reaches price g.rows v c (p + h)) (sym (dart_of_twin g lawful has k l)) across
-
-  -- a corner of the target costs nothing
-  pub reaches_corner : (position : ℕ) (c : Dart) → corner g.rows v position ≡ Some c → Reaches price g.rows v c 0
-  reaches_corner position c at = record { crossed = []; position = position; to = c; ends = at; walk = record { steps = 0; leads = refl }; cost = refl }
 
 -- ---- When all are settled
 

@@ -1,7 +1,7 @@
 -- Steps of a walk through the faces, and first tight darts.
 use Rattle.std.proofs.Math.Seq.{drop-cons}
 use Rattle.std.proofs.Common.{add-one, drop, get_or, ◌≡◌, ◌≢◌, ℕ, zero, suc, ◌+◌, ◌<◌, Bool, true, false, List, [], ◌∷◌, length, Some, None, inl, inr, refl, sym, ap, subst, ◌∙◌, arith}
-use Rattle.std.specs.Prelude.{◌⊎◌, IsTrue, if◌then◌else◌, MatchOption, Option, slice_index}
+use Rattle.std.specs.Prelude.{IsTrue, if◌then◌else◌, MatchOption, Option, slice_index}
 use Rattle.std.proofs.lemmas.Bool.{cases_lt, false≢true}
 use Rattle.topo_core.specs.declared.darts.Dart.{Dart}
 use Rattle.topo_core.specs.declared.rows.Rows.{Rows}
@@ -139,21 +139,6 @@ route_priced price rows u v n r from to starts ends (walk, cost) = (
   refl,
 )
 
-pub route_walks : (price : Pricing) (rows : Rows) (u v n : ℕ) (r : Route) (from to : Dart) → corner rows u r.start ≡ Some from → corner rows v r.end ≡ Some to
-    → IsPricedRoute price rows u v r n → Walks price rows from r.crossed to n
-route_walks price rows u v n r from to starts ends priced =
-    let start : Some priced.route.from ≡ Some from = sym priced.route.starts ∙ starts in
-    let end : Some priced.route.to ≡ Some to = sym priced.route.ends ∙ ends in
-    let from_is : priced.route.from ≡ from = cc in
-    let to_is : priced.route.to ≡ to = cc in (
-      subst (λ c. Crosses (system rows) c r.crossed to) from_is (subst (Crosses (system rows) priced.route.from r.crossed) to_is priced.route.walk),
-      priced.cost,
-    )
-
-pub no_corner : (price : Pricing) (rows : Rows) (u v n : ℕ) (r : Route) → (corner rows u r.start ≡ None) ⊎ (corner rows v r.end ≡ None) → IsPricedRoute price rows u v r n → ⊥
-no_corner price rows u v n r (inl e) priced = let bad : None ≡ Some priced.route.from = sym e ∙ priced.route.starts in cc
-no_corner price rows u v n r (inr e) priced = let bad : None ≡ Some priced.route.to = sym e ∙ priced.route.ends in cc
-
 -- the items from one place on
 pub from_item : {X : Type 0} (xs : List X) (i : ℕ) (x : X) → i < length xs → x ≡ get_or xs i x → drop i xs ≡ x ∷ drop (i + 1) xs
 from_item xs i x l is = rw add-one (drop-cons xs i x l ∙ ap (λ y. y ∷ drop (suc i) xs) (sym is))
@@ -168,10 +153,6 @@ walks_home price rows lawful at to left xs Whole same at_in to_in none nothing f
       (λ whole. let walk = subst On none (forth whole) in
           test.1 (subst (SameCycle (next_of rows) at) (number_of rows lawful to to_in) (numbers_of_face rows lawful at (dart_of rows to) at_in walk.0))),
     )
-
--- something is left of the price
-pub walks_short : (price : Pricing) (rows : Rows) (c d : Dart) (left : ℕ) (xs : List Dart) → xs ≡ [] → left ≢ 0 → Walks price rows c xs d left → ⊥
-walks_short price rows c d left xs none some walk = some (subst (λ ys. Costs price rows ys left) none walk.1)
 
 -- a walk round a face without a tight dart below a number
 pub none_before : (price : Pricing) (rows : Rows) (heights : List ℕ) (at number i : ℕ) → next_of rows (after (next_of rows) i at) ≡ at

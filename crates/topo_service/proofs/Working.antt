@@ -11,16 +11,6 @@ use Rattle.topo_service.specs.declared.workers.WorkerEnd.{WorkerEnd}
 use Rattle.topo_service.specs.Commands.{HasDone, HasEnded, HasMade, end_by}
 use Rattle.topo_service.specs.Passes.{PassState, receipt_of}
 
-pub nothing_done : (p : PassState) (list : List Command) → HasDone p p list 0
-nothing_done p list = record {
-  same_number = refl;
-  gained = [];
-  receipts = sym (append-nil p.receipts);
-  count = refl;
-  calls = refl;
-  seen = ([], sym (append-nil p.seen));
-}
-
 -- one command more
 pub one_more : (p q w : PassState) (list : List Command) (i : ℕ) (r : Reply) (c : Command) → i < length list → c ≡ get_or list i c → w.number ≡ q.number
     → w.receipts ≡ q.receipts ++ receipt_of (call_of c) r ∷ [] → IsPrefix q.seen w.seen → HasDone p q list i → HasDone p w list (i + 1)
@@ -36,17 +26,6 @@ one_more p q w list i r c lt at number receipts seen h =
       calls = map-append of h.gained (one ∷ []) ∙ ap (λ l. l ++ call_of c ∷ []) h.calls ∙ sym (map-append call_of (take i list) (c ∷ [])) ∙ ap (map call_of) (sym more);
       seen = (h.seen.0 ++ seen.0, seen.1 ∙ ap (λ l. l ++ seen.0) h.seen.1 ∙ append_assoc p.seen h.seen.0 seen.0);
     }
-
--- a command that was not carried out
-pub none_more : (p q w : PassState) (list : List Command) (i : ℕ) → w.number ≡ q.number → w.receipts ≡ q.receipts → IsPrefix q.seen w.seen → HasDone p q list i → HasDone p w list i
-none_more p q w list i number receipts seen h = record {
-  same_number = number ∙ h.same_number;
-  gained = h.gained;
-  receipts = receipts ∙ h.receipts;
-  count = h.count;
-  calls = h.calls;
-  seen = (h.seen.0 ++ seen.0, seen.1 ∙ ap (λ l. l ++ seen.0) h.seen.1 ∙ append_assoc p.seen h.seen.0 seen.0);
-}
 
 -- how the work ended, by the receipts gained
 pub ended : (old new : PassState) (list : List Command) (e : WorkerEnd) → HasMade old new list → e ≡ end_by (length new.receipts - length old.receipts) (length list) → HasEnded old new list e

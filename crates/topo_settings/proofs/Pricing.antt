@@ -109,10 +109,6 @@ module _ (price : Pricing) (prices table : List (Option ℕ)) (is : table ≡ pr
   pub back : Allows (priced prices) price
   back facts n h = told facts n (price_there prices table facts.kind is facts.known_kind ∙ ap Some h)
 
-  pub run_by_table : (limits : Limits) (p : Rows) (lists : List (List Command)) (history : List Entry) (q : Rows) → IsRun price limits p lists history q
-      → IsRun (priced prices) limits p lists history q
-  run_by_table = run_so price (priced prices) there back
-
   pub replays_by_table : (limits : Limits) (p : Rows) (history : List Entry) (q : Rows) → Replays price limits p history q → Replays (priced prices) limits p history q
   replays_by_table = replays_so price (priced prices) there back
 

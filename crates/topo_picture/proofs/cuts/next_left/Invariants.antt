@@ -4,7 +4,8 @@ use Rattle.topo_core.specs.Darts.{dart_twin}
 use Rattle.std.proofs.Common.{◌≡◌}
 use Rattle.topo_core.specs.Picture.{index_of}
 use Rattle.topo_core.specs.Pictures.{forward}
-use Rattle.topo_picture.specs.Cutting.{IsLeft, IsOpenedIn}
+use Rattle.topo_changes.specs.Cuts.{IsLeft}
+use Rattle.topo_picture.specs.Cutting.{IsOpenedIn}
 use Rattle.topo_picture.proofs.FaceWalks.{Turns}
 use Rattle.topo_picture.proofs.cuts.next_left.Given as goal
 

@@ -1,0 +1,74 @@
+use Rattle.std.proofs.Common.{◌≡◌, ◌++◌, ◌∷◌, [], Bool, List, ap, drop, length, subst, sym, take, ℕ, ◌∙◌}
+use Rattle.std.specs.Prelude.{if◌then◌else◌, is_ok}
+use Rattle.std.specs.Vec.{vec_len}
+use Rattle.std.proofs.lemmas.List.{take_at}
+use Rattle.topo_core.specs.declared.rows.Rows.{Rows}
+use Rattle.topo_core.specs.Changes.{shown}
+use Rattle.topo_changes.proofs.CrossedRows.{when_err, when_ok}
+use Rattle.topo_embedded.specs.Halves.{Drawn, ShowsRows}
+use Rattle.topo_embedded.specs.Padding.{ArePadded}
+use Rattle.topo_embedded.proofs.Grown.{kept_shows}
+use Rattle.topo_embedded.proofs.Routed.{end_alive, inserted_drawn, ready_now, start_alive}
+use Rattle.topo_embedded.proofs.Splits.{all_placed_here}
+use Rattle.topo_embedded.proofs.insertion.insert_lists.Goals as goal
+
+pub make_room-requires-clause-placed : goal.make_room-requires-clause-placed
+make_room-requires-clause-placed g c =
+    let paths : g.p.paths ≡ c.args.paths.now.items = ap (λ (q : Drawn). q.paths) c.requires.0 in
+    let ready = c.requires.1.0 in
+    all_placed_here g.p ready.formed c.args.segments.now ready.shows c.args.crossed.now ready.marked c.args.paths.now.items (ap (λ (ps : List (List ℕ)). length ps) (sym paths))
+
+pub unpad-requires : goal.unpad-requires
+unpad-requires g c =
+    let paths : g.p.paths ≡ c.args.paths.now.items = ap (λ (q : Drawn). q.paths) c.requires.0 in
+    let ready = c.requires.1.0 in
+    let long : length c.deref_mut.result.now ≡ length g.p.paths = ap (λ (ps : List (List ℕ)). length ps) c.deref_mut.ensures.value ∙ c.in_ok-line.ensures.padded.as_many ∙ ap (λ (ps : List (List ℕ)). length ps) (sym paths) in
+    all_placed_here g.p ready.formed c.args.segments.now ready.shows c.args.crossed.now ready.marked c.deref_mut.result.now long
+
+pub returns-then-is_err-clause-shows : goal.returns-then-is_err-clause-shows
+returns-then-is_err-clause-shows g c =
+    let was : Drawn = record { rows = c.args.rows.now; paths = c.args.paths.now.items } in
+    let ready = c.requires.1.0 in
+    let lists : c.deref_mut.result.now ≡ c.make_room.new.paths.items = c.deref_mut.ensures.value in
+    let back : c.unpad.new.paths ≡ c.args.paths.now.items = c.unpad.ensures c.args.paths.now.items (subst (λ (ps : List (List ℕ)). ArePadded (λ hs. hs) c.args.paths.now.items c.args.crossed.now ps) (sym lists) c.in_ok-line.ensures.padded) in
+    let long : length c.unpad.new.paths ≡ vec_len c.make_room.new.paths = c.unpad.auto.paths ∙ c.deref_mut.ensures.len in
+    let rows : c.apply_rows.new.rows ≡ c.args.rows.now = when_err c.apply_rows.result (sym c.if-is_err.ensures.value) c.apply_rows.ensures.err in
+    subst (λ (q : Drawn). ShowsRows q c.make_room.new.segments)
+    (c.requires.0 ∙ ap (λ (rs : Rows). (let q : Drawn = record { rows = rs; paths = c.args.paths.now.items } in q)) (sym rows)
+    ∙ ap (λ (ps : List (List ℕ)). (let q : Drawn = record { rows = c.apply_rows.new.rows; paths = ps } in q)) (sym (take_at c.unpad.new.paths _ _ long ∙ back)))
+    (kept_shows g.p c.args.segments.now c.make_room.new.segments c.make_room.ensures.slots ready.shows)
+
+pub draw_route-requires : goal.draw_route-requires
+draw_route-requires g c =
+    let paths : g.p.paths ≡ c.args.paths.now.items = ap (λ (q : Drawn). q.paths) c.requires.0 in
+    let ready = c.requires.1.0 in
+    let slots = c.make_room.ensures.slots in
+    let padded : ArePadded (λ hs. hs) g.p.paths c.args.crossed.now c.deref_mut-2.result.now =
+    subst (λ (ps : List (List ℕ)). ArePadded (λ hs. hs) g.p.paths c.args.crossed.now ps) (sym c.deref_mut-2.ensures.value)
+    (subst (λ (ps : List (List ℕ)). ArePadded (λ hs. hs) ps c.args.crossed.now c.make_room.new.paths.items) (sym paths) c.in_ok-line.ensures.padded) in (
+      ready_now g.p c.args.segments.now c.args.crossed.now c.args.ends.0 c.args.ends.1 c.args.kind c.args.route.now c.args.corners.0 c.args.corners.1 ready c.make_room.new.segments slots c.deref_mut-2.result.now padded,
+      (
+        c.in_ok-line.ensures.room,
+        (
+          start_alive g.p c.args.segments.now c.args.crossed.now c.args.ends.0 c.args.ends.1 c.args.kind c.args.route.now c.args.corners.0 c.args.corners.1 ready c.make_room.new.segments slots,
+          (
+            end_alive g.p c.args.segments.now c.args.crossed.now c.args.ends.0 c.args.ends.1 c.args.kind c.args.route.now c.args.corners.0 c.args.corners.1 ready c.make_room.new.segments slots,
+            ap (λ (hs : List ℕ). length hs) c.deref_mut-3.ensures.value ∙ c.in_ok-line.ensures.line,
+          ),
+        ),
+      ),
+    )
+
+pub returns-clause-shows : goal.returns-clause-shows
+returns-clause-shows g c =
+    let ready = c.requires.1.0 in
+    let rows : c.apply_rows.new.rows ≡ shown g.p.rows c.args.ends.0 c.args.ends.1 c.args.kind c.args.route.now =
+    when_ok c.apply_rows.result (sym c.if-is_err.ensures.value) c.apply_rows.ensures.ok ∙ ap (λ (q : Drawn). shown q.rows c.args.ends.0 c.args.ends.1 c.args.kind c.args.route.now) (sym c.requires.0) in
+    let long : length c.draw_route.new.paths ≡ vec_len c.make_room.new.paths = c.draw_route.auto.paths ∙ c.deref_mut-2.ensures.len in
+    let line_long : length c.draw_route.new.line ≡ vec_len c.in_ok-line.line = c.draw_route.auto.line ∙ c.deref_mut-3.ensures.len in
+    let items : List (List ℕ) = take (vec_len c.make_room.new.paths) (c.draw_route.new.paths ++ drop (length c.draw_route.new.paths) c.make_room.new.paths.items) in
+    inserted_drawn g.p c.args.segments.now c.make_room.new.segments c.draw_route.new.segments c.args.crossed.now c.draw_route.new.crossed c.args.ends.0 c.args.ends.1 c.args.kind c.args.route.now c.args.corners.0 c.args.corners.1 c.args.rows.now.next_edge ready
+    c.make_room.ensures.slots c.laws.ensures c.draw_route.ensures.darts c.draw_route.ensures.marked c.draw_route.new.line c.from_vec.result c.apply_rows.new.rows c.draw_route.new.paths c.push.new.self.items
+    (ap (λ (q : Drawn). q.rows.next_edge) (sym c.requires.0)) c.draw_route.ensures.routed rows c.draw_route.ensures.paths
+    (c.from_vec.ensures ∙ take_at c.draw_route.new.line _ _ line_long)
+    (c.push.ensures.items ∙ ap (λ (b : Bool). if b then (items ++ c.from_vec.result ∷ []) else items) (ap is_ok c.unwrap.ensures) ∙ ap (λ (ps : List (List ℕ)). ps ++ c.from_vec.result ∷ []) (take_at c.draw_route.new.paths (drop (length c.draw_route.new.paths) c.make_room.new.paths.items) _ long))

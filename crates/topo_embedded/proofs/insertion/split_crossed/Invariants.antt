@@ -1,0 +1,8 @@
+use Rattle.topo_embedded.specs.Crossing.{AreSplitFrom}
+use Rattle.topo_embedded.proofs.insertion.split_crossed.Given as goal
+
+abbrev pub invariant-loop-n : goal.invariant-loop-n
+invariant-loop-n g l = AreSplitFrom g.p l.fn.segments l.segments l.fn.crossed l.crossed l.n l.paths
+
+abbrev pub decreases-loop-n : goal.decreases-loop-n
+decreases-loop-n g l = l.n

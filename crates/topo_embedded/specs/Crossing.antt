@@ -1,0 +1,149 @@
+-- Crossed darts while their segments are split, and the segments of the new edge while they are drawn.
+use Rattle.std.specs.Prelude.{◌≡◌, ℕ, ◌+◌, ◌≤◌, ◌==◌, cond, drop, false, slice_get, slice_index_or, take, true, List, [], ◌∷◌, length, map, Some}
+use Rattle.std.specs.List.{All, AllByRecursion, position_or_len}
+use Rattle.topo_core.specs.declared.darts.Dart.{Dart}
+use Rattle.topo_core.specs.declared.rows.EdgeRow.{EdgeRow}
+use Rattle.topo_core.specs.declared.rows.Rows.{Rows}
+use Rattle.topo_core.specs.declared.routes.Route.{Route}
+use Rattle.topo_core.specs.Insertions.{CrossesOnce, IsInsertable}
+use Rattle.topo_core.specs.Lawful.{IsWellFormed}
+use Rattle.topo_core.specs.Picture.{corner, darts, index_of}
+use Rattle.topo_core.specs.Rotations.{twin}
+use Rattle.topo_core.specs.Routes.{IsSimpleRoute}
+use Rattle.topo_core.specs.Systems.{has_dart}
+use Rattle.topo_perm.specs.Runs.{IsRun}
+use Rattle.topo_perm.proofs.Bends.{Bend, splits_of}
+use Rattle.topo_perm.proofs.Links.{Link, chords_of}
+use Rattle.topo_perm.proofs.Passages.{AreAlong}
+use Rattle.topo_map.specs.Rotation.{IsEmbedding, Rotation, edge_of, half_limit, is_live, turning_of}
+use Rattle.topo_embedded.specs.declared.padding.Crossed.{Crossed}
+use Rattle.topo_embedded.specs.Halves.{Drawn, ShowsRows, half_in}
+use Rattle.topo_embedded.specs.Inserting.{put_halves}
+use Rattle.topo_embedded.specs.Padding.{ArePadded}
+
+-- ---- Halves, bends and links
+
+-- the bend is on the half of the dart, and the half beyond it is new
+pub record IsCrossedAt (p : Drawn) (r : Rotation) (d : Dart) (j : Bend) : Type 0 where
+  pub there : has_dart (darts p.rows) d ≡ true
+  pub dart : j.dart ≡ index_of p.rows d
+  pub near : j.near ≡ half_in p d
+  pub new : is_live r j.beyond ≡ false
+  pub new_back : is_live r (twin j.beyond) ≡ false
+
+abbrev pub AreCrossedAt : Drawn → Rotation → List Dart → List Bend → Type 0
+AreCrossedAt p r [] [] = Unit {0}
+AreCrossedAt p r [] (j ∷ js) = ⊥
+AreCrossedAt p r (d ∷ ds) [] = ⊥
+AreCrossedAt p r (d ∷ ds) (j ∷ js) = IsCrossedAt p r d j × AreCrossedAt p r ds js
+
+-- both halves of a segment are live, and their edge has this id
+pub record HasLabel (r : Rotation) (id : ℕ) (h : ℕ) : Type 0 where
+  pub alive : is_live r h ≡ true
+  pub alive_back : is_live r (twin h) ≡ true
+  pub here : edge_of r h ≡ id
+  pub behind : edge_of r (twin h) ≡ id
+
+abbrev pub HaveLabel : Rotation → ℕ → List ℕ → Type 0
+HaveLabel r id path = AllByRecursion (HasLabel r id) path
+
+abbrev pub HaveLabels : Rotation → List EdgeRow → List (List ℕ) → Type 0
+HaveLabels r edges paths = (k : ℕ) (row : EdgeRow) → slice_get edges k ≡ Some row → HaveLabel r row.id (slice_index_or paths k [])
+
+-- the halves of a line of links
+abbrev pub halves_of : List Link → List ℕ
+halves_of is = map (λ l. l.half) is
+
+-- ---- Crossed darts
+
+abbrev pub crossed_darts : List Crossed → List Dart
+crossed_darts cs = map (λ c. c.dart) cs
+
+-- the bends at crossed darts
+abbrev pub bends_of : Rows → List Crossed → List Bend
+bends_of rows cs = map (λ c. record { dart = index_of rows c.dart; near = c.near; beyond = c.beyond }) cs
+
+-- the half that starts where a half started before the splits
+abbrev pub bent_half : List Crossed → ℕ → ℕ
+bent_half [] h = h
+bent_half (c ∷ cs) h = cond (h == twin c.near) (twin c.beyond) (bent_half cs h)
+
+-- the dart is there, with its half, and its edge at this place
+pub record IsMarked (p : Drawn) (c : Crossed) : Type 0 where
+  pub there : has_dart (darts p.rows) c.dart ≡ true
+  pub near : c.near ≡ half_in p c.dart
+  pub place : c.place ≡ position_or_len (λ row. row.id == c.dart.edge) p.rows.edges
+
+-- ---- Before
+
+-- the crossed darts are marked, no two on one segment, and there is room for a half at each
+pub record IsReady (p : Drawn) (r : Rotation) (cs : List Crossed) (paths : List (List ℕ)) : Type 0 where
+  pub formed : IsWellFormed p.rows
+  pub shows : ShowsRows p r
+  pub marked : All (IsMarked p) cs
+  pub once : CrossesOnce (crossed_darts cs)
+  pub padded : ArePadded (λ hs. hs) p.paths cs paths
+
+-- an edge of this kind can be shown along the route, with its crossed darts marked and the halves of its corners
+pub record IsReadyFor (p : Drawn) (r : Rotation) (cs : List Crossed) (u v kind : ℕ) (route : Route) (start end : ℕ) : Type 0 where
+  pub formed : IsWellFormed p.rows
+  pub shows : ShowsRows p r
+  pub insertable : IsInsertable p.rows u v kind route
+  pub simple : IsSimpleRoute p.rows u v route
+  pub marked : All (IsMarked p) cs
+  pub darts : crossed_darts cs ≡ route.crossed
+  pub starts : (c : Dart) → corner p.rows u route.start ≡ Some c → start ≡ half_in p c
+  pub ends : (c : Dart) → corner p.rows v route.end ≡ Some c → end ≡ half_in p c
+
+-- ---- The splits
+
+-- the segments of these darts are split, and each path keeps its label
+pub record AreSplit (p : Drawn) (before now : Rotation) (cs : List Crossed) : Type 0 where
+  pub crossed : AreCrossedAt p before (crossed_darts cs) (bends_of p.rows cs)
+  pub run : IsRun half_limit (turning_of before) (splits_of (bends_of p.rows cs)) (turning_of now)
+  pub whole : IsEmbedding now
+  pub alive : AllByRecursion (λ c. (is_live now c.beyond ≡ true) × (is_live now (twin c.beyond) ≡ true)) cs
+  pub labels : HaveLabels now p.rows.edges (map (put_halves (bends_of p.rows cs)) p.paths)
+
+-- those from place n on are split
+pub record AreSplitFrom (p : Drawn) (before now : Rotation) (was cs : List Crossed) (n : ℕ) (paths : List (List ℕ)) : Type 0 where
+  pub within : n ≤ length cs
+  pub darts : crossed_darts cs ≡ crossed_darts was
+  pub marked : All (IsMarked p) cs
+  pub split : AreSplit p before now (drop n cs)
+  pub padded : ArePadded (put_halves (bends_of p.rows (drop n cs))) p.paths (take n cs) paths
+  pub room : now.room + length cs ≡ before.room + n
+
+-- ---- The new edge
+
+-- the segments of the new edge lead from one corner over the crossings to the other
+pub record AreDrawn (before now : Rotation) (cs : List Crossed) (start end edge : ℕ) (line : List ℕ) : Type 0 where
+  pub links : List Link
+  pub along : (rows : Rows) (name : ℕ → ℕ) (e : ℕ) → end ≡ name e → AreAlong name start (bends_of rows cs) e links
+  pub run : IsRun half_limit (turning_of before) (chords_of links) (turning_of now)
+  pub halves : line ≡ halves_of links
+  pub labels : HaveLabel now edge line
+  pub keeps : (id h : ℕ) → HasLabel before id h → HasLabel now id h
+
+-- those behind the crossings from place n on are drawn, and the next one ends at a half
+pub record AreDrawnFrom (before now : Rotation) (cs : List Crossed) (n to end edge : ℕ) (line : List ℕ) : Type 0 where
+  pub within : n ≤ length cs
+  pub many : length line ≡ length cs + 1
+  pub links : List Link
+  pub along : (rows : Rows) (name : ℕ → ℕ) (e z x : ℕ) → end ≡ name e → AreAlong name z (bends_of rows (drop n cs)) e (record { from = z; to = to; half = x } ∷ links)
+  pub run : IsRun half_limit (turning_of before) (chords_of links) (turning_of now)
+  pub whole : IsEmbedding now
+  pub halves : drop (n + 1) line ≡ halves_of links
+  pub labels : HaveLabel now edge (drop (n + 1) line)
+  pub keeps : (id h : ℕ) → HasLabel before id h → HasLabel now id h
+  pub stays : (h : ℕ) → is_live before h ≡ true → is_live now h ≡ true
+  pub to_alive : is_live now to ≡ true
+  pub room : n + 1 ≤ now.room
+
+-- ---- Both
+
+-- the segments of the crossed darts are split, and the new edge is drawn between two corners
+pub record IsRouted (p : Drawn) (before now : Rotation) (cs : List Crossed) (start end edge : ℕ) (line : List ℕ) : Type 0 where
+  pub middle : Rotation
+  pub split : AreSplit p before middle cs
+  pub drawn : AreDrawn middle now cs (bent_half cs start) (bent_half cs end) edge line

@@ -1,0 +1,212 @@
+//! Insertion of an edge into rows with their embedding. What can fail comes first, so that a failure leaves
+//! them as they were.
+
+ghost use Rattle.std.specs.Prelude.{◌≡◌, ◌+◌, ◌*◌, ◌≤◌, ◌<◌, ◌^◌, IfOk, OnErr, OnOk, length, map, true};
+ghost use Rattle.std.specs.List.{All};
+ghost use Rattle.std.specs.Vec.{vec_capacity, vec_len};
+ghost use Rattle.topo_core.specs.Changes.{shown};
+ghost use Rattle.topo_core.specs.Rotations.{twin};
+ghost use Rattle.topo_map.specs.Rotation.{is_live};
+ghost use Rattle.topo_embedded.specs.Crossing.{AreDrawn, AreSplit, IsMarked, IsReady, IsReadyFor, IsRouted, bends_of, bent_half, crossed_darts};
+ghost use Rattle.topo_embedded.specs.Halves.{Drawn, ShowsRows};
+ghost use Rattle.topo_embedded.specs.Inserting.{put_halves};
+ghost use Rattle.topo_embedded.specs.Padding.{ArePadded, ArePlaced};
+
+use crate::padding::{Crossed, pad, put_on_path, unpad};
+use std::alloc::{AllocError, Global};
+use std::mem;
+use topo_changes::insertion::apply_rows;
+use topo_core::listed::Listed;
+use topo_core::routes::Route;
+use topo_core::rows::Rows;
+use topo_frozen::Hints;
+use topo_map::{Embedding, Half};
+
+/// Splits the segments of the crossed darts, the last one first.
+fn split_crossed(
+    alloc: Global,
+    paths: &mut [Listed<Half>],
+    segments: &mut Embedding,
+    crossed: &mut [Crossed],
+)
+    ghost p: { Drawn }
+    requires ready { IsReady p segments.old crossed.old paths.old }
+    requires room { length crossed.old ≤ segments.old.room }
+    ensures darts { crossed_darts crossed.new ≡ crossed_darts crossed.old }
+    ensures marked { All (IsMarked p) crossed.new }
+    ensures split { AreSplit p segments.old segments.new crossed.new }
+    ensures paths { paths.new ≡ map (put_halves (bends_of p.rows crossed.new)) p.paths }
+    ensures room { segments.new.room + length crossed.old ≡ segments.old.room }
+{
+    segments.laws();
+    let mut n = crossed.len();
+    while n > 0 {
+        n -= 1;
+        let cross = crossed[n];
+        let beyond = segments.split(cross.near);
+        put_on_path(alloc, &mut paths[cross.place], cross.near, beyond);
+        crossed[n] = Crossed { beyond, ..cross };
+    }
+}
+
+/// The half that starts where a half started before the crossed segments were split.
+fn bent(crossed: &[Crossed], half: Half) -> Half
+    ensures { result ≡ bent_half crossed.now half }
+{
+    for i in 0..crossed.len() {
+        if half == crossed[i].near.twin() {
+            return crossed[i].beyond.twin();
+        }
+    }
+    half
+}
+
+/// Draws the segments of the new edge between the crossings and its ends, the last one first, and writes down
+/// their halves.
+fn draw(
+    segments: &mut Embedding,
+    crossed: &[Crossed],
+    start: Half,
+    end: Half,
+    edge: u32,
+    line: &mut [Half],
+)
+    requires start { is_live segments.old start ≡ true }
+    requires end { is_live segments.old end ≡ true }
+    requires alive { All (λ c. (is_live segments.old (twin c.near) ≡ true) × (is_live segments.old c.beyond ≡ true)) crossed.now }
+    requires room { length crossed.now + 1 ≤ segments.old.room }
+    requires line { length line.old ≡ length crossed.now + 1 }
+    ensures { AreDrawn segments.old segments.new crossed.now start end edge line.new }
+{
+    segments.laws();
+    let mut to = end;
+    let mut n = crossed.len();
+    while n > 0 {
+        n -= 1;
+        let cross = crossed[n];
+        line[n + 1] = segments.chord(cross.near.twin(), to, edge);
+        to = cross.beyond;
+    }
+    line[0] = segments.chord(start, to, edge);
+}
+
+/// The memory that an insertion takes: room for segments, and for halves in the lists of the crossed edges,
+/// and a list for the new edge.
+fn make_room(
+    alloc: Global,
+    paths: &mut Vec<Listed<Half>>,
+    segments: &mut Embedding,
+    crossed: &[Crossed],
+) -> Result<Vec<Half>, AllocError>
+    requires few { length crossed.now < 2 ^ 32 }
+    requires placed { ArePlaced (length paths.old.items) crossed.now }
+    ensures slots { segments.new.slots ≡ segments.old.slots }
+    ensures room { OnOk result (2 * length crossed.now + 1 ≤ segments.new.room) }
+    ensures line { IfOk result (λ line. length line.items ≡ length crossed.now + 1) }
+    ensures padded { OnOk result (ArePadded (λ hs. hs) paths.old.items crossed.now paths.new.items) }
+    ensures capacity { OnOk result (vec_len paths.new < vec_capacity paths.new) }
+    ensures err { OnErr result (paths.new.items ≡ paths.old.items) }
+{
+    segments.reserve(2 * crossed.len() + 1)?;
+    paths.reserve(1)?;
+    let mut line = Vec::new(alloc);
+    line.resize(crossed.len() + 1, Half::numbered(0))?;
+    pad(alloc, paths, crossed)?;
+    Ok(line)
+}
+
+/// Puts the new edge into the embedding.
+fn draw_route(
+    alloc: Global,
+    paths: &mut [Listed<Half>],
+    segments: &mut Embedding,
+    crossed: &mut [Crossed],
+    corners: (Half, Half),
+    edge: u32,
+    line: &mut [Half],
+)
+    ghost p: { Drawn }
+    requires ready { IsReady p segments.old crossed.old paths.old }
+    requires room { 2 * length crossed.old + 1 ≤ segments.old.room }
+    requires start { is_live segments.old corners.0 ≡ true }
+    requires end { is_live segments.old corners.1 ≡ true }
+    requires line { length line.old ≡ length crossed.old + 1 }
+    ensures darts { crossed_darts crossed.new ≡ crossed_darts crossed.old }
+    ensures marked { All (IsMarked p) crossed.new }
+    ensures paths { paths.new ≡ map (put_halves (bends_of p.rows crossed.new)) p.paths }
+    ensures routed { IsRouted p segments.old segments.new crossed.new corners.0 corners.1 edge line.new }
+{
+    segments.laws();
+    split_crossed(alloc, paths, segments, crossed);
+    let start = bent(crossed, corners.0);
+    let end = bent(crossed, corners.1);
+    draw(segments, crossed, start, end, edge, line);
+}
+
+/// Puts a new edge along a route into the rows and the embedding, or leaves all as it was.
+fn insert_lists(
+    alloc: Global,
+    rows: &mut Rows,
+    paths: &mut Vec<Listed<Half>>,
+    segments: &mut Embedding,
+    hints: &Hints,
+    crossed: &mut [Crossed],
+    corners: (Half, Half),
+    ends: (u32, u32),
+    kind: u32,
+    route: &Route,
+) -> Result<(), AllocError>
+    ghost p: { Drawn }
+    requires was { p ≡ record { rows = rows.old; paths = paths.old.items } }
+    requires ready { IsReadyFor p segments.old crossed.old ends.0 ends.1 kind route.now corners.0 corners.1 }
+    requires edges { rows.old.next_edge + 1 < 2 ^ 32 }
+    requires crossing_ids { rows.old.next_crossing + length route.now.crossed < 2 ^ 32 }
+    ensures ok { OnOk result (rows.new ≡ shown rows.old ends.0 ends.1 kind route.now) }
+    ensures err { OnErr result (rows.new ≡ rows.old) }
+    ensures err_paths { OnErr result (paths.new.items ≡ paths.old.items) }
+    ensures shows { ShowsRows (record { rows = rows.new; paths = paths.new.items }) segments.new }
+{
+    let edge = rows.next_edge;
+    let mut line = make_room(alloc, paths, segments, crossed)?;
+    if apply_rows(alloc, rows, hints, ends.0, ends.1, kind, route).is_err() {
+        unpad(alloc, paths, crossed);
+        return Err(AllocError);
+    }
+    segments.laws();
+    draw_route(alloc, paths, segments, crossed, corners, edge, &mut line);
+    paths.push(Listed::from_vec(line)).unwrap();
+    Ok(())
+}
+
+/// As `apply_rows`, and keeps the halves and the hints in step with the rows. The halves name the corners.
+pub(crate) fn insert_drawn(
+    alloc: Global,
+    rows: &mut Rows,
+    paths: &mut Listed<Listed<Half>>,
+    segments: &mut Embedding,
+    hints: &mut Hints,
+    crossed: &mut [Crossed],
+    corners: (Half, Half),
+    ends: (u32, u32),
+    kind: u32,
+    route: &Route,
+) -> Result<(), AllocError>
+    requires ready { IsReadyFor (record { rows = rows.old; paths = paths.old }) segments.old crossed.old ends.0 ends.1 kind route.now corners.0 corners.1 }
+    requires edges { rows.old.next_edge + 1 < 2 ^ 32 }
+    requires crossing_ids { rows.old.next_crossing + length route.now.crossed < 2 ^ 32 }
+    ensures ok { OnOk result (rows.new ≡ shown rows.old ends.0 ends.1 kind route.now) }
+    ensures err { OnErr result (rows.new ≡ rows.old) }
+    ensures err_paths { OnErr result (paths.new ≡ paths.old) }
+    ensures shows { ShowsRows (record { rows = rows.new; paths = paths.new }) segments.new }
+{
+    let crossings = crossed.len();
+    hints.reserve(crossings)?;
+    let mut lists = mem::replace(paths, Listed::new(alloc)).into_vec();
+    let done = insert_lists(
+        alloc, rows, &mut lists, segments, hints, crossed, corners, ends, kind, route,
+    );
+    *paths = Listed::from_vec(lists);
+    done?;
+    hints.join(rows, crossings);
+    Ok(())
+}
