@@ -1,13 +1,8 @@
--- What is told of a script, of bytes, and of what was read and written.
-use Rattle.std.proofs.Common.{◌≡◌, ℕ, List, Option, Ok}
-use Rattle.std.specs.Io.KnownBytes.{Keeps}
+-- What is told of a script whose service fails.
 use Rattle.topo_forms.specs.declared.scripts.Script.{Script}
-use Rattle.topo_forms.specs.Scripts.{script_of}
 use Rattle.topo_settings.specs.declared.fault.RunFault.{RunFault}
 use Rattle.topo_settings.specs.declared.fault.RunFault.TheVariants.{Memory, Script as OfScript, BadLimits, Price, Load, NoSeat, Mismatch, WrongReply, WrongPicture, ReadFault, WriteFault}
-use Rattle.topo_settings.specs.Reading.{IsRead}
-use Rattle.topo_settings.specs.Settings.{IsUnsound}
-use Rattle.topo_run.specs.Runs.{AsksInVain, FailsBy, FailsRun, IsFailingScript, IsFaultOfBytes, IsSoundScript}
+use Rattle.topo_run.specs.Runs.{FailsRun, IsSoundScript}
 use Rattle.topo_run.specs.Working.{IsOfService}
 
 -- a fault of the service, where nothing that is set is at fault
@@ -23,7 +18,3 @@ service_fails script (WrongReply i) sound is = absurd is
 service_fails script WrongPicture sound is = absurd is
 service_fails script ReadFault sound is = absurd is
 service_fails script WriteFault sound is = absurd is
-
--- a fault of bytes that were read
-module _ (old_left new_left old_held new_held : Option (List ℕ)) (bytes : List ℕ) (read : IsRead 1048576 old_left new_left bytes) where
-
