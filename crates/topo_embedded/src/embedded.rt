@@ -212,7 +212,11 @@ impl Embedded {
         ensures { IsFirstCut self.now.rows edge result }
     {
         let place = place_of_edge(self.rows.edges.as_slice(), &self.hints, edge);
-        first_cut(&self.segments, edge, self.paths.as_slice()[place].as_slice())
+        first_cut(
+            &self.segments,
+            edge,
+            self.paths.as_slice()[place].as_slice(),
+        )
     }
 }
 

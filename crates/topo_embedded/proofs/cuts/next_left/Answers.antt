@@ -19,9 +19,11 @@ is_out-requires c =
 
 pub returns-then-not-is_out : goal.returns-then-not-is_out
 returns-then-not-is_out c = λ p o d left.
-    let at = c.loop-passed.invariant p o d left in
-    (at.dart, turns_to p c.args.segments.now c.args.e c.args.out c.args.path.now o d c.args.half left c.loop-passed.next c.loop-passed._passed at
-        (sym (c.is_out.ensures p at.dart (record { opened = o; there = at.passes.here; named = at.named })) ∙ c.if-not-is_out.true))
+    let at = c.loop-passed.invariant p o d left in (
+      at.dart,
+      turns_to p c.args.segments.now c.args.e c.args.out c.args.path.now o d c.args.half left c.loop-passed.next c.loop-passed._passed at
+          (sym (c.is_out.ensures p at.dart (record { opened = o; there = at.passes.here; named = at.named })) ∙ c.if-not-is_out.true),
+    )
 
 pub turn-next-requires : goal.turn-next-requires
 turn-next-requires c =
