@@ -1,5 +1,6 @@
 //! The object of one thread, with its history.
 
+ghost use Rattle.std.specs.Prelude.{◌≡◌, IfOk, []};
 ghost use Rattle.std.specs.Arc.{arc_value};
 
 use crate::hint::Hint;
@@ -29,6 +30,15 @@ pub struct Book<F: Asks> {
     picture: Arc<Picture>,
     replicas: Replicas,
     scratch: Scratch,
+}
+
+/// The picture now of a new book that begins with this one, and what its calls write on.
+fn begun(alloc: Global, start: &Picture) -> Result<(Arc<Picture>, Replicas, Scratch), AllocError>
+    ensures picture { IfOk result (λ made. arc_value made.0 ≡ start.now) }
+    ensures replicas { IfOk result (λ made. made.1 ≡ []) }
+{
+    let picture = Arc::new(alloc, start.copy(alloc)?)?;
+    Ok((picture, Replicas::new(alloc)?, Scratch::new(alloc)?))
 }
 
 impl<F: Asks> Model for Book<F> {
@@ -73,9 +83,7 @@ impl<F: Asks> Book<F> {
         ensures history { IfOk result (λ b. b.history ≡ []) }
         ensures picture { IfOk result (λ b. b.picture ≡ start) }
     {
-        let picture = Arc::new(alloc, start.copy(alloc)?)?;
-        let replicas = Replicas::new(alloc)?;
-        let scratch = Scratch::new(alloc)?;
+        let (picture, replicas, scratch) = begun(alloc, &start)?;
         Ok(Book {
             tariff,
             start,

@@ -1,6 +1,6 @@
 //! The replay of a list of entries.
 
-ghost use Rattle.std.specs.Prelude.{◌≡◌, IfErr, IfOk, MatchBool};
+ghost use Rattle.std.specs.Prelude.{◌≡◌, IfErr, IfOk, MatchBool, OnOk};
 ghost use Rattle.topo_core.specs.History.{Replays};
 ghost use Rattle.topo_core.specs.Steps.{Step};
 ghost use Rattle.topo_frozen.specs.Shown.{IsPicture};
@@ -93,6 +93,32 @@ fn replay_entry<F: Asks>(
     Ok(true)
 }
 
+/// Carries the entries out on a picture, one after the other. A reply that is not the one due in the picture
+/// at that point ends it.
+fn replay_all<F: Asks>(
+    alloc: Global,
+    picture: &mut Picture,
+    tariff: &Tariff<F>,
+    entries: &[Entry],
+    scratch: &mut Scratch,
+) -> Result<(), ReplayFault>
+    requires { IsPicture picture.old.limits picture.old.rows }
+    ensures replayed { OnOk result (Replays (prices_of (F.answers tariff.now)) picture.old.limits picture.old.rows entries.now picture.new.rows) }
+    ensures same_limits { picture.new.limits ≡ picture.old.limits }
+    ensures lawful { IsPicture picture.new.limits picture.new.rows }
+    ensures first_wrong { IfErr result (IsFaultOf (prices_of (F.answers tariff.now)) picture.old.limits picture.old.rows entries.now) }
+    ensures illegal { IfErr result (IsIllegalAt (prices_of (F.answers tariff.now)) picture.old.limits picture.old.rows entries.now) }
+{
+    for (index, entry) in entries.iter().enumerate() {
+        match replay_entry(alloc, picture, tariff, entry, scratch) {
+            Ok(true) => {}
+            Ok(false) => return Err(ReplayFault::WrongReply(index)),
+            Err(_) => return Err(ReplayFault::Memory),
+        }
+    }
+    Ok(())
+}
+
 /// The picture that the entries lead to from the start, each call carried out again. A reply that is
 /// not the one due in the picture at that point ends it. The start is copied, and stays.
 pub fn replay<F: Asks>(
@@ -107,20 +133,12 @@ pub fn replay<F: Asks>(
     ensures first_wrong { IfErr result (IsFaultOf (prices_of (F.answers tariff.now)) start.now.limits start.now.rows entries.now) }
     ensures illegal { IfErr result (IsIllegalAt (prices_of (F.answers tariff.now)) start.now.limits start.now.rows entries.now) }
 {
-    let mut picture = match start.copy(alloc) {
-        Ok(picture) => picture,
-        Err(_) => return Err(ReplayFault::Memory),
+    let Ok(mut picture) = start.copy(alloc) else {
+        return Err(ReplayFault::Memory);
     };
-    let mut scratch = match Scratch::new(alloc) {
-        Ok(scratch) => scratch,
-        Err(_) => return Err(ReplayFault::Memory),
+    let Ok(mut scratch) = Scratch::new(alloc) else {
+        return Err(ReplayFault::Memory);
     };
-    for (index, entry) in entries.iter().enumerate() {
-        match replay_entry(alloc, &mut picture, tariff, entry, &mut scratch) {
-            Ok(true) => {}
-            Ok(false) => return Err(ReplayFault::WrongReply(index)),
-            Err(_) => return Err(ReplayFault::Memory),
-        }
-    }
+    replay_all(alloc, &mut picture, tariff, entries, &mut scratch)?;
     Ok(picture)
 }

@@ -16,7 +16,7 @@ use Rattle.topo_core.specs.Picture.{cross_row, edge_at, edge_row, rotation}
 use Rattle.topo_core.specs.Lawful.{has_good_crossings, has_good_path, has_good_paths, is_good_crossing}
 use Rattle.topo_core.specs.Changes.{crossed_row, new_crossing, numbered, put_in, shown, with_end}
 use Rattle.topo_core.proofs.Counting.{eqb_less, ids_above}
-use Rattle.topo_core.proofs.Growing.{below_limit, found_more, in_append, none_found, rises_push, some_found_more}
+use Rattle.topo_core.proofs.Growing.{below_limit, in_append, none_found, rises_push, some_found_more}
 use Rattle.topo_core.proofs.Members.{found, in_map, left_true, right_true}
 use Rattle.topo_core.proofs.SystemDarts.{edge_at_row, eqb_self, row_id, row_in, some_of}
 

@@ -1,6 +1,6 @@
 -- How darts turn round vertices and crossings, as the lists of the rows say it.
-use Rattle.std.proofs.Common.{◌≡◌, ◌≤◌, ◌+◌, ◌<◌, ◌||◌, ap, arith, Bool, cond, eqb, false, get_or, inl, inr, length, List, not, refl, Some, subst, suc, sym, true, ℕ, [], ◌∙◌, ◌∷◌}
-use Rattle.std.specs.Prelude.{find, is_some, map, slice_get, slice_index, slice_index_or, ◌==◌}
+use Rattle.std.proofs.Common.{◌≡◌, ◌≤◌, ◌+◌, ◌<◌, ◌||◌, ap, arith, Bool, cond, eqb, false, inl, inr, length, List, not, refl, Some, suc, sym, true, ℕ, [], ◌∙◌, ◌∷◌}
+use Rattle.std.specs.Prelude.{is_some, map, slice_get, slice_index, slice_index_or, ◌==◌}
 use Rattle.std.specs.List.{position_or_len}
 use Rattle.std.proofs.lemmas.Bool.{cases_Bool, cases_lt, eqb-true, false≢true, or_left, or_right}
 use Rattle.std.proofs.lemmas.List.{get_or-map as get_or-map_inside, get_or_default, get_or_past}
@@ -26,15 +26,13 @@ use Rattle.topo_core.proofs.Numbering.{distinct_system}
 use Rattle.topo_core.proofs.Points.{turn_at_point}
 use Rattle.topo_core.proofs.RoundPoints.{next_of_four, point_distinct}
 use Rattle.topo_core.proofs.Standing.{good_crossing, good_rotation}
-use Rattle.topo_core.proofs.SystemDarts.{crossing_there, edge_at_row, eqb_self, in_at, path_facts, row_id, some_of}
+use Rattle.topo_core.proofs.SystemDarts.{crossing_there, edge_at_row, eqb_self, in_at, some_of}
 use Rattle.topo_core.proofs.Turning.{distinct_tail, head_not_later, IsDistinct, next_around}
 use Rattle.topo_core.proofs.WithoutRows.{has_id_in, in_has_id}
-use Rattle.topo_frozen.specs.Ids.{IsPlaceOf}
-use Rattle.topo_frozen.specs.Placed.{CrossesAt, entry_after, IsPlaced, passing, placed_dart, way_after, PlacedDart}
-use Rattle.topo_frozen.proofs.Begins.{AtPlace}
+use Rattle.topo_frozen.specs.Placed.{CrossesAt, entry_after, passing, placed_dart, way_after, PlacedDart}
 use Rattle.topo_frozen.proofs.Linking.{in_has}
 use Rattle.topo_frozen.proofs.Lookups.{item_at, row_found}
-use Rattle.topo_frozen.proofs.Rounds.{edge_known, got_within, on_path, place_got}
+use Rattle.topo_frozen.proofs.Rounds.{edge_known, got_within, on_path}
 use Rattle.topo_frozen.proofs.Sorting.{counted_in, in_counted}
 
 -- ---- Round a list

@@ -1,7 +1,7 @@
 -- Where the darts of each edge begin, and the numbers of darts.
-use Rattle.std.proofs.Common.{◌≡◌, ◌||◌, ◌+◌, ◌*◌, ◌<◌, ap, arith, Bool, cond, eqb, false, inl, inr, length, List, not, refl, Some, subst, suc, sym, true, zero, ℕ, [], ◌++◌, ◌∙◌, ◌∷◌}
+use Rattle.std.proofs.Common.{◌≡◌, ◌+◌, ◌*◌, ◌<◌, ap, arith, Bool, cond, eqb, false, inl, inr, length, List, not, refl, Some, subst, suc, sym, true, zero, ℕ, [], ◌++◌, ◌∙◌, ◌∷◌}
 use Rattle.std.specs.Prelude.{find, flat_map, is_some, map, slice_get, slice_index, ◌==◌}
-use Rattle.std.specs.List.{list_all, list_any, position_or_len, range_with_len}
+use Rattle.std.specs.List.{list_all, position_or_len, range_with_len}
 use Rattle.std.specs.List.Sorted.{IsStrictlyIncreasing}
 use Rattle.std.proofs.lemmas.Bool.{cases_Bool}
 use Rattle.std.proofs.lemmas.List.{length-append}

@@ -12,7 +12,7 @@ use Rattle.topo_map.specs.Labels.{painted, AreLabels, IsPainted, IsTakenLabel}
 use Rattle.topo_map.specs.declared.segments.Segment.{Segment}
 use Rattle.topo_map.proofs.Painting.{lies, painted-in, painted_below}
 use Rattle.topo_map.proofs.Painting.Lies.{Within, Beyond}
-use Rattle.topo_map.proofs.Walked.{painted_live, repainted, then_painted, unpainted}
+use Rattle.topo_map.proofs.Walked.{painted_live, repainted, then_painted}
 use Rattle.topo_map.proofs.Attaching.{faces_permuted, labelled_by}
 
 -- a face has one label, and 0 or one that no other face has; the halves below k have one

@@ -7,7 +7,7 @@ use Rattle.topo_core.specs.Edits.{IsIsolated, IsUnchord}
 use Rattle.topo_perm.specs.Edits.{IsApart, IsAllowedHang, IsAllowedUnchord, IsAllowedSplit, IsAllowedSmooth}
 use Rattle.topo_perm.specs.Joins.{AddsSegment}
 use Rattle.topo_perm.proofs.Faces.{twin-twin, twin-other}
-use Rattle.topo_perm.proofs.Splitting.{without-self, without-onward, without-elsewhere}
+use Rattle.topo_perm.proofs.Splitting.{without-self, without-elsewhere}
 use Rattle.topo_perm.proofs.EditCounts.{put-elsewhere}
 use Rattle.topo_perm.proofs.SlabEdits.{segments_grow}
 use Rattle.topo_map.specs.Rotation.{half_limit, AddsLabel, CountsFewer, CountsMore, IsOneFace, IsWhole, KeepsLabels, Grows, PartsFaces, Shrinks}

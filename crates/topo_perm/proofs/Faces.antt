@@ -3,7 +3,7 @@ use Rattle.std.proofs.Common.{◌≡◌, ◌≢◌, ℕ, ◌+◌, ◌%◌, ◌<�
 use Rattle.std.proofs.lemmas.Bool.{cases_eq}
 use Rattle.topo_core.specs.Cycles.{IsPermutation, SameCycle, after, cycle_count}
 use Rattle.topo_core.specs.Rotations.{twin, face_next}
-use Rattle.topo_perm.proofs.Points.{IsExchangeBelow, HasBefore, before_of, bypass_exchange, bypass_splits, exchanged_splits, exchanged_joins, exchanged_keeps, exchanged_spread, exchanged_apart, exchanged-permutation}
+use Rattle.topo_perm.proofs.Points.{IsExchangeBelow, HasBefore, before_of, bypass_exchange, bypass_splits, exchanged_splits, exchanged_joins, exchanged_keeps, exchanged-permutation}
 use Rattle.topo_perm.proofs.Walks.{twin-within, twin-cases, face_next-permutation}
 use Rattle.topo_core.proofs.Orbits.{IsPeriod, wraps, SameCycle-trans, SameCycle-sym}
 use Rattle.topo_core.specs.Edits.{IsBefore, IsIsolated}

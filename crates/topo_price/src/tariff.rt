@@ -3,7 +3,7 @@
 use std::marker::Model;
 use topo_core::rows::Facts;
 
-/// What answers a price: each closure `Fn(&Facts) -> Option<u32>` does.
+/// What answers a price: each closure `Fn(&Facts) -> Option<u32>` that threads may share does.
 pub trait Asks {
     ghost use Rattle.std.specs.Prelude.{ℕ, Option};
     ghost use Rattle.topo_core.specs.declared.rows.Facts.{Facts};
@@ -19,7 +19,7 @@ pub trait Asks {
         ensures { answers self.now facts.now result };
 }
 
-impl<F: Fn(&Facts) -> Option<u32>> Asks for F {
+impl<F: Fn(&Facts) -> Option<u32> + Send + Sync> Asks for F {
     ghost use Rattle.std.specs.Fn.{FnReturnsAt};
 
     ghost can_ask = { λ f. F.IsAlwaysCallable f };

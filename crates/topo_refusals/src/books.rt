@@ -3,8 +3,8 @@
 ghost use Rattle.topo_price.specs.Prices.{IsPromise};
 
 use crate::ready::enter_ready;
-use crate::retry::{again, tell};
-use crate::states::{book_state, compare, picture_state};
+use crate::retry::{compare_picture, tell};
+use crate::states::{book_state, compare, copied, picture_state};
 use anyhow::Result;
 use std::alloc::{AllocError, Global};
 use std::sync::Arc;
@@ -51,26 +51,24 @@ pub(crate) fn shared<R: Eprint + AllocGlobal, F: Asks + Drop>(
 fn book_again<R: Print + Eprint + AllocGlobal, F: Asks + Drop>(
     rt: &R,
     start: &Picture,
-    tariff: Arc<Tariff<F>>,
+    tariff: &Arc<Tariff<F>>,
     before: &str,
 ) -> Result<Book<F>> {
-    tell(rt, "Book::new");
-    let after = picture_state(rt, start)?;
-    compare(rt, "Book::new", before, after.as_str())?;
+    compare_picture(rt, "Book::new", before, start)?;
     let copy = start.copy(rt.alloc())?;
-    Ok(Book::new(rt.alloc(), copy, tariff)?)
+    Ok(Book::new(rt.alloc(), copy, Arc::try_clone(tariff)?)?)
 }
 
 /// The book that begins with a picture.
 pub(crate) fn book_of<R: Print + Eprint + AllocGlobal, F: Asks + Drop>(
     rt: &R,
     start: &Picture,
-    tariff: Arc<Tariff<F>>,
+    tariff: &Arc<Tariff<F>>,
 ) -> Result<Book<F>> {
     let alloc = rt.alloc();
     let before = picture_state(rt, start)?;
-    let copy = again(rt, || start.copy(alloc))?;
-    match Book::new(alloc, copy, Arc::try_clone(&tariff)?) {
+    let copy = copied(rt, start)?;
+    match Book::new(alloc, copy, Arc::try_clone(tariff)?) {
         Ok(book) => Ok(book),
         Err(_) => book_again(rt, start, tariff, before.as_str()),
     }
@@ -117,6 +115,12 @@ fn name_of(call: Call) -> &'static str {
     }
 }
 
+/// Prints what a call was answered.
+fn print_reply<R: Print>(rt: &R, call: Call, reply: &Reply) -> Result<()> {
+    println!(rt; "{call:?}: {reply:?}")?;
+    Ok(())
+}
+
 /// A call that is carried out and entered at once.
 fn make<R: Print + Eprint + AllocGlobal, F: Asks>(
     rt: &R,
@@ -124,15 +128,13 @@ fn make<R: Print + Eprint + AllocGlobal, F: Asks>(
     call: Call,
     before: &str,
 ) -> Result<()> {
-    let reply = match made(rt.alloc(), book, call) {
-        Ok(reply) => reply,
+    match made(rt.alloc(), book, call) {
+        Ok(reply) => print_reply(rt, call, &reply),
         Err(_) => {
             compare_book(rt, name_of(call), before, book)?;
-            made(rt.alloc(), book, call)?
+            print_reply(rt, call, &made(rt.alloc(), book, call)?)
         }
-    };
-    println!(rt; "{call:?}: {reply:?}")?;
-    Ok(())
+    }
 }
 
 /// An insertion for which there is a plan.
@@ -172,6 +174,16 @@ fn take_step<R: Print + Eprint + AllocGlobal, F: Asks>(
     }
 }
 
+/// The text of a book, which is printed.
+fn printed_state<R: Print + Eprint + AllocGlobal, F: Asks>(
+    rt: &R,
+    book: &Book<F>,
+) -> Result<String> {
+    let state = book_state(rt, book)?;
+    println!(rt; "the book:{state}")?;
+    Ok(state)
+}
+
 /// Takes one step after the other, and prints the book after each.
 pub(crate) fn take<R: Print + Eprint + AllocGlobal, F: Asks>(
     rt: &R,
@@ -182,8 +194,7 @@ pub(crate) fn take<R: Print + Eprint + AllocGlobal, F: Asks>(
     let mut state = book_state(rt, book)?;
     for step in steps {
         take_step(rt, book, plan, *step, state.as_str())?;
-        state = book_state(rt, book)?;
-        println!(rt; "the book:{state}")?;
+        state = printed_state(rt, book)?;
     }
     Ok(())
 }

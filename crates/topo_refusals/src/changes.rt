@@ -1,17 +1,17 @@
 //! Changes of a picture: each is made once more where it wants memory, and the picture is printed.
 
-ghost use Rattle.std.specs.Prelude.{◌≡◌, IfOk, None, OnOk};
+ghost use Rattle.std.specs.Prelude.{◌≡◌, None, OnOk};
 ghost use Rattle.topo_core.specs.Routes.{IsSimpleRoute};
 ghost use Rattle.topo_core.specs.Steps.{insert_refusal};
 ghost use Rattle.topo_price.specs.Prices.{IsPromise};
 
 use crate::prices::table_of;
-use crate::retry::{again, tell};
-use crate::seen::{are_ends, planned};
-use crate::states::{compare, picture_state};
+use crate::retry::compare_picture;
+use crate::seen::{are_ends, frozen_of, planned};
+use crate::states::{copied, picture_state};
 use anyhow::{Result, bail};
-use std::alloc::{AllocError, Global};
 use topo_core::calls::Refusal;
+use topo_core::ids::{EdgeId, VertexId};
 use topo_core::rows::Facts;
 use topo_frozen::Frozen;
 use topo_picture::Picture;
@@ -19,17 +19,22 @@ use topo_price::tariff::{Asks, Tariff};
 use topo_route::check::check;
 use topo_route::plan::Plan;
 
-/// Compares a picture with its state before a call that wants memory.
-fn compare_picture<R: Print + Eprint + AllocGlobal>(
+/// What a growth answers.
+fn grown<R: Print + Eprint + AllocGlobal>(
     rt: &R,
-    call: &str,
-    before: &str,
-    picture: &Picture,
-) -> Result<()> {
-    tell(rt, call);
-    let after = picture_state(rt, picture)?;
-    compare(rt, call, before, after.as_str())?;
-    Ok(())
+    picture: &mut Picture,
+    u: u32,
+    position: u32,
+    kind: u32,
+) -> Result<Result<(VertexId, EdgeId), Refusal>> {
+    let before = picture_state(rt, picture)?;
+    match picture.grow(rt.alloc(), u, position, kind) {
+        Err(Refusal::Memory) => {
+            compare_picture(rt, "Picture::grow", before.as_str(), picture)?;
+            Ok(picture.grow(rt.alloc(), u, position, kind))
+        }
+        answer => Ok(answer),
+    }
 }
 
 /// A growth.
@@ -40,25 +45,31 @@ fn grow<R: Print + Eprint + AllocGlobal>(
     position: u32,
     kind: u32,
 ) -> Result<()> {
-    let before = picture_state(rt, picture)?;
-    let mut answer = picture.grow(rt.alloc(), u, position, kind);
-    if matches!(answer, Err(Refusal::Memory)) {
-        compare_picture(rt, "Picture::grow", before.as_str(), picture)?;
-        answer = picture.grow(rt.alloc(), u, position, kind);
-    }
+    let answer = grown(rt, picture, u, position, kind)?;
     let state = picture_state(rt, picture)?;
     println!(rt; "grow {u} {position} {kind}: {answer:?}{state}")?;
     Ok(())
 }
 
+/// What a deletion answers.
+fn deleted<R: Print + Eprint + AllocGlobal>(
+    rt: &R,
+    picture: &mut Picture,
+    edge: u32,
+) -> Result<Result<(), Refusal>> {
+    let before = picture_state(rt, picture)?;
+    match picture.delete(rt.alloc(), edge) {
+        Err(Refusal::Memory) => {
+            compare_picture(rt, "Picture::delete", before.as_str(), picture)?;
+            Ok(picture.delete(rt.alloc(), edge))
+        }
+        answer => Ok(answer),
+    }
+}
+
 /// A deletion.
 fn delete<R: Print + Eprint + AllocGlobal>(rt: &R, picture: &mut Picture, edge: u32) -> Result<()> {
-    let before = picture_state(rt, picture)?;
-    let mut answer = picture.delete(rt.alloc(), edge);
-    if matches!(answer, Err(Refusal::Memory)) {
-        compare_picture(rt, "Picture::delete", before.as_str(), picture)?;
-        answer = picture.delete(rt.alloc(), edge);
-    }
+    let answer = deleted(rt, picture, edge)?;
     let state = picture_state(rt, picture)?;
     println!(rt; "delete {edge}: {answer:?}{state}")?;
     Ok(())
@@ -88,19 +99,6 @@ fn apply<R: Print + Eprint + AllocGlobal>(
     Ok(())
 }
 
-/// The frozen picture.
-fn frozen_of<R: Eprint + AllocGlobal>(rt: &R, picture: &Picture) -> Result<Frozen, AllocError>
-    ensures { IfOk result (λ f. f.rows ≡ picture.now.rows) }
-{
-    match picture.freeze(rt.alloc()) {
-        Ok(frozen) => Ok(frozen),
-        Err(_) => {
-            tell(rt, "bookkeeping");
-            picture.freeze(rt.alloc())
-        }
-    }
-}
-
 /// Lets a plan pass whose route is the first.
 fn pass<F: Asks>(frozen: &Frozen, tariff: &Tariff<F>, u: u32, v: u32, plan: &Plan) -> Result<()>
     ensures { OnOk result (IsSimpleRoute frozen.now.rows u v plan.now.route) }
@@ -116,6 +114,21 @@ fn pass<F: Asks>(frozen: &Frozen, tariff: &Tariff<F>, u: u32, v: u32, plan: &Pla
     }
 }
 
+/// The same on a picture, which is frozen.
+fn pass_on<R: Eprint + AllocGlobal, F: Asks>(
+    rt: &R,
+    picture: &Picture,
+    tariff: &Tariff<F>,
+    u: u32,
+    v: u32,
+    plan: &Plan,
+) -> Result<()>
+    ensures { OnOk result (IsSimpleRoute picture.now.rows u v plan.now.route) }
+{
+    let frozen = frozen_of(rt, picture)?;
+    pass(&frozen, tariff, u, v, plan)
+}
+
 /// An insertion along the first route, which is searched for and checked.
 fn join<R: Print + Eprint + AllocGlobal, F: Asks>(
     rt: &R,
@@ -125,8 +138,7 @@ fn join<R: Print + Eprint + AllocGlobal, F: Asks>(
     v: u32,
 ) -> Result<()> {
     let plan = planned(rt, picture, tariff, u, v)?;
-    let frozen = frozen_of(rt, picture)?;
-    pass(&frozen, tariff, u, v, &plan)?;
+    pass_on(rt, picture, tariff, u, v, &plan)?;
     match picture.admit(u, v, 0) {
         Ok(()) => apply(rt, picture, u, v, &plan),
         Err(why) => bail!("not admitted: {why:?}"),
@@ -176,9 +188,8 @@ fn change_with<R: Print + Eprint + AllocGlobal, F: Asks + Drop>(
     requires callable { F.can_ask ask }
     requires promise { IsPromise (F.answers ask) }
 {
-    let alloc = rt.alloc();
     let tariff = Tariff::new(ask);
-    let mut picture = again(rt, || start.copy(alloc))?;
+    let mut picture = copied(rt, start)?;
     match changes {
         Changes::OfBipyramid => change_bipyramid(rt, &mut picture, &tariff),
         Changes::OfBarrier => change_barrier(rt, &mut picture, &tariff),

@@ -3,7 +3,7 @@
 use crate::founds::insert_by_search;
 use crate::lists::work;
 use crate::sights::{
-    CALLER, LOOKER, PLANNER, Sight, compare_planning, compare_service, show, view_of,
+    CALLER, LOOKER, PLANNER, compare_planning, compare_service, look, show, view_of,
 };
 use crate::states::picture_state;
 use anyhow::{Result, bail};
@@ -85,24 +85,40 @@ fn called<F: Asks + Drop, K: Naming<F>, R: Wait>(
     }
 }
 
-/// A call, which is made once more where it wants memory. The service is printed.
+/// Prints what a call was answered.
+fn print_reply<R: Print>(rt: &R, name: &str, call: Call, reply: &Reply) -> Result<()> {
+    println!(rt; "{name} {call:?}: {reply:?}")?;
+    Ok(())
+}
+
+/// What a call is answered, which is made once more where it wants memory.
+fn answered<F: Asks + Drop, K: Naming<F>, R: Wait + Print + Eprint + AllocGlobal>(
+    rt: &R,
+    service: &Service<F, K>,
+    passes: &mut [Pass<F, K>],
+    call: Call,
+    plan: Option<&Plan>,
+) -> Result<Reply> {
+    let before = look(rt, passes)?;
+    match called(rt, service, passes, call, plan) {
+        Ok(reply) => Ok(reply),
+        Err(_) => {
+            compare_service(rt, name_of(call, plan), &before, passes)?;
+            Ok(called(rt, service, passes, call, plan)?)
+        }
+    }
+}
+
+/// Makes a call. The service is printed.
 fn make<F: Asks + Drop, K: Naming<F>, R: Wait + Print + Eprint + AllocGlobal>(
     rt: &R,
     service: &Service<F, K>,
     passes: &mut [Pass<F, K>],
     call: Call,
     plan: Option<&Plan>,
-    before: &Sight,
-) -> Result<Sight> {
-    let reply = match called(rt, service, passes, call, plan) {
-        Ok(reply) => reply,
-        Err(_) => {
-            compare_service(rt, name_of(call, plan), before, passes)?;
-            called(rt, service, passes, call, plan)?
-        }
-    };
-    let name = name_of(call, plan);
-    println!(rt; "{name} {call:?}: {reply:?}")?;
+) -> Result<()> {
+    let reply = answered(rt, service, passes, call, plan)?;
+    print_reply(rt, name_of(call, plan), call, &reply)?;
     show(rt, passes)
 }
 
@@ -119,44 +135,84 @@ fn plan_with<F: Asks + Drop, K: Naming<F>, R: AllocGlobal>(
     }
 }
 
-/// A plan, which is made once more where it wants memory.
-fn planned<F: Asks + Drop, K: Naming<F>, R: Print + Eprint + AllocGlobal>(
-    rt: &R,
-    service: &Service<F, K>,
-    passes: &mut [Pass<F, K>],
-    before: &Sight,
-) -> Result<Plan> {
-    let mut answer = plan_with(rt, service, passes);
-    if matches!(answer, Err(PassFault::Refused(Refusal::Memory))) {
-        compare_planning(rt, "Pass::plan", before, passes)?;
-        answer = plan_with(rt, service, passes);
-    }
+/// Prints a plan.
+fn print_plan<R: Print>(rt: &R, plan: &Plan) -> Result<()> {
+    println!(rt; "Pass::plan: {plan:?}")?;
+    Ok(())
+}
+
+/// The plan that was answered, which is printed.
+fn plan_of<R: Print>(rt: &R, answer: Result<Plan, PassFault>) -> Result<Plan> {
     match answer {
         Ok(plan) => {
-            println!(rt; "Pass::plan: {plan:?}")?;
+            print_plan(rt, &plan)?;
             Ok(plan)
         }
         Err(fault) => bail!("no plan: {fault:?}"),
     }
 }
 
-/// The first calls, a plan, two insertions by it of which it suits the first, the deletion of an edge that
-/// is crossed, a list that a worker carries out, and insertions by a route that was found.
+/// A plan, which is made once more where it wants memory.
+fn planned<F: Asks + Drop, K: Naming<F>, R: Print + Eprint + AllocGlobal>(
+    rt: &R,
+    service: &Service<F, K>,
+    passes: &mut [Pass<F, K>],
+) -> Result<Plan> {
+    let before = look(rt, passes)?;
+    match plan_with(rt, service, passes) {
+        Err(PassFault::Refused(Refusal::Memory)) => {
+            compare_planning(rt, "Pass::plan", &before, passes)?;
+            plan_of(rt, plan_with(rt, service, passes))
+        }
+        answer => plan_of(rt, answer),
+    }
+}
+
+/// The first calls.
+fn make_first<F: Asks + Drop, K: Naming<F>, R: Wait + Print + Eprint + AllocGlobal>(
+    rt: &R,
+    service: &Service<F, K>,
+    passes: &mut [Pass<F, K>],
+) -> Result<()> {
+    show(rt, passes)?;
+    for call in FIRST {
+        make(rt, service, passes, call, None)?;
+    }
+    Ok(())
+}
+
+/// Two insertions by one plan, which suits the first.
+fn insert_twice<F: Asks + Drop, K: Naming<F>, R: Wait + Print + Eprint + AllocGlobal>(
+    rt: &R,
+    service: &Service<F, K>,
+    passes: &mut [Pass<F, K>],
+    plan: &Plan,
+) -> Result<()> {
+    show(rt, passes)?;
+    make(rt, service, passes, JOIN, Some(plan))?;
+    make(rt, service, passes, JOIN, Some(plan))
+}
+
+/// A plan, and two insertions by it.
+fn insert_by_plan<F: Asks + Drop, K: Naming<F>, R: Wait + Print + Eprint + AllocGlobal>(
+    rt: &R,
+    service: &Service<F, K>,
+    passes: &mut [Pass<F, K>],
+) -> Result<()> {
+    let plan = planned(rt, service, passes)?;
+    insert_twice(rt, service, passes, &plan)
+}
+
+/// The first calls, insertions by a plan, the deletion of an edge that is crossed, a list that a worker carries out, and insertions by a route that was found.
 fn make_all<
     F: Asks + Drop + Send + Sync,
     K: Naming<F> + Send + Sync,
     R: Threads + Wait + Print + Eprint + AllocGlobal + Sync,
 >(rt: &R, service: &Service<F, K>, passes: &mut [Pass<F, K>]) -> Result<()> {
-    let mut before = show(rt, passes)?;
-    for call in FIRST {
-        before = make(rt, service, passes, call, None, &before)?;
-    }
-    let plan = planned(rt, service, passes, &before)?;
-    before = show(rt, passes)?;
-    before = make(rt, service, passes, JOIN, Some(&plan), &before)?;
-    before = make(rt, service, passes, JOIN, Some(&plan), &before)?;
-    before = make(rt, service, passes, Call::Delete { edge: 1 }, None, &before)?;
-    work(rt, service, passes, &before)?;
+    make_first(rt, service, passes)?;
+    insert_by_plan(rt, service, passes)?;
+    make(rt, service, passes, Call::Delete { edge: 1 }, None)?;
+    work(rt, service, passes)?;
     insert_by_search(rt, service, passes)
 }
 

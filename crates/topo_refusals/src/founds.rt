@@ -2,7 +2,7 @@
 //! the second, which comes after a change, the route is looked for again.
 
 use crate::deeds::ENDS;
-use crate::sights::{CALLER, PLANNER, Sight, compare_planning, compare_service, look, show};
+use crate::sights::{CALLER, PLANNER, compare_planning, compare_service, look, show};
 use anyhow::{Result, bail};
 use std::alloc::AllocError;
 use std::sync::Wait;
@@ -37,21 +37,29 @@ fn print_found<F: Asks + Drop, K: Naming<F>, R: Print>(
     Ok(())
 }
 
+/// The route that was answered.
+fn route_of<F: Asks + Drop, K: Naming<F>>(
+    answer: Result<FoundRoute<F, K>, PassFault>,
+) -> Result<FoundRoute<F, K>> {
+    match answer {
+        Ok(found) => Ok(found),
+        Err(fault) => bail!("no route: {fault:?}"),
+    }
+}
+
 /// A route, which is looked for once more where the search wants memory.
 fn found<F: Asks + Drop, K: Naming<F>, R: Print + Eprint + AllocGlobal>(
     rt: &R,
     service: &Service<F, K>,
     passes: &mut [Pass<F, K>],
-    before: &Sight,
 ) -> Result<FoundRoute<F, K>> {
-    let mut answer = find_with(rt, service, passes);
-    if matches!(answer, Err(PassFault::Refused(Refusal::Memory))) {
-        compare_planning(rt, "Pass::find", before, passes)?;
-        answer = find_with(rt, service, passes);
-    }
-    match answer {
-        Ok(found) => Ok(found),
-        Err(fault) => bail!("no route: {fault:?}"),
+    let before = look(rt, passes)?;
+    match find_with(rt, service, passes) {
+        Err(PassFault::Refused(Refusal::Memory)) => {
+            compare_planning(rt, "Pass::find", &before, passes)?;
+            route_of(find_with(rt, service, passes))
+        }
+        answer => route_of(answer),
     }
 }
 
@@ -68,20 +76,38 @@ fn insert_with<F: Asks + Drop, K: Naming<F>, R: Wait>(
     }
 }
 
-/// An insertion by the route, which is made once more where it wants memory. The service is printed.
+/// Prints what an insertion was answered.
+fn print_answer<R: Print>(rt: &R, answer: &Result<Reply, AllocError>) -> Result<()> {
+    println!(rt; "Service::insert_found: {answer:?}")?;
+    Ok(())
+}
+
+/// What an insertion by the route is answered, which is made once more where it wants memory.
+fn inserted<F: Asks + Drop, K: Naming<F>, R: Wait + Print + Eprint + AllocGlobal>(
+    rt: &R,
+    service: &Service<F, K>,
+    passes: &mut [Pass<F, K>],
+    found: &FoundRoute<F, K>,
+) -> Result<Result<Reply, AllocError>> {
+    let before = look(rt, passes)?;
+    match insert_with(rt, service, passes, found) {
+        Err(_) => {
+            compare_service(rt, "Service::insert_found", &before, passes)?;
+            Ok(insert_with(rt, service, passes, found))
+        }
+        answer => Ok(answer),
+    }
+}
+
+/// An insertion by the route. The service is printed.
 fn insert<F: Asks + Drop, K: Naming<F>, R: Wait + Print + Eprint + AllocGlobal>(
     rt: &R,
     service: &Service<F, K>,
     passes: &mut [Pass<F, K>],
     found: &FoundRoute<F, K>,
-    before: &Sight,
-) -> Result<Sight> {
-    let mut answer = insert_with(rt, service, passes, found);
-    if answer.is_err() {
-        compare_service(rt, "Service::insert_found", before, passes)?;
-        answer = insert_with(rt, service, passes, found);
-    }
-    println!(rt; "Service::insert_found: {answer:?}")?;
+) -> Result<()> {
+    let answer = inserted(rt, service, passes, found)?;
+    print_answer(rt, &answer)?;
     show(rt, passes)
 }
 
@@ -93,10 +119,9 @@ fn insert_twice<F: Asks + Drop, K: Naming<F>, R: Wait + Print + Eprint + AllocGl
     found: &FoundRoute<F, K>,
 ) -> Result<()> {
     print_found(rt, found)?;
-    let mut before = show(rt, passes)?;
-    before = insert(rt, service, passes, found, &before)?;
-    let _after = insert(rt, service, passes, found, &before)?;
-    Ok(())
+    show(rt, passes)?;
+    insert(rt, service, passes, found)?;
+    insert(rt, service, passes, found)
 }
 
 /// A route is found, and two edges are inserted by it.
@@ -105,7 +130,6 @@ pub(crate) fn insert_by_search<
     K: Naming<F>,
     R: Wait + Print + Eprint + AllocGlobal,
 >(rt: &R, service: &Service<F, K>, passes: &mut [Pass<F, K>]) -> Result<()> {
-    let before = look(rt, passes)?;
-    let found = found(rt, service, passes, &before)?;
+    let found = found(rt, service, passes)?;
     insert_twice(rt, service, passes, &found)
 }

@@ -2,14 +2,14 @@
 
 use crate::deeds::JOIN;
 use crate::retry::{again, tell};
-use crate::sights::{CALLER, Sight, compare_service, show};
+use crate::sights::{CALLER, compare_service, look, show};
 use anyhow::{Result, bail};
 use std::alloc::{AllocError, Global};
 use std::sync::Wait;
 use std::thread::Threads;
 use topo_core::calls::{Call, Command};
 use topo_price::tariff::Asks;
-use topo_service::{Gate, Pass, Service, WorkerEnd, run_workers};
+use topo_service::{Gate, Pass, Receipt, Service, WorkerEnd, run_workers};
 use topo_versions::Naming;
 
 /// What the worker does.
@@ -115,41 +115,66 @@ fn run_whole<
     }
 }
 
+/// Prints a receipt.
+fn print_receipt<R: Print>(rt: &R, receipt: &Receipt) -> Result<()> {
+    let (call, reply) = (receipt.call, &receipt.reply);
+    println!(rt; "  {call:?}: {reply:?}")?;
+    Ok(())
+}
+
+/// Prints the receipts of a list that was run.
+fn print_all<R: Print>(rt: &R, receipts: &[Receipt]) -> Result<()> {
+    println!(rt; "run_workers:")?;
+    for receipt in receipts {
+        print_receipt(rt, receipt)?;
+    }
+    Ok(())
+}
+
 /// Prints the receipts of the pass whose list was run.
 fn print_receipts<F: Asks + Drop, K: Naming<F>, R: Print>(
     rt: &R,
     passes: &[Pass<F, K>],
 ) -> Result<()> {
-    let Some(pass) = passes.get(CALLER) else {
-        bail!("no pass");
-    };
-    println!(rt; "run_workers:")?;
-    for receipt in pass.receipts() {
-        let (call, reply) = (receipt.call, &receipt.reply);
-        println!(rt; "  {call:?}: {reply:?}")?;
+    match passes.get(CALLER) {
+        Some(pass) => print_all(rt, pass.receipts()),
+        None => bail!("no pass"),
     }
-    Ok(())
 }
 
-/// A worker carries out the list. Where the room for the answer is refused, no call was made, and the whole
-/// list is run once more.
+/// Runs a list. Where the room for the answer is refused, no call was made, and the whole list is run once
+/// more.
+fn run<
+    F: Asks + Drop + Send + Sync,
+    K: Naming<F> + Send + Sync,
+    R: Threads + Wait + Print + Eprint + AllocGlobal + Sync,
+>(
+    rt: &R,
+    service: &Service<F, K>,
+    passes: &mut [Pass<F, K>],
+    lists: &[Vec<Command>],
+) -> Result<()> {
+    let before = look(rt, passes)?;
+    let had = receipts(passes);
+    match run_list(rt, service, passes, lists) {
+        Ok(WorkerEnd::Done) => Ok(()),
+        Ok(WorkerEnd::OutOfMemory(at)) => run_rest(rt, service, passes, had, at),
+        Err(_) => {
+            compare_service(rt, "run_workers", &before, passes)?;
+            run_whole(rt, service, passes, lists)
+        }
+    }
+}
+
+/// A worker carries out the list.
 pub(crate) fn work<
     F: Asks + Drop + Send + Sync,
     K: Naming<F> + Send + Sync,
     R: Threads + Wait + Print + Eprint + AllocGlobal + Sync,
->(rt: &R, service: &Service<F, K>, passes: &mut [Pass<F, K>], before: &Sight) -> Result<()> {
+>(rt: &R, service: &Service<F, K>, passes: &mut [Pass<F, K>]) -> Result<()> {
     let alloc = rt.alloc();
     let lists = again(rt, || list_of(alloc, &COMMANDS))?;
-    let had = receipts(passes);
-    match run_list(rt, service, passes, lists.as_slice()) {
-        Ok(WorkerEnd::Done) => {}
-        Ok(WorkerEnd::OutOfMemory(at)) => run_rest(rt, service, passes, had, at)?,
-        Err(_) => {
-            compare_service(rt, "run_workers", before, passes)?;
-            run_whole(rt, service, passes, lists.as_slice())?;
-        }
-    }
+    run(rt, service, passes, lists.as_slice())?;
     print_receipts(rt, passes)?;
-    let _after = show(rt, passes)?;
-    Ok(())
+    show(rt, passes)
 }

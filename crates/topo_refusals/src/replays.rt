@@ -7,24 +7,43 @@ use topo_book::{Book, ReplayFault, replay};
 use topo_picture::Picture;
 use topo_price::tariff::Asks;
 
-/// Replays the history from a picture, again where that wants memory.
-pub(crate) fn replay_from<R: Print + Eprint + AllocGlobal, F: Asks>(
+/// Prints what a replay answered.
+fn print_replay<R: Print + Eprint + AllocGlobal>(
     rt: &R,
-    book: &Book<F>,
-    start: &Picture,
+    answer: &Result<Picture, ReplayFault>,
 ) -> Result<()> {
-    let before = book_state(rt, book)?;
-    let mut answer = replay(rt.alloc(), start, book.history(), book.tariff());
-    if matches!(answer, Err(ReplayFault::Memory)) {
-        compare_book(rt, "replay", before.as_str(), book)?;
-        answer = replay(rt.alloc(), start, book.history(), book.tariff());
-    }
     match answer {
         Ok(picture) => {
-            let state = picture_state(rt, &picture)?;
+            let state = picture_state(rt, picture)?;
             println!(rt; "replay:{state}")?;
         }
         Err(fault) => println!(rt; "replay: {fault}")?,
     }
     Ok(())
+}
+
+/// What a replay of the history from a picture answers, which is made once more where it wants memory.
+fn replayed<R: Print + Eprint + AllocGlobal, F: Asks>(
+    rt: &R,
+    book: &Book<F>,
+    start: &Picture,
+) -> Result<Result<Picture, ReplayFault>> {
+    let before = book_state(rt, book)?;
+    match replay(rt.alloc(), start, book.history(), book.tariff()) {
+        Err(ReplayFault::Memory) => {
+            compare_book(rt, "replay", before.as_str(), book)?;
+            Ok(replay(rt.alloc(), start, book.history(), book.tariff()))
+        }
+        answer => Ok(answer),
+    }
+}
+
+/// Replays the history from a picture.
+pub(crate) fn replay_from<R: Print + Eprint + AllocGlobal, F: Asks>(
+    rt: &R,
+    book: &Book<F>,
+    start: &Picture,
+) -> Result<()> {
+    let answer = replayed(rt, book, start)?;
+    print_replay(rt, &answer)
 }

@@ -1,9 +1,10 @@
 //! Calls that are made once more where they want memory. In a run where only one allocation fails, the
 //! second time has what it wants.
 
-use crate::states::compare;
+use crate::states::{compare, picture_state};
 use anyhow::Result;
 use std::alloc::AllocError;
+use topo_picture::Picture;
 
 /// Says on standard error which call wanted memory.
 pub(crate) fn tell<R: Eprint>(rt: &R, call: &str) {
@@ -26,22 +27,34 @@ pub(crate) fn again<R: Eprint, T, F: Fn() -> Result<T, AllocError>>(
     }
 }
 
-/// What a call answers that only reads. Where it wants memory, the state of what it reads is compared
-/// with the one before, and the call is made once more.
-pub(crate) fn reading<
-    R: Print + Eprint,
-    T,
-    S: Fn() -> Result<String, AllocError>,
-    F: Fn() -> Result<T, AllocError>,
->(rt: &R, name: &str, before: &str, state: S, call: F) -> Result<T>
-    requires state { S.IsAlwaysCallable state }
-    requires call { F.IsAlwaysCallable call }
+/// Compares a picture with its state before a call that wants memory.
+pub(crate) fn compare_picture<R: Print + Eprint + AllocGlobal>(
+    rt: &R,
+    call: &str,
+    before: &str,
+    picture: &Picture,
+) -> Result<()> {
+    tell(rt, call);
+    let after = picture_state(rt, picture)?;
+    compare(rt, call, before, after.as_str())?;
+    Ok(())
+}
+
+/// What a call answers that only reads a picture. Where it wants memory, the picture is compared with its
+/// state before, and the call is made once more.
+pub(crate) fn reading<R: Print + Eprint + AllocGlobal, T, F: Fn() -> Result<T, AllocError>>(
+    rt: &R,
+    name: &str,
+    before: &str,
+    picture: &Picture,
+    call: F,
+) -> Result<T>
+    requires { F.IsAlwaysCallable call }
 {
     match call() {
         Ok(answer) => Ok(answer),
         Err(_) => {
-            tell(rt, name);
-            compare(rt, name, before, state()?.as_str())?;
+            compare_picture(rt, name, before, picture)?;
             Ok(call()?)
         }
     }

@@ -1,7 +1,7 @@
 //! Calls that only read: a picture is loaded, copied, given back as rows, frozen, numbered, and searched
 //! for a route.
 
-ghost use Rattle.std.specs.Prelude.{◌≢◌, ◌<◌, IsTrue, length};
+ghost use Rattle.std.specs.Prelude.{◌≡◌, ◌≢◌, ◌<◌, IfOk, IsTrue, length};
 
 use crate::named::{Named, rows_of};
 use crate::retry::{again, reading, tell};
@@ -26,24 +26,51 @@ fn greatest_limits() -> Limits {
     }
 }
 
-/// A named picture, which is loaded and printed.
-pub(crate) fn loaded<R: Print + Eprint + AllocGlobal>(rt: &R, named: &Named) -> Result<Picture> {
+/// Compares rows with what they were before a call that wants memory.
+fn compare_rows<R: Print + Eprint + AllocGlobal>(
+    rt: &R,
+    call: &str,
+    before: &str,
+    limits: Limits,
+    rows: &Rows,
+) -> Result<()> {
+    tell(rt, call);
+    let after = rows_state(rt, limits, rows)?;
+    compare(rt, call, before, after.as_str())?;
+    Ok(())
+}
+
+/// The picture that these rows load as.
+fn load<R: Print + Eprint + AllocGlobal>(rt: &R, rows: &Rows) -> Result<Picture> {
     let (alloc, limits) = (rt.alloc(), greatest_limits());
-    let rows = again(rt, || rows_of(alloc, named))?;
-    let before = rows_state(rt, limits, &rows)?;
-    let picture = match Picture::load(alloc, limits, &rows) {
+    let before = rows_state(rt, limits, rows)?;
+    match Picture::load(alloc, limits, rows) {
         Err(LoadFault::Memory) => {
-            tell(rt, "Picture::load");
-            let after = rows_state(rt, limits, &rows)?;
-            compare(rt, "Picture::load", before.as_str(), after.as_str())?;
-            Picture::load(alloc, limits, &rows)?
+            compare_rows(rt, "Picture::load", before.as_str(), limits, rows)?;
+            Ok(Picture::load(alloc, limits, rows)?)
         }
-        answer => answer?,
-    };
-    let state = picture_state(rt, &picture)?;
-    let name = named.name;
+        answer => Ok(answer?),
+    }
+}
+
+/// Prints a picture that was loaded.
+fn print_loaded<R: Print + Eprint + AllocGlobal>(
+    rt: &R,
+    name: &str,
+    picture: &Picture,
+) -> Result<()> {
+    let state = picture_state(rt, picture)?;
     let counts = picture.counts();
     println!(rt; "load {name}: {counts:?}{state}")?;
+    Ok(())
+}
+
+/// A named picture, which is loaded and printed.
+pub(crate) fn loaded<R: Print + Eprint + AllocGlobal>(rt: &R, named: &Named) -> Result<Picture> {
+    let alloc = rt.alloc();
+    let rows = again(rt, || rows_of(alloc, named))?;
+    let picture = load(rt, &rows)?;
+    print_loaded(rt, named.name, &picture)?;
     Ok(picture)
 }
 
@@ -57,8 +84,7 @@ fn print_likeness<R: Print>(rt: &R, call: &str, picture: &str, given: &str) -> R
 /// The picture is copied.
 fn copy<R: Print + Eprint + AllocGlobal>(rt: &R, picture: &Picture, before: &str) -> Result<()> {
     let alloc = rt.alloc();
-    let state = || picture_state(rt, picture);
-    let copy = reading(rt, "Picture::copy", before, state, || picture.copy(alloc))?;
+    let copy = reading(rt, "Picture::copy", before, picture, || picture.copy(alloc))?;
     let given = picture_state(rt, &copy)?;
     print_likeness(rt, "copy", before, given.as_str())
 }
@@ -70,8 +96,7 @@ fn give_rows<R: Print + Eprint + AllocGlobal>(
     before: &str,
 ) -> Result<()> {
     let alloc = rt.alloc();
-    let state = || picture_state(rt, picture);
-    let rows = reading(rt, "Picture::rows", before, state, || picture.rows(alloc))?;
+    let rows = reading(rt, "Picture::rows", before, picture, || picture.rows(alloc))?;
     let given = rows_state(rt, picture.limits(), &rows)?;
     print_likeness(rt, "rows", before, given.as_str())
 }
@@ -79,12 +104,11 @@ fn give_rows<R: Print + Eprint + AllocGlobal>(
 /// The picture is frozen.
 fn freeze<R: Print + Eprint + AllocGlobal>(rt: &R, picture: &Picture, before: &str) -> Result<()> {
     let alloc = rt.alloc();
-    let state = || picture_state(rt, picture);
     let frozen = reading(
         rt,
         "Picture::freeze",
         before,
-        state,
+        picture,
         || picture.freeze(alloc),
     )?;
     let given = rows_state(rt, picture.limits(), frozen.rows())?;
@@ -101,12 +125,11 @@ fn numbered_darts(alloc: Global, picture: &Picture) -> Result<u32, AllocError> {
 /// The darts of the picture are numbered.
 fn number<R: Print + Eprint + AllocGlobal>(rt: &R, picture: &Picture, before: &str) -> Result<()> {
     let alloc = rt.alloc();
-    let state = || picture_state(rt, picture);
     let darts = reading(
         rt,
         "Picture::numbered",
         before,
-        state,
+        picture,
         || numbered_darts(alloc, picture),
     )?;
     println!(rt; "numbered: {darts} darts")?;
@@ -132,6 +155,71 @@ pub(crate) fn are_ends(rows: &Rows, u: u32, v: u32) -> bool
     (u as usize) < vertices && (v as usize) < vertices && u != v
 }
 
+/// The frozen picture.
+pub(crate) fn frozen_of<R: Eprint + AllocGlobal>(
+    rt: &R,
+    picture: &Picture,
+) -> Result<Frozen, AllocError>
+    ensures { IfOk result (λ f. f.rows ≡ picture.now.rows) }
+{
+    match picture.freeze(rt.alloc()) {
+        Ok(frozen) => Ok(frozen),
+        Err(_) => {
+            tell(rt, "bookkeeping");
+            picture.freeze(rt.alloc())
+        }
+    }
+}
+
+/// Prints what a search found.
+fn print_found<R: Print>(rt: &R, u: u32, v: u32, found: &Option<Plan>) -> Result<()> {
+    println!(rt; "search {u} {v}: {found:?}")?;
+    Ok(())
+}
+
+/// What a search between two vertices of a frozen picture finds, which is made once more where it wants memory.
+fn searched<R: Print + Eprint + AllocGlobal, F: Asks>(
+    rt: &R,
+    frozen: &Frozen,
+    limits: Limits,
+    tariff: &Tariff<F>,
+    u: u32,
+    v: u32,
+) -> Result<Option<Plan>>
+    requires u_there { u < length frozen.now.rows.rotations }
+    requires v_there { v < length frozen.now.rows.rotations }
+    requires apart { u ≢ v }
+{
+    let before = rows_state(rt, limits, frozen.rows())?;
+    match search(rt.alloc(), frozen, tariff, u, v) {
+        Ok(found) => Ok(found),
+        Err(_) => {
+            compare_rows(rt, "search", before.as_str(), limits, frozen.rows())?;
+            Ok(search(rt.alloc(), frozen, tariff, u, v)?)
+        }
+    }
+}
+
+/// The plan of the first route between two vertices of a frozen picture.
+fn planned_on<R: Print + Eprint + AllocGlobal, F: Asks>(
+    rt: &R,
+    frozen: &Frozen,
+    limits: Limits,
+    tariff: &Tariff<F>,
+    u: u32,
+    v: u32,
+) -> Result<Plan> {
+    if !are_ends(frozen.rows(), u, v) {
+        bail!("no two vertices");
+    }
+    let found = searched(rt, frozen, limits, tariff, u, v)?;
+    print_found(rt, u, v, &found)?;
+    match found {
+        Some(plan) => Ok(plan),
+        None => bail!("no route"),
+    }
+}
+
 /// The plan of the first route between two vertices.
 pub(crate) fn planned<R: Print + Eprint + AllocGlobal, F: Asks>(
     rt: &R,
@@ -140,19 +228,6 @@ pub(crate) fn planned<R: Print + Eprint + AllocGlobal, F: Asks>(
     u: u32,
     v: u32,
 ) -> Result<Plan> {
-    let (alloc, limits) = (rt.alloc(), picture.limits());
-    let frozen = again(rt, || picture.freeze(alloc))?;
-    if !are_ends(frozen.rows(), u, v) {
-        bail!("no two vertices");
-    }
-    let state = || rows_state(rt, limits, frozen.rows());
-    let before = state()?;
-    let found = reading(rt, "search", before.as_str(), &state, || {
-        search(alloc, &frozen, tariff, u, v)
-    })?;
-    println!(rt; "search {u} {v}: {found:?}")?;
-    match found {
-        Some(plan) => Ok(plan),
-        None => bail!("no route"),
-    }
+    let frozen = frozen_of(rt, picture)?;
+    planned_on(rt, &frozen, picture.limits(), tariff, u, v)
 }

@@ -9,9 +9,9 @@ use crate::deeds::tell_deeds;
 use crate::named::BIPYRAMID;
 use crate::prices::table_of;
 use crate::replays::replay_from;
-use crate::retry::{again, tell};
+use crate::retry::{compare_picture, tell};
 use crate::seen::loaded;
-use crate::states::{book_state, compare, picture_state};
+use crate::states::{book_state, copied, picture_state};
 use anyhow::{Result, bail};
 use std::marker::Brand;
 use std::sync::{Arc, Wait};
@@ -34,7 +34,7 @@ pub(crate) fn serve<R: Threads + Wait + Print + Eprint + AllocGlobal + Sync>(rt:
     serve_with(rt, &start, |facts: &Facts| table.price(facts.kind))
 }
 
-/// A service with the prices of a closure. Where its beginning wants memory, it is begun once more.
+/// A service with the prices of a closure.
 fn serve_with<
     F: Asks + Drop + Send + Sync,
     R: Threads + Wait + Print + Eprint + AllocGlobal + Sync,
@@ -43,14 +43,21 @@ fn serve_with<
     requires promise { IsPromise (F.answers ask) }
 {
     let tariff = shared(rt, ask)?;
+    serve_at(rt, start, &tariff)
+}
+
+/// A service with the prices of a tariff. Where its beginning wants memory, it is begun once more.
+fn serve_at<F: Asks + Drop + Send + Sync, R: Threads + Wait + Print + Eprint + AllocGlobal + Sync>(
+    rt: &R,
+    start: &Picture,
+    tariff: &Arc<Tariff<F>>,
+) -> Result<()> {
     let before = picture_state(rt, start)?;
-    if begun(rt, start, &tariff)? {
+    if begun(rt, start, tariff)? {
         return Ok(());
     }
-    tell(rt, "Service::new");
-    let after = picture_state(rt, start)?;
-    compare(rt, "Service::new", before.as_str(), after.as_str())?;
-    if begun(rt, start, &tariff)? {
+    compare_picture(rt, "Service::new", before.as_str(), start)?;
+    if begun(rt, start, tariff)? {
         return Ok(());
     }
     bail!("no service")
@@ -62,14 +69,12 @@ fn begun<F: Asks + Drop + Send + Sync, R: Threads + Wait + Print + Eprint + Allo
     start: &Picture,
     tariff: &Arc<Tariff<F>>,
 ) -> Result<bool> {
-    let alloc = rt.alloc();
-    let copy = again(rt, || start.copy(alloc))?;
+    let copy = copied(rt, start)?;
     let tariff = Arc::try_clone(tariff)?;
     named::<F, Brand, R>(rt, Unopened::new(), copy, tariff)
 }
 
-/// The same, over the service that K names. The service and its passes are owned here alone, and nothing
-/// returns early while they are.
+/// The same, over the service that K names.
 fn named<
     F: Asks + Drop + Send + Sync,
     K: Naming<F> + Send + Sync,
@@ -81,11 +86,20 @@ fn named<
     requires start { start ≡ K.start }
     requires prices { K.closure ≡ Some (arc_value tariff) }
 {
-    let alloc = rt.alloc();
-    let Ok(mut service) = Service::<F, K>::new(alloc, unopened, start, tariff) else {
+    let Ok(service) = Service::<F, K>::new(rt.alloc(), unopened, start, tariff) else {
         return Ok(false);
     };
-    let mut passes = Vec::new(alloc);
+    use_and_close(rt, service)
+}
+
+/// Uses a service and closes it. The service and its passes are owned here alone, and nothing returns early
+/// while they are.
+fn use_and_close<
+    F: Asks + Drop + Send + Sync,
+    K: Naming<F> + Send + Sync,
+    R: Threads + Wait + Print + Eprint + AllocGlobal + Sync,
+>(rt: &R, mut service: Service<F, K>) -> Result<bool> {
+    let mut passes = Vec::new(rt.alloc());
     let told = use_passes(rt, &mut service, &mut passes);
     let end = service.close(rt, passes);
     finish(rt, told, &end)
@@ -123,6 +137,12 @@ fn give_out<F: Asks + Drop, K: Naming<F>, R: Print + Eprint>(
     }
 }
 
+/// Prints a new pass.
+fn print_pass<R: Print>(rt: &R, number: u32, receipts: usize, seen: u64) -> Result<()> {
+    println!(rt; "pass {number}: {receipts} receipts, has seen {seen}")?;
+    Ok(())
+}
+
 /// Prints a new pass and keeps it.
 fn keep<F: Asks + Drop, K: Naming<F>, R: Print>(
     rt: &R,
@@ -131,11 +151,17 @@ fn keep<F: Asks + Drop, K: Naming<F>, R: Print>(
 ) -> Result<()> {
     let (number, receipts, seen) = (pass.number(), pass.receipts().len(), pass.seen());
     passes.push(pass)?;
-    println!(rt; "pass {number}: {receipts} receipts, has seen {seen}")?;
-    Ok(())
+    print_pass(rt, number, receipts, seen)
 }
 
 /// Prints the book of a service that ended well, and replays its history.
+fn print_closed<R: Print + Eprint + AllocGlobal, F: Asks>(rt: &R, book: &Book<F>) -> Result<()> {
+    let state = book_state(rt, book)?;
+    println!(rt; "closed:{state}")?;
+    replay_from(rt, book, book.start())
+}
+
+/// The book of a service that ended well is printed, and its history replayed.
 fn finish<F: Asks + Drop, K: Naming<F>, R: Print + Eprint + AllocGlobal>(
     rt: &R,
     told: Result<()>,
@@ -144,9 +170,7 @@ fn finish<F: Asks + Drop, K: Naming<F>, R: Print + Eprint + AllocGlobal>(
     told?;
     match end {
         Ok(book) => {
-            let state = book_state(rt, book)?;
-            println!(rt; "closed:{state}")?;
-            replay_from(rt, book, book.start())?;
+            print_closed(rt, book)?;
             Ok(true)
         }
         Err(end) => bail!("{:?}", end.fault),

@@ -1,12 +1,12 @@
 //! What is seen of a service, as a text.
 
 use crate::retry::{again, tell};
-use crate::states::{Lines, ROOM, compare};
+use crate::states::{Lines, ROOM, compare, picture_rows};
 use anyhow::{Result, bail};
 use std::alloc::{AllocError, Global};
 use topo_core::rows::Rows;
 use topo_price::tariff::Asks;
-use topo_service::Pass;
+use topo_service::{Pass, Receipt};
 use topo_versions::{Naming, Version};
 
 /// The version of now, for which no memory is taken.
@@ -19,6 +19,17 @@ pub(crate) fn view_of<F: Asks + Drop, K: Naming<F>>(
     }
 }
 
+/// Writes how many receipts a pass has, and the last of them.
+fn write_receipts(text: &mut String, number: u32, receipts: &[Receipt]) -> Result<(), AllocError> {
+    let many = receipts.len();
+    write!(text, "\n  pass {number}: {many} receipts")?;
+    if let Some(last) = receipts.last() {
+        let (call, reply) = (last.call, &last.reply);
+        write!(text, ", the last {call:?}: {reply:?}")?;
+    }
+    Ok(())
+}
+
 /// The receipts of passes, and a version.
 fn text_of<F: Asks + Drop, K: Naming<F>>(
     alloc: Global,
@@ -28,12 +39,7 @@ fn text_of<F: Asks + Drop, K: Naming<F>>(
 ) -> Result<String, AllocError> {
     let mut text = String::with_capacity(alloc, ROOM)?;
     for pass in passes {
-        let (number, many) = (pass.number(), pass.receipts().len());
-        write!(text, "\n  pass {number}: {many} receipts")?;
-        if let Some(last) = pass.receipts().last() {
-            let (call, reply) = (last.call, &last.reply);
-            write!(text, ", the last {call:?}: {reply:?}")?;
-        }
+        write_receipts(&mut text, pass.number(), pass.receipts())?;
     }
     let limits = version.picture().limits();
     let (number, lines) = (version.number(), Lines { limits, rows });
@@ -48,7 +54,7 @@ fn version_text<F: Asks + Drop, K: Naming<F>, R: Eprint + AllocGlobal>(
     version: &Version<F, K>,
 ) -> Result<String> {
     let alloc = rt.alloc();
-    let rows = again(rt, || version.picture().rows(alloc))?;
+    let rows = picture_rows(rt, version.picture())?;
     Ok(again(rt, || text_of(alloc, passes, version, &rows))?)
 }
 
@@ -90,6 +96,13 @@ fn text_now<F: Asks + Drop, K: Naming<F>, R: Eprint + AllocGlobal>(
     version_text(rt, &*others, &version)
 }
 
+/// Prints what is seen of a service.
+fn print_sight<R: Print>(rt: &R, sight: &Sight) -> Result<()> {
+    let (caller, planner) = sight.seen;
+    println!(rt; "the service: seen {caller} and {planner}{}", sight.text)?;
+    Ok(())
+}
+
 /// A service as it is now.
 pub(crate) fn look<F: Asks + Drop, K: Naming<F>, R: Eprint + AllocGlobal>(
     rt: &R,
@@ -104,11 +117,9 @@ pub(crate) fn look<F: Asks + Drop, K: Naming<F>, R: Eprint + AllocGlobal>(
 pub(crate) fn show<F: Asks + Drop, K: Naming<F>, R: Print + Eprint + AllocGlobal>(
     rt: &R,
     passes: &mut [Pass<F, K>],
-) -> Result<Sight> {
+) -> Result<()> {
     let sight = look(rt, passes)?;
-    let (caller, planner) = sight.seen;
-    println!(rt; "the service: seen {caller} and {planner}{}", sight.text)?;
-    Ok(sight)
+    print_sight(rt, &sight)
 }
 
 /// Prints a line that begins with `changed:` where a pass has seen more than it should.

@@ -6,6 +6,7 @@ use std::{fmt, io};
 use topo_book::Book;
 use topo_core::calls::Entry;
 use topo_core::limits::Limits;
+use topo_core::listed::Listed;
 use topo_core::rows::{CrossRow, EdgeRow, Rows};
 use topo_picture::Picture;
 use topo_price::tariff::Asks;
@@ -56,18 +57,35 @@ impl fmt::Display for Lines<'_> {
             f,
             "\n  next edge {edge}, next crossing {crossing}\n  rotations"
         )?;
-        for around in rows.rotations.as_slice() {
-            let around = around.as_slice();
-            write!(f, " {around:?}")?;
-        }
-        for row in rows.edges.as_slice() {
-            write!(f, "{}", EdgeLine(row))?;
-        }
-        for row in rows.crossings.as_slice() {
-            write!(f, "{}", CrossLine(row))?;
-        }
-        Ok(())
+        write_rotations(f, rows.rotations.as_slice())?;
+        write_edges(f, rows.edges.as_slice())?;
+        write_crossings(f, rows.crossings.as_slice())
     }
+}
+
+fn write_rotations<W: fmt::Write>(
+    f: &mut fmt::Formatter<W>,
+    rotations: &[Listed<u32>],
+) -> fmt::Result {
+    for around in rotations {
+        let around = around.as_slice();
+        write!(f, " {around:?}")?;
+    }
+    Ok(())
+}
+
+fn write_edges<W: fmt::Write>(f: &mut fmt::Formatter<W>, rows: &[EdgeRow]) -> fmt::Result {
+    for row in rows {
+        write!(f, "{}", EdgeLine(row))?;
+    }
+    Ok(())
+}
+
+fn write_crossings<W: fmt::Write>(f: &mut fmt::Formatter<W>, rows: &[CrossRow]) -> fmt::Result {
+    for row in rows {
+        write!(f, "{}", CrossLine(row))?;
+    }
+    Ok(())
 }
 
 /// A history, by its length and its last entry, and the picture after it.
@@ -115,9 +133,26 @@ pub(crate) fn picture_state<R: Eprint + AllocGlobal>(
     rt: &R,
     picture: &Picture,
 ) -> Result<String, AllocError> {
-    let alloc = rt.alloc();
-    let rows = again(rt, || picture.rows(alloc))?;
+    let rows = picture_rows(rt, picture)?;
     rows_state(rt, picture.limits(), &rows)
+}
+
+/// A copy of a picture.
+pub(crate) fn copied<R: Eprint + AllocGlobal>(
+    rt: &R,
+    picture: &Picture,
+) -> Result<Picture, AllocError> {
+    let alloc = rt.alloc();
+    again(rt, || picture.copy(alloc))
+}
+
+/// The rows of a picture.
+pub(crate) fn picture_rows<R: Eprint + AllocGlobal>(
+    rt: &R,
+    picture: &Picture,
+) -> Result<Rows, AllocError> {
+    let alloc = rt.alloc();
+    again(rt, || picture.rows(alloc))
 }
 
 /// The text of a book: how many entries it has, the last of them, and its picture.
@@ -126,7 +161,7 @@ pub(crate) fn book_state<R: Eprint + AllocGlobal, F: Asks>(
     book: &Book<F>,
 ) -> Result<String, AllocError> {
     let alloc = rt.alloc();
-    let rows = again(rt, || book.picture().rows(alloc))?;
+    let rows = picture_rows(rt, book.picture())?;
     let lines = BookLines {
         history: book.history(),
         limits: book.picture().limits(),

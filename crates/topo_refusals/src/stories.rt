@@ -129,7 +129,7 @@ fn tell_at<R: Print + Eprint + AllocGlobal, F: Asks + Drop>(
     start: &Picture,
     tariff: Arc<Tariff<F>>,
 ) -> Result<()> {
-    let mut book = book_of(rt, start, tariff)?;
+    let mut book = book_of(rt, start, &tariff)?;
     tell_of(rt, story, start, &mut book)
 }
 

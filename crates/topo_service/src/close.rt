@@ -67,6 +67,41 @@ fn writer_of<F: Asks + Drop, K: Naming<F>>(
     StoreWriter::<F, K>::new(alloc, first, second, places as usize)
 }
 
+/// A new book that shares the prices.
+fn book_of<F: Asks + Drop>(
+    alloc: Global,
+    start: Picture,
+    tariff: &Arc<Tariff<F>>,
+) -> Result<Book<F>, AllocError>
+    ensures start { IfOk result (λ b. b.start ≡ start) }
+    ensures history { IfOk result (λ b. b.history ≡ []) }
+    ensures tariff { IfOk result (λ b. b.tariff ≡ arc_value tariff.now) }
+{
+    let share = Arc::try_clone(tariff)?;
+    Book::new(alloc, start, share)
+}
+
+/// A new book, and the store of its versions for so many readers.
+fn book_with_store<F: Asks + Drop, K: Naming<F>>(
+    alloc: Global,
+    start: Picture,
+    tariff: &Arc<Tariff<F>>,
+    front: &Front<K>,
+    places: u32,
+) -> Result<(Book<F>, StoreWriter<F, K>), AllocError>
+    requires start { start ≡ K.start }
+    requires prices { K.closure ≡ Some (arc_value tariff.now) }
+    requires empty { front.now ≡ [] }
+    requires places { 0 < places }
+    ensures book { IfOk result (λ made. (made.0.start ≡ K.start) × (made.0.history ≡ [])) }
+    ensures prices { IfOk result (λ made. K.closure ≡ Some made.0.tariff) }
+    ensures empty { IfOk result (λ made. made.1.desk.shown.value.entries ≡ []) }
+{
+    let book = book_of(alloc, start, tariff)?;
+    let writer = writer_of(alloc, &book, front, places)?;
+    Ok((book, writer))
+}
+
 /// What lies under the lock of a service with no call, for so many passes.
 fn desk_of<F: Asks + Drop, K: Naming<F>>(
     alloc: Global,
@@ -83,8 +118,7 @@ fn desk_of<F: Asks + Drop, K: Naming<F>>(
     requires places { 0 < places }
 {
     let (head, front) = opened.named::<K>();
-    let book = Book::new(alloc, start, Arc::try_clone(tariff)?)?;
-    let writer = writer_of(alloc, &book, &front, places)?;
+    let (book, writer) = book_with_store(alloc, start, tariff, &front, places)?;
     Ok(Desk::new(book, calls, head, front, writer))
 }
 

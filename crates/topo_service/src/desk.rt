@@ -19,7 +19,7 @@ use crate::wait::wait_forever;
 use std::alloc::{AllocError, Global};
 use std::marker::Model;
 use std::sync::ledger::{Book as Tally, Share};
-use std::sync::{Arc, Wait};
+use std::sync::Wait;
 use topo_book::{Book, Hint, Next};
 use topo_core::calls::{Call, Entry};
 use topo_price::tariff::Asks;

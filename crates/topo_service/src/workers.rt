@@ -5,13 +5,14 @@ ghost use Rattle.topo_core.specs.History.{IsPrefix, call_of};
 ghost use Rattle.topo_service.specs.Commands.{HasEnded, HasMade, commands, end_by, receipts_of};
 ghost use Rattle.topo_service.specs.Passes.{PassState, receipt_of};
 
+use crate::found::Brought;
 use crate::pass::PassOver;
 use crate::service::ServiceOver;
 use std::alloc::{AllocError, Global};
 use std::sync::Wait;
 use std::thread;
 use std::thread::Threads;
-use topo_core::calls::{Call, Command, Reply};
+use topo_core::calls::{Command, Reply};
 use topo_price::tariff::Asks;
 use topo_versions::{Glass, Naming, Shelf};
 
@@ -31,25 +32,6 @@ pub enum WorkerEnd {
     OutOfMemory(usize),
 }
 
-/// Carries a call out.
-fn call<F: Asks, K: Naming<F>, W: Shelf<F, K>, G: Glass<F, K>, R: Wait>(
-    rt: &R,
-    service: &ServiceOver<F, K, W>,
-    pass: &mut PassOver<F, K, G>,
-    call: Call,
-) -> Result<Reply, AllocError>
-    ensures number { pass.new.number ≡ pass.old.number }
-    ensures receipt { IfOk result (λ reply. pass.new.receipts ≡ pass.old.receipts ++ receipt_of call reply ∷ []) }
-    ensures later { IsPrefix pass.old.seen pass.new.seen }
-    ensures unchanged { OnErr result (pass.new.receipts ≡ pass.old.receipts) }
-{
-    match call {
-        Call::Insert { u, v, kind } => service.insert(rt, pass, u, v, kind),
-        Call::Delete { edge } => service.delete(rt, pass, edge),
-        Call::Grow { u, position, kind } => service.grow(rt, pass, u, position, kind),
-    }
-}
-
 /// Carries a command out. A planned insertion looks for its route on a view first, without the lock; where
 /// that finds none, it is an insertion.
 fn carry_out<F: Asks, K: Naming<F>, W: Shelf<F, K>, G: Glass<F, K>, R: Wait>(
@@ -65,7 +47,7 @@ fn carry_out<F: Asks, K: Naming<F>, W: Shelf<F, K>, G: Glass<F, K>, R: Wait>(
     ensures unchanged { OnErr result (pass.new.receipts ≡ pass.old.receipts) }
 {
     match command {
-        Command::Plain(asked) => call(rt, service, pass, asked),
+        Command::Plain(call) => service.call(rt, pass, call, Brought::Nothing),
         Command::Planned { u, v, kind } => match pass.find(alloc, service.tariff(), u, v) {
             Ok(found) => service.insert_found(rt, pass, kind, &found),
             Err(_) => service.insert(rt, pass, u, v, kind),
