@@ -96,7 +96,7 @@ fn find_first<F: Asks>(
             return Ok(Some(route_of(alloc, &first.route, first.price)?));
         }
     }
-    first_route(alloc, &picture.linked(), tariff, u, v, &mut scratch.work)
+    first_route(alloc, &picture.embedded(), tariff, u, v, &mut scratch.work)
 }
 
 /// The reply that is due to an insertion from `u` to `v`, for which what it brings along may spare the

@@ -162,7 +162,7 @@ fn delete_lists(
     paths.remove(place);
 }
 
-/// As `delete_rows`, and keeps the halves in step with the rows.
+/// As `delete_rows`, and keeps the halves and the hints in step with the rows.
 pub(crate) fn delete_drawn(
     alloc: Global,
     rows: &mut Rows,
@@ -181,4 +181,5 @@ pub(crate) fn delete_drawn(
     delete_lists(alloc, rows, &mut lists, segments, hints, edge);
     *paths = Listed::from_vec(lists);
     delete_rows(alloc, rows, hints, edge);
+    hints.settle(rows);
 }

@@ -99,6 +99,11 @@ impl Embedded {
         &self.rows
     }
 
+    /// Where rows are looked for by their ids first.
+    pub fn hints(&self) -> &Hints {
+        &self.hints
+    }
+
     /// The half of a dart.
     pub fn half_of(&self, dart: Dart) -> Half
         requires { has_dart (darts self.now.rows) dart ≡ true }

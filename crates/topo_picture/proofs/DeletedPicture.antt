@@ -1,9 +1,6 @@
 -- What a deletion makes of a picture within its limits.
-use Rattle.std.proofs.Common.{◌≡◌, ℕ, zero, suc, ◌<◌, ◌≤◌, ◌==◌, Bool, true, false, ◌||◌, cond, List, [], ◌∷◌, length, Option, Some, None, is_some, refl, sym, subst, arith, ◌+◌, ap, ◌∙◌}
-use Rattle.std.specs.Prelude.{find}
-use Rattle.std.specs.List.{list_any}
+use Rattle.std.proofs.Common.{◌≡◌, ℕ, zero, suc, ◌<◌, ◌≤◌, true, length, Some, None, is_some, refl, sym, subst, arith, ◌+◌, ap, ◌∙◌}
 use Rattle.topo_core.specs.declared.limits.Limits.{Limits}
-use Rattle.topo_core.specs.declared.rows.EdgeRow.{EdgeRow}
 use Rattle.topo_core.specs.declared.rows.Rows.{Rows}
 use Rattle.topo_core.specs.Changes.{HasOneFace, IsCut, IsLocalCut, shown, without}
 use Rattle.topo_core.specs.Picture.{edge_at, edge_row, system}
@@ -15,13 +12,6 @@ use Rattle.topo_frozen.specs.Shown.{IsPicture, Shown}
 use Rattle.topo_picture.specs.Undoing.{IsShownOn}
 use Rattle.topo_changes.proofs.DeletedLawful.{cut_by_faces, cut_is_by_faces, no_cut, whole_without}
 use Rattle.topo_changes.proofs.WithoutCounts.{vertices_without}
-
-pub found_listed : (e : ℕ) (edges : List EdgeRow) → is_some (find (λ row. row.id == e) edges) ≡ list_any (λ row. row.id == e) edges
-found_listed e [] = refl
-found_listed e (row ∷ rows) = by_test (row.id == e) (found_listed e rows) where
-  by_test : (b : Bool) → is_some (find (λ row. row.id == e) rows) ≡ list_any (λ row. row.id == e) rows → is_some (cond b (Some row) (find (λ row. row.id == e) rows)) ≡ (b || list_any (λ row. row.id == e) rows)
-  by_test true h = refl
-  by_test false h = h
 
 module _ (limits : Limits) (rows : Rows) (e : ℕ) (is : IsPicture limits rows) (there : is_some (edge_row rows e) ≡ true) where
   small : rows.next_crossing ≤ 4294967296
@@ -79,9 +69,3 @@ shown_there p rows e s w =
 pub shown_no_cut : (p rows : Rows) (e i : ℕ) → IsShownOn p rows e → IsCut rows e i → ⊥
 shown_no_cut p rows e i s cut =
     cut.falls_apart (subst (λ (r : Rows). Connected (system r)) (sym (undone_rows p rows (without rows e) e s refl)) s.lawful.embedding.connected)
-
-pub none_of : {X : Type 0} (o : Option X) → is_some o ≡ false → o ≡ None
-none_of None h = refl
-none_of (Some x) h = absurd (true_is_not h) where
-  true_is_not : true ≡ false → ⊥
-  true_is_not h = cc

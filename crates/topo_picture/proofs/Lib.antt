@@ -1,5 +1,5 @@
-pub mod FaceWalks
 pub mod Growing
 pub mod Inserting
 pub mod Totals
 pub mod DeletedPicture
+pub mod Failures

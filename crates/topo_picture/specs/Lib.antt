@@ -1,4 +1,3 @@
-pub mod Cutting
 pub mod Totals
 pub mod Laws
 pub mod Undoing

@@ -9,9 +9,7 @@
 #![tactic(auto)]
 
 pub mod counts;
-mod cuts;
 pub mod laws;
-mod linking;
 pub mod picture;
 
 pub use counts::Counts;

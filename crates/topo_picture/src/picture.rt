@@ -1,12 +1,9 @@
 //! A picture, with its limits.
 
 use crate::counts::Counts;
-use crate::cuts::first_cut;
-use crate::linking::{apply_linked, grow_linked};
 use std::alloc::{AllocError, Global};
 use std::marker::Model;
 use topo_changes::copies::copy_rows;
-use topo_changes::deletion::delete_rows;
 use topo_changes::growth::one_listed;
 use topo_core::calls::Refusal;
 use topo_core::ids::{EdgeId, VertexId};
@@ -14,32 +11,28 @@ use topo_core::limits::Limits;
 use topo_core::listed::Listed;
 use topo_core::routes::Route;
 use topo_core::rows::{EdgeRow, Rows};
+use topo_embedded::{Embedded, EmbeddedRows};
 use topo_frozen::by_id::edge_place;
 use topo_frozen::load::{LoadFault, first_fault};
 use topo_frozen::{Frozen, Hints, NumberLists, Numbered};
-use topo_links::linked::LinkedRows;
-use topo_links::table::Links;
 use topo_route::plan::Plan;
 
-/// A connected embedding of a graph of genus zero, within limits. Beside its rows it keeps the table of
-/// their half-edges, and hints where to look first.
+/// A connected embedding of a graph of genus zero, within limits. It keeps its rows with the halves along
+/// their edges, in a slab of segments.
 #[derive(Drop)]
 pub struct Picture {
     limits: Limits,
-    rows: Rows,
-    links: Links,
-    hints: Hints,
+    embedded: Embedded,
 }
 
 impl Model for Picture {
     ghost use Rattle.topo_frozen.specs.Shown.{Shown, IsPicture};
-    ghost use Rattle.topo_links.specs.Tables.{ShowsRows};
 
     ghost Value = { Shown };
 
-    ghost view = { λ p. record { limits = p.limits; rows = p.rows } };
+    ghost view = { λ p. record { limits = p.limits; rows = p.embedded.rows } };
 
-    ghost invariant = { λ p. IsPicture p.limits p.rows × ShowsRows p.rows p.links };
+    ghost invariant = { λ p. IsPicture p.limits p.embedded.rows };
 }
 
 impl Picture {
@@ -61,14 +54,8 @@ impl Picture {
         ensures limits { IfOk result (λ p. p.limits ≡ limits) }
     {
         let rows = seed_rows(alloc)?;
-        let hints = Hints::of(alloc, &rows)?;
-        let links = Links::of(alloc, &rows, &hints)?;
-        Ok(Picture {
-            limits,
-            rows,
-            links,
-            hints,
-        })
+        let embedded = Embedded::of(alloc, rows)?;
+        Ok(Picture { limits, embedded })
     }
 
     /// The picture with these rows and limits. Rows that are none are refused by the first test that
@@ -102,9 +89,10 @@ impl Picture {
     pub fn counts(&self) -> Counts
         ensures { AreCountsOf self.now.rows result }
     {
-        let vertices = self.rows.rotations.as_slice().len() as u32;
-        let crossings = self.rows.crossings.as_slice().len() as u32;
-        let edges = self.rows.edges.as_slice().len() as u32;
+        let rows = self.embedded.rows();
+        let vertices = rows.rotations.as_slice().len() as u32;
+        let crossings = rows.crossings.as_slice().len() as u32;
+        let edges = rows.edges.as_slice().len() as u32;
         let segments = edges + 2 * crossings;
         Counts {
             vertices,
@@ -120,15 +108,15 @@ impl Picture {
         ensures rows { IfOk result (λ r. r ≡ self.now.rows) }
         ensures lawful { IsPicture self.now.limits self.now.rows }
     {
-        copy_rows(alloc, &self.rows)
+        copy_rows(alloc, self.embedded.rows())
     }
 
     /// The frozen picture of its rows, as they are now.
     pub fn freeze(&self, alloc: Global) -> Result<Frozen, AllocError>
         ensures { IfOk result (λ f. f.rows ≡ self.now.rows) }
     {
-        let rows = copy_rows(alloc, &self.rows)?;
-        let hints = self.hints.copy(alloc)?;
+        let rows = copy_rows(alloc, self.embedded.rows())?;
+        let hints = self.embedded.hints().copy(alloc)?;
         Frozen::new(alloc, rows, hints)
     }
 
@@ -137,15 +125,14 @@ impl Picture {
     pub fn numbered<'a>(&'a self, lists: &'a mut NumberLists) -> Result<Numbered<'a>, AllocError>
         ensures { IfOk result (λ d. d.rows ≡ self.now.rows) }
     {
-        Numbered::new(&self.rows, &self.hints, lists)
+        Numbered::new(self.embedded.rows(), self.embedded.hints(), lists)
     }
 
-    /// Its rows with the table of their half-edges, for a search that hands out no heights. It takes no
-    /// time to make.
-    pub fn linked(&self) -> LinkedRows<'_>
-        ensures { result.rows ≡ self.now.rows }
+    /// Its rows with their embedding, for a search that hands out no heights. It takes no time to make.
+    pub fn embedded(&self) -> EmbeddedRows<'_>
+        ensures { result.drawn.rows ≡ self.now.rows }
     {
-        LinkedRows::new(&self.rows, &self.links, &self.hints)
+        EmbeddedRows::new(&self.embedded)
     }
 
     /// An equal picture: the same rows and limits.
@@ -153,14 +140,10 @@ impl Picture {
         ensures equal { IfOk result (λ p. p ≡ self.now) }
         ensures lawful { IsPicture self.now.limits self.now.rows }
     {
-        let rows = copy_rows(alloc, &self.rows)?;
-        let links = self.links.copy(alloc)?;
-        let hints = self.hints.copy(alloc)?;
+        let embedded = self.embedded.copy(alloc)?;
         Ok(Picture {
             limits: self.limits,
-            rows,
-            links,
-            hints,
+            embedded,
         })
     }
 
@@ -172,7 +155,7 @@ impl Picture {
         ensures admitted { IfOk result (λ _. insert_refusal self.now.limits self.now.rows u v kind ≡ None) }
         ensures refused { IfErr result (λ why. insert_refusal self.now.limits self.now.rows u v kind ≡ Some why) }
     {
-        match insert_fault(&self.limits, &self.rows, u, v, kind) {
+        match insert_fault(&self.limits, self.embedded.rows(), u, v, kind) {
             Some(why) => Err(why),
             None => Ok(()),
         }
@@ -189,7 +172,7 @@ impl Picture {
         ensures numbers { IfOk result (λ made. (made.0 ≡ length self.now.rows.rotations) × (made.1 ≡ self.now.rows.next_edge)) }
         ensures refused { IfErr result (λ why. grow_refusal self.now.limits self.now.rows u position kind ≡ Some why) }
     {
-        growth_numbers(&self.limits, &self.rows, u, position, kind)
+        growth_numbers(&self.limits, self.embedded.rows(), u, position, kind)
     }
 
     /// The number that an edge along this route would get. It would be refused as Full where the crossing
@@ -199,7 +182,7 @@ impl Picture {
         ensures number { IfOk result (λ made. made ≡ self.now.rows.next_edge) }
         ensures refused { IfErr result (λ why. (why ≡ Refusal.Full) × (self.now.limits.crossings < self.now.rows.next_crossing + length route.now.crossed)) }
     {
-        edge_number(&self.limits, &self.rows, route)
+        edge_number(&self.limits, self.embedded.rows(), route)
     }
 
     /// Whether an edge may be taken out, or the first reason why not, as `delete` says.
@@ -210,10 +193,10 @@ impl Picture {
             ⊎ ((i : ℕ) × (why ≡ Refusal.Cut i) × (is_some (edge_row self.now.rows edge) ≡ true) × IsCut self.now.rows edge i)) }
         ensures lawful { IsPicture self.now.limits self.now.rows }
     {
-        if !has_edge(&self.rows, &self.hints, edge) {
+        if !has_edge(self.embedded.rows(), self.embedded.hints(), edge) {
             return Err(Refusal::NoEdge);
         }
-        match first_cut(&self.rows, &self.links, &self.hints, edge) {
+        match self.embedded.first_cut(edge) {
             Some(segment) => Err(Refusal::Cut(segment)),
             None => Ok(()),
         }
@@ -242,16 +225,8 @@ impl Picture {
         ensures same_limits { self.new.limits ≡ self.old.limits }
         ensures lawful { IsPicture self.new.limits self.new.rows }
     {
-        let made = growth_numbers(&self.limits, &self.rows, u, position, kind)?;
-        match grow_linked(
-            alloc,
-            &mut self.rows,
-            &mut self.links,
-            &mut self.hints,
-            u,
-            position,
-            kind,
-        ) {
+        let made = growth_numbers(&self.limits, self.embedded.rows(), u, position, kind)?;
+        match self.embedded.grow(alloc, u, position, kind) {
             Ok(()) => Ok(made),
             Err(_) => Err(Refusal::Memory),
         }
@@ -281,16 +256,8 @@ impl Picture {
         ensures same_limits { self.new.limits ≡ self.old.limits }
         ensures lawful { IsPicture self.new.limits self.new.rows }
     {
-        let made = edge_number(&self.limits, &self.rows, route)?;
-        match apply_linked(
-            alloc,
-            &mut self.rows,
-            &mut self.links,
-            &mut self.hints,
-            (u, v),
-            kind,
-            route,
-        ) {
+        let made = edge_number(&self.limits, self.embedded.rows(), route)?;
+        match self.embedded.insert(alloc, (u, v), kind, route) {
             Ok(()) => Ok(made),
             Err(_) => Err(Refusal::Memory),
         }
@@ -354,9 +321,7 @@ impl Picture {
         ensures same_limits { self.new.limits ≡ self.old.limits }
         ensures lawful { IsPicture self.new.limits self.new.rows }
     {
-        self.links.delete(&self.rows, &self.hints, edge);
-        delete_rows(alloc, &mut self.rows, &mut self.hints, edge);
-        self.hints.settle(&self.rows);
+        self.embedded.delete(alloc, edge);
     }
 }
 
@@ -374,14 +339,8 @@ fn new_picture(alloc: Global, limits: Limits, rows: &Rows) -> Result<Picture, Al
     ensures limits { IfOk result (λ p. p.limits ≡ limits) }
 {
     let copy = copy_rows(alloc, rows)?;
-    let hints = Hints::of(alloc, &copy)?;
-    let links = Links::of(alloc, &copy, &hints)?;
-    Ok(Picture {
-        limits,
-        rows: copy,
-        links,
-        hints,
-    })
+    let embedded = Embedded::of(alloc, copy)?;
+    Ok(Picture { limits, embedded })
 }
 
 /// The rows of two vertices and the edge between them.

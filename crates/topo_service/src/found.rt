@@ -127,7 +127,7 @@ fn first_on<A: Asks>(
             Err(_) => return Err(Refusal::Memory),
         },
     };
-    let found = first_route(alloc, &picture.linked(), tariff, u, v, &mut sheet);
+    let found = first_route(alloc, &picture.embedded(), tariff, u, v, &mut sheet);
     *work = Some(sheet);
     match found {
         Ok(Some(first)) => Ok(first),

@@ -43,7 +43,7 @@ fn routed<F: Asks + Drop>(
 {
     let (u, v) = ends;
     assert!(rt; are_ends(picture, u, v));
-    first_route(alloc, &picture.linked(), &Tariff::new(ask), u, v, work)
+    first_route(alloc, &picture.embedded(), &Tariff::new(ask), u, v, work)
 }
 
 /// The same with the prices of a table.
@@ -243,7 +243,7 @@ fn agrees<F: Asks + Drop>(
     let (u, v) = ends;
     assert!(rt; are_ends(picture, u, v));
     let tariff = Tariff::new(ask);
-    let found = first_route(alloc, &picture.linked(), &tariff, u, v, work)?;
+    let found = first_route(alloc, &picture.embedded(), &tariff, u, v, work)?;
     is_planned_on(rt, alloc, picture, &tariff, ends, &found)
 }
 

@@ -5,12 +5,12 @@ use Rattle.topo_core.specs.Picture.{segment_count}
 use Rattle.topo_frozen.proofs.RowCounts.{picture_small}
 use Rattle.topo_picture.proofs.picture.new_picture.Goals as goal
 
-pub of-requires-2-clause-few : goal.of-requires-2-clause-few
-of-requires-2-clause-few c =
+pub of-requires-clause-few : goal.of-requires-clause-few
+of-requires-clause-few c =
     let small = (picture_small c.args.limits c.args.rows.now c.requires).segments in
     let same = ap (λ (rows : Rows). sum_by segment_count rows.edges) c.in_ok-copy.ensures in omega arith
 
-pub of-requires-2-clause-crossings : goal.of-requires-2-clause-crossings
-of-requires-2-clause-crossings c =
+pub of-requires-clause-crossings : goal.of-requires-clause-crossings
+of-requires-clause-crossings c =
     let small = (picture_small c.args.limits c.args.rows.now c.requires).crossings in
     let same = ap (λ (rows : Rows). length rows.crossings) c.in_ok-copy.ensures in omega arith

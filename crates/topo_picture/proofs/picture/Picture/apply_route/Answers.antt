@@ -7,7 +7,7 @@ use Rattle.topo_core.specs.Changes.{shown}
 use Rattle.topo_core.specs.Insertions.{IsInsertable}
 use Rattle.topo_core.specs.Steps.{HasRoomFor, insert_refusal}
 use Rattle.topo_frozen.specs.Shown.{IsPicture, Shown}
-use Rattle.topo_frozen.proofs.RowCounts.{picture_small}
+use Rattle.topo_picture.proofs.Failures.{rows_left}
 use Rattle.topo_picture.proofs.Inserting.{after_insertion, insertable}
 use Rattle.topo_picture.proofs.picture.Picture.apply_route.Goals as goal
 
@@ -26,24 +26,22 @@ module _ (limits : Limits) (rows : Rows) (s : Shown) (u v kind : ℕ) (r : Route
   picture_after : {A E : Type 0} (result : Result A E) (new : Rows) → HasRoomFor limits rows r → OnOk result (new ≡ shown rows u v kind r) → OnErr result (new ≡ rows) → IsPicture limits new
   picture_after result new room ok err = after_insertion limits rows u v kind r was may_inside simple_inside result new room ok err
 
-pub apply_linked-requires-clause-insertable : goal.apply_linked-requires-clause-insertable
-apply_linked-requires-clause-insertable c =
-    insertable_inside c.self.inside.limits c.self.inside.rows c.args.self.now c.args.u c.args.v c.args.kind c.args.route.now c.self.invariant.0 c.self.view_is c.requires.admitted c.requires.simple
+pub insert-requires-clause-insertable : goal.insert-requires-clause-insertable
+insert-requires-clause-insertable c =
+    insertable_inside c.self.inside.limits c.self.inside.embedded.rows c.args.self.now c.args.u c.args.v c.args.kind c.args.route.now c.self.invariant c.self.view_is c.requires.admitted c.requires.simple
 
-pub apply_linked-requires-clause-few : goal.apply_linked-requires-clause-few
-apply_linked-requires-clause-few c = (picture_small c.self.inside.limits c.self.inside.rows c.self.invariant.0).segments
-
-pub apply_linked-requires-clause-crossings : goal.apply_linked-requires-clause-crossings
-apply_linked-requires-clause-crossings c = (picture_small c.self.inside.limits c.self.inside.rows c.self.invariant.0).crossings
+pub insert-requires-clause-simple : goal.insert-requires-clause-simple
+insert-requires-clause-simple c =
+    simple_inside c.self.inside.limits c.self.inside.embedded.rows c.args.self.now c.args.u c.args.v c.args.kind c.args.route.now c.self.invariant c.self.view_is c.requires.admitted c.requires.simple
 
 pub invariant_of-self : goal.invariant_of-self
-invariant_of-self c = (
-  picture_after c.self.inside.limits c.self.inside.rows c.args.self.now c.args.u c.args.v c.args.kind c.args.route.now c.self.invariant.0 c.self.view_is c.requires.admitted c.requires.simple
-      c.apply_linked.result c.apply_linked.new.rows c.in_ok-made.ensures.room c.apply_linked.ensures.ok c.apply_linked.ensures.err,
-  c.apply_linked.ensures.shows,
-)
+invariant_of-self c =
+    picture_after c.self.inside.limits c.self.inside.embedded.rows c.args.self.now c.args.u c.args.v c.args.kind c.args.route.now c.self.invariant c.self.view_is c.requires.admitted c.requires.simple
+    c.insert.result c.insert.new.self.rows (subst (λ rows. HasRoomFor c.self.inside.limits rows c.args.route.now) c.rows.ensures c.in_ok-made.ensures.room)
+    c.insert.ensures.ok (rows_left c.insert.result c.insert.new.self c.self.inside.embedded c.insert.ensures.err)
 
 pub returns-clause-lawful : goal.returns-clause-lawful
 returns-clause-lawful c =
-    picture_after c.self.inside.limits c.self.inside.rows c.args.self.now c.args.u c.args.v c.args.kind c.args.route.now c.self.invariant.0 c.self.view_is c.requires.admitted c.requires.simple
-    c.apply_linked.result c.apply_linked.new.rows c.in_ok-made.ensures.room c.apply_linked.ensures.ok c.apply_linked.ensures.err
+    picture_after c.self.inside.limits c.self.inside.embedded.rows c.args.self.now c.args.u c.args.v c.args.kind c.args.route.now c.self.invariant c.self.view_is c.requires.admitted c.requires.simple
+    c.insert.result c.insert.new.self.rows (subst (λ rows. HasRoomFor c.self.inside.limits rows c.args.route.now) c.rows.ensures c.in_ok-made.ensures.room)
+    c.insert.ensures.ok (rows_left c.insert.result c.insert.new.self c.self.inside.embedded c.insert.ensures.err)

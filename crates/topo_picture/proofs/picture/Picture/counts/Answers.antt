@@ -1,17 +1,18 @@
-use Rattle.std.proofs.Common.{ap, arith, length}
+use Rattle.std.proofs.Common.{ap, arith, length, subst, sym}
+use Rattle.topo_frozen.specs.Shown.{IsPicture}
 use Rattle.topo_picture.proofs.Totals.{counted, counts_are}
 use Rattle.topo_picture.proofs.picture.Picture.counts.Goals as goal
 
 pub overflow_cast-crossings : goal.overflow_cast-crossings
 overflow_cast-crossings c =
-    let size = counted c.self.inside.limits c.self.inside.rows c.self.invariant.0 in
+    let size = counted c.self.inside.limits c.rows-rows.result.now (subst (IsPicture c.self.inside.limits) (sym c.rows-rows.ensures) c.self.invariant) in
     let v = ap length c.as_slice.ensures in
     let x = ap length c.as_slice-2.ensures in
     omega arith
 
 pub overflow_cast-edges : goal.overflow_cast-edges
 overflow_cast-edges c =
-    let size = counted c.self.inside.limits c.self.inside.rows c.self.invariant.0 in
+    let size = counted c.self.inside.limits c.rows-rows.result.now (subst (IsPicture c.self.inside.limits) (sym c.rows-rows.ensures) c.self.invariant) in
     let v = ap length c.as_slice.ensures in
     let x = ap length c.as_slice-2.ensures in
     let e = ap length c.as_slice-3.ensures in
@@ -19,7 +20,7 @@ overflow_cast-edges c =
 
 pub overflow_mul-segments : goal.overflow_mul-segments
 overflow_mul-segments c =
-    let size = counted c.self.inside.limits c.self.inside.rows c.self.invariant.0 in
+    let size = counted c.self.inside.limits c.rows-rows.result.now (subst (IsPicture c.self.inside.limits) (sym c.rows-rows.ensures) c.self.invariant) in
     let v = ap length c.as_slice.ensures in
     let x = ap length c.as_slice-2.ensures in
     let e = ap length c.as_slice-3.ensures in
@@ -27,7 +28,7 @@ overflow_mul-segments c =
 
 pub overflow_add-segments : goal.overflow_add-segments
 overflow_add-segments c =
-    let size = counted c.self.inside.limits c.self.inside.rows c.self.invariant.0 in
+    let size = counted c.self.inside.limits c.rows-rows.result.now (subst (IsPicture c.self.inside.limits) (sym c.rows-rows.ensures) c.self.invariant) in
     let v = ap length c.as_slice.ensures in
     let x = ap length c.as_slice-2.ensures in
     let e = ap length c.as_slice-3.ensures in
@@ -35,7 +36,7 @@ overflow_add-segments c =
 
 pub overflow_add-result : goal.overflow_add-result
 overflow_add-result c =
-    let size = counted c.self.inside.limits c.self.inside.rows c.self.invariant.0 in
+    let size = counted c.self.inside.limits c.rows-rows.result.now (subst (IsPicture c.self.inside.limits) (sym c.rows-rows.ensures) c.self.invariant) in
     let v = ap length c.as_slice.ensures in
     let x = ap length c.as_slice-2.ensures in
     let e = ap length c.as_slice-3.ensures in
@@ -43,7 +44,7 @@ overflow_add-result c =
 
 pub overflow_add-result-2 : goal.overflow_add-result-2
 overflow_add-result-2 c =
-    let size = counted c.self.inside.limits c.self.inside.rows c.self.invariant.0 in
+    let size = counted c.self.inside.limits c.rows-rows.result.now (subst (IsPicture c.self.inside.limits) (sym c.rows-rows.ensures) c.self.invariant) in
     let v = ap length c.as_slice.ensures in
     let x = ap length c.as_slice-2.ensures in
     let e = ap length c.as_slice-3.ensures in
@@ -51,7 +52,7 @@ overflow_add-result-2 c =
 
 pub overflow_sub-result : goal.overflow_sub-result
 overflow_sub-result c =
-    let size = counted c.self.inside.limits c.self.inside.rows c.self.invariant.0 in
+    let size = counted c.self.inside.limits c.rows-rows.result.now (subst (IsPicture c.self.inside.limits) (sym c.rows-rows.ensures) c.self.invariant) in
     let v = ap length c.as_slice.ensures in
     let x = ap length c.as_slice-2.ensures in
     let e = ap length c.as_slice-3.ensures in
@@ -62,6 +63,6 @@ returns c =
     let v = ap length c.as_slice.ensures in
     let x = ap length c.as_slice-2.ensures in
     let e = ap length c.as_slice-3.ensures in
-    let inside = counts_are c.self.inside.rows (length c.as_slice.result.now) (length c.as_slice-2.result.now) (length c.as_slice-3.result.now)
-    (counted c.self.inside.limits c.self.inside.rows c.self.invariant.0) v x e in
-    rw (← c.self.view_is) inside
+    let inside = counts_are c.rows-rows.result.now (length c.as_slice.result.now) (length c.as_slice-2.result.now) (length c.as_slice-3.result.now)
+    (counted c.self.inside.limits c.rows-rows.result.now (subst (IsPicture c.self.inside.limits) (sym c.rows-rows.ensures) c.self.invariant)) v x e in
+    rw (← c.self.view_is, ← c.rows-rows.ensures) inside

@@ -1,9 +1,12 @@
-use Rattle.std.proofs.Common.{arith}
+use Rattle.std.proofs.Common.{arith, subst, sym}
+use Rattle.topo_frozen.specs.Shown.{IsPicture}
 use Rattle.topo_frozen.proofs.RowCounts.{picture_small}
 use Rattle.topo_picture.proofs.picture.Picture.numbered.Goals as goal
 
 pub new-requires-clause-few : goal.new-requires-clause-few
-new-requires-clause-few c = let small = (picture_small c.self.inside.limits c.self.inside.rows c.self.invariant.0).segments in omega arith
+new-requires-clause-few c =
+    let small = (picture_small c.self.inside.limits c.rows.result.now (subst (IsPicture c.self.inside.limits) (sym c.rows.ensures) c.self.invariant)).segments in omega arith
 
 pub new-requires-clause-crossings : goal.new-requires-clause-crossings
-new-requires-clause-crossings c = let small = (picture_small c.self.inside.limits c.self.inside.rows c.self.invariant.0).crossings in omega arith
+new-requires-clause-crossings c =
+    let small = (picture_small c.self.inside.limits c.rows.result.now (subst (IsPicture c.self.inside.limits) (sym c.rows.ensures) c.self.invariant)).crossings in omega arith

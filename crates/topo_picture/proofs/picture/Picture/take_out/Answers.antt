@@ -4,7 +4,6 @@ use Rattle.topo_core.specs.declared.rows.Rows.{Rows}
 use Rattle.topo_core.specs.Changes.{HasOneFace, IsCut, without}
 use Rattle.topo_core.specs.Picture.{edge_at, edge_row}
 use Rattle.topo_frozen.specs.Shown.{IsPicture, Shown}
-use Rattle.topo_links.specs.Tables.{ShowsRows}
 use Rattle.topo_picture.proofs.DeletedPicture.{deletion_of_picture, faces_of_picture}
 use Rattle.topo_picture.proofs.picture.Picture.take_out.Goals as goal
 
@@ -22,18 +21,12 @@ module _ (limits : Limits) (rows : Rows) (s : Shown) (e : ℕ) (was : IsPicture 
 
 pub delete-requires-clause-there : goal.delete-requires-clause-there
 delete-requires-clause-there c =
-    there_inside c.self.inside.limits c.self.inside.rows c.args.self.now c.args.edge c.self.invariant.0 c.self.view_is c.requires.there c.requires.whole
-
-pub delete_rows-requires-clause-there : goal.delete_rows-requires-clause-there
-delete_rows-requires-clause-there c =
-    there_inside c.self.inside.limits c.self.inside.rows c.args.self.now c.args.edge c.self.invariant.0 c.self.view_is c.requires.there c.requires.whole
+    there_inside c.self.inside.limits c.self.inside.embedded.rows c.args.self.now c.args.edge c.self.invariant c.self.view_is c.requires.there c.requires.whole
 
 pub invariant_of-self : goal.invariant_of-self
-invariant_of-self c = (
-  lawful_after c.self.inside.limits c.self.inside.rows c.args.self.now c.args.edge c.self.invariant.0 c.self.view_is c.requires.there c.requires.whole c.delete_rows.new.rows c.delete_rows.ensures,
-  subst (λ rows. ShowsRows rows c.delete.new.self) (sym c.delete_rows.ensures) c.delete.ensures.shows,
-)
+invariant_of-self c =
+    lawful_after c.self.inside.limits c.self.inside.embedded.rows c.args.self.now c.args.edge c.self.invariant c.self.view_is c.requires.there c.requires.whole c.delete.new.self.rows c.delete.ensures
 
 pub returns-clause-lawful : goal.returns-clause-lawful
 returns-clause-lawful c =
-    lawful_after c.self.inside.limits c.self.inside.rows c.args.self.now c.args.edge c.self.invariant.0 c.self.view_is c.requires.there c.requires.whole c.delete_rows.new.rows c.delete_rows.ensures
+    lawful_after c.self.inside.limits c.self.inside.embedded.rows c.args.self.now c.args.edge c.self.invariant c.self.view_is c.requires.there c.requires.whole c.delete.new.self.rows c.delete.ensures

@@ -1,6 +1,0 @@
-pub mod Making
-pub mod Naming
-pub mod Shown
-pub mod Splicing
-pub mod Staging
-pub mod Tables
