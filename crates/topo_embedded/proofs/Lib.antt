@@ -23,3 +23,4 @@ pub mod OnPaths
 pub mod Splits
 pub mod Draws
 pub mod Routed
+pub mod SameFaces

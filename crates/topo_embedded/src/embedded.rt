@@ -1,11 +1,11 @@
 //! Rows with their embedding.
 
-ghost use Rattle.std.specs.Prelude.{◌≡◌, ◌*◌, ◌<◌, ◌≤◌, ◌^◌, true, IfOk, is_some, length, option_map, slice_index_or, sum_by};
+ghost use Rattle.std.specs.Prelude.{◌≡◌, ◌↔◌, ◌*◌, ◌<◌, ◌≤◌, ◌^◌, true, IfOk, IsTrue, is_some, length, option_map, slice_index_or, sum_by};
 ghost use Rattle.topo_core.specs.declared.darts.Dart.{Dart};
 ghost use Rattle.topo_core.specs.Lawful.{IsWellFormed};
 ghost use Rattle.topo_core.specs.Picture.{corner, darts, edge_at, edge_row, end_dart, segment_count, system};
 ghost use Rattle.topo_core.specs.Routes.{AreFactsOf};
-ghost use Rattle.topo_core.specs.Systems.{face_step, has_dart};
+ghost use Rattle.topo_core.specs.Systems.{SameFace, face_step, has_dart};
 ghost use Rattle.topo_embedded.specs.Halves.{IsHalf, half_in, path_of};
 ghost use Rattle.topo_embedded.specs.Walking.{named_in};
 ghost use Rattle.topo_route.specs.Names.{IsNamed};
@@ -133,6 +133,16 @@ impl Embedded {
         ensures { (d : Dart) → has_dart (darts self.now.rows) d ≡ true → half_in self.now d ≡ half → result ≡ half_in self.now (face_step (system self.now.rows) d) }
     {
         self.segments.face_next(half)
+    }
+
+    /// Whether two halves have one face on their left.
+    pub fn same_face(&self, half: Half, other: Half) -> bool
+        requires half_there { IsHalf self.now half }
+        requires other_there { IsHalf self.now other }
+        ensures { (c d : Dart) → has_dart (darts self.now.rows) c ≡ true → has_dart (darts self.now.rows) d ≡ true → half_in self.now c ≡ half → half_in self.now d ≡ other
+            → IsTrue result ↔ SameFace (system self.now.rows) c d }
+    {
+        self.segments.same_face(half, other)
     }
 
     /// A number that those of all halves are below.

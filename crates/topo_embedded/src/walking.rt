@@ -57,8 +57,8 @@ pub(crate) fn end_of(row: &EdgeRow, v: u32) -> (usize, Way)
 }
 
 /// Lawful rows with their embedding: what a search walks on that hands out no heights. Darts go by the
-/// numbers of their halves. The next dart along a face takes one read, the twin none, and no question
-/// takes memory. Where a dart lies on its edge is found by a look along the edge's list of halves, which a
+/// numbers of their halves. The next dart along a face takes one read, the twin none, whether two lie
+/// in one face two, and no question takes memory. Where a dart lies on its edge is found by a look along the edge's list of halves, which a
 /// search asks only of darts that it may cross.
 #[derive(Drop)]
 pub struct EmbeddedRows<'a> {
@@ -139,6 +139,11 @@ impl Walked for EmbeddedRows<'_> {
         } else {
             edge < across
         }
+    }
+
+    fn same_face(&self, dart: u32, other: u32) -> bool {
+        self.embedded
+            .same_face(Half::numbered(dart), Half::numbered(other))
     }
 
     ghost lawful = { λ w. lawful_again w.drawn.rows w.lawful };

@@ -108,6 +108,10 @@ impl Walked for Frozen {
         self.as_numbered().precedes(dart, other)
     }
 
+    fn same_face(&self, dart: u32, other: u32) -> bool {
+        self.as_numbered().same_face(dart, other)
+    }
+
     ghost lawful = { λ f. lawful_again f.rows f.lawful };
 
     ghost has_names = { λ f. names_again f.rows f.lawful };
@@ -124,10 +128,6 @@ impl Dual for Frozen {
 
     fn index(&self, dart: Dart) -> Option<u32> {
         self.as_numbered().index(dart)
-    }
-
-    fn same_face(&self, dart: u32, other: u32) -> bool {
-        self.as_numbered().same_face(dart, other)
     }
 
     ghost numbered = { λ f. refl };

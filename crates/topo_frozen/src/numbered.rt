@@ -115,6 +115,11 @@ impl Walked for Numbered<'_> {
         dart < other
     }
 
+    fn same_face(&self, dart: u32, other: u32) -> bool {
+        let labels = self.lists.faces.as_slice();
+        labels[dart as usize] == labels[other as usize]
+    }
+
     ghost lawful = { λ d. lawful_again d.rows d.lawful };
 
     ghost has_names = { λ d. names_again d.rows d.lawful };
@@ -132,11 +137,6 @@ impl Dual for Numbered<'_> {
 
     fn index(&self, dart: Dart) -> Option<u32> {
         number_of(self.rows, self.lists.begins.as_slice(), self.hints, dart)
-    }
-
-    fn same_face(&self, dart: u32, other: u32) -> bool {
-        let labels = self.lists.faces.as_slice();
-        labels[dart as usize] == labels[other as usize]
     }
 
     ghost numbered = { λ d. refl };

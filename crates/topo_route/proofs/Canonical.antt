@@ -1,6 +1,7 @@
 -- The numbers in canonical order as names.
 use Rattle.std.proofs.Common.{◌≡◌, ℕ, ◌<◌, Some, length, sym, ap, subst, ◌∙◌, arith}
-use Rattle.std.specs.Prelude.{IsSomeAnd, slice_get, Option, MatchOption, None}
+use Rattle.std.specs.Prelude.{◌↔◌, IsSomeAnd, slice_get, Option, MatchOption, None}
+use Rattle.topo_core.specs.Cycles.{SameCycle}
 use Rattle.topo_core.specs.Rotations.{twin}
 use Rattle.topo_core.specs.declared.darts.Dart.{Dart}
 use Rattle.topo_core.specs.declared.rows.Rows.{Rows}
@@ -9,12 +10,12 @@ use Rattle.topo_core.specs.Darts.{dart_cmp, dart_twin}
 use Rattle.topo_core.specs.Lawful.{Lawful}
 use Rattle.topo_core.specs.Picture.{corner, darts, index_of, system}
 use Rattle.topo_core.specs.Routes.{Pricing}
-use Rattle.topo_core.specs.Systems.{face_step}
+use Rattle.topo_core.specs.Systems.{SameFace, face_step}
 use Rattle.topo_core.proofs.Numbering.{index_apart, index_twin}
 use Rattle.topo_route.specs.Names.{IsName, IsNamed, Named, canonical, dart_named, next_name, no_dart, twin_name}
 use Rattle.topo_route.specs.Numbers.{IsPriceAt, IsPriceFor, dart_of, next_of}
 use Rattle.topo_route.proofs.Names.{dart_of_name, name_below, name_is}
-use Rattle.topo_route.proofs.Numbers.{dart_in, got, in_list, next_number, number_below, number_of}
+use Rattle.topo_route.proofs.Numbers.{dart_in, face_of_numbers, got, in_list, next_number, number_below, number_of, numbers_of_face}
 use Rattle.topo_core.proofs.NumberOrder.{number_order, order_number}
 
 module _ (rows : Rows) (lawful : Lawful rows) where
@@ -50,6 +51,16 @@ module _ (rows : Rows) (lawful : Lawful rows) where
     by_item (Some d) h e = let same : d ≡ dart_of rows k = cc in subst P (same ∙ sym (canonical_dart k (canonical_below k name))) h
     by_item None h e = elim h [ ]
 
+  -- the faces of the numbers are those of the darts
+  pub canonical_face : (i j : ℕ) → i < length (darts rows) → j < length (darts rows) → SameCycle (next_of rows) i j ↔ SameFace (system rows) (dart_named (canonical rows) i) (dart_named (canonical rows) j)
+  canonical_face i j li lj =
+      let here = canonical_dart i li in
+      let there = canonical_dart j lj in (
+        λ same. subst (λ d. SameFace (system rows) d (dart_named (canonical rows) j)) (sym here) (subst (SameFace (system rows) (dart_of rows i)) (sym there) (face_of_numbers rows lawful i j li lj same)),
+        λ same. subst (SameCycle (next_of rows) i) (number_of rows lawful j lj)
+            (numbers_of_face rows lawful i (dart_of rows j) li (subst (SameFace (system rows) (dart_of rows i)) there (subst (λ d. SameFace (system rows) d (dart_named (canonical rows) j)) here same))),
+      )
+
   -- the order of the numbers is that of the darts
   pub canonical_order : (i j : ℕ) → IsName (canonical rows) i → IsName (canonical rows) j
       → (i < j → dart_cmp (dart_named (canonical rows) i) (dart_named (canonical rows) j) ≡ Less) × (dart_cmp (dart_named (canonical rows) i) (dart_named (canonical rows) j) ≡ Less → i < j)
@@ -83,6 +94,9 @@ module _ (g : Named) (rows : Rows) (numbered : g ≡ canonical rows) (lawful : L
 
   pub dart_is_number : (k : ℕ) → k < length (darts rows) → dart_named g k ≡ dart_of rows k
   dart_is_number k l = subst (λ n. dart_named n k ≡ dart_of rows k) (sym numbered) (canonical_dart rows shown k l)
+
+  pub face_is_cycle : (i j : ℕ) → i < length (darts rows) → j < length (darts rows) → SameCycle (next_of rows) i j ↔ SameFace (system g.rows) (dart_named g i) (dart_named g j)
+  face_is_cycle i j li lj = subst (λ (n : Named). SameCycle (next_of rows) i j ↔ SameFace (system n.rows) (dart_named n i) (dart_named n j)) (sym numbered) (canonical_face rows shown i j li lj)
 
   pub price_is_at : (price : Pricing) (k : ℕ) (answer : Option ℕ) → k < length (darts rows) → IsPriceFor price g.rows (dart_named g k) answer → IsPriceAt price rows k answer
   price_is_at price k answer l asked =

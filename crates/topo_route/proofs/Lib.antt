@@ -13,6 +13,6 @@ pub mod Segments
 pub mod Descending
 pub mod Levels
 pub mod Known
-pub mod Marking
 pub mod Names
 pub mod Canonical
+pub mod Uncrossed

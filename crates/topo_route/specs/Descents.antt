@@ -1,5 +1,5 @@
 -- The parts of a search's route.
-use Rattle.std.specs.Prelude.{◌≡◌, ◌≢◌, ℕ, ◌<◌, ◌≤◌, true, List, Option, Some, IfSome, IsSomeAnd, ◌++◌, ◌⊎◌, slice_index, slice_index_or}
+use Rattle.std.specs.Prelude.{◌≡◌, ◌≢◌, ℕ, ◌<◌, ◌≤◌, true, List, Option, Some, IfSome, IsSomeAnd, ◌++◌, ◌⊎◌, slice_index}
 use Rattle.std.specs.declared.cmp.Ordering.TheVariants.{Greater, Less}
 use Rattle.topo_core.specs.declared.darts.Dart.{Dart}
 use Rattle.topo_core.specs.declared.rows.Rows.{Rows}
@@ -75,6 +75,10 @@ pub record Descends (price : Pricing) (g : Named) (heights : List ℕ) (from : �
   pub first_darts : (rest : List Dart) → TakesFirstDarts price g.rows (height_of g heights) (dart_named g at) rest → TakesFirstDarts price g.rows (height_of g heights) (dart_named g from) (crossed ++ rest)
   pub arrives : (rest : List Dart) → arrival (dart_named g from) (crossed ++ rest) ≡ arrival (dart_named g at) rest
 
+-- no corner of v lies in the face of `last`
+abbrev pub HasNoEnd : Rows → ℕ → Dart → Type 0
+HasNoEnd rows v last = (p : ℕ) (c : Dart) → corner rows v p ≡ Some c → SameFace (system rows) last c → ⊥
+
 -- the first corner of v in the face of `last`
 pub record IsEnd (rows : Rows) (v : ℕ) (last : Dart) (position : ℕ) : Type 0 where
   pub to : Dart
@@ -87,10 +91,3 @@ abbrev pub IsFirstOf : Pricing → Named → List ℕ → Option ℕ → ℕ →
 IsFirstOf price g heights first dart result =
     ((result ≡ Some dart) × IsTight price g.rows (height_of g heights) (dart_named g dart) × IfSome first (λ before. dart_cmp (dart_named g dart) (dart_named g before) ≡ Less))
     ⊎ ((result ≡ first) × (IsTight price g.rows (height_of g heights) (dart_named g dart) → IsSomeAnd first (λ before. dart_cmp (dart_named g dart) (dart_named g before) ≢ Less)))
-
--- the first corner of v whose dart is marked by 0
-pub record IsMarked (g : Named) (v : ℕ) (marks : List ℕ) (position : ℕ) : Type 0 where
-  pub to : Dart
-  pub there : corner g.rows v position ≡ Some to
-  pub marked : slice_index_or marks (g.name to) unreached ≡ 0
-  pub first : (p : ℕ) (c : Dart) → p < position → corner g.rows v p ≡ Some c → slice_index_or marks (g.name c) unreached ≢ 0

@@ -1,5 +1,6 @@
 pub mod Chains
 pub mod Descents
+pub mod Direct
 pub mod FaultTexts
 pub mod Names
 pub mod Numbers

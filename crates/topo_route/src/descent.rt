@@ -1,15 +1,13 @@
 //! The route down the heights.
 
-ghost use Rattle.std.specs.Prelude.{◌≡◌, ◌≢◌, ◌<◌, ◌≤◌, ◌↔◌, ℕ, IsTrue, MatchOption, IfOk, IfSome, IsSomeAnd, Some, true, false, length, slice_index_or};
+ghost use Rattle.std.specs.Prelude.{◌≡◌, ◌≢◌, ◌<◌, ◌≤◌, ◌↔◌, ℕ, IsTrue, MatchOption, IfOk, IfSome, IsSomeAnd, Some, false, length};
 ghost use Rattle.topo_core.specs.declared.darts.Dart.{Dart};
-ghost use Rattle.topo_core.specs.Cycles.{SameCycle};
-ghost use Rattle.topo_core.specs.Picture.{corner, system};
+ghost use Rattle.topo_core.specs.Picture.{corner};
 ghost use Rattle.topo_core.specs.RouteLaws.{IsTight};
 ghost use Rattle.topo_core.specs.Routes.{unreached};
-ghost use Rattle.topo_core.specs.Systems.{SameFace};
 ghost use Rattle.topo_price.specs.Prices.{prices_of};
-ghost use Rattle.topo_route.specs.Descents.{AreHeightsUpTo, HasNoStart, IsDescent, IsEnd, IsFirstOf, IsFirstTight, IsMarked, IsStart};
-ghost use Rattle.topo_route.specs.Names.{IsName, dart_named, height_of, next_name};
+ghost use Rattle.topo_route.specs.Descents.{AreHeightsUpTo, HasNoEnd, HasNoStart, IsDescent, IsEnd, IsFirstOf, IsFirstTight, IsStart};
+ghost use Rattle.topo_route.specs.Names.{IsName, dart_named, height_of};
 ghost use Rattle.topo_route.specs.Plans.{HasNoneBefore, IsLeastAt};
 ghost use Rattle.topo_route.specs.Settling.{ArePrices};
 
@@ -78,67 +76,20 @@ pub(crate) fn start_corner<W: Walked>(walked: &W, u: u32, heights: &Sheet) -> Op
     corner_of_height(walked, u, heights, least)
 }
 
-/// Marks the darts of the face of `last` by 0.
-fn mark_face<W: Walked>(walked: &W, last: u32, marks: &mut Sheet)
-    requires name { IsName (W.named walked.now) last }
-    requires as_many { length marks.old ≡ (W.named walked.now).size }
-    requires none { (k : ℕ) → slice_index_or marks.old k unreached ≢ 0 }
-    ensures as_many { length marks.new ≡ (W.named walked.now).size }
-    ensures sound { (k : ℕ) → slice_index_or marks.new k unreached ≡ 0 → SameCycle (next_name (W.named walked.now)) last k }
-    ensures complete { (k : ℕ) → SameCycle (next_name (W.named walked.now)) last k → slice_index_or marks.new k unreached ≡ 0 }
-{
-    let mut at = last;
-    for _steps in 0..walked.size() {
-        marks.set(at, 0);
-        at = next_along(walked, at);
-        if at == last {
-            return;
-        }
-    }
-}
-
-/// The first corner with a mark.
-fn marked_corner<W: Walked>(walked: &W, v: u32, marks: &Sheet) -> Option<u32>
-    requires { length marks.now ≡ (W.named walked.now).size }
-    ensures { MatchOption result ((p : ℕ) → (c : Dart) → corner (W.named walked.now).rows v p ≡ Some c → slice_index_or marks.now ((W.named walked.now).name c) unreached ≢ 0)
-        (IsMarked (W.named walked.now) v marks.now) }
+/// The first corner in the face of `last`.
+pub(crate) fn end_corner<W: Walked>(walked: &W, v: u32, last: u32) -> Option<u32>
+    requires { IsName (W.named walked.now) last }
+    ensures { MatchOption result (HasNoEnd (W.named walked.now).rows v (dart_named (W.named walked.now) last))
+        (IsEnd (W.named walked.now).rows v (dart_named (W.named walked.now) last)) }
 {
     for position in 0..walked.degree(v) {
         if let Some(corner) = corner_at(walked, v, position) {
-            if marks.get(corner) == 0 {
+            if walked.same_face(last, corner) {
                 return Some(position);
             }
         }
     }
     None
-}
-
-/// The first corner in the face of `last`, by marks of which none is set.
-fn corner_by_marks<W: Walked>(walked: &W, v: u32, last: u32, marks: &mut Sheet) -> Option<u32>
-    requires name { IsName (W.named walked.now) last }
-    requires as_many { length marks.old ≡ (W.named walked.now).size }
-    requires none { (k : ℕ) → slice_index_or marks.old k unreached ≢ 0 }
-    ensures { MatchOption result ((p : ℕ) → (c : Dart) → corner (W.named walked.now).rows v p ≡ Some c → SameFace (system (W.named walked.now).rows) (dart_named (W.named walked.now) last) c → ⊥)
-        (IsEnd (W.named walked.now).rows v (dart_named (W.named walked.now) last)) }
-{
-    mark_face(walked, last, marks);
-    marked_corner(walked, v, marks)
-}
-
-/// The first corner in the face of `last`.
-pub(crate) fn end_corner<W: Walked>(
-    walked: &W,
-    v: u32,
-    last: u32,
-    marks: &mut Sheet,
-) -> Result<Option<u32>, AllocError>
-    requires { IsName (W.named walked.now) last }
-    ensures { IfOk result (λ found.
-        MatchOption found ((p : ℕ) → (c : Dart) → corner (W.named walked.now).rows v p ≡ Some c → SameFace (system (W.named walked.now).rows) (dart_named (W.named walked.now) last) c → ⊥)
-        (IsEnd (W.named walked.now).rows v (dart_named (W.named walked.now) last))) }
-{
-    marks.clear(walked.size() as usize)?;
-    Ok(corner_by_marks(walked, v, last, marks))
 }
 
 /// Whether crossing the dart costs just what its height is above that of its twin.

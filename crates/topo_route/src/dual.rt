@@ -1,12 +1,10 @@
 //! The darts of a picture by their numbers.
 
 ghost use Rattle.std.specs.Prelude.{◌≡◌, ◌<◌, ◌↔◌, IsTrue, if◌then◌else◌, length, Some, None, slice_get, IsSomeAnd};
-ghost use Rattle.topo_core.specs.Cycles.{SameCycle};
 ghost use Rattle.topo_core.specs.Picture.{darts, index_of, start};
 ghost use Rattle.topo_core.specs.Systems.{has_dart};
 ghost use Rattle.topo_core.specs.declared.rows.Rows.{Rows};
 ghost use Rattle.topo_route.specs.Names.{IsName, canonical};
-ghost use Rattle.topo_route.specs.Numbers.{next_of};
 
 use crate::walked::Walked;
 use topo_core::darts::{Dart, Point};
@@ -26,12 +24,6 @@ pub trait Dual: Walked {
     /// The number of a dart; none where it is no dart of the picture.
     fn index(&self, dart: Dart) -> Option<u32>
         ensures { result ≡ (if has_dart (darts (shows self.now)) dart then Some (index_of (shows self.now) dart) else None) };
-
-    /// Whether two darts have one face on their left. It takes no longer where the face is large.
-    fn same_face(&self, dart: u32, other: u32) -> bool
-        requires dart_there { dart < length (darts (shows self.now)) }
-        requires other_there { other < length (darts (shows self.now)) }
-        ensures { IsTrue result ↔ SameCycle (next_of (shows self.now)) dart other };
 
     /// The names are the numbers.
     ghost numbered: { (picture : Self) → Self.named picture ≡ canonical (shows picture) };

@@ -11,6 +11,7 @@
 
 pub mod check;
 mod descent;
+mod direct;
 pub mod dual;
 mod faces;
 mod graph;

@@ -9,6 +9,7 @@ ghost use Rattle.topo_route.specs.Plans.{IsPlan};
 ghost use Rattle.topo_route.specs.Settling.{ArePrices};
 
 use crate::descent::{descend, end_corner, start_corner};
+use crate::direct::direct_route;
 use crate::dual::Dual;
 use crate::graph::{Graph, segment_prices};
 use crate::plan::{Plan, PricedRoute};
@@ -22,28 +23,26 @@ use topo_core::listed::Listed;
 use topo_core::routes::Route;
 use topo_price::tariff::{Asks, Tariff};
 
-/// Down the heights from `u` to `v`; none where no corner of `u` is reached. The sheet of the heights
-/// then serves for marks.
+/// Down the heights from `u` to `v`; none where no corner of `u` is reached.
 fn route_by_heights<W: Walked, F: Asks>(
     alloc: Global,
     graph: &Graph<W, F>,
     u: u32,
     v: u32,
-    heights: &mut Sheet,
+    heights: &Sheet,
 ) -> Result<Option<PricedRoute>, AllocError>
     requires right { ArePrices (prices_of (F.answers graph.now.tariff.now)) (W.named graph.now.walked.now) graph.now.prices.items }
-    requires known { AreHeightsFor (prices_of (F.answers graph.now.tariff.now)) (W.named graph.now.walked.now) u v heights.old }
+    requires known { AreHeightsFor (prices_of (F.answers graph.now.tariff.now)) (W.named graph.now.walked.now) u v heights.now }
     requires some { 0 < length (darts (W.named graph.now.walked.now).rows) }
     ensures { IfOk result (λ found. MatchOption found
         (HasNoRoute (prices_of (F.answers graph.now.tariff.now)) (W.named graph.now.walked.now).rows u v)
-        (IsFirstRoute (prices_of (F.answers graph.now.tariff.now)) (W.named graph.now.walked.now) u v heights.old)) }
+        (IsFirstRoute (prices_of (F.answers graph.now.tariff.now)) (W.named graph.now.walked.now) u v heights.now)) }
 {
     match start_corner(graph.walked, u, heights) {
         Some((start, from)) => {
             let price = heights.get(from);
             let (crossed, last) = descend(alloc, graph, heights, v, from)?;
-            let corner = end_corner(graph.walked, v, last, heights)?;
-            match corner {
+            match end_corner(graph.walked, v, last) {
                 Some(end) => {
                     let route = Route {
                         start,
@@ -86,7 +85,7 @@ pub fn search<D: Dual, F: Asks>(
     let mut waiting = Waiting::new(alloc, dual.size() as usize)?;
     least_heights(&graph, v, &mut heights, &mut waiting)?;
     let numbers = heights.numbers(alloc)?;
-    let found = route_by_heights(alloc, &graph, u, v, &mut heights)?;
+    let found = route_by_heights(alloc, &graph, u, v, &heights)?;
     match found {
         Some(PricedRoute { route, price }) => Ok(Some(Plan {
             route,
@@ -104,6 +103,9 @@ pub fn search<D: Dual, F: Asks>(
 /// its time follows the darts that are nearer to `v` than `u` is, and the degrees of both. What it
 /// writes on is handed in, and costs nothing for the rest of the picture. An edge is asked for its
 /// price each time that it is needed.
+///
+/// Where a face at one of the first corners of `u` is also at `v`, nothing is crossed, and no heights are
+/// spread.
 ///
 /// Shortest paths in the dual graph (Dijkstra 1959) from `v`, by buckets of equal height (Dial 1969),
 /// stopped at `u`. Heights that are cut off at any bound are still a certificate, since a minimum
@@ -125,12 +127,15 @@ pub fn first_route<W: Walked, F: Asks>(
         (λ r. IsFirst (prices_of (F.answers tariff.now)) (W.named walked.now).rows u v r.route r.price)) }
 {
     tariff.keeps_promise();
+    if let Some(route) = direct_route(alloc, walked, u, v) {
+        return Ok(Some(PricedRoute { route, price: 0 }));
+    }
     let graph = Graph {
         walked,
         tariff,
         prices: Vec::new(alloc),
     };
     heights_for(&graph, u, v, &mut work.heights, &mut work.waiting)?;
-    let found = route_by_heights(alloc, &graph, u, v, &mut work.heights)?;
+    let found = route_by_heights(alloc, &graph, u, v, &work.heights)?;
     Ok(found)
 }

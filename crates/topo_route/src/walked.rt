@@ -4,8 +4,9 @@ ghost use Rattle.std.specs.Prelude.{◌≡◌, ◌↔◌, IsTrue, length, option
 ghost use Rattle.std.specs.declared.cmp.Ordering.TheVariants.{Less};
 ghost use Rattle.topo_core.specs.Darts.{dart_cmp};
 ghost use Rattle.topo_core.specs.Lawful.{Lawful};
-ghost use Rattle.topo_core.specs.Picture.{corner, edge_at, rotation};
+ghost use Rattle.topo_core.specs.Picture.{corner, edge_at, rotation, system};
 ghost use Rattle.topo_core.specs.Routes.{AreFactsOf};
+ghost use Rattle.topo_core.specs.Systems.{SameFace};
 ghost use Rattle.topo_route.specs.Names.{IsName, IsNamed, Named, dart_named, next_name, twin_name};
 
 use topo_core::darts::Dart;
@@ -54,6 +55,12 @@ pub trait Walked {
         requires dart_there { IsName (named self.now) dart }
         requires other_there { IsName (named self.now) other }
         ensures { IsTrue result ↔ dart_cmp (dart_named (named self.now) dart) (dart_named (named self.now) other) ≡ Less };
+
+    /// Whether two darts have one face on their left. It takes no longer where the face is large.
+    fn same_face(&self, dart: u32, other: u32) -> bool
+        requires dart_there { IsName (named self.now) dart }
+        requires other_there { IsName (named self.now) other }
+        ensures { IsTrue result ↔ SameFace (system (named self.now).rows) (dart_named (named self.now) dart) (dart_named (named self.now) other) };
 
     /// What it shows is lawful.
     ghost lawful: { (picture : Self) → Lawful (named picture).rows };

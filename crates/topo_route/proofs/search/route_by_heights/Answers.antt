@@ -3,7 +3,6 @@ use Rattle.topo_price.specs.Prices.{prices_of}
 use Rattle.topo_route.specs.Descents.{IsDescent}
 use Rattle.topo_route.specs.Names.{dart_named, height_of}
 use Rattle.topo_route.proofs.Descending.{has_end, is_first}
-use Rattle.topo_route.proofs.Marking.{end_none, end_some}
 use Rattle.topo_route.proofs.Names.{height_named}
 use Rattle.topo_route.proofs.search.route_by_heights.Goals as goal
 
@@ -18,10 +17,10 @@ unreachable-requires g c =
     let known = c.requires.known in
     let above : 0 < known.bound = omega (arith, known.start c.in-Some.start c.in-Some.from c.in-Some.ensures) in
     has_end price named (g.met.W.Walked.lawful c.args.graph.now.walked.now) (g.met.W.Walked.has_names c.args.graph.now.walked.now) c.args.v known.bound c.args.heights.now known.known (c.requires.right.promise c.requires.some)
-    c.in_ok-crossed-in-Some.last descent.name descent.zero_there above (end_none named.rows c.args.v (dart_named named c.in_ok-crossed-in-Some.last) c.in_ok-corner-in-Some.corner c.in-None-corner.is c.in_ok-corner-in-Some.ensures)
+    c.in_ok-crossed-in-Some.last descent.name descent.zero_there above c.in-None-end_corner.ensures
 
-pub returns-in-Some-corner : goal.returns-in-Some-corner
-returns-in-Some-corner g c =
+pub returns-in-Some-end_corner : goal.returns-in-Some-end_corner
+returns-in-Some-end_corner g c =
     let named = g.W.Walked.named c.args.graph.now.walked.now in
     let lawful = g.met.W.Walked.lawful c.args.graph.now.walked.now in
     let has = g.met.W.Walked.has_names c.args.graph.now.walked.now in
@@ -34,7 +33,7 @@ returns-in-Some-corner g c =
     let below : height_of named heights (dart_named named c.in-Some.from) < known.bound = omega (arith, known.start c.in-Some.start c.in-Some.from start) in
     is_first price named lawful has c.args.v known.bound heights known.known (c.requires.right.promise c.requires.some) c.args.u _ c.in-Some.from c.in_ok-crossed-in-Some.last
     start (c.get-price.ensures ∙ sym here) below (subst (λ xs. IsDescent price named heights c.in-Some.from xs c.in_ok-crossed-in-Some.last) (sym c.from_vec.ensures) descent)
-    (end_some named.rows c.args.v (dart_named named c.in_ok-crossed-in-Some.last) c.in_ok-corner-in-Some.corner c.in-Some-corner.end c.in-Some-corner.is c.in_ok-corner-in-Some.ensures)
+    c.in-Some-end_corner.ensures
 
 pub returns-in-None : goal.returns-in-None
 returns-in-None g c = c.requires.known.none c.in-None.ensures

@@ -1,0 +1,27 @@
+use Rattle.std.proofs.Common.{◌≡◌, ◌<◌, ap, length, List, subst, sym, ℕ}
+use Rattle.std.proofs.lemmas.Bool.{eq-eqb, eqb-true}
+use Rattle.topo_core.specs.declared.rows.Rows.{Rows}
+use Rattle.topo_core.specs.Picture.{darts, system}
+use Rattle.topo_core.specs.Systems.{SameFace}
+use Rattle.topo_frozen.specs.FaceLabels.{AreFaceLabels}
+use Rattle.topo_frozen.specs.Flats.{LawfulRows}
+use Rattle.topo_frozen.specs.Recovering.{lawful_again}
+use Rattle.topo_frozen.proofs.Labelling.{told_by_labels}
+use Rattle.topo_route.specs.Names.{IsName, canonical, dart_named}
+use Rattle.topo_route.proofs.Canonical.{canonical_below, canonical_face}
+use Rattle.topo_frozen.proofs.numbered.NumberedWalked.same_face.Goals as goal
+
+pub returns : goal.returns
+returns c =
+    let rows = c.self.inside.rows.now in
+    let turns = c.self.inside.lists.now.turns.items in
+    let labels = c.as_slice-labels.result.now in
+    let same : rows ≡ c.args.self.now.rows = ap (λ (v : LawfulRows). v.rows) c.self.view_is in
+    let lawful = lawful_again rows c.self.inside.lawful in
+    let within = λ (a : ℕ) (name : IsName (canonical c.args.self.now.rows) a). canonical_below rows lawful a (subst (λ (r : Rows). IsName (canonical r) a) (sym same) name) in
+    let first = within c.args.dart c.requires.dart_there in
+    let second = within c.args.other c.requires.other_there in
+    let told = told_by_labels rows turns labels c.self.invariant.images (subst (λ (xs : List ℕ). AreFaceLabels turns xs) (sym c.as_slice-labels.ensures.value) c.self.invariant.labels) c.args.dart c.args.other first second in
+    let face = canonical_face rows lawful c.args.dart c.args.other first second in
+    let shown = λ (r : Rows). SameFace (system r) (dart_named (canonical r) c.args.dart) (dart_named (canonical r) c.args.other) in
+    (λ w. subst shown same (face.0 (told.0 (eqb-true _ _ w))), λ s. eq-eqb _ _ (told.1 (face.1 (subst shown (sym same) s))))
