@@ -42,11 +42,11 @@ pub fn check_bytes(alloc: Global, bytes: &[u8]) -> Result<String, RunFault>
         Ok(rows) => rows,
         Err(fault) => return Err(RunFault::Script(fault)),
     };
-    let picture = match Picture::load(alloc, greatest_limits(), &rows) {
-        Ok(picture) => picture,
+    let counts = match Picture::counts_of(alloc, greatest_limits(), &rows) {
+        Ok(counts) => counts,
         Err(fault) => return Err(RunFault::Load(fault)),
     };
-    match size_line(alloc, &picture.counts()) {
+    match size_line(alloc, &counts) {
         Ok(line) => Ok(line),
         Err(_) => Err(RunFault::Memory),
     }

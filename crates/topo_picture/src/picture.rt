@@ -1,6 +1,6 @@
 //! A picture, with its limits.
 
-use crate::counts::Counts;
+use crate::counts::{Counts, counted};
 use std::alloc::{AllocError, Global};
 use std::marker::Model;
 use topo_changes::copies::copy_rows;
@@ -84,23 +84,25 @@ impl Picture {
         self.limits
     }
 
-    /// How large it is. Each crossing stands on two paths, so it makes two segments more, and the
-    /// faces follow by Euler's formula.
+    /// How large the picture with these rows and limits is, which is not made. Rows that are none are
+    /// refused as `load` refuses them.
+    pub fn counts_of(alloc: Global, limits: Limits, rows: &Rows) -> Result<Counts, LoadFault>
+        ensures counts { IfOk result (AreCountsOf rows.now) }
+        ensures lawful { IfOk result (λ _. IsPicture limits rows.now) }
+        ensures refused { IfErr result (FailsFirst limits rows.now) }
+    {
+        match first_fault(alloc, &limits, rows) {
+            Ok(None) => Ok(counted(rows)),
+            Ok(Some(fault)) => Err(fault),
+            Err(_) => Err(LoadFault::Memory),
+        }
+    }
+
+    /// How large it is.
     pub fn counts(&self) -> Counts
         ensures { AreCountsOf self.now.rows result }
     {
-        let rows = self.embedded.rows();
-        let vertices = rows.rotations.as_slice().len() as u32;
-        let crossings = rows.crossings.as_slice().len() as u32;
-        let edges = rows.edges.as_slice().len() as u32;
-        let segments = edges + 2 * crossings;
-        Counts {
-            vertices,
-            crossings,
-            edges,
-            segments,
-            faces: segments + 2 - (vertices + crossings),
-        }
+        counted(self.embedded.rows())
     }
 
     /// A copy of its rows.

@@ -1,8 +1,9 @@
-use Rattle.std.proofs.Common.{◌≡◌, ◌<◌, ap, length, List, subst, sym, ℕ}
+use Rattle.std.proofs.Common.{◌≡◌, ◌<◌, ap, arith, length, List, subst, sym, ℕ}
 use Rattle.std.proofs.lemmas.Bool.{eq-eqb, eqb-true}
 use Rattle.topo_core.specs.declared.rows.Rows.{Rows}
 use Rattle.topo_core.specs.Picture.{darts, system}
 use Rattle.topo_core.specs.Systems.{SameFace}
+use Rattle.topo_core.proofs.Numbering.{images_length}
 use Rattle.topo_frozen.specs.FaceLabels.{AreFaceLabels}
 use Rattle.topo_frozen.specs.Flats.{LawfulRows}
 use Rattle.topo_frozen.specs.Recovering.{lawful_again}
@@ -10,6 +11,20 @@ use Rattle.topo_frozen.proofs.Labelling.{told_by_labels}
 use Rattle.topo_route.specs.Names.{IsName, canonical, dart_named}
 use Rattle.topo_route.proofs.Canonical.{canonical_below, canonical_face}
 use Rattle.topo_frozen.proofs.numbered.NumberedWalked.same_face.Goals as goal
+
+pub bounds-labels-dart : goal.bounds-labels-dart
+bounds-labels-dart c =
+    let rows = c.self.inside.rows.now in
+    let same : rows ≡ c.args.self.now.rows = ap (λ (v : LawfulRows). v.rows) c.self.view_is in
+    let below = canonical_below rows (lawful_again rows c.self.inside.lawful) c.args.dart (subst (λ (r : Rows). IsName (canonical r) c.args.dart) (sym same) c.requires.dart_there) in
+    omega (arith, below, ap length c.as_slice-labels.ensures.value, c.self.invariant.labels.one_each, ap length c.self.invariant.images, images_length rows)
+
+pub bounds-labels-other : goal.bounds-labels-other
+bounds-labels-other c =
+    let rows = c.self.inside.rows.now in
+    let same : rows ≡ c.args.self.now.rows = ap (λ (v : LawfulRows). v.rows) c.self.view_is in
+    let below = canonical_below rows (lawful_again rows c.self.inside.lawful) c.args.other (subst (λ (r : Rows). IsName (canonical r) c.args.other) (sym same) c.requires.other_there) in
+    omega (arith, below, ap length c.as_slice-labels.ensures.value, c.self.invariant.labels.one_each, ap length c.self.invariant.images, images_length rows)
 
 pub returns : goal.returns
 returns c =
