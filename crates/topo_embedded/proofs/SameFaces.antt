@@ -28,9 +28,9 @@ module _ (p : Drawn) (good : IsWellFormed p.rows) (r : Rotation) (s : ShowsRows 
 
   pub same_faces : (c d : Dart) → has_dart (darts p.rows) c ≡ true → has_dart (darts p.rows) d ≡ true → SameCycle (face_next (turn r)) (half_in p c) (half_in p d) ↔ SameFace (system p.rows) c d
   same_faces c d hc hd = (
-      (λ same. record {
-        steps = same.steps;
-        leads = halves_apart p good r s (after (face_step (system p.rows)) same.steps c) d (steps_stay same.steps c hc) hd (sym (half_after same.steps c hc) ∙ same.leads);
-      }),
-      (λ same. record { steps = same.steps; leads = half_after same.steps c hc ∙ ap (half_in p) same.leads }),
-    )
+    (λ same. record {
+      steps = same.steps;
+      leads = halves_apart p good r s (after (face_step (system p.rows)) same.steps c) d (steps_stay same.steps c hc) hd (sym (half_after same.steps c hc) ∙ same.leads);
+    }),
+    (λ same. record { steps = same.steps; leads = half_after same.steps c hc ∙ ap (half_in p) same.leads }),
+  )

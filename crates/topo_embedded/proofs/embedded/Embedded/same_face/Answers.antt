@@ -27,7 +27,7 @@ returns c =
     let r = c.self.inside.segments in
     subst (λ (q : Drawn). (x y : Dart) → has_dart (darts q.rows) x ≡ true → has_dart (darts q.rows) y ≡ true → half_in q x ≡ c.args.half → half_in q y ≡ c.args.other → IsTrue c.same_face.result ↔ SameFace (system q.rows) x y) c.self.view_is
     (λ x y hx hy x_is y_is.
-        let faces = same_faces p c.self.invariant.0 r c.self.invariant.1 x y hx hy in (
-          (λ w. faces.0 (subst (λ h. SameCycle (face_next (turn r)) h (half_in p y)) (sym x_is) (subst (SameCycle (face_next (turn r)) c.args.half) (sym y_is) (c.same_face.ensures.0 w)))),
-          (λ same. c.same_face.ensures.1 (subst (λ h. SameCycle (face_next (turn r)) h c.args.other) x_is (subst (SameCycle (face_next (turn r)) (half_in p x)) y_is (faces.1 same)))),
-        ))
+    let faces = same_faces p c.self.invariant.0 r c.self.invariant.1 x y hx hy in (
+      (λ w. faces.0 (subst (λ h. SameCycle (face_next (turn r)) h (half_in p y)) (sym x_is) (subst (SameCycle (face_next (turn r)) c.args.half) (sym y_is) (c.same_face.ensures.0 w)))),
+      (λ same. c.same_face.ensures.1 (subst (λ h. SameCycle (face_next (turn r)) h c.args.other) x_is (subst (SameCycle (face_next (turn r)) (half_in p x)) y_is (faces.1 same)))),
+    ))
