@@ -1,6 +1,6 @@
 -- Walks on the embedding beside an edge that is opened: what the halves are that they read, and what they tell.
 use Rattle.std.proofs.Common.{◌≡◌, ◌≢◌, ◌+◌, ◌<◌, ◌≤◌, ◌&&◌, ◌==◌, ap, arith, false, inl, inr, length, List, [], refl, Some, subst, suc, sym, true, ℕ, ◌∙◌}
-use Rattle.std.specs.Prelude.{is_some, nat_lt, slice_index_or}
+use Rattle.std.specs.Prelude.{nat_lt, slice_index_or}
 use Rattle.std.specs.List.{position_or_len}
 use Rattle.std.proofs.lemmas.Bool.{cases_eq}
 use Rattle.std.proofs.lemmas.Bool.Decides.{nat_tests}
@@ -27,7 +27,7 @@ use Rattle.topo_map.proofs.Stored.{limit-is}
 use Rattle.topo_changes.specs.Cuts.{IsLeft, IsNextLeft}
 use Rattle.topo_changes.proofs.OpenedFaces.{forth_of_face, not_opened, one_face_forth, one_face_round, Passes, passes_few, passes_more, passes_none, passes_to, round_of_face, Walks, walks_home, walks_met, walks_more, walks_never, walks_none}
 use Rattle.topo_embedded.specs.Cutting.{IsOpenedOn}
-use Rattle.topo_embedded.specs.Halves.{Drawn, ShowsRows, by_way, half_in, path_of}
+use Rattle.topo_embedded.specs.Halves.{Drawn, by_way, half_in, path_of}
 use Rattle.topo_embedded.specs.Walking.{IsOnPath}
 use Rattle.topo_embedded.proofs.Apart.{darts_limited, halves_apart, twin_in_path}
 use Rattle.topo_embedded.proofs.Numbers.{face_half, half_alive, stands_at, StandsAt, turned_half}
@@ -36,7 +36,7 @@ use Rattle.topo_embedded.proofs.Reading.{EdgeRead, list_few}
 among : (e f s out : ℕ) → f ≡ e → s < out → (f == e && nat_lt s out) ≡ true
 among e f s out same less = grind (arith, nat_tests)
 
-not_among : (e f s out : ℕ) → (e ≡ f → out ≤ s) → (f == e && nat_lt s out) ≡ false
+pub not_among : (e f s out : ℕ) → (e ≡ f → out ≤ s) → (f == e && nat_lt s out) ≡ false
 not_among e f s out past = elim (cases_eq f e) [
   | inl same ↦ let many = past (sym same) in grind (arith, nat_tests)
   | inr other ↦ grind (arith, nat_tests)
@@ -49,7 +49,7 @@ module _ (p : Drawn) (r : Rotation) (e out : ℕ) (path : List ℕ) (o : IsOpene
   abbrev good : IsWellFormed p.rows
   good = o.well_formed
 
-  dart_on : (s : ℕ) (w : Way) → s < segment_count o.row → has_dart (darts rows) (record { edge = e; seg = s; way = w }) ≡ true
+  pub dart_on : (s : ℕ) (w : Way) → s < segment_count o.row → has_dart (darts rows) (record { edge = e; seg = s; way = w }) ≡ true
   dart_on s w less = dart_there rows good.paths (record { edge = e; seg = s; way = w }) o.row o.there less
 
   -- the path has a half for each segment
@@ -85,7 +85,7 @@ module _ (p : Drawn) (r : Rotation) (e out : ℕ) (path : List ℕ) (o : IsOpene
       let at : StandsAt rows (forward e 0) = stands_at rows good (forward e 0) (dart_on 0 Forward (omega arith)) in
       let read : EdgeRead rows e (position_or_len (λ row. row.id == e) rows.edges) at.row = record { found = at.found; at = at.at; id = at.id; first = refl } in
       let inside : position_or_len (λ row. row.id == e) rows.edges < length p.paths = let many = o.shows.as_many in omega (arith, many, got_within rows.edges (position_or_len (λ row. row.id == e) rows.edges) at.row at.at) in
-      let list = list_few p good r o.shows e (position_or_len (λ row. row.id == e) rows.edges) at.row read (path_of p e) path (get_or_default p.paths (position_or_len (λ row. row.id == e) rows.edges) [] (path_of p e) inside) o.own in
+      let list = list_few p good r o.shows e (position_or_len (λ row. row.id == e) rows.edges) at.row read path (o.own ∙ get_or_default p.paths (position_or_len (λ row. row.id == e) rows.edges) [] path inside) in
       omega (arith, list, few)
 
   -- ---- What a half is
@@ -216,9 +216,9 @@ module _ (p : Drawn) (r : Rotation) (e out : ℕ) (path : List ℕ) (o : IsOpene
   one_dart : (c d : Dart) → has_dart (darts rows) c ≡ true → has_dart (darts rows) d ≡ true → (m n : ℕ) → m ≡ half_in p c → n ≡ half_in p d → m ≡ n → c ≡ d
   one_dart c d c_here d_here m n c_is d_is same = halves_apart p good r o.shows c d c_here d_here (sym c_is ∙ same ∙ d_is)
 
-  module _ (half : ℕ) (read : half ≡ slice_index_or path out half) where
+  module _ (half : ℕ) (read : half ≡ slice_index_or path out 0) where
     half_is : half ≡ half_in p (forward e out)
-    half_is = read ∙ get_or_default path out half 0 out_inside ∙ ap (λ (xs : List ℕ). slice_index_or xs out 0) o.own
+    half_is = read ∙ ap (λ (xs : List ℕ). slice_index_or xs out 0) o.own
 
     twin_named : twin half ≡ half_in p (back e out)
     twin_named = twin_is (forward e out) forward_here half half_is

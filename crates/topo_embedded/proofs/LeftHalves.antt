@@ -10,8 +10,13 @@ use Rattle.topo_embedded.specs.Deleting.{spared}
 spared_taken : (goes : ℕ → Bool) (h : ℕ) (hs : List ℕ) → goes h ≡ true → spared goes (h ∷ hs) ≡ spared goes hs
 spared_taken goes h hs e = ap (λ (b : Bool). cond (not b) (h ∷ spared goes hs) (spared goes hs)) e
 
-spared_kept : (goes : ℕ → Bool) (h : ℕ) (hs : List ℕ) → goes h ≡ false → spared goes (h ∷ hs) ≡ h ∷ spared goes hs
+pub spared_kept : (goes : ℕ → Bool) (h : ℕ) (hs : List ℕ) → goes h ≡ false → spared goes (h ∷ hs) ≡ h ∷ spared goes hs
 spared_kept goes h hs e = ap (λ (b : Bool). cond (not b) (h ∷ spared goes hs) (spared goes hs)) e
+
+-- the first, where it stays
+pub spared_first : (goes : ℕ → Bool) (hs : List ℕ) → goes (get_or hs 0 0) ≡ false → get_or (spared goes hs) 0 0 ≡ get_or hs 0 0
+spared_first goes [] stays = refl
+spared_first goes (h ∷ hs) stays = ap (λ (l : List ℕ). get_or l 0 0) (spared_kept goes h hs stays)
 
 left_taken : (gone : List ℕ) (x : ℕ) (path : List ℕ) → has_id gone x ≡ true → left_of gone (x ∷ path) ≡ left_of gone path
 left_taken gone x path e = ap (λ (b : Bool). cond (not b) (x ∷ left_of gone path) (left_of gone path)) e

@@ -24,3 +24,4 @@ pub mod Splits
 pub mod Draws
 pub mod Routed
 pub mod SameFaces
+pub mod FirstSegment

@@ -84,8 +84,8 @@ module _ (p : Drawn) (good : IsWellFormed p.rows) where
 
     -- ---- As it is read
 
-    module _ (d : Dart) (h : has_dart (darts p.rows) d ≡ true) (place : ℕ) (edges : List EdgeRow) (path list : List ℕ) (edges_are : edges ≡ p.rows.edges) (place_is : place ≡ position_or_len (λ row. row.id == d.edge) edges)
-        (path_is : path ≡ slice_index_or p.paths place path) (list_is : list ≡ path) where
+    module _ (d : Dart) (h : has_dart (darts p.rows) d ≡ true) (place : ℕ) (edges : List EdgeRow) (path : List ℕ) (edges_are : edges ≡ p.rows.edges) (place_is : place ≡ position_or_len (λ row. row.id == d.edge) edges)
+        (path_is : path ≡ slice_index_or p.paths place path) where
       found_at : place ≡ position_or_len (λ row. row.id == d.edge) p.rows.edges
       found_at = place_is ∙ ap (λ (es : List EdgeRow). position_or_len (λ row. row.id == d.edge) es) edges_are
 
@@ -98,13 +98,13 @@ module _ (p : Drawn) (good : IsWellFormed p.rows) where
       path_inside : place < length p.paths
       path_inside = omega (arith, s.as_many, got_within p.rows.edges place stands.row at_place)
 
-      list_here : list ≡ path_of p d.edge
-      list_here = list_is ∙ path_is ∙ get_or_default p.paths place path [] path_inside ∙ ap (λ k. slice_index_or p.paths k []) found_at
+      path_here : path ≡ path_of p d.edge
+      path_here = path_is ∙ get_or_default p.paths place path [] path_inside ∙ ap (λ k. slice_index_or p.paths k []) found_at
 
-      pub on_list : d.seg < length list
+      pub on_list : d.seg < length path
       on_list =
           let many : length (path_of p d.edge) ≡ segment_count stands.row = ap (λ k. length (slice_index_or p.paths k [])) (sym found_at) ∙ s.along place stands.row at_place in
-          omega (arith, ap length list_here, stands.on_path)
+          omega (arith, ap length path_here, stands.on_path)
 
-      pub half_read : (half : ℕ) → half ≡ slice_index_or list d.seg half → half ≡ slice_index_or (path_of p d.edge) d.seg 0
-      half_read half is = is ∙ get_or_default list d.seg half 0 on_list ∙ ap (λ xs. slice_index_or xs d.seg 0) list_here
+      pub half_read : (half : ℕ) → half ≡ slice_index_or path d.seg 0 → half ≡ slice_index_or (path_of p d.edge) d.seg 0
+      half_read half is = is ∙ ap (λ xs. slice_index_or xs d.seg 0) path_here

@@ -3,7 +3,7 @@ use Rattle.std.proofs.Common.{◌≡◌, ◌≢◌, ◌+◌, ◌-◌, ◌<◌, �
 use Rattle.std.specs.Prelude.{◌==◌, is_some, slice_index_or, Some}
 use Rattle.std.specs.List.{position_or_len}
 use Rattle.std.proofs.lemmas.Bool.{cases_eq, cond-false, cond-true, eq-eqb, ne_eqb}
-use Rattle.std.proofs.lemmas.List.{get_or-set_other, get_or-set_same, get_or_default, length-set}
+use Rattle.std.proofs.lemmas.List.{get_or-set_other, get_or-set_same, length-set}
 use Rattle.std.proofs.lemmas.Option.{get_or_from_slice_get, slice_get-get_or}
 use Rattle.topo_core.specs.declared.darts.Dart.{Dart}
 use Rattle.topo_core.specs.declared.darts.Way.{Way}
@@ -213,42 +213,39 @@ module _ (rows : Rows) (others : List (List ℕ)) (path0 : List ℕ) (r : Rotati
   pub some_segments : 1 ≤ length path0
   some_segments = omega (arith, many rows others w.0 path0 r w.1)
 
-  module _ (i : ℕ) (now : Rotation) (path : List ℕ) (st : (e : ℕ) (o : IsSetOut rows others e path0 r) → IsOpenTo (record { rows = rows; paths = o.paths }) e r i now path) (same : length path ≡ length path0) where
-    read_at : (j half : ℕ) → j < length path0 → half ≡ slice_index_or path j half → half ≡ slice_index_or path j 0
-    read_at j half lj read = read ∙ get_or_default path j half 0 (omega (arith, lj, same))
+  module _ (i : ℕ) (now : Rotation) (path : List ℕ) (st : (e : ℕ) (o : IsSetOut rows others e path0 r) → IsOpenTo (record { rows = rows; paths = o.paths }) e r i now path) where
+    pub as_long : length path ≡ length path0
+    as_long = (st w.0 w.1).as_many ∙ sym (many rows others w.0 path0 r w.1)
 
     inside_of : (e : ℕ) (o : IsSetOut rows others e path0 r) → i < length path0 → i ≤ length (edge_at rows e).crossings
     inside_of e o li = omega (arith, li, many rows others e path0 r o)
 
-    pub read_live : (half : ℕ) → i < length path0 → half ≡ slice_index_or path i half → is_live now half ≡ true
-    read_live half li read = next_live rows others w.0 path0 r w.1 i now path (st w.0 w.1) (inside_of w.0 w.1 li) half (read_at i half li read)
+    pub read_live : (half : ℕ) → i < length path0 → half ≡ slice_index_or path i 0 → is_live now half ≡ true
+    read_live half li read = next_live rows others w.0 path0 r w.1 i now path (st w.0 w.1) (inside_of w.0 w.1 li) half read
 
-    module _ (half : ℕ) (before_last : i < length path0 - 1) (read : half ≡ slice_index_or path i half) where
-      at_half : half ≡ slice_index_or path i 0
-      at_half = read_at i half (omega (arith, before_last)) read
-
+    module _ (half : ℕ) (before_last : i < length path0 - 1) (read : half ≡ slice_index_or path i 0) where
       more : (e : ℕ) (o : IsSetOut rows others e path0 r) → i < length (edge_at rows e).crossings
       more e o = omega (arith, before_last, many rows others e path0 r o)
 
       pub read_twin_live : is_live now (twin half) ≡ true
-      read_twin_live = back_live rows others w.0 path0 r w.1 i now path (st w.0 w.1) (more w.0 w.1) half at_half
+      read_twin_live = back_live rows others w.0 path0 r w.1 i now path (st w.0 w.1) (more w.0 w.1) half read
 
-      pub read_behind_live : (behind : ℕ) → behind ≡ slice_index_or path (i + 1) behind → is_live now behind ≡ true
-      read_behind_live behind read_behind = next_back_live rows others w.0 path0 r w.1 i now path (st w.0 w.1) (more w.0 w.1) half at_half behind (read_at (i + 1) behind (omega (arith, before_last)) read_behind)
+      pub read_behind_live : (behind : ℕ) → behind ≡ slice_index_or path (i + 1) 0 → is_live now behind ≡ true
+      read_behind_live behind read_behind = next_back_live rows others w.0 path0 r w.1 i now path (st w.0 w.1) (more w.0 w.1) half read behind read_behind
 
       pub read_known : is_some (edge_row rows (edge_of now (turn now (twin half)))) ≡ true
-      read_known = over_known rows others w.0 path0 r w.1 i now path (st w.0 w.1) (more w.0 w.1) half at_half
+      read_known = over_known rows others w.0 path0 r w.1 i now path (st w.0 w.1) (more w.0 w.1) half read
 
-      pub read_more : (behind mid : ℕ) → behind ≡ slice_index_or path (i + 1) behind → mid ≡ across (leads_in rows others (edge_of now)) (turn now) (twin half) behind
+      pub read_more : (behind mid : ℕ) → behind ≡ slice_index_or path (i + 1) 0 → mid ≡ across (leads_in rows others (edge_of now)) (turn now) (twin half) behind
           → (after : Rotation) → IsUnchord (turn now) (turn after) half_limit half → Shrinks now after half → KeepsLabels (is_live after) (edge_of now) (edge_of after)
-          → (e : ℕ) (o : IsSetOut rows others e path0 r) → IsOpenTo (record { rows = rows; paths = o.paths }) e r (i + 1) after (set path i mid)
-      read_more behind mid read_behind mid_is after edit shrinks labels e o =
-          opened_more rows others e path0 r o i now path (st e o) (inside_of e o (omega (arith, before_last))) half at_half after edit shrinks labels (more e o) mid
-          (mid_is ∙ mid_here rows others e path0 r o i now path (st e o) (more e o) half at_half behind (read_at (i + 1) behind (omega (arith, before_last)) read_behind))
+          → (list : List ℕ) → list ≡ set path i mid → (e : ℕ) (o : IsSetOut rows others e path0 r) → IsOpenTo (record { rows = rows; paths = o.paths }) e r (i + 1) after list
+      read_more behind mid read_behind mid_is after edit shrinks labels list list_is e o = subst (IsOpenTo (record { rows = rows; paths = o.paths }) e r (i + 1) after) (sym list_is)
+          (opened_more rows others e path0 r o i now path (st e o) (inside_of e o (omega (arith, before_last))) half read after edit shrinks labels (more e o) mid
+          (mid_is ∙ mid_here rows others e path0 r o i now path (st e o) (more e o) half read behind read_behind))
 
-    pub read_last : i ≡ length path0 - 1 → (half : ℕ) → half ≡ slice_index_or path i half → (after : Rotation) → IsUnchord (turn now) (turn after) half_limit half → Shrinks now after half → KeepsLabels (is_live after) (edge_of now) (edge_of after)
+    pub read_last : i ≡ length path0 - 1 → (half : ℕ) → half ≡ slice_index_or path i 0 → (after : Rotation) → IsUnchord (turn now) (turn after) half_limit half → Shrinks now after half → KeepsLabels (is_live after) (edge_of now) (edge_of after)
         → (e : ℕ) (o : IsSetOut rows others e path0 r) → IsOpenTo (record { rows = rows; paths = o.paths }) e r (length path0) after path
     read_last end half read after edit shrinks labels e o =
         let li : i < length path0 = omega (arith, end, some_segments) in
-        subst (λ (k : ℕ). IsOpenTo (record { rows = rows; paths = o.paths }) e r k after path) same
-        (opened_last rows others e path0 r o i now path (st e o) (inside_of e o li) half (read_at i half li read) after edit shrinks labels (omega (arith, end, many rows others e path0 r o)))
+        subst (λ (k : ℕ). IsOpenTo (record { rows = rows; paths = o.paths }) e r k after path) as_long
+        (opened_last rows others e path0 r o i now path (st e o) (inside_of e o li) half read after edit shrinks labels (omega (arith, end, many rows others e path0 r o)))

@@ -1,7 +1,7 @@
 -- Lists of halves with room at their ends, and a half more in one of them.
-use Rattle.std.proofs.Common.{◌≡◌, ◌≢◌, ◌<◌, ◌+◌, ap, append-nil, append_assoc, arith, drop, get_or, inl, inr, length, List, [], ◌∷◌, ◌++◌, refl, set, subst, suc, sym, take, zero, ℕ, ◌∙◌}
+use Rattle.std.proofs.Common.{◌≡◌, ◌≢◌, ◌<◌, ◌+◌, ap, append-nil, append_assoc, arith, drop, get_or, inl, inr, length, length-append, List, [], ◌∷◌, ◌++◌, refl, set, subst, suc, sym, take, zero, ℕ, ◌∙◌}
 use Rattle.std.specs.Prelude.{◌==◌, cond, slice_index_or}
-use Rattle.std.proofs.lemmas.Bool.{cases_eq, cond-false, cond-true, eq-eqb, ne_eqb}
+use Rattle.std.proofs.lemmas.Bool.{cases_eq, cases_lt, cond-false, cond-true, eq-eqb, ne_eqb}
 use Rattle.std.proofs.lemmas.Grind.{flat_map-append}
 use Rattle.std.proofs.lemmas.List.{ext_get_or, get_or-set_other, get_or-set_same, length-set, take_more, take_more_set}
 use Rattle.std.proofs.Math.Seq.{drop-append_seam, drop-cons, take-append_seam}
@@ -112,8 +112,10 @@ pads_here k cs i d less here = pads_more k cs i d less ∙ ap (λ (xs : List ℕ
 
 -- one list is another, and in the others nothing shows
 pub one_changed : (f f' : List ℕ → List ℕ) (was now now' : List (List ℕ)) (cs cs' : List Crossed) (k : ℕ) (list : List ℕ) → ArePadded f was cs now → k < length was → now' ≡ set now k list
-    → ((j : ℕ) → j < length was → j ≢ k → f' (slice_index_or was j []) ++ pads j cs' ≡ f (slice_index_or was j []) ++ pads j cs) → list ≡ f' (slice_index_or was k []) ++ pads k cs' → ArePadded f' was cs' now'
-one_changed f f' was now now' cs cs' k list p less is others here = record {
+    → ((j : ℕ) → j < length was → j ≢ k → f' (slice_index_or was j []) ++ pads j cs' ≡ f (slice_index_or was j []) ++ pads j cs) → list ≡ f' (slice_index_or was k []) ++ pads k cs'
+    → ((j : ℕ) → j < length was → 0 < length (pads j cs') → 0 < length (slice_index_or was j [])) → ArePadded f' was cs' now'
+one_changed f f' was now now' cs cs' k list p less is others here some = record {
+  some = some;
   as_many = ap (λ (xs : List (List ℕ)). length xs) is ∙ length-set now k list ∙ p.as_many;
   each = λ j lj. ap (λ (xs : List (List ℕ)). slice_index_or xs j []) is ∙ elim (cases_eq j k) [
     | inl e ↦
@@ -123,24 +125,48 @@ one_changed f f' was now now' cs cs' k list p less is others here = record {
   ];
 }
 
-pub pad_more : (was now now' : List (List ℕ)) (cs : List Crossed) (i : ℕ) (c : Crossed) (list : List ℕ) → ArePadded (λ hs. hs) was (take i cs) now → i < length cs → c ≡ get_or cs i c → c.place < length was → now' ≡ set now c.place list → list ≡ get_or now c.place [] ++ 0 ∷ []
+-- with room for one fewer there is no more room than before
+pub pads_fewer : (k : ℕ) (cs : List Crossed) (i : ℕ) (d : Crossed) → i < length cs → 0 < length (pads k (take i cs)) → 0 < length (pads k (take (i + 1) cs))
+pads_fewer k cs i d less more = omega (arith, more, ap length (pads_more k cs i d less), length-append (pads k (take i cs)) (cond ((get_or cs i d).place == k) (0 ∷ []) []))
+
+pub pad_more : (was now now' : List (List ℕ)) (cs : List Crossed) (i : ℕ) (c : Crossed) (list : List ℕ) → ArePadded (λ hs. hs) was (take i cs) now → i < length cs → c ≡ get_or cs i c → c.place < length was → now' ≡ set now c.place list → list ≡ get_or now c.place [] ++ 0 ∷ [] → 0 < length (get_or now c.place [])
     → ArePadded (λ hs. hs) was (take (i + 1) cs) now'
-pad_more was now now' cs i c list p less is placed set_is list_is =
+pad_more was now now' cs i c list p less is placed set_is list_is held =
     one_changed (λ hs. hs) (λ hs. hs) was now now' (take i cs) (take (i + 1) cs) c.place list p placed set_is
     (λ j lj ne. ap (λ (xs : List ℕ). slice_index_or was j [] ++ xs) (pads_same j cs i c less (λ e. ne (e ∙ ap (λ (b : Crossed). b.place) (sym is)))))
     (list_is ∙ ap (λ (xs : List ℕ). xs ++ 0 ∷ []) (p.each c.place placed) ∙ append_assoc (slice_index_or was c.place []) (pads c.place (take i cs)) (0 ∷ [])
     ∙ ap (λ (xs : List ℕ). slice_index_or was c.place [] ++ xs) (sym (pads_here c.place cs i c less (ap (λ (b : Crossed). b.place) is))))
+    some
+  where
+    some : (j : ℕ) → j < length was → 0 < length (pads j (take (i + 1) cs)) → 0 < length (slice_index_or was j [])
+    some j lj more = elim (cases_lt 0 (length (pads j (take i cs)))) [
+      | inl before ↦ p.some j lj before
+      | inr none ↦ elim (cases_eq j c.place) [
+        | inl here ↦
+            let read = ap length (p.each c.place placed) ∙ length-append (slice_index_or was c.place []) (pads c.place (take i cs)) in
+            let empty : length (pads c.place (take i cs)) ≡ 0 = ap (λ (k : ℕ). length (pads k (take i cs))) (sym here) ∙ omega (arith, none) in
+            subst (λ (k : ℕ). 0 < length (slice_index_or was k [])) (sym here) (omega (arith, held, read, empty))
+        | inr ne ↦ absurd (omega (arith, none, more, ap length (pads_same j cs i c less (λ e. ne (e ∙ ap (λ (b : Crossed). b.place) (sym is))))))
+      ]
+    ]
 
 pub pad_less : (was now now' : List (List ℕ)) (cs : List Crossed) (i : ℕ) (c : Crossed) (list : List ℕ) → ArePadded (λ hs. hs) was (take (i + 1) cs) now → i < length cs → c ≡ get_or cs i c → c.place < length was → now' ≡ set now c.place list
-    → ((xs : List ℕ) (x : ℕ) → get_or now c.place [] ≡ xs ++ x ∷ [] → list ≡ xs) → ArePadded (λ hs. hs) was (take i cs) now'
+    → ((xs : List ℕ) (x : ℕ) → 0 < length xs → get_or now c.place [] ≡ xs ++ x ∷ [] → list ≡ xs) → ArePadded (λ hs. hs) was (take i cs) now'
 pad_less was now now' cs i c list p less is placed set_is list_is =
     one_changed (λ hs. hs) (λ hs. hs) was now now' (take (i + 1) cs) (take i cs) c.place list p placed set_is
     (λ j lj ne. ap (λ (xs : List ℕ). slice_index_or was j [] ++ xs) (sym (pads_same j cs i c less (λ e. ne (e ∙ ap (λ (b : Crossed). b.place) (sym is))))))
-    (list_is (slice_index_or was c.place [] ++ pads c.place (take i cs)) 0
+    (list_is (slice_index_or was c.place [] ++ pads c.place (take i cs)) 0 held
     (p.each c.place placed ∙ ap (λ (xs : List ℕ). slice_index_or was c.place [] ++ xs) (pads_here c.place cs i c less (ap (λ (b : Crossed). b.place) is)) ∙ sym (append_assoc (slice_index_or was c.place []) (pads c.place (take i cs)) (0 ∷ []))))
+    (λ j lj more. p.some j lj (pads_fewer j cs i c less more))
+  where
+    held : 0 < length (slice_index_or was c.place [] ++ pads c.place (take i cs))
+    held =
+        let here = ap length (pads_here c.place cs i c less (ap (λ (b : Crossed). b.place) is)) ∙ length-append (pads c.place (take i cs)) (0 ∷ []) in
+        let some = p.some c.place placed (omega (arith, here)) in
+        omega (arith, some, length-append (slice_index_or was c.place []) (pads c.place (take i cs)))
 
 pub pad_none : (was : List (List ℕ)) (cs : List Crossed) → ArePadded (λ hs. hs) was (take 0 cs) was
-pad_none was cs = record { as_many = refl; each = λ k less. sym (append-nil (slice_index_or was k [])) }
+pad_none was cs = record { as_many = refl; each = λ k less. sym (append-nil (slice_index_or was k [])); some = λ k less more. absurd (omega (arith, more)) }
 
 -- with no room more the lists are the changed ones
 pub no_pads : (was now : List (List ℕ)) (cs : List Crossed) → ArePadded (λ hs. hs) was (take 0 cs) now → now ≡ was

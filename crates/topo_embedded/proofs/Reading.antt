@@ -18,14 +18,13 @@ use Rattle.topo_core.proofs.Members.{in_range}
 use Rattle.topo_core.proofs.Standing.{good_rotation}
 use Rattle.topo_core.proofs.SystemDarts.{edge_at_row, in_at, row_id}
 use Rattle.topo_map.specs.Rotation.{Rotation}
-use Rattle.topo_map.proofs.Stored.{limit-is}
 use Rattle.topo_frozen.specs.Ids.{IsPlaceOf}
 use Rattle.topo_frozen.proofs.Lookups.{dart_there}
 use Rattle.topo_frozen.proofs.Rounds.{got_within}
 use Rattle.topo_frozen.proofs.Verdicts.{darts_total}
 use Rattle.topo_embedded.specs.Halves.{Drawn, ShowsRows, by_way, half_in, path_of}
 use Rattle.topo_embedded.specs.Walking.{IsOnPath, end_seg, end_way}
-use Rattle.topo_embedded.proofs.Apart.{darts_limited, halves_apart}
+use Rattle.topo_embedded.proofs.Apart.{halves_apart}
 use Rattle.topo_embedded.proofs.Numbers.{StandsAt, stands_at}
 
 -- the row of an edge at its place
@@ -86,25 +85,25 @@ vertex_there rows v p h = elim (cases_lt v (length rows.rotations)) [
 -- ---- Paths
 
 module _ (p : Drawn) (good : IsWellFormed p.rows) (r : Rotation) (s : ShowsRows p r) (e place : ℕ) (row : EdgeRow) (at : EdgeRead p.rows e place row)
-    (path list : List ℕ) (path_is : path ≡ slice_index_or p.paths place path) (list_is : list ≡ path) where
+    (path : List ℕ) (path_is : path ≡ slice_index_or p.paths place path) where
   path_inside : place < length p.paths
   path_inside = omega (arith, s.as_many, got_within p.rows.edges place row at.at)
 
-  pub list_read : list ≡ path_of p e
-  list_read = list_is ∙ path_is ∙ get_or_default p.paths place path [] path_inside ∙ ap (λ k. slice_index_or p.paths k []) at.first
+  pub list_read : path ≡ path_of p e
+  list_read = path_is ∙ get_or_default p.paths place path [] path_inside ∙ ap (λ k. slice_index_or p.paths k []) at.first
 
-  pub list_many : length list ≡ segment_count row
+  pub list_many : length path ≡ segment_count row
   list_many = ap length list_read ∙ ap (λ k. length (slice_index_or p.paths k [])) (sym at.first) ∙ s.along place row at.at
 
-  -- what is read at a place of the list is the half along the edge there
-  pub along_read : (seg x : ℕ) (way : Way) → seg < length list → x ≡ slice_index_or list seg x → by_way x way ≡ half_in p (record { edge = e; seg = seg; way = way })
-  along_read seg x way inside is = ap (λ (h : ℕ). by_way h way) (is ∙ get_or_default list seg x 0 inside ∙ ap (λ (xs : List ℕ). slice_index_or xs seg 0) list_read)
+  -- what is read at a place of the path is the half along the edge there
+  along_read : (seg x : ℕ) (way : Way) → x ≡ slice_index_or path seg 0 → by_way x way ≡ half_in p (record { edge = e; seg = seg; way = way })
+  along_read seg x way is = ap (λ (h : ℕ). by_way h way) (is ∙ ap (λ (xs : List ℕ). slice_index_or xs seg 0) list_read)
 
   module _ (d : Dart) (h : has_dart (darts p.rows) d ≡ true) (half : ℕ) (is : half_in p d ≡ half) (same : e ≡ d.edge) where
     row_same : (st : StandsAt p.rows d) → st.row ≡ row
     row_same st = let both : Some st.row ≡ Some row = sym st.found ∙ ap (edge_row p.rows) (sym same) ∙ at.found in cc
 
-    pub half_on_list : IsOnPath list half
+    pub half_on_list : IsOnPath path half
     half_on_list =
         let st = stands_at p.rows good d h in
         let on_path : d.seg < segment_count row = subst (λ (x : EdgeRow). d.seg < segment_count x) (row_same st) st.on_path in
@@ -115,14 +114,14 @@ module _ (p : Drawn) (good : IsWellFormed p.rows) (r : Rotation) (s : ShowsRows 
           is = ap (λ (xs : List ℕ). by_way (slice_index_or xs d.seg 0) d.way) (list_read ∙ ap (path_of p) same) ∙ is;
         }
 
-    pub dart_read : (seg : ℕ) (way : Way) → seg < length list → by_way (slice_index_or list seg 0) way ≡ half → record { edge = e; seg = seg; way = way } ≡ d
+    pub dart_read : (seg : ℕ) (way : Way) → seg < length path → by_way (slice_index_or path seg 0) way ≡ half → record { edge = e; seg = seg; way = way } ≡ d
     dart_read seg way inside found =
         let c : Dart = record { edge = e; seg = seg; way = way } in
         halves_apart p good r s c d (dart_there p.rows good.paths c row at.found (omega (arith, list_many))) h
         (sym (ap (λ (xs : List ℕ). by_way (slice_index_or xs seg 0) way) list_read) ∙ found ∙ sym is)
 
-  -- the list is among all darts
-  pub list_few : length list ≤ length (darts p.rows)
+  -- the path is among all darts
+  pub list_few : length path ≤ length (darts p.rows)
   list_few =
       let most : segment_count (slice_index_or p.rows.edges place row) ≤ sum_by segment_count p.rows.edges = get_or-le-sum_by segment_count p.rows.edges place row (got_within p.rows.edges place row at.at) in
       let same : slice_index_or p.rows.edges place row ≡ row = get_or_from_slice_get p.rows.edges place row row at.at in
@@ -131,22 +130,15 @@ module _ (p : Drawn) (good : IsWellFormed p.rows) (r : Rotation) (s : ShowsRows 
 
   -- the half at an end of the edge
   module _ (v : ℕ) (read : EdgeRow) (seg : ℕ) (way : Way) (same : read ≡ row) (seg_is : seg ≡ end_seg read (read.a == v)) (way_is : way ≡ end_way (read.a == v)) where
-    pub end_on_list : seg < length list
+    pub end_on_list : seg < length path
     end_on_list =
         let inside : end_seg row (row.a == v) < segment_count row = end_inside row (row.a == v) in
         let is : seg ≡ end_seg row (row.a == v) = seg_is ∙ ap (λ (x : EdgeRow). end_seg x (x.a == v)) same in
         omega (arith, list_many)
 
-    pub seg_small : seg < 4294967296
-    seg_small =
-        let all = darts_limited p good r s in
-        let limit = limit-is in
-        let below = end_on_list in
-        omega (arith, list_few)
-
-    pub end_half_is : (half : ℕ) → half ≡ slice_index_or list seg half → by_way half way ≡ half_in p (end_dart p.rows v e)
+    pub end_half_is : (half : ℕ) → half ≡ slice_index_or path seg 0 → by_way half way ≡ half_in p (end_dart p.rows v e)
     end_half_is half is =
-        along_read seg half way end_on_list is
+        along_read seg half way is
         ∙ ap (λ (k : ℕ). half_in p (record { edge = e; seg = k; way = way })) (seg_is ∙ ap (λ (x : EdgeRow). end_seg x (x.a == v)) same)
         ∙ ap (λ (w : Way). half_in p (record { edge = e; seg = end_seg row (row.a == v); way = w })) (way_is ∙ ap (λ (x : EdgeRow). end_way (x.a == v)) same)
         ∙ ap (half_in p) (sym (end_is p.rows v e place row at))

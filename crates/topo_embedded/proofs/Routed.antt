@@ -73,13 +73,13 @@ module _ (p : Drawn) (r : Rotation) (cs : List Crossed) (u v kind : ℕ) (route 
 
 -- as the code goes
 pub inserted_drawn : (p : Drawn) (r now after : Rotation) (cs cs' : List Crossed) (u v kind : ℕ) (route : Route) (start end edge : ℕ) → IsReadyFor p r cs u v kind route start end → now.slots ≡ r.slots → IsEmbedding now → crossed_darts cs' ≡ crossed_darts cs → All (IsMarked p) cs'
-    → (line path : List ℕ) (rows : Rows) (lists paths : List (List ℕ)) → edge ≡ p.rows.next_edge → IsRouted p now after cs' start end edge line → rows ≡ shown p.rows u v kind route → lists ≡ map (put_halves (bends_of p.rows cs')) p.paths → path ≡ line → paths ≡ lists ++ path ∷ []
+    → (line : List ℕ) (rows : Rows) (lists paths : List (List ℕ)) → edge ≡ p.rows.next_edge → IsRouted p now after cs' start end edge line → rows ≡ shown p.rows u v kind route → lists ≡ map (put_halves (bends_of p.rows cs')) p.paths → paths ≡ lists ++ line ∷ []
     → ShowsRows (record { rows = rows; paths = paths }) after
-inserted_drawn p r now after cs cs' u v kind route start end edge ready slots whole same marked line path rows lists paths edge_is routed rows_are lists_are path_is paths_are =
+inserted_drawn p r now after cs cs' u v kind route start end edge ready slots whole same marked line rows lists paths edge_is routed rows_are lists_are paths_are =
     let shows = routed_shows p r cs u v kind route start end ready now slots whole after cs' same marked line (subst (λ (e : ℕ). IsRouted p now after cs' start end e line) edge_is routed) in
     subst (λ (q : Drawn). ShowsRows q after) (ap (λ (rs : Rows). (let q : Drawn = record { rows = rs; paths = map (put_halves (bends_of p.rows cs')) p.paths ++ line ∷ [] } in q)) (sym rows_are)
     ∙ ap (λ (ps : List (List ℕ)). (let q : Drawn = record { rows = rows; paths = ps } in q))
-    (ap (λ (ls : List (List ℕ)). ls ++ line ∷ []) (sym lists_are) ∙ ap (λ (l : List ℕ). lists ++ l ∷ []) (sym path_is) ∙ sym paths_are)) shows
+    (ap (λ (ls : List (List ℕ)). ls ++ line ∷ []) (sym lists_are) ∙ sym paths_are)) shows
 
 -- inserted or not
 pub inserted_formed : {A E : Type 0} (result : Result A E) (p : Drawn) (rows new : Rows) (paths : List (List ℕ)) → (let q : Drawn = record { rows = rows; paths = paths } in q ≡ p) → IsWellFormed rows → (u v kind : ℕ) (route : Route) → IsInsertable p.rows u v kind route

@@ -2,7 +2,7 @@
 use Rattle.std.proofs.Common.{◌≡◌, ◌≢◌, ◌+◌, ◌-◌, ◌<◌, ◌||◌, ◌&&◌, ap, arith, Bool, false, filter, get_or, inl, inr, length, List, [], ◌∷◌, not, refl, set, subst, sym, suc, take, true, zero, ℕ, ◌∙◌}
 use Rattle.std.specs.Prelude.{◌==◌, is_some, map, slice_get, slice_index_or, Some}
 use Rattle.std.specs.List.{position_or_len, remove}
-use Rattle.std.proofs.lemmas.Bool.{cases_eq, cases_lt, ne_eqb}
+use Rattle.std.proofs.lemmas.Bool.{cases_Bool, cases_eq, cases_lt, false≢true, ne_eqb}
 use Rattle.std.proofs.lemmas.List.{get_or-map, get_or-set_other, get_or-set_same, get_or-take, get_or_default, length-map, length-set, length-take, take_all}
 use Rattle.std.proofs.lemmas.List.Edits.{get_or-remove_above, get_or-remove_below, length-remove}
 use Rattle.std.proofs.lemmas.Option.{get_or_from_slice_get, slice_get-get_or, slice_get_within}
@@ -20,7 +20,7 @@ use Rattle.topo_core.proofs.Counting.{eqb_symm}
 use Rattle.topo_core.proofs.ShownRows.{row_found}
 use Rattle.topo_core.proofs.SystemDarts.{row_id, some_of}
 use Rattle.topo_core.proofs.WithoutPlaces.{ahead_there, dart_of_segment, other_edge, OtherEdge}
-use Rattle.topo_core.proofs.WithoutRows.{without_rows}
+use Rattle.topo_core.proofs.WithoutRows.{has_id_in, without_rows}
 use Rattle.topo_perm.specs.Runs.{IsRun, IsStep}
 use Rattle.topo_perm.specs.Runs.Edit.{Smooth}
 use Rattle.topo_perm.proofs.DeletionNumbers.{IsSmoothable, smooths_of, unchords_of}
@@ -35,10 +35,12 @@ use Rattle.topo_changes.proofs.Deleting.{rest_is}
 use Rattle.topo_changes.proofs.Leaving.{filter_alike, filter_all, filter_twice}
 use Rattle.topo_embedded.specs.Deleting.{ArePathsLeft, spared}
 use Rattle.topo_embedded.specs.Halves.{Drawn, ShowsRows, half_at, path_of}
-use Rattle.topo_embedded.specs.Opening.{IsOpened, IsOpenTo, IsSetOut, IsSmoothedTo, mid_at, without_half}
-use Rattle.topo_embedded.proofs.Aheads.{AreMidHalves, deleted_shows}
+use Rattle.topo_embedded.specs.Opening.{IsOpened, IsOpenTo, IsSetOut, IsSmoothedTo, mid_at, mids_of, without_half}
+use Rattle.topo_embedded.proofs.Aheads.{aheads, AreMidHalves, deleted_shows}
+use Rattle.topo_embedded.proofs.LeftHalves.{spared_first}
 use Rattle.topo_embedded.proofs.Numbers.{found_place, half_of_number}
 use Rattle.topo_embedded.proofs.OpenedPath.{many as path_length, path_many}
+use Rattle.topo_embedded.proofs.Uncrossed.{uncrossed as uncrossed_path}
 use Rattle.topo_embedded.proofs.Without.{listed_at}
 
 -- ---- Lists that halves go from
@@ -56,6 +58,22 @@ one_more : (xs : List ℕ) (i y : ℕ) → i < length xs → has_id (take (suc i
 one_more [] i y inside = absurd (omega arith)
 one_more (x ∷ xs) zero y inside = or_none (x == y)
 one_more (x ∷ xs) (suc i) y inside = ap (λ b. x == y || b) (one_more xs i y (omega arith)) ∙ or_assoc (x == y) (has_id (take i xs) y) (get_or xs i 0 == y)
+
+-- what is not on a list is not on a part of it
+taken_none : (i : ℕ) (xs : List ℕ) (y : ℕ) → has_id xs y ≡ false → has_id (take i xs) y ≡ false
+taken_none zero xs y none = refl
+taken_none (suc i) [] y none = refl
+taken_none (suc i) (x ∷ xs) y none = elim (cases_Bool (x == y)) [
+  | inl t ↦ absurd (false≢true (sym none ∙ ap (λ b. b || has_id xs y) t))
+  | inr f ↦ ap (λ b. b || has_id (take i xs) y) f ∙ taken_none i xs y (sym (ap (λ b. b || has_id xs y) f) ∙ none)
+]
+
+-- the midpoints on a path, and how many they are
+pub mids_many : (path : List ℕ) → length (mids_of path) ≡ length path - 1
+mids_many path = length-take (length path - 1) path ∙ omega arith
+
+pub mid_read : (path : List ℕ) (i half : ℕ) → i < length path - 1 → half ≡ slice_index_or path i 0 → half ≡ slice_index_or (mids_of path) i 0
+mid_read path i half li read = read ∙ sym (get_or-take (length path - 1) path i 0 li)
 
 spared_none : (xs : List ℕ) → spared (has_id []) xs ≡ xs
 spared_none xs = filter_all (λ h. not (has_id [] h)) xs (λ h inside. refl)
@@ -143,11 +161,21 @@ module _ (rows : Rows) (others : List (List ℕ)) (e : ℕ) (mids : List ℕ) (o
       let on : has_dart (darts rows) (forward c k) ≡ true = dart_of_segment rows good c k Forward there (omega (arith, less, path_many p good r o.set_out.shows c there)) in
       ap (edge_of r) (sym (get_or_from_slice_get (path_of p c) k h 0 got)) ∙ o.set_out.shows.labels (forward c k) on
 
+  are_mids : AreMidHalves p good r o.set_out.shows e row known o.set_out.lawful.embedding.connected o.set_out.lawful.genus_zero mids
+  are_mids = record { as_many = o.opened.as_many; each = o.opened.each }
+
+  -- no path begins with a midpoint
+  first_stays : (c : ℕ) → is_some (edge_row (without rows e) c) ≡ true → has_id mids (slice_index_or (path_of p c) 0 0) ≡ false
+  first_stays c left =
+      let goes = aheads p good r o.set_out.shows e row known o.set_out.lawful.embedding.connected o.set_out.lawful.genus_zero mids are_mids in
+      (uncrossed_path p good r o.set_out.shows e o.set_out.there (has_id mids) goes c left).first
+
   -- where a midpoint lies
   record IsMidOn (h : ℕ) : Type 0 where
     other : ℕ
     apart : other ≢ e
     there : is_some (edge_row rows other) ≡ true
+    left : is_some (edge_row (without rows e) other) ≡ true
     label : edge_of r h ≡ other
 
   mid_on : (i : ℕ) → i < last → IsMidOn (nu (mid_at rows e i))
@@ -159,6 +187,7 @@ module _ (rows : Rows) (others : List (List ℕ)) (e : ℕ) (mids : List ℕ) (o
         other = c;
         apart = edge.apart;
         there = edge.before;
+        left = edge.left;
         label = ap (λ (a : ℕ). edge_of r (nu a)) at ∙ ap (edge_of r) (half_of_number p good (ahead rows c x.id) here) ∙ o.set_out.shows.labels (ahead rows c x.id) here;
       }
 
@@ -181,6 +210,16 @@ module _ (rows : Rows) (others : List (List ℕ)) (e : ℕ) (mids : List ℕ) (o
 
     pub label_there : is_some (edge_row rows (edge_of now half)) ≡ true
     label_there = ap (λ (c : ℕ). is_some (edge_row rows c)) label_now ∙ on.there
+
+    pub not_first : slice_index_or (path_of (record { rows = rows; paths = paths }) (edge_of now half)) 0 0 ≢ half
+    not_first same =
+        let stays = first_stays on.other on.left in
+        let first : slice_index_or (path_of (record { rows = rows; paths = paths }) (edge_of now half)) 0 0 ≡ slice_index_or (path_of p on.other) 0 0 =
+        ap (λ (c : ℕ). slice_index_or (path_of (record { rows = rows; paths = paths }) c) 0 0) label_now
+        ∙ ap (λ (hs : List ℕ). slice_index_or hs 0 0) (st.lists on.other on.there on.apart)
+        ∙ spared_first (has_id (take i mids)) (path_of p on.other) (taken_none i mids (slice_index_or (path_of p on.other) 0 0) stays) in
+        let listed : has_id mids half ≡ true = has_id_in half mids (listed_at half mids i (slice_get-get_or mids i 0 li ∙ ap Some (sym is))) in
+        false≢true (sym stays ∙ ap (has_id mids) (sym first ∙ same) ∙ listed)
 
     module _ (after : Rotation) (edit : IsSmooth (turn now) (turn after) half_limit half) (shrinks : Shrinks now after half) (labels : KeepsLabels (is_live after) (edge_of now) (edge_of after)) (list : List (List ℕ)) (list_is : list ≡ without_half rows (edge_of now half) half paths) where
       list_here : list ≡ without_half rows on.other half paths
@@ -284,9 +323,6 @@ module _ (rows : Rows) (others : List (List ℕ)) (e : ℕ) (mids : List ℕ) (o
       as_many = omega (arith, length-remove paths at inside_paths, many_left, st.as_many, ap length left_edges, length-map (remove rows.edges at) uncrossed);
       each = list_left;
     }
-
-    are_mids : AreMidHalves p good r o.set_out.shows e row known o.set_out.lawful.embedding.connected o.set_out.lawful.genus_zero mids
-    are_mids = record { as_many = o.opened.as_many; each = o.opened.each }
 
     pub deleted : ShowsRows (record { rows = without rows e; paths = remove paths at }) now
     deleted = deleted_shows p good r o.set_out.shows e row known o.set_out.lawful.embedding.connected o.set_out.lawful.genus_zero mids are_mids o.set_out.whole (turning_of opened) now o.opened.run all_smoothed st.keeps (remove paths at) all_left where

@@ -35,7 +35,7 @@ use Rattle.topo_embedded.proofs.Inserted.{got_map}
 use Rattle.topo_embedded.proofs.InsertedLabels.{split_labels}
 use Rattle.topo_embedded.proofs.Numbers.{StandsAt, half_alive, stands_at}
 use Rattle.topo_embedded.proofs.OnPaths.{IsAmong, NewOff, along_there, among_split, darts_off, dead_off, off_by_way, other_paths, own_half, own_path, pieces_stay, put_off, still_among}
-use Rattle.topo_embedded.proofs.Pads.{bend, one_changed, pads_here, pads_same}
+use Rattle.topo_embedded.proofs.Pads.{bend, one_changed, pads_fewer, pads_here, pads_same}
 use Rattle.topo_embedded.proofs.Pieces.{put_none}
 
 -- as many darts
@@ -160,6 +160,7 @@ module _ (p : Drawn) (good : IsWellFormed p.rows) (r : Rotation) (s : ShowsRows 
         (λ k lk ne. ap (λ (xs : List ℕ). xs ++ pads k (take n all)) (elsewhere k lk ne) ∙ ap (λ (xs : List ℕ). put_halves js (slice_index_or p.paths k []) ++ xs) (sym (pads_same k all n c less (λ e. ne (e ∙ ap (λ (b : Crossed). b.place) (sym at))))))
         (made ∙ ap (λ (xs : List ℕ). among.before ++ xs) (sym (append_assoc (piece j among.half) among.behind rest)) ∙ sym (append_assoc among.before (piece j among.half ++ among.behind) rest)
         ∙ ap (λ (xs : List ℕ). xs ++ rest) (sym (among_split j (put_halves js hs) among)))
+        (λ k lk more. pad.some k lk (pads_fewer k all n c less more))
 
   -- one step of the loop
   pub split_more : (was cs : List Crossed) (n : ℕ) (c : Crossed) (now now' : Rotation) (x : ℕ) (paths : List (List ℕ)) (list : List ℕ) → CrossesOnce (crossed_darts was) → n < length cs → c ≡ get_or cs n c → c.place < length p.paths → AreSplitFrom p r now was cs (n + 1) paths

@@ -1,5 +1,5 @@
 -- An edge that is taken out of an embedding segment by segment.
-use Rattle.std.specs.Prelude.{◌≡◌, ◌≢◌, ℕ, ◌+◌, ◌<◌, ◌≤◌, ◌==◌, Bool, true, List, [], filter, is_some, length, not, slice_index_or, slice_set, take}
+use Rattle.std.specs.Prelude.{◌≡◌, ◌≢◌, ℕ, ◌+◌, ◌-◌, ◌<◌, ◌≤◌, ◌==◌, Bool, true, List, [], filter, is_some, length, not, slice_index_or, slice_set, take}
 use Rattle.std.specs.List.{position_or_len}
 use Rattle.topo_core.specs.declared.rows.Rows.{Rows}
 use Rattle.topo_core.specs.Cycles.{map_of}
@@ -43,6 +43,10 @@ pub record IsOpenTo (p : Drawn) (e : ℕ) (r : Rotation) (i : ℕ) (now : Rotati
   pub mids : (j : ℕ) → j < i → j < length (edge_at p.rows e).crossings → slice_index_or path j 0 ≡ half_at p (mid_at p.rows e j)
 
 -- ---- The midpoints that it leaves
+
+-- the midpoints that the path of an edge holds once all of its segments are out: all of it but the last
+abbrev pub mids_of : List ℕ → List ℕ
+mids_of path = take (length path - 1) path
 
 -- the lists with this half out of that of edge c
 abbrev pub without_half : Rows → ℕ → ℕ → List (List ℕ) → List (List ℕ)

@@ -30,3 +30,4 @@ ArePlaced many cs = All (λ c. c.place < many) cs
 pub record ArePadded (change : List ℕ → List ℕ) (was : List (List ℕ)) (cs : List Crossed) (now : List (List ℕ)) : Type 0 where
   pub as_many : length now ≡ length was
   pub each : (k : ℕ) → k < length was → slice_index_or now k [] ≡ change (slice_index_or was k []) ++ pads k cs
+  pub some : (k : ℕ) → k < length was → 0 < length (pads k cs) → 0 < length (slice_index_or was k [])

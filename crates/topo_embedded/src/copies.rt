@@ -1,22 +1,18 @@
-//! Copies of the lists of halves.
+//! Copies of paths.
 
 ghost use Rattle.std.specs.Prelude.{◌≡◌, IfOk};
 
+use crate::path::Path;
 use std::alloc::{AllocError, Global};
 use topo_core::listed::Listed;
-use topo_map::Half;
 
-/// An equal list of lists.
-pub(crate) fn copy_paths(
-    alloc: Global,
-    paths: &[Listed<Half>],
-) -> Result<Listed<Listed<Half>>, AllocError>
+/// An equal list of paths.
+pub(crate) fn copy_paths(alloc: Global, paths: &[Path]) -> Result<Listed<Path>, AllocError>
     ensures { IfOk result (λ copy. copy ≡ paths.now) }
 {
     let mut copy = Vec::with_capacity(alloc, paths.len())?;
     for path in paths {
-        let halves = Vec::from_slice(alloc, path.as_slice())?;
-        copy.push(Listed::from_vec(halves))?;
+        copy.push(path.copy(alloc)?)?;
     }
     Ok(Listed::from_vec(copy))
 }

@@ -1,6 +1,6 @@
 //! Cuts: the first segment of an edge that has one face on both sides when those before it are out.
-//! The faces on both sides of a segment are walked in step, so that a test costs no more than the
-//! smaller of them and takes no memory.
+//! While nothing is out, the labels of the faces tell. Behind that the faces on both sides of a segment are
+//! walked in step, so that a test costs no more than the smaller of them. No test takes memory.
 
 ghost use Rattle.std.specs.Prelude.{◌≡◌, ◌↔◌, ◌<◌, IsTrue, length, slice_index_or, true};
 ghost use Rattle.topo_core.specs.Changes.{HasOneFace};
@@ -12,20 +12,22 @@ ghost use Rattle.topo_embedded.specs.Cutting.{IsDartBeside, IsOpenedOn};
 ghost use Rattle.topo_embedded.specs.Halves.{Drawn, by_way, half_in};
 ghost use Rattle.topo_map.specs.Rotation.{Rotation};
 
+use crate::path::Path;
 use crate::walking::place_on_path;
 use topo_map::{Embedding, Half};
 
 /// Whether a half is one of the two at a place of a path.
-fn is_at(path: &[Half], segment: usize, half: Half) -> bool
+fn is_at(path: &Path, segment: usize, half: Half) -> bool
     requires { segment < length path.now }
     ensures { result ≡ true → (way : Way) × (by_way (slice_index_or path.now segment 0) way ≡ half) }
 {
-    path[segment] == half || path[segment] == half.twin()
+    let along = path.at(segment);
+    along == half || along == half.twin()
 }
 
 /// Whether a half of edge `e` is on one of the first `out` segments of its path. A walk round a face mostly
 /// meets the last of them, or comes home to the segment behind, so these are compared first.
-fn is_among(path: &[Half], out: usize, half: Half) -> bool
+fn is_among(path: &Path, out: usize, half: Half) -> bool
     requires { (p : Drawn) × (r : Rotation) × (d : Dart) × IsDartBeside p r d.edge out path.now half d }
     ensures { (p : Drawn) (r : Rotation) (d : Dart) → IsDartBeside p r d.edge out path.now half d → result ≡ is_opened d.edge out d }
 {
@@ -40,7 +42,7 @@ fn is_among(path: &[Half], out: usize, half: Half) -> bool
 }
 
 /// Whether a half is out when the first `out` segments of edge `e` are.
-fn is_out(segments: &Embedding, e: u32, path: &[Half], out: usize, half: Half) -> bool
+fn is_out(segments: &Embedding, e: u32, path: &Path, out: usize, half: Half) -> bool
     requires { (p : Drawn) × (d : Dart) × IsDartBeside p segments.now e out path.now half d }
     ensures { (p : Drawn) (d : Dart) → IsDartBeside p segments.now e out path.now half d → result ≡ is_opened e out d }
 {
@@ -52,7 +54,7 @@ fn is_out(segments: &Embedding, e: u32, path: &[Half], out: usize, half: Half) -
 }
 
 /// The next half along the face when the first `out` segments of edge `e` are out.
-fn next_left(segments: &Embedding, e: u32, path: &[Half], out: usize, half: Half) -> Half
+fn next_left(segments: &Embedding, e: u32, path: &Path, out: usize, half: Half) -> Half
     requires { (p : Drawn) × IsOpenedOn p segments.now e out path.now × (d : Dart) × IsLeft p.rows (half_in p) e out d half }
     ensures { (p : Drawn) → IsOpenedOn p segments.now e out path.now → (d : Dart) → IsLeft p.rows (half_in p) e out d half → (next : Dart) × IsNextLeft p.rows (half_in p) e out d next result }
 {
@@ -66,14 +68,14 @@ fn next_left(segments: &Embedding, e: u32, path: &[Half], out: usize, half: Half
     next
 }
 
-/// Whether the segment at which edge `e` is opened has one face on both sides. The faces are walked in
-/// step: they are one as soon as either walk comes to the start of the other, and two as soon as either
+/// Whether the segment at which edge `e` is opened has one face on both sides, by walks. The faces are walked
+/// in step: they are one as soon as either walk comes to the start of the other, and two as soon as either
 /// comes home.
-fn has_one_face(segments: &Embedding, e: u32, path: &[Half], segment: usize) -> bool
+fn meets_itself(segments: &Embedding, e: u32, path: &Path, segment: usize) -> bool
     requires { (p : Drawn) × IsOpenedOn p segments.now e segment path.now }
     ensures { (p : Drawn) → IsOpenedOn p segments.now e segment path.now → (IsTrue result ↔ HasOneFace p.rows e segment) }
 {
-    let half = path[segment];
+    let half = path.at(segment);
     let twin = half.twin();
     let mut left = half;
     let mut right = twin;
@@ -90,9 +92,29 @@ fn has_one_face(segments: &Embedding, e: u32, path: &[Half], segment: usize) -> 
     false
 }
 
+/// Whether the first segment of edge `e` has one face on both sides, by the labels of the faces.
+fn starts_in_one_face(segments: &Embedding, e: u32, path: &Path) -> bool
+    requires { (p : Drawn) × IsOpenedOn p segments.now e 0 path.now }
+    ensures { (p : Drawn) → IsOpenedOn p segments.now e 0 path.now → (IsTrue result ↔ HasOneFace p.rows e 0) }
+{
+    let half = path.at(0);
+    segments.same_face(half, half.twin())
+}
+
+/// Whether the segment at which edge `e` is opened has one face on both sides.
+fn has_one_face(segments: &Embedding, e: u32, path: &Path, segment: usize) -> bool
+    requires { (p : Drawn) × IsOpenedOn p segments.now e segment path.now }
+    ensures { (p : Drawn) → IsOpenedOn p segments.now e segment path.now → (IsTrue result ↔ HasOneFace p.rows e segment) }
+{
+    match segment {
+        0 => starts_in_one_face(segments, e, path),
+        _ => meets_itself(segments, e, path, segment),
+    }
+}
+
 /// The first segment of an edge with this path that has one face on both sides when those before it are
 /// out.
-pub(crate) fn first_cut(segments: &Embedding, e: u32, path: &[Half]) -> Option<u32>
+pub(crate) fn first_cut(segments: &Embedding, e: u32, path: &Path) -> Option<u32>
     requires { (p : Drawn) × IsOpenedOn p segments.now e 0 path.now }
     ensures { (p : Drawn) → IsOpenedOn p segments.now e 0 path.now → IsFirstCut p.rows e result }
 {

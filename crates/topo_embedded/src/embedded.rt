@@ -17,6 +17,7 @@ use crate::growth::grow_drawn;
 use crate::insertion::insert_drawn;
 use crate::making::{labels_of, paths_of};
 use crate::padding::Crossed;
+use crate::path::Path;
 use crate::walking::{end_of, led, place_on_path};
 use std::alloc::{AllocError, Global};
 use std::marker::Model;
@@ -36,7 +37,7 @@ use topo_map::{Embedding, Half};
 #[derive(Drop)]
 pub struct Embedded {
     rows: Rows,
-    paths: Listed<Listed<Half>>,
+    paths: Listed<Path>,
     segments: Embedding,
     hints: Hints,
 }
@@ -124,7 +125,7 @@ impl Embedded {
     {
         let edges = self.rows.edges.as_slice();
         let place = place_of_edge(edges, &self.hints, dart.edge.number());
-        self.paths.as_slice()[place].as_slice()[dart.seg as usize]
+        self.paths.as_slice()[place].at(dart.seg as usize)
     }
 
     /// The half of the next dart along the face on the left.
@@ -181,7 +182,7 @@ impl Embedded {
     {
         let label = self.segments.edge(half);
         let place = place_of_edge(self.rows.edges.as_slice(), &self.hints, label);
-        let path = self.paths.as_slice()[place].as_slice();
+        let path = &self.paths.as_slice()[place];
         let (seg, way) = place_on_path(path, half);
         let edge = EdgeId::new(label);
         Dart { edge, seg, way }
@@ -195,7 +196,7 @@ impl Embedded {
         let edges = self.rows.edges.as_slice();
         let place = place_of_edge(edges, &self.hints, e);
         let (seg, way) = end_of(&edges[place], v);
-        led(self.paths.as_slice()[place].as_slice()[seg], way)
+        led(self.paths.as_slice()[place].at(seg), way)
     }
 
     /// The half that names the corner at a position of a vertex; none where there is no such corner.
@@ -222,11 +223,7 @@ impl Embedded {
         ensures { IsFirstCut self.now.rows edge result }
     {
         let place = place_of_edge(self.rows.edges.as_slice(), &self.hints, edge);
-        first_cut(
-            &self.segments,
-            edge,
-            self.paths.as_slice()[place].as_slice(),
-        )
+        first_cut(&self.segments, edge, &self.paths.as_slice()[place])
     }
 }
 

@@ -7,6 +7,7 @@ ghost use Rattle.topo_core.specs.Picture.{corner, rotation};
 ghost use Rattle.topo_core.specs.declared.darts.Dart.{Dart};
 ghost use Rattle.topo_embedded.specs.Halves.{ShowsRows, half_in};
 
+use crate::path::Path;
 use std::alloc::{AllocError, Global};
 use std::mem;
 use topo_changes::growth::grow_rows;
@@ -20,7 +21,7 @@ use topo_map::{Embedding, Half};
 fn grow_lists(
     alloc: Global,
     rows: &mut Rows,
-    paths: &mut Vec<Listed<Half>>,
+    paths: &mut Vec<Path>,
     segments: &mut Embedding,
     named: Half,
     u: u32,
@@ -42,12 +43,11 @@ fn grow_lists(
 {
     segments.reserve(1)?;
     paths.reserve(1)?;
-    let mut path = Vec::with_capacity(alloc, 1)?;
     let edge = rows.next_edge;
     grow_rows(alloc, rows, u, position, kind)?;
     segments.laws();
-    path.push(segments.hang(named, edge)).unwrap();
-    paths.push(Listed::from_vec(path)).unwrap();
+    let half = segments.hang(named, edge);
+    paths.push(Path::of(alloc, half)).unwrap();
     Ok(())
 }
 
@@ -55,7 +55,7 @@ fn grow_lists(
 pub(crate) fn grow_drawn(
     alloc: Global,
     rows: &mut Rows,
-    paths: &mut Listed<Listed<Half>>,
+    paths: &mut Listed<Path>,
     segments: &mut Embedding,
     hints: &mut Hints,
     named: Half,

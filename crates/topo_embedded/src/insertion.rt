@@ -12,7 +12,8 @@ ghost use Rattle.topo_embedded.specs.Halves.{Drawn, ShowsRows};
 ghost use Rattle.topo_embedded.specs.Inserting.{put_halves};
 ghost use Rattle.topo_embedded.specs.Padding.{ArePadded, ArePlaced};
 
-use crate::padding::{Crossed, pad, put_on_path, unpad};
+use crate::padding::{Crossed, pad, put_beside, unpad};
+use crate::path::Path;
 use std::alloc::{AllocError, Global};
 use std::mem;
 use topo_changes::insertion::apply_rows;
@@ -23,12 +24,7 @@ use topo_frozen::Hints;
 use topo_map::{Embedding, Half};
 
 /// Splits the segments of the crossed darts, the last one first.
-fn split_crossed(
-    alloc: Global,
-    paths: &mut [Listed<Half>],
-    segments: &mut Embedding,
-    crossed: &mut [Crossed],
-)
+fn split_crossed(paths: &mut [Path], segments: &mut Embedding, crossed: &mut [Crossed])
     ghost p: { Drawn }
     requires ready { IsReady p segments.old crossed.old paths.old }
     requires room { length crossed.old ≤ segments.old.room }
@@ -44,7 +40,7 @@ fn split_crossed(
         n -= 1;
         let cross = crossed[n];
         let beyond = segments.split(cross.near);
-        put_on_path(alloc, &mut paths[cross.place], cross.near, beyond);
+        put_beside(&mut paths[cross.place], cross.near, beyond);
         crossed[n] = Crossed { beyond, ..cross };
     }
 }
@@ -69,7 +65,7 @@ fn draw(
     start: Half,
     end: Half,
     edge: u32,
-    line: &mut [Half],
+    line: &mut Path,
 )
     requires start { is_live segments.old start ≡ true }
     requires end { is_live segments.old end ≡ true }
@@ -84,46 +80,45 @@ fn draw(
     while n > 0 {
         n -= 1;
         let cross = crossed[n];
-        line[n + 1] = segments.chord(cross.near.twin(), to, edge);
+        line.set(n + 1, segments.chord(cross.near.twin(), to, edge));
         to = cross.beyond;
     }
-    line[0] = segments.chord(start, to, edge);
+    line.set(0, segments.chord(start, to, edge));
 }
 
-/// The memory that an insertion takes: room for segments, and for halves in the lists of the crossed edges,
-/// and a list for the new edge.
+/// The memory that an insertion takes: room for segments, and for halves in the paths of the crossed edges,
+/// and a path for the new edge.
 fn make_room(
     alloc: Global,
-    paths: &mut Vec<Listed<Half>>,
+    paths: &mut Vec<Path>,
     segments: &mut Embedding,
     crossed: &[Crossed],
-) -> Result<Vec<Half>, AllocError>
+) -> Result<Path, AllocError>
     requires few { length crossed.now < 2 ^ 32 }
     requires placed { ArePlaced (length paths.old.items) crossed.now }
     ensures slots { segments.new.slots ≡ segments.old.slots }
     ensures room { OnOk result (2 * length crossed.now + 1 ≤ segments.new.room) }
-    ensures line { IfOk result (λ line. length line.items ≡ length crossed.now + 1) }
+    ensures line { IfOk result (λ line. length line ≡ length crossed.now + 1) }
     ensures padded { OnOk result (ArePadded (λ hs. hs) paths.old.items crossed.now paths.new.items) }
     ensures capacity { OnOk result (vec_len paths.new < vec_capacity paths.new) }
     ensures err { OnErr result (paths.new.items ≡ paths.old.items) }
 {
     segments.reserve(2 * crossed.len() + 1)?;
     paths.reserve(1)?;
-    let mut line = Vec::new(alloc);
-    line.resize(crossed.len() + 1, Half::numbered(0))?;
-    pad(alloc, paths, crossed)?;
-    Ok(line)
+    let mut others = Vec::new(alloc);
+    others.resize(crossed.len(), Half::numbered(0))?;
+    pad(paths, crossed)?;
+    Ok(Path::new(Half::numbered(0), others))
 }
 
 /// Puts the new edge into the embedding.
 fn draw_route(
-    alloc: Global,
-    paths: &mut [Listed<Half>],
+    paths: &mut [Path],
     segments: &mut Embedding,
     crossed: &mut [Crossed],
     corners: (Half, Half),
     edge: u32,
-    line: &mut [Half],
+    line: &mut Path,
 )
     ghost p: { Drawn }
     requires ready { IsReady p segments.old crossed.old paths.old }
@@ -137,7 +132,7 @@ fn draw_route(
     ensures routed { IsRouted p segments.old segments.new crossed.new corners.0 corners.1 edge line.new }
 {
     segments.laws();
-    split_crossed(alloc, paths, segments, crossed);
+    split_crossed(paths, segments, crossed);
     let start = bent(crossed, corners.0);
     let end = bent(crossed, corners.1);
     draw(segments, crossed, start, end, edge, line);
@@ -147,7 +142,7 @@ fn draw_route(
 fn insert_lists(
     alloc: Global,
     rows: &mut Rows,
-    paths: &mut Vec<Listed<Half>>,
+    paths: &mut Vec<Path>,
     segments: &mut Embedding,
     hints: &Hints,
     crossed: &mut [Crossed],
@@ -169,12 +164,12 @@ fn insert_lists(
     let edge = rows.next_edge;
     let mut line = make_room(alloc, paths, segments, crossed)?;
     if apply_rows(alloc, rows, hints, ends.0, ends.1, kind, route).is_err() {
-        unpad(alloc, paths, crossed);
+        unpad(paths, crossed);
         return Err(AllocError);
     }
     segments.laws();
-    draw_route(alloc, paths, segments, crossed, corners, edge, &mut line);
-    paths.push(Listed::from_vec(line)).unwrap();
+    draw_route(paths, segments, crossed, corners, edge, &mut line);
+    paths.push(line).unwrap();
     Ok(())
 }
 
@@ -182,7 +177,7 @@ fn insert_lists(
 pub(crate) fn insert_drawn(
     alloc: Global,
     rows: &mut Rows,
-    paths: &mut Listed<Listed<Half>>,
+    paths: &mut Listed<Path>,
     segments: &mut Embedding,
     hints: &mut Hints,
     crossed: &mut [Crossed],

@@ -5,6 +5,7 @@ ghost use Rattle.topo_core.specs.Picture.{darts_of, segment_count};
 ghost use Rattle.topo_embedded.specs.Making.{ArePathsOf, IsPathOf, labels_of};
 ghost use Rattle.topo_frozen.specs.Flats.{begins_from};
 
+use crate::path::Path;
 use std::alloc::{AllocError, Global};
 use topo_core::listed::Listed;
 use topo_core::rows::EdgeRow;
@@ -22,21 +23,21 @@ pub(crate) fn labels_of(alloc: Global, edges: &[EdgeRow]) -> Result<Vec<u32>, Al
     Ok(labels)
 }
 
-/// The first half of each of so many segments.
+/// The first half of each segment of an edge with so many crossings.
 fn path_of(
     alloc: Global,
     halves: &[Half],
     begin: usize,
-    many: usize,
-) -> Result<Listed<Half>, AllocError>
-    requires fits { begin + 2 * many ≤ length halves.now }
-    ensures { IfOk result (IsPathOf halves.now begin many) }
+    crossings: usize,
+) -> Result<Path, AllocError>
+    requires fits { begin + 2 * (crossings + 1) ≤ length halves.now }
+    ensures { IfOk result (IsPathOf halves.now begin (crossings + 1)) }
 {
-    let mut path = Vec::with_capacity(alloc, many)?;
-    for i in 0..many {
-        path.push(halves[begin + 2 * i])?;
+    let mut others = Vec::with_capacity(alloc, crossings)?;
+    for i in 0..crossings {
+        others.push(halves[begin + 2 + 2 * i])?;
     }
-    Ok(Listed::from_vec(path))
+    Ok(Path::new(halves[begin], others))
 }
 
 /// The halves along each edge, where the darts of the edges begin as said.
@@ -45,15 +46,15 @@ pub(crate) fn paths_of(
     edges: &[EdgeRow],
     begins: &[u32],
     halves: &[Half],
-) -> Result<Listed<Listed<Half>>, AllocError>
+) -> Result<Listed<Path>, AllocError>
     requires begins { begins.now ≡ begins_from 0 edges.now }
     requires halves { length halves.now ≡ length (flat_map darts_of edges.now) }
     ensures { IfOk result (ArePathsOf edges.now begins.now halves.now (length edges.now)) }
 {
     let mut paths = Vec::with_capacity(alloc, edges.len())?;
     for place in 0..edges.len() {
-        let many = edges[place].crossings.as_slice().len() + 1;
-        let path = path_of(alloc, halves, begins[place] as usize, many)?;
+        let crossings = edges[place].crossings.as_slice().len();
+        let path = path_of(alloc, halves, begins[place] as usize, crossings)?;
         paths.push(path)?;
     }
     Ok(Listed::from_vec(paths))

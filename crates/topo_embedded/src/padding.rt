@@ -1,14 +1,13 @@
-//! Lists of halves with room for more: a half is put at the end of each list ahead of time, and one that
+//! Paths with room for more: a half is put at the end of each path ahead of time, and one that
 //! goes in at another place takes its room.
 
 ghost use Rattle.std.specs.Prelude.{◌≡◌, ◌≤◌, ℕ, List, [], ◌∷◌, ◌++◌, OnErr, OnOk, drop, length, take};
 ghost use Rattle.topo_embedded.specs.Inserting.{piece};
 ghost use Rattle.topo_embedded.specs.Padding.{AreOff, ArePadded, ArePlaced, IsOn, shifted};
 
-use std::alloc::{AllocError, Global};
-use std::mem;
+use crate::path::Path;
+use std::alloc::AllocError;
 use topo_core::darts::Dart;
-use topo_core::listed::Listed;
 use topo_map::Half;
 
 /// A dart that a new edge crosses: the place of its edge among the edges, its half, and the half that goes
@@ -40,7 +39,7 @@ impl Crossed {
 
 /// Puts one more half at the end of the list of each crossed dart, as far as there is memory, and answers
 /// for how many.
-fn pad_some(paths: &mut [Listed<Half>], crossed: &[Crossed]) -> usize
+fn pad_some(paths: &mut [Path], crossed: &[Crossed]) -> usize
     requires { ArePlaced (length paths.old) crossed.now }
     ensures within { result ≤ length crossed.now }
     ensures padded { ArePadded (λ hs. hs) paths.old (take result crossed.now) paths.new }
@@ -53,67 +52,55 @@ fn pad_some(paths: &mut [Listed<Half>], crossed: &[Crossed]) -> usize
     crossed.len()
 }
 
-/// Takes the last half out of a list.
-fn drop_last(alloc: Global, path: &mut Listed<Half>)
-    ensures { (xs : List ℕ) (x : ℕ) → path.old ≡ xs ++ x ∷ [] → path.new ≡ xs }
-{
-    let mut halves = mem::replace(path, Listed::new(alloc)).into_vec();
-    let _last = halves.pop();
-    *path = Listed::from_vec(halves);
-}
-
 /// Takes the halves out again that were put at the ends.
-pub(crate) fn unpad(alloc: Global, paths: &mut [Listed<Half>], crossed: &[Crossed])
+pub(crate) fn unpad(paths: &mut [Path], crossed: &[Crossed])
     requires { ArePlaced (length paths.old) crossed.now }
     ensures { (was : List (List ℕ)) → ArePadded (λ hs. hs) was crossed.now paths.old → paths.new ≡ was }
 {
     let mut n = crossed.len();
     while n > 0 {
         n -= 1;
-        drop_last(alloc, &mut paths[crossed[n].place]);
+        paths[crossed[n].place].drop_last();
     }
 }
 
 /// Puts one more half at the end of the list of each crossed dart, or leaves all as they were.
-pub(crate) fn pad(
-    alloc: Global,
-    paths: &mut [Listed<Half>],
-    crossed: &[Crossed],
-) -> Result<(), AllocError>
+pub(crate) fn pad(paths: &mut [Path], crossed: &[Crossed]) -> Result<(), AllocError>
     requires { ArePlaced (length paths.old) crossed.now }
     ensures ok { OnOk result (ArePadded (λ hs. hs) paths.old crossed.now paths.new) }
     ensures err { OnErr result (paths.new ≡ paths.old) }
 {
     let done = pad_some(paths, crossed);
     if done < crossed.len() {
-        unpad(alloc, paths, &crossed[..done]);
+        unpad(paths, &crossed[..done]);
         return Err(AllocError);
     }
     Ok(())
 }
 
 /// Puts a half at a place of a list. What was from there on moves up by one, and the last half goes.
-fn shift_in(path: &mut [Half], at: usize, half: Half)
+fn shift_in(path: &mut Path, at: usize, half: Half)
     ensures { path.new ≡ take at path.old ++ shifted half (drop at path.old) }
 {
     let mut carried = half;
     for i in at..path.len() {
-        let next = path[i];
-        path[i] = carried;
+        let next = path.at(i);
+        path.set(i, carried);
         carried = next;
     }
 }
 
 /// The first place of a half or its twin in a list; its length where there is none.
-fn place_on(path: &[Half], half: Half) -> usize
+fn place_on(path: &Path, half: Half) -> usize
     ensures { (xs ys : List ℕ) (h : ℕ) → path.now ≡ xs ++ h ∷ ys → AreOff half xs → IsOn half h → result ≡ length xs }
 {
     let back = half.twin();
     for i in 0..path.len() {
-        if path[i] == half {
+        let along = path.at(i);
+        if along == half {
             return i;
         }
-        if path[i] == back {
+        if along == back {
             return i;
         }
     }
@@ -122,24 +109,15 @@ fn place_on(path: &[Half], half: Half) -> usize
 
 /// Puts the half that goes on beyond a half of the list next to it, on the side where it leads. The last half
 /// of the list goes.
-fn put_beside(path: &mut [Half], near: Half, beyond: Half)
+pub(crate) fn put_beside(path: &mut Path, near: Half, beyond: Half)
     ensures { (xs ys : List ℕ) (h last : ℕ) → path.old ≡ xs ++ h ∷ (ys ++ last ∷ []) → AreOff near xs → IsOn near h → path.new ≡ xs ++ (piece (record { dart = 0; near = near; beyond = beyond }) h ++ ys) }
 {
     let at = place_on(path, near);
     if at < path.len() {
-        if path[at] == near {
+        if path.at(at) == near {
             shift_in(path, at + 1, beyond);
         } else {
             shift_in(path, at, beyond.twin());
         }
     }
-}
-
-/// As `put_beside`, in the list of an edge.
-pub(crate) fn put_on_path(alloc: Global, path: &mut Listed<Half>, near: Half, beyond: Half)
-    ensures { (xs ys : List ℕ) (h last : ℕ) → path.old ≡ xs ++ h ∷ (ys ++ last ∷ []) → AreOff near xs → IsOn near h → path.new ≡ xs ++ (piece (record { dart = 0; near = near; beyond = beyond }) h ++ ys) }
-{
-    let mut halves = mem::replace(path, Listed::new(alloc)).into_vec();
-    put_beside(&mut halves, near, beyond);
-    *path = Listed::from_vec(halves);
 }

@@ -9,6 +9,7 @@ ghost use Rattle.topo_embedded.specs.Walking.{IsOnPath, end_seg, end_way, named_
 ghost use Rattle.topo_route.specs.Names.{IsNamed};
 
 use crate::embedded::Embedded;
+use crate::path::Path;
 use std::marker::Model;
 use topo_core::darts::{Dart, Way};
 use topo_core::rows::{EdgeRow, Facts};
@@ -16,7 +17,7 @@ use topo_map::Half;
 use topo_route::walked::Walked;
 
 /// Where a half lies on the path of its edge, and which way it leads along it.
-pub(crate) fn place_on_path(path: &[Half], half: Half) -> (u32, Way)
+pub(crate) fn place_on_path(path: &Path, half: Half) -> (u32, Way)
     requires there { IsOnPath path.now half }
     requires few { length path.now < 2 ^ 32 }
     ensures within { result.0 < length path.now }
@@ -24,10 +25,11 @@ pub(crate) fn place_on_path(path: &[Half], half: Half) -> (u32, Way)
 {
     let back = half.twin();
     for seg in 0..path.len() {
-        if path[seg] == half {
+        let along = path.at(seg);
+        if along == half {
             return (seg as u32, Way::Forward);
         }
-        if path[seg] == back {
+        if along == back {
             return (seg as u32, Way::Back);
         }
     }

@@ -1,4 +1,4 @@
-use Rattle.std.proofs.Common.{◌≡◌, ◌<◌, ◌-◌, ap, arith, inl, inr, refl, sym, true, false, ℕ, ◌∙◌}
+use Rattle.std.proofs.Common.{◌≡◌, ◌-◌, arith, inl, inr, refl, sym, true, false, ℕ, ◌∙◌}
 use Rattle.std.specs.Prelude.{nat_lt}
 use Rattle.std.proofs.lemmas.Bool.{cases_lt}
 use Rattle.std.proofs.lemmas.Bool.Decides.{nat_tests}

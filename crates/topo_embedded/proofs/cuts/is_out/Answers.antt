@@ -1,5 +1,4 @@
 use Rattle.std.proofs.Common.{◌≡◌, ap, subst, sym, ℕ, ◌∙◌}
-use Rattle.topo_core.specs.declared.darts.Dart.{Dart}
 use Rattle.topo_core.specs.Openings.{is_opened}
 use Rattle.topo_embedded.specs.Cutting.{IsDartBeside}
 use Rattle.topo_embedded.proofs.FaceWalks.{alive, label_is, on_other_edge}

@@ -3,14 +3,14 @@ use Rattle.std.specs.Prelude.{if◌then◌else◌, is_ok}
 use Rattle.topo_embedded.proofs.Grown.{corner_alive, grown_drawn}
 use Rattle.topo_embedded.proofs.growth.grow_lists.Goals as goal
 
-pub hang-requires-clause-live : goal.hang-requires-clause-live
-hang-requires-clause-live c =
+pub hang-half-requires-clause-live : goal.hang-half-requires-clause-live
+hang-half-requires-clause-live c =
     corner_alive (record { rows = c.args.rows.now; paths = c.args.paths.now.items }) c.requires.formed c.args.segments.now c.reserve.new.self c.in_ok-reserve.ensures.same c.requires.shows c.args.u c.args.position c.args.named c.requires.vertex c.requires.position c.requires.named
 
 pub returns-clause-shows : goal.returns-clause-shows
 returns-clause-shows c =
-    grown_drawn c.args.rows.now c.requires.formed c.args.u c.args.position c.args.kind c.requires.vertex c.requires.position c.requires.known c.args.paths.now.items c.args.segments.now c.reserve.new.self c.hang.new.self c.requires.shows c.in_ok-reserve.ensures.same
-    c.laws.ensures c.args.named c.hang.result c.requires.named c.hang.ensures.edit c.hang.ensures.grows c.hang.ensures.label
-    c.grow_rows.new.rows c.from_vec.result c.push-2.new.self.items c.in_ok-grow_rows.ensures.ok
-    (c.from_vec.ensures ∙ c.push.ensures.items ∙ ap (λ (b : Bool). if b then (c.in_ok-path.path.items ++ c.hang.result ∷ []) else c.in_ok-path.path.items) (ap is_ok c.unwrap.ensures) ∙ ap (λ (xs : List ℕ). xs ++ c.hang.result ∷ []) c.in_ok-path.ensures.items)
-    (c.push-2.ensures.items ∙ ap (λ (b : Bool). if b then (c.reserve-2.new.self.items ++ c.from_vec.result ∷ []) else c.reserve-2.new.self.items) (ap is_ok c.unwrap-2.ensures) ∙ ap (λ (ps : List (List ℕ)). ps ++ c.from_vec.result ∷ []) c.in_ok-reserve-2.ensures.items)
+    grown_drawn c.args.rows.now c.requires.formed c.args.u c.args.position c.args.kind c.requires.vertex c.requires.position c.requires.known c.args.paths.now.items c.args.segments.now c.reserve.new.self c.hang-half.new.self c.requires.shows c.in_ok-reserve.ensures.same
+    c.laws.ensures c.args.named c.hang-half.result c.requires.named c.hang-half.ensures.edit c.hang-half.ensures.grows c.hang-half.ensures.label
+    c.grow_rows.new.rows c.of.result c.push.new.self.items c.in_ok-grow_rows.ensures.ok
+    c.of.ensures
+    (c.push.ensures.items ∙ ap (λ (b : Bool). if b then (c.reserve-2.new.self.items ++ c.of.result ∷ []) else c.reserve-2.new.self.items) (ap is_ok c.unwrap.ensures) ∙ ap (λ (ps : List (List ℕ)). ps ++ c.of.result ∷ []) c.in_ok-reserve-2.ensures.items)

@@ -53,7 +53,7 @@ draw_route-requires g c =
           start_alive g.p c.args.segments.now c.args.crossed.now c.args.ends.0 c.args.ends.1 c.args.kind c.args.route.now c.args.corners.0 c.args.corners.1 ready c.make_room.new.segments slots,
           (
             end_alive g.p c.args.segments.now c.args.crossed.now c.args.ends.0 c.args.ends.1 c.args.kind c.args.route.now c.args.corners.0 c.args.corners.1 ready c.make_room.new.segments slots,
-            ap (λ (hs : List ℕ). length hs) c.deref_mut-3.ensures.value ∙ c.in_ok-line.ensures.line,
+            c.in_ok-line.ensures.line,
           ),
         ),
       ),
@@ -65,10 +65,8 @@ returns-clause-shows g c =
     let rows : c.apply_rows.new.rows ≡ shown g.p.rows c.args.ends.0 c.args.ends.1 c.args.kind c.args.route.now =
     when_ok c.apply_rows.result (sym c.if-is_err.ensures.value) c.apply_rows.ensures.ok ∙ ap (λ (q : Drawn). shown q.rows c.args.ends.0 c.args.ends.1 c.args.kind c.args.route.now) (sym c.requires.0) in
     let long : length c.draw_route.new.paths ≡ vec_len c.make_room.new.paths = c.draw_route.auto.paths ∙ c.deref_mut-2.ensures.len in
-    let line_long : length c.draw_route.new.line ≡ vec_len c.in_ok-line.line = c.draw_route.auto.line ∙ c.deref_mut-3.ensures.len in
     let items : List (List ℕ) = take (vec_len c.make_room.new.paths) (c.draw_route.new.paths ++ drop (length c.draw_route.new.paths) c.make_room.new.paths.items) in
     inserted_drawn g.p c.args.segments.now c.make_room.new.segments c.draw_route.new.segments c.args.crossed.now c.draw_route.new.crossed c.args.ends.0 c.args.ends.1 c.args.kind c.args.route.now c.args.corners.0 c.args.corners.1 c.args.rows.now.next_edge ready
-    c.make_room.ensures.slots c.laws.ensures c.draw_route.ensures.darts c.draw_route.ensures.marked c.draw_route.new.line c.from_vec.result c.apply_rows.new.rows c.draw_route.new.paths c.push.new.self.items
+    c.make_room.ensures.slots c.laws.ensures c.draw_route.ensures.darts c.draw_route.ensures.marked c.draw_route.new.line c.apply_rows.new.rows c.draw_route.new.paths c.push.new.self.items
     (ap (λ (q : Drawn). q.rows.next_edge) (sym c.requires.0)) c.draw_route.ensures.routed rows c.draw_route.ensures.paths
-    (c.from_vec.ensures ∙ take_at c.draw_route.new.line _ _ line_long)
-    (c.push.ensures.items ∙ ap (λ (b : Bool). if b then (items ++ c.from_vec.result ∷ []) else items) (ap is_ok c.unwrap.ensures) ∙ ap (λ (ps : List (List ℕ)). ps ++ c.from_vec.result ∷ []) (take_at c.draw_route.new.paths (drop (length c.draw_route.new.paths) c.make_room.new.paths.items) _ long))
+    (c.push.ensures.items ∙ ap (λ (b : Bool). if b then (items ++ c.draw_route.new.line ∷ []) else items) (ap is_ok c.unwrap.ensures) ∙ ap (λ (ps : List (List ℕ)). ps ++ c.draw_route.new.line ∷ []) (take_at c.draw_route.new.paths (drop (length c.draw_route.new.paths) c.make_room.new.paths.items) _ long))

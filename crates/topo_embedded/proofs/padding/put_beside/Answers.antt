@@ -6,14 +6,14 @@ use Rattle.topo_embedded.proofs.padding.put_beside.Goals as goal
 pub returns-then-eq : goal.returns-then-eq
 returns-then-eq c = λ xs ys h last is off on.
     let at : c.place_on-at.result ≡ length xs = c.place_on-at.ensures xs (ys ++ last ∷ []) h is off on in
-    let same : c.index-path-at.result ≡ c.args.near = search rules in
-    let here : c.index-path-at.result ≡ h = c.index-path-at.is ∙ ap (λ (p : List ℕ). get_or p c.place_on-at.result c.index-path-at.result) is ∙ ap (λ (k : ℕ). get_or (xs ++ h ∷ (ys ++ last ∷ [])) k c.index-path-at.result) at ∙ at_seam xs (ys ++ last ∷ []) h c.index-path-at.result in
+    let same : c.at.result ≡ c.args.near = search rules in
+    let here : c.at.result ≡ h = c.at.ensures ∙ ap (λ (p : List ℕ). get_or p c.place_on-at.result 0) is ∙ ap (λ (k : ℕ). get_or (xs ++ h ∷ (ys ++ last ∷ [])) k 0) at ∙ at_seam xs (ys ++ last ∷ []) h 0 in
     put_ahead c.args.near c.args.beyond c.args.path.now xs ys c.shift_in.new.path h last c.place_on-at.result is at (sym here ∙ same) c.shift_in.ensures
 
 pub returns-else-eq : goal.returns-else-eq
 returns-else-eq c = λ xs ys h last is off on.
     let at : c.place_on-at.result ≡ length xs = c.place_on-at.ensures xs (ys ++ last ∷ []) h is off on in
-    let other : c.index-path-at.result ≢ c.args.near = (λ e. search (rules, e)) in
-    let here : c.index-path-at.result ≡ h = c.index-path-at.is ∙ ap (λ (p : List ℕ). get_or p c.place_on-at.result c.index-path-at.result) is ∙ ap (λ (k : ℕ). get_or (xs ++ h ∷ (ys ++ last ∷ [])) k c.index-path-at.result) at ∙ at_seam xs (ys ++ last ∷ []) h c.index-path-at.result in
+    let other : c.at.result ≢ c.args.near = (λ e. search (rules, e)) in
+    let here : c.at.result ≡ h = c.at.ensures ∙ ap (λ (p : List ℕ). get_or p c.place_on-at.result 0) is ∙ ap (λ (k : ℕ). get_or (xs ++ h ∷ (ys ++ last ∷ [])) k 0) at ∙ at_seam xs (ys ++ last ∷ []) h 0 in
     put_behind c.args.near c.args.beyond c.args.path.now xs ys c.shift_in-else-eq.new.path h last c.place_on-at.result is at (λ e. other (here ∙ e)) on
     (c.shift_in-else-eq.ensures ∙ ap (λ (b : ℕ). take c.place_on-at.result c.args.path.now ++ shifted b (drop c.place_on-at.result c.args.path.now)) c.twin.ensures)

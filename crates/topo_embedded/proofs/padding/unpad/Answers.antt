@@ -22,13 +22,13 @@ loop-n-preserved c =
     let placed : cross.place < length c.args.paths.now = c.requires n d less in
     record {
       within = omega (arith, c.loop-n.invariant.within);
-      many = length-set c.loop-n.paths cross.place c.drop_last.new.path ∙ c.loop-n.invariant.many;
+      many = length-set c.loop-n.paths cross.place c.drop_last.new.self ∙ c.loop-n.invariant.many;
       padded = λ was p.
           let here = c.loop-n.invariant.padded was p in
           let long : length c.args.paths.now ≡ length was = p.as_many in
-          pad_less was c.loop-n.paths (set c.loop-n.paths cross.place c.drop_last.new.path) c.args.crossed.now n cross c.drop_last.new.path
+          pad_less was c.loop-n.paths (set c.loop-n.paths cross.place c.drop_last.new.self) c.args.crossed.now n cross c.drop_last.new.self
           (subst (λ (k : ℕ). ArePadded (λ hs. hs) was (take k c.args.crossed.now) c.loop-n.paths) more here) less (get_or_default c.args.crossed.now n d cross less) (omega (arith, placed, long)) refl
-          (λ xs x is. c.drop_last.ensures xs x (get_or_default c.loop-n.paths cross.place c.index-paths-crossed.result [] (omega (arith, placed, c.loop-n.invariant.many)) ∙ is));
+          (λ xs x held is. c.drop_last.ensures xs x held (get_or_default c.loop-n.paths cross.place c.index-paths-crossed.result [] (omega (arith, placed, c.loop-n.invariant.many)) ∙ is));
     }
 
 pub returns : goal.returns
