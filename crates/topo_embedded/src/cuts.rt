@@ -98,7 +98,8 @@ fn starts_in_one_face(segments: &Embedding, e: u32, path: &Path) -> bool
     ensures { (p : Drawn) → IsOpenedOn p segments.now e 0 path.now → (IsTrue result ↔ HasOneFace p.rows e 0) }
 {
     let half = path.at(0);
-    segments.same_face(half, half.twin())
+    let twin = half.twin();
+    segments.same_face(half, twin)
 }
 
 /// Whether the segment at which edge `e` is opened has one face on both sides.

@@ -1,4 +1,4 @@
-//! Where things are looked for first.
+//! Tables of the places of edges and crossings, by their ids.
 
 use crate::by_id::Identified;
 use std::alloc::{AllocError, Global};

@@ -122,7 +122,7 @@ fn show<F: Asks, K: Naming<F>, W: Shelf<F, K>, R: Wait>(
     };
     let entry = next.entry();
     let version = version_after::<F, K>(alloc, front, entry, picture)?;
-    writer.publish(rt, &version)?;
+    writer.publish(rt, version)?;
     if !front.add(head, entry) {
         wait_forever(rt);
     }

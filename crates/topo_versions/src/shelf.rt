@@ -20,9 +20,9 @@ pub trait Shelf<F: Asks, K: Naming<F>> {
         ensures { result.now.entries ≡ published self.now };
 
     /// Publishes a version that goes on from the one before. After want of memory it is as it was.
-    fn publish<R: Wait>(&mut self, rt: &R, next: &Version<F, K>) -> Result<(), AllocError>
-        requires { IsPrefix (published self.old) next.now.entries }
-        ensures ok { OnOk result (published self.new ≡ next.now.entries) }
+    fn publish<R: Wait>(&mut self, rt: &R, next: Version<F, K>) -> Result<(), AllocError>
+        requires { IsPrefix (published self.old) next.entries }
+        ensures ok { OnOk result (published self.new ≡ next.entries) }
         ensures err { OnErr result (published self.new ≡ published self.old) };
 
     /// Ends it.

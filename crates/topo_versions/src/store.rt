@@ -131,12 +131,11 @@ impl<F: Asks + Drop, K: Naming<F>> Shelf<F, K> for StoreWriter<F, K> {
         self.published()
     }
 
-    fn publish<R: Wait>(&mut self, rt: &R, next: &Version<F, K>) -> Result<(), AllocError>
-        requires { IsPrefix self.old.desk.shown.value.entries next.now.entries }
-        ensures ok { OnOk result (self.new.desk.shown.value.entries ≡ next.now.entries) }
+    fn publish<R: Wait>(&mut self, rt: &R, next: Version<F, K>) -> Result<(), AllocError>
+        requires { IsPrefix self.old.desk.shown.value.entries next.entries }
+        ensures ok { OnOk result (self.new.desk.shown.value.entries ≡ next.entries) }
         ensures err { OnErr result (self.new.desk.shown.value.entries ≡ self.old.desk.shown.value.entries) }
     {
-        let next = next.again()?;
         replace_with(self, next, |writer, next| publish_whole(rt, writer, next))
     }
 

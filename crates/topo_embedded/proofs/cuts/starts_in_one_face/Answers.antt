@@ -16,11 +16,11 @@ same_face-requires-clause-live c = let (p, o) = c.requires in first_alive p c.ar
 pub same_face-requires-clause-live_other : goal.same_face-requires-clause-live_other
 same_face-requires-clause-live_other c =
     let (p, o) = c.requires in
-    subst (λ h. is_live c.args.segments.now h ≡ true) (sym c.twin.ensures) (first_twin_alive p c.args.segments.now c.args.e c.args.path.now o c.at-half.result c.at-half.ensures)
+    subst (λ h. is_live c.args.segments.now h ≡ true) (sym c.twin-twin.ensures) (first_twin_alive p c.args.segments.now c.args.e c.args.path.now o c.at-half.result c.at-half.ensures)
 
 pub returns : goal.returns
 returns c = λ p o.
     let r = c.args.segments.now in
     let told = first_told p r c.args.e c.args.path.now o c.at-half.result c.at-half.ensures in
-    let same = subst (λ h. IsTrue c.same_face.result ↔ SameCycle (face_next (turn r)) c.at-half.result h) c.twin.ensures c.same_face.ensures in
+    let same = subst (λ h. IsTrue c.same_face.result ↔ SameCycle (face_next (turn r)) c.at-half.result h) c.twin-twin.ensures c.same_face.ensures in
     (λ w. told.0 (same.0 w), λ one. same.1 (told.1 one))
