@@ -1,7 +1,6 @@
 //! What lies under the lock.
 
 ghost use Rattle.std.specs.Prelude.{◌≡◌, ◌≢◌, ◌+◌, ◌<◌, ◌^◌, ◌∷◌, ◌++◌, [], length, is_ok, if◌then◌else◌, IfOk, IfSome, OnOk, OnErr, Some, true};
-ghost use Rattle.std.specs.Arc.{arc_value};
 ghost use Rattle.topo_core.specs.History.{IsPrefix, IsVersion, Replays, is_accepted, versions};
 ghost use Rattle.topo_core.specs.Routes.{IsFirst};
 ghost use Rattle.topo_core.specs.Steps.{Step};
@@ -23,9 +22,8 @@ use std::sync::ledger::{Book as Tally, Share};
 use std::sync::{Arc, Wait};
 use topo_book::{Book, Hint, Next};
 use topo_core::calls::{Call, Entry};
-use topo_picture::Picture;
 use topo_price::tariff::Asks;
-use topo_versions::{Front, Glass, Head, Lends, Naming, Shelf, Version};
+use topo_versions::{Front, Glass, Head, Lends, Naming, Shelf};
 
 /// The book, the number of its calls, and the versions. Contracts see the book.
 ///
@@ -85,21 +83,6 @@ fn make_ready<F: Asks>(
     }
 }
 
-/// The version after one entry more, with a share of the picture that it leads to.
-fn version_after<F: Asks, K: Naming<F>>(
-    alloc: Global,
-    front: &Front<K>,
-    entry: &Entry,
-    picture: &Arc<Picture>,
-) -> Result<Version<F, K>, AllocError>
-    requires room { length front.now + 1 < 2 ^ 64 }
-    requires follows { IsVersionFrom (prices_named F.answers K.closure) K.start (front.now ++ entry.now ∷ []) (arc_value picture.now) }
-    ensures { IfOk result (λ v. v.entries ≡ front.now ++ entry.now ∷ []) }
-{
-    let share = Arc::try_clone(picture)?;
-    Version::after(alloc, front.again(), entry.copy(alloc)?, share)
-}
-
 /// Publishes the version after a call that was made ready, where it is accepted. After want of memory
 /// nothing has changed.
 fn show<F: Asks, K: Naming<F>, W: Shelf<F, K>, R: Wait>(
@@ -121,8 +104,7 @@ fn show<F: Asks, K: Naming<F>, W: Shelf<F, K>, R: Wait>(
         return Ok(());
     };
     let entry = next.entry();
-    let version = version_after::<F, K>(alloc, front, entry, picture)?;
-    writer.publish(rt, version)?;
+    writer.publish(rt, alloc, front, entry, picture)?;
     if !front.add(head, entry) {
         wait_forever(rt);
     }

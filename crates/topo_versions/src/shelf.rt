@@ -1,13 +1,19 @@
 //! What a service asks of its version store.
 
-ghost use Rattle.std.specs.Prelude.{◌≡◌, List, [], length, IfSome, IfOk, OnOk, OnErr, true};
+ghost use Rattle.std.specs.Prelude.{◌≡◌, ◌+◌, ◌<◌, ◌^◌, ◌++◌, ◌∷◌, List, [], length, IfSome, IfOk, OnOk, OnErr, true};
+ghost use Rattle.std.specs.Arc.{arc_value};
 ghost use Rattle.topo_core.specs.History.{IsPrefix};
 ghost use Rattle.topo_core.specs.declared.calls.Entry.{Entry};
+ghost use Rattle.topo_versions.specs.Names.{prices_named};
+ghost use Rattle.topo_versions.specs.Versions.{IsVersionFrom};
 
+use crate::front::Front;
 use crate::naming::Naming;
 use crate::version::Version;
-use std::alloc::AllocError;
-use std::sync::Wait;
+use std::alloc::{AllocError, Global};
+use std::sync::{Arc, Wait};
+use topo_core::calls::Entry;
+use topo_picture::Picture;
 use topo_price::tariff::Asks;
 
 /// What publishes versions.
@@ -19,10 +25,20 @@ pub trait Shelf<F: Asks, K: Naming<F>> {
     fn current(&self) -> &Version<F, K>
         ensures { result.now.entries ≡ published self.now };
 
-    /// Publishes a version that goes on from the one before. After want of memory it is as it was.
-    fn publish<R: Wait>(&mut self, rt: &R, next: Version<F, K>) -> Result<(), AllocError>
-        requires { IsPrefix (published self.old) next.entries }
-        ensures ok { OnOk result (published self.new ≡ next.entries) }
+    /// Publishes the version after one entry more, with the picture that it leads to. After want of
+    /// memory it is as it was.
+    fn publish<R: Wait>(
+        &mut self,
+        rt: &R,
+        alloc: Global,
+        front: &Front<K>,
+        entry: &Entry,
+        picture: &Arc<Picture>,
+    ) -> Result<(), AllocError>
+        requires goes_on { published self.old ≡ front.now }
+        requires room { length front.now + 1 < 2 ^ 64 }
+        requires follows { IsVersionFrom (prices_named F.answers K.closure) K.start (front.now ++ entry.now ∷ []) (arc_value picture.now) }
+        ensures ok { OnOk result (published self.new ≡ front.now ++ entry.now ∷ []) }
         ensures err { OnErr result (published self.new ≡ published self.old) };
 
     /// Ends it.

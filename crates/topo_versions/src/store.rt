@@ -1,10 +1,14 @@
 //! The version store: `left_right` under the rule that what a reader has seen begins what is published.
 
-ghost use Rattle.std.specs.Prelude.{◌≡◌, [], length, IfSome, IfOk, OnOk, OnErr, true};
+ghost use Rattle.std.specs.Prelude.{◌≡◌, ◌+◌, ◌<◌, ◌^◌, ◌++◌, ◌∷◌, [], length, IfSome, IfOk, OnOk, OnErr, true};
+ghost use Rattle.std.specs.Arc.{arc_value};
 ghost use Rattle.left_right.specs.Sides.{view};
 ghost use Rattle.topo_core.specs.History.{IsPrefix};
+ghost use Rattle.topo_versions.specs.Names.{prices_named};
 ghost use Rattle.topo_versions.specs.Seeing.{Keeps, Looks, newcomer};
+ghost use Rattle.topo_versions.specs.Versions.{IsVersionFrom};
 
+use crate::front::Front;
 use crate::naming::Naming;
 use crate::shelf::{Glass, Lends, Shelf};
 use crate::version::{Seen, Version};
@@ -13,7 +17,9 @@ use crossbeam_utils::rule::{Outcome, Protocol};
 use left_right::reader::Reader;
 use left_right::writer::Writer;
 use std::alloc::{AllocError, Global};
-use std::sync::Wait;
+use std::sync::{Arc, Wait};
+use topo_core::calls::Entry;
+use topo_picture::Picture;
 use topo_price::tariff::Asks;
 
 /// The rule of the store.
@@ -124,6 +130,19 @@ fn publish_whole<F: Asks + Drop, K: Naming<F>, R: Wait>(
     (settle(rt, writer), made)
 }
 
+// As `publish_whole`, in place.
+fn put<F: Asks + Drop, K: Naming<F>, R: Wait>(
+    rt: &R,
+    writer: &mut StoreWriter<F, K>,
+    next: Version<F, K>,
+) -> Result<(), AllocError>
+    requires { IsPrefix writer.old.desk.shown.value.entries next.entries }
+    ensures ok { OnOk result (writer.new.desk.shown.value.entries ≡ next.entries) }
+    ensures err { OnErr result (writer.new.desk.shown.value.entries ≡ writer.old.desk.shown.value.entries) }
+{
+    replace_with(writer, next, |writer, next| publish_whole(rt, writer, next))
+}
+
 impl<F: Asks + Drop, K: Naming<F>> Shelf<F, K> for StoreWriter<F, K> {
     ghost published = { λ w. w.desk.shown.value.entries };
 
@@ -131,12 +150,23 @@ impl<F: Asks + Drop, K: Naming<F>> Shelf<F, K> for StoreWriter<F, K> {
         self.published()
     }
 
-    fn publish<R: Wait>(&mut self, rt: &R, next: Version<F, K>) -> Result<(), AllocError>
-        requires { IsPrefix self.old.desk.shown.value.entries next.entries }
-        ensures ok { OnOk result (self.new.desk.shown.value.entries ≡ next.entries) }
+    fn publish<R: Wait>(
+        &mut self,
+        rt: &R,
+        alloc: Global,
+        front: &Front<K>,
+        entry: &Entry,
+        picture: &Arc<Picture>,
+    ) -> Result<(), AllocError>
+        requires goes_on { self.old.desk.shown.value.entries ≡ front.now }
+        requires room { length front.now + 1 < 2 ^ 64 }
+        requires follows { IsVersionFrom (prices_named F.answers K.closure) K.start (front.now ++ entry.now ∷ []) (arc_value picture.now) }
+        ensures ok { OnOk result (self.new.desk.shown.value.entries ≡ front.now ++ entry.now ∷ []) }
         ensures err { OnErr result (self.new.desk.shown.value.entries ≡ self.old.desk.shown.value.entries) }
     {
-        replace_with(self, next, |writer, next| publish_whole(rt, writer, next))
+        let share = Arc::try_clone(picture)?;
+        let next = Version::after(alloc, front.again(), entry.copy(alloc)?, share)?;
+        put(rt, self, next)
     }
 
     fn end<R: Wait>(self, rt: &R) {
