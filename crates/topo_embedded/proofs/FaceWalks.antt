@@ -1,5 +1,5 @@
 -- Walks on the embedding beside an edge that is opened: what the halves are that they read, and what they tell.
-use Rattle.std.proofs.Common.{◌≡◌, ◌≢◌, ◌+◌, ◌<◌, ◌≤◌, ◌&&◌, ◌==◌, ap, arith, false, inl, inr, length, List, [], refl, Some, subst, suc, sym, true, ℕ, ◌∙◌}
+use Rattle.std.proofs.Common.{◌≡◌, ◌≢◌, ◌+◌, ◌<◌, ◌≤◌, ◌↔◌, ◌%◌, ◌&&◌, ◌==◌, ap, arith, false, inl, inr, length, List, [], refl, Some, subst, suc, sym, true, ℕ, ◌∙◌}
 use Rattle.std.specs.Prelude.{nat_lt, slice_index_or}
 use Rattle.std.specs.List.{position_or_len}
 use Rattle.std.proofs.lemmas.Bool.{cases_eq}
@@ -11,32 +11,38 @@ use Rattle.topo_core.specs.declared.darts.Way.TheVariants.{Back, Forward}
 use Rattle.topo_core.specs.declared.rows.EdgeRow.{EdgeRow}
 use Rattle.topo_core.specs.declared.rows.Rows.{Rows}
 use Rattle.topo_core.specs.Changes.{HasOneFace}
+use Rattle.topo_core.specs.Cycles.{IsPermutation, SameCycle, map_of}
 use Rattle.topo_core.specs.Darts.{dart_twin}
 use Rattle.topo_core.specs.Lawful.{IsWellFormed}
-use Rattle.topo_core.specs.Openings.{is_opened}
-use Rattle.topo_core.specs.Picture.{darts, edge_at, edge_row, index_of, segment_count, system}
+use Rattle.topo_core.specs.Openings.{is_opened, opened_turn}
+use Rattle.topo_core.specs.Picture.{darts, edge_at, edge_row, index_of, segment_count, system, turn_images}
 use Rattle.topo_core.specs.Pictures.{back, forward}
 use Rattle.topo_core.specs.Rotations.{face_next, twin}
 use Rattle.topo_core.specs.Systems.{has_dart, turn as dart_turn}
-use Rattle.topo_core.proofs.Numbering.{turn_stays, twin_in}
+use Rattle.topo_core.proofs.Numbering.{even_images, images_length, place_less, twin_in}
+use Rattle.topo_core.proofs.Openings.{opens}
 use Rattle.topo_core.proofs.SystemDarts.{edge_at_row}
+use Rattle.topo_perm.specs.Renumbering.{Renumbers}
+use Rattle.topo_perm.proofs.Points.{SameCycle-same}
+use Rattle.topo_perm.proofs.Renumbered.{renumbered_faces, renumbered_same_cycle}
+use Rattle.topo_perm.proofs.Walks.{face_next-permutation, twin-within}
 use Rattle.topo_frozen.proofs.Lookups.{dart_there}
 use Rattle.topo_frozen.proofs.Rounds.{got_within}
-use Rattle.topo_map.specs.Rotation.{Rotation, edge_of, is_live, turn}
+use Rattle.topo_map.specs.Rotation.{Rotation, edge_of, half_limit, is_live, turn}
 use Rattle.topo_map.proofs.Stored.{limit-is}
 use Rattle.topo_changes.specs.Cuts.{IsLeft, IsNextLeft}
-use Rattle.topo_changes.proofs.OpenedFaces.{forth_of_face, not_opened, one_face_forth, one_face_round, Passes, passes_few, passes_more, passes_none, passes_to, round_of_face, Walks, walks_home, walks_met, walks_more, walks_never, walks_none}
+use Rattle.topo_changes.proofs.OpenedFaces.{face_told, forth_of_face, not_opened, one_face_forth, one_face_round, Passes, passes_few, passes_more, passes_none, passes_to, round_of_face, Walks, walks_home, walks_met, walks_more, walks_never, walks_none}
 use Rattle.topo_embedded.specs.Cutting.{IsOpenedOn}
-use Rattle.topo_embedded.specs.Halves.{Drawn, by_way, half_in, path_of}
+use Rattle.topo_embedded.specs.Halves.{Drawn, by_way, half_at, half_in, path_of}
 use Rattle.topo_embedded.specs.Walking.{IsOnPath}
 use Rattle.topo_embedded.proofs.Apart.{darts_limited, halves_apart, twin_in_path}
-use Rattle.topo_embedded.proofs.Numbers.{face_half, half_alive, stands_at, StandsAt, turned_half}
+use Rattle.topo_embedded.proofs.Numbers.{face_half, half_alive, half_of_number, stands_at, StandsAt, turned_half}
 use Rattle.topo_embedded.proofs.Reading.{EdgeRead, list_few}
 
 among : (e f s out : ℕ) → f ≡ e → s < out → (f == e && nat_lt s out) ≡ true
 among e f s out same less = grind (arith, nat_tests)
 
-pub not_among : (e f s out : ℕ) → (e ≡ f → out ≤ s) → (f == e && nat_lt s out) ≡ false
+not_among : (e f s out : ℕ) → (e ≡ f → out ≤ s) → (f == e && nat_lt s out) ≡ false
 not_among e f s out past = elim (cases_eq f e) [
   | inl same ↦ let many = past (sym same) in grind (arith, nat_tests)
   | inr other ↦ grind (arith, nat_tests)
@@ -49,7 +55,7 @@ module _ (p : Drawn) (r : Rotation) (e out : ℕ) (path : List ℕ) (o : IsOpene
   abbrev good : IsWellFormed p.rows
   good = o.well_formed
 
-  pub dart_on : (s : ℕ) (w : Way) → s < segment_count o.row → has_dart (darts rows) (record { edge = e; seg = s; way = w }) ≡ true
+  dart_on : (s : ℕ) (w : Way) → s < segment_count o.row → has_dart (darts rows) (record { edge = e; seg = s; way = w }) ≡ true
   dart_on s w less = dart_there rows good.paths (record { edge = e; seg = s; way = w }) o.row o.there less
 
   -- the path has a half for each segment
@@ -99,9 +105,6 @@ module _ (p : Drawn) (r : Rotation) (e out : ℕ) (path : List ℕ) (o : IsOpene
 
     pub twin_is : twin h ≡ half_in p (dart_twin d)
     twin_is = ap twin is ∙ twin_in_path p d
-
-    pub turn_here : has_dart (darts rows) (dart_turn (system rows) d) ≡ true
-    turn_here = turn_stays rows good.paths good.crossings good.rotations d here
 
     pub turn_is : turn r h ≡ half_in p (dart_turn (system rows) d)
     turn_is = ap (turn r) is ∙ turned_half p good r o.shows d here
@@ -217,10 +220,10 @@ module _ (p : Drawn) (r : Rotation) (e out : ℕ) (path : List ℕ) (o : IsOpene
   one_dart c d c_here d_here m n c_is d_is same = halves_apart p good r o.shows c d c_here d_here (sym c_is ∙ same ∙ d_is)
 
   module _ (half : ℕ) (read : half ≡ slice_index_or path out 0) where
-    half_is : half ≡ half_in p (forward e out)
+    pub half_is : half ≡ half_in p (forward e out)
     half_is = read ∙ ap (λ (xs : List ℕ). slice_index_or xs out 0) o.own
 
-    twin_named : twin half ≡ half_in p (back e out)
+    pub twin_named : twin half ≡ half_in p (back e out)
     twin_named = twin_is (forward e out) forward_here half half_is
 
     ways_differ : forward e out ≢ back e out
@@ -270,3 +273,69 @@ module _ (p : Drawn) (r : Rotation) (e out : ℕ) (path : List ℕ) (o : IsOpene
           round = walks_more rows good e o.row o.there out o.inside (back e out) (forward e out) back_here forward_here h.right_dart k.0 steps h.round k.1.follows k.1.left.there
               (λ same. not_half (k.1.left.named ∙ ap (half_in p) same ∙ sym half_is));
         }
+
+-- ---- Where nothing is out yet
+
+-- the halves of the first segment lie in one face just where it has one face on both sides
+module _ (p : Drawn) (r : Rotation) (e : ℕ) (path : List ℕ) (o : IsOpenedOn p r e 0 path) where
+  abbrev ahead_number : ℕ
+  ahead_number = index_of p.rows (forward e 0)
+
+  abbrev back_number : ℕ
+  back_number = index_of p.rows (back e 0)
+
+  ahead_less : ahead_number < length (darts p.rows)
+  ahead_less = place_less (darts p.rows) (forward e 0) (forward_here p r e 0 path o)
+
+  back_less : back_number < length (darts p.rows)
+  back_less = place_less (darts p.rows) (back e 0) (back_here p r e 0 path o)
+
+  darts_even : length (darts p.rows) % 2 ≡ 0
+  darts_even = ap (λ n. n % 2) (sym (images_length p.rows)) ∙ even_images p.rows
+
+  faces_carried : Renumbers (half_at p) o.shows.back (face_next (map_of (turn_images p.rows))) (face_next (turn r)) (length (turn_images p.rows)) (is_live r) half_limit
+  faces_carried = renumbered_faces (half_at p) o.shows.back (map_of (turn_images p.rows)) (turn r) (length (turn_images p.rows)) (is_live r) half_limit o.shows.renumbers
+
+  -- on numbers
+  whole_faces : SameCycle (face_next (map_of (turn_images p.rows))) ahead_number back_number ↔ HasOneFace p.rows e 0
+  whole_faces =
+      let good = o.well_formed in
+      let all = opens p.rows good.paths good.crossings good.rotations e in
+      let n = length (darts p.rows) in
+      let shut : (a : ℕ) → a < n → face_next (opened_turn p.rows e 0) a ≡ face_next (map_of (turn_images p.rows)) a = λ a less. all.shut (twin a) (twin-within n a darts_even less) in
+      let opened : IsPermutation (face_next (opened_turn p.rows e 0)) n = face_next-permutation (opened_turn p.rows e 0) n (all.permutes 0) darts_even in
+      let whole : IsPermutation (face_next (map_of (turn_images p.rows))) n = subst (λ (m : ℕ). IsPermutation (face_next (map_of (turn_images p.rows))) m) (images_length p.rows) faces_carried.before in
+      let told = face_told p.rows good e o.row o.there 0 o.inside in (
+        λ same. told.0 (SameCycle-same (face_next (map_of (turn_images p.rows))) (face_next (opened_turn p.rows e 0)) n whole (λ a less. sym (shut a less)) ahead_number back_number ahead_less same),
+        λ one. SameCycle-same (face_next (opened_turn p.rows e 0)) (face_next (map_of (turn_images p.rows))) n opened shut ahead_number back_number ahead_less (told.1 one),
+      )
+
+  number_few : (a : ℕ) → a < length (darts p.rows) → a < length (turn_images p.rows)
+  number_few a less = omega (arith, less, images_length p.rows)
+
+  -- on halves
+  halves_together : SameCycle (face_next (map_of (turn_images p.rows))) ahead_number back_number ↔ SameCycle (face_next (turn r)) (half_at p ahead_number) (half_at p back_number)
+  halves_together =
+      renumbered_same_cycle (half_at p) o.shows.back (face_next (map_of (turn_images p.rows))) (face_next (turn r)) (length (turn_images p.rows)) (is_live r) half_limit ahead_number back_number faces_carried (number_few ahead_number ahead_less) (number_few back_number back_less)
+
+  module _ (half : ℕ) (read : half ≡ slice_index_or path 0 0) where
+    ahead_half : half_at p ahead_number ≡ half
+    ahead_half = half_of_number p o.well_formed (forward e 0) (forward_here p r e 0 path o) ∙ sym (half_is p r e 0 path o half read)
+
+    back_half : half_at p back_number ≡ twin half
+    back_half = half_of_number p o.well_formed (back e 0) (back_here p r e 0 path o) ∙ sym (twin_named p r e 0 path o half read)
+
+    abbrev Together : ℕ → ℕ → Type 0
+    Together a b = SameCycle (face_next (turn r)) a b
+
+    pub first_live : is_live r half ≡ true
+    first_live = alive p r e 0 path o (forward e 0) (forward_here p r e 0 path o) half (half_is p r e 0 path o half read)
+
+    pub first_twin_live : is_live r (twin half) ≡ true
+    first_twin_live = alive p r e 0 path o (back e 0) (back_here p r e 0 path o) (twin half) (twin_named p r e 0 path o half read)
+
+    pub first_face : Together half (twin half) ↔ HasOneFace p.rows e 0
+    first_face = (
+      λ same. whole_faces.0 (halves_together.1 (subst (λ (b : ℕ). Together (half_at p ahead_number) b) (sym back_half) (subst (λ (a : ℕ). Together a (twin half)) (sym ahead_half) same))),
+      λ one. subst (λ (b : ℕ). Together half b) back_half (subst (λ (a : ℕ). Together a (half_at p back_number)) ahead_half (halves_together.0 (whole_faces.1 one))),
+    )

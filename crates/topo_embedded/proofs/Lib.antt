@@ -18,10 +18,10 @@ pub mod InsertedLabels
 pub mod FaceWalks
 pub mod OpenedPath
 pub mod SmoothedPath
+pub mod OnSegments
 pub mod Pads
 pub mod OnPaths
 pub mod Splits
 pub mod Draws
 pub mod Routed
 pub mod SameFaces
-pub mod FirstSegment

@@ -1,15 +1,14 @@
 -- The halves of rows, listed edge by edge.
-use Rattle.std.proofs.Common.{◌≡◌, ◌+◌, ◌*◌, ◌≤◌, append-nil, take, List, [], ◌∷◌, ◌++◌, length, refl, sym, ap, subst, ◌∙◌, arith, ℕ, inl, inr}
-use Rattle.std.specs.Prelude.{flat_map, replicate, slice_get, slice_index, slice_index_or, Some}
+use Rattle.std.proofs.Common.{◌≡◌, ◌+◌, ◌*◌, ◌≤◌, List, [], ◌∷◌, ◌++◌, length, refl, sym, ap, subst, ◌∙◌, arith, ℕ, inl, inr}
+use Rattle.std.specs.Prelude.{flat_map, slice_get, slice_index, slice_index_or, Some}
 use Rattle.std.proofs.lemmas.Bool.{cases_lt}
 use Rattle.std.proofs.lemmas.List.{get_or_append_left, get_or_at, length-append}
-use Rattle.std.proofs.lemmas.List.Concat.{flat_map-append}
 use Rattle.topo_core.specs.declared.rows.EdgeRow.{EdgeRow}
 use Rattle.topo_core.specs.Picture.{darts_of, segment_count}
 use Rattle.topo_frozen.specs.Flats.{begins_from}
 use Rattle.topo_frozen.proofs.Begins.{back_get, begins_at}
 use Rattle.topo_frozen.proofs.Rounds.{got_within}
-use Rattle.topo_embedded.specs.Making.{ArePathsOf, IsPathOf, labels_of}
+use Rattle.topo_embedded.specs.Making.{ArePathsOf, IsPathOf}
 
 -- one item more
 pub path_more : (halves path more : List ℕ) (begin i x : ℕ) → IsPathOf halves begin i path → x ≡ slice_index halves (begin + 2 * i) → more ≡ path ++ x ∷ [] → IsPathOf halves begin (i + 1) more
@@ -39,14 +38,6 @@ paths_more edges begins halves paths more k row path p at is_path is = record {
         (subst (λ (j : ℕ). IsPathOf halves (slice_index begins j) (segment_count other) path) here (subst (λ (r : EdgeRow). IsPathOf halves (slice_index begins k) (segment_count r) path) same is_path))
   ]);
 }
-
--- the labels of one edge more
-pub labels_more : (edges : List EdgeRow) (row : EdgeRow) (i : ℕ) (labels more : List ℕ) → take (i + 1) edges ≡ take i edges ++ row ∷ [] → labels ≡ labels_of (take i edges) → more ≡ labels ++ replicate (segment_count row) row.id → more ≡ labels_of (take (i + 1) edges)
-labels_more edges row i labels more taken was is =
-    is ∙ ap (λ xs. xs ++ replicate (segment_count row) row.id) was
-    ∙ ap (λ xs. labels_of (take i edges) ++ xs) (sym (append-nil (replicate (segment_count row) row.id)))
-    ∙ sym (flat_map-append (λ r. replicate (segment_count r) r.id) (take i edges) (row ∷ []))
-    ∙ ap labels_of (sym taken)
 
 -- the halves along an edge are among all
 pub path_fits : (edges : List EdgeRow) (begins : List ℕ) (k : ℕ) (row : EdgeRow) → begins ≡ begins_from 0 edges → slice_get edges k ≡ Some row → slice_index begins k + 2 * segment_count row ≤ length (flat_map darts_of edges)

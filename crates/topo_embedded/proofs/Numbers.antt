@@ -84,27 +84,24 @@ module _ (p : Drawn) (good : IsWellFormed p.rows) where
 
     -- ---- As it is read
 
-    module _ (d : Dart) (h : has_dart (darts p.rows) d ≡ true) (place : ℕ) (edges : List EdgeRow) (path : List ℕ) (edges_are : edges ≡ p.rows.edges) (place_is : place ≡ position_or_len (λ row. row.id == d.edge) edges)
-        (path_is : path ≡ slice_index_or p.paths place path) where
-      found_at : place ≡ position_or_len (λ row. row.id == d.edge) p.rows.edges
-      found_at = place_is ∙ ap (λ (es : List EdgeRow). position_or_len (λ row. row.id == d.edge) es) edges_are
-
+    module _ (d : Dart) (h : has_dart (darts p.rows) d ≡ true) (place : ℕ) (found_at : place ≡ position_or_len (λ row. row.id == d.edge) p.rows.edges) where
       stands : StandsAt p.rows d
       stands = stands_at p.rows good d h
 
       at_place : slice_get p.rows.edges place ≡ Some stands.row
       at_place = ap (slice_get p.rows.edges) found_at ∙ stands.at
 
-      path_inside : place < length p.paths
+      pub path_inside : place < length p.paths
       path_inside = omega (arith, s.as_many, got_within p.rows.edges place stands.row at_place)
 
-      path_here : path ≡ path_of p d.edge
-      path_here = path_is ∙ get_or_default p.paths place path [] path_inside ∙ ap (λ k. slice_index_or p.paths k []) found_at
+      module _ (path : List ℕ) (path_is : path ≡ slice_index_or p.paths place path) where
+        path_here : path ≡ path_of p d.edge
+        path_here = path_is ∙ get_or_default p.paths place path [] path_inside ∙ ap (λ k. slice_index_or p.paths k []) found_at
 
-      pub on_list : d.seg < length path
-      on_list =
-          let many : length (path_of p d.edge) ≡ segment_count stands.row = ap (λ k. length (slice_index_or p.paths k [])) (sym found_at) ∙ s.along place stands.row at_place in
-          omega (arith, ap length path_here, stands.on_path)
+        pub on_list : d.seg < length path
+        on_list =
+            let many : length (path_of p d.edge) ≡ segment_count stands.row = ap (λ k. length (slice_index_or p.paths k [])) (sym found_at) ∙ s.along place stands.row at_place in
+            omega (arith, ap length path_here, stands.on_path)
 
-      pub half_read : (half : ℕ) → half ≡ slice_index_or path d.seg 0 → half ≡ slice_index_or (path_of p d.edge) d.seg 0
-      half_read half is = is ∙ ap (λ xs. slice_index_or xs d.seg 0) path_here
+        pub half_read : (half : ℕ) → half ≡ slice_index_or path d.seg 0 → half ≡ slice_index_or (path_of p d.edge) d.seg 0
+        half_read half is = is ∙ ap (λ xs. slice_index_or xs d.seg 0) path_here

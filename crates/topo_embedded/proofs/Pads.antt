@@ -1,63 +1,21 @@
 -- Lists of halves with room at their ends, and a half more in one of them.
-use Rattle.std.proofs.Common.{◌≡◌, ◌≢◌, ◌<◌, ◌+◌, ap, append-nil, append_assoc, arith, drop, get_or, inl, inr, length, length-append, List, [], ◌∷◌, ◌++◌, refl, set, subst, suc, sym, take, zero, ℕ, ◌∙◌}
+use Rattle.std.proofs.Common.{◌≡◌, ◌≢◌, ◌<◌, ◌+◌, ap, append-nil, append_assoc, arith, drop, get_or, inl, inr, length, length-append, List, [], ◌∷◌, ◌++◌, refl, set, subst, suc, sym, take, ℕ, ◌∙◌}
 use Rattle.std.specs.Prelude.{◌==◌, cond, slice_index_or}
-use Rattle.std.proofs.lemmas.Bool.{cases_eq, cases_lt, cond-false, cond-true, eq-eqb, ne_eqb}
+use Rattle.std.proofs.lemmas.Bool.{cases_eq, cond-false, cond-true, eq-eqb, ne_eqb}
 use Rattle.std.proofs.lemmas.Grind.{flat_map-append}
-use Rattle.std.proofs.lemmas.List.{ext_get_or, get_or-set_other, get_or-set_same, length-set, take_more, take_more_set}
-use Rattle.std.proofs.Math.Seq.{drop-append_seam, drop-cons, take-append_seam}
-use Rattle.std.proofs.lemmas.List.Elements.{All-head, All-tail}
+use Rattle.std.proofs.lemmas.List.{ext_get_or, get_or-set_other, get_or-set_same, length-set, take_more}
+use Rattle.std.proofs.Math.Seq.{drop-append_seam, take-append_seam}
 use Rattle.topo_core.specs.Rotations.{twin}
 use Rattle.topo_perm.proofs.Bends.{Bend}
 use Rattle.topo_embedded.specs.declared.padding.Crossed.{Crossed}
 use Rattle.topo_embedded.specs.Inserting.{piece}
-use Rattle.topo_embedded.specs.Padding.{AreOff, ArePadded, IsOff, IsOn, pads, shifted}
+use Rattle.topo_embedded.specs.Padding.{ArePadded, IsOn, pads, shifted}
 
 -- ---- A half put in
 
 shifted_last : (h : ℕ) (ys : List ℕ) (last : ℕ) → shifted h (ys ++ last ∷ []) ≡ h ∷ ys
 shifted_last h [] last = refl
 shifted_last h (y ∷ ys) last = ap (λ (xs : List ℕ). h ∷ xs) (shifted_last y ys last)
-
--- one step of the shift
-pub shift_step : (was now : List ℕ) (i carried : ℕ) → i < length was → now ≡ set was i carried → take (i + 1) now ++ shifted (get_or was i carried) (drop (i + 1) now) ≡ take i was ++ shifted carried (drop i was)
-shift_step was now i carried less is =
-    let next : i + 1 ≡ suc i = omega arith in
-    let rest : drop (i + 1) (set was i carried) ≡ drop (suc i) was = ap (λ (k : ℕ). drop k (set was i carried)) next ∙ dropped_past was i carried in
-    ap (λ (xs : List ℕ). take (i + 1) xs ++ shifted (get_or was i carried) (drop (i + 1) xs)) is
-    ∙ ap (λ (xs : List ℕ). xs ++ shifted (get_or was i carried) (drop (i + 1) (set was i carried))) (take_more_set was i carried less)
-    ∙ ap (λ (xs : List ℕ). (take i was ++ carried ∷ []) ++ shifted (get_or was i carried) xs) rest
-    ∙ append_assoc (take i was) (carried ∷ []) (shifted (get_or was i carried) (drop (suc i) was))
-    ∙ ap (λ (xs : List ℕ). take i was ++ shifted carried xs) (sym (drop-cons was i carried less))
-  where
-    dropped_past : (xs : List ℕ) (i y : ℕ) → drop (suc i) (set xs i y) ≡ drop (suc i) xs
-    dropped_past [] i y = refl
-    dropped_past (x ∷ xs) zero y = refl
-    dropped_past (x ∷ xs) (suc i) y = dropped_past xs i y
-
--- ---- Where a half is
-
-on_or_off : (near h : ℕ) → IsOn near h → IsOff near h → ⊥
-on_or_off near h (inl e) off = off.0 e
-on_or_off near h (inr e) off = off.1 e
-
-pub first_place : (near : ℕ) (path xs ys : List ℕ) (h i d : ℕ) → path ≡ xs ++ h ∷ ys → AreOff near xs → IsOn near h → AreOff near (take i path) → i < length path → IsOn near (get_or path i d) → i ≡ length xs
-first_place near path xs ys h i d is off on before less hit = at xs i off (subst (λ (p : List ℕ). AreOff near (take i p)) is before) (subst (λ (p : List ℕ). IsOn near (get_or p i d)) is hit) where
-  at : (xs : List ℕ) (i : ℕ) → AreOff near xs → AreOff near (take i (xs ++ h ∷ ys)) → IsOn near (get_or (xs ++ h ∷ ys) i d) → i ≡ length xs
-  at [] zero off before hit = refl
-  at [] (suc i) off before hit = absurd (on_or_off near h on (All-head (IsOff near) h (take i ys) before))
-  at (x ∷ xs) zero off before hit = absurd (on_or_off near x hit (All-head (IsOff near) x xs off))
-  at (x ∷ xs) (suc i) off before hit = ap suc (at xs i (All-tail (IsOff near) x xs off) (All-tail (IsOff near) x (take i (xs ++ h ∷ ys)) before) hit)
-
-pub no_place : (near : ℕ) (path xs ys : List ℕ) (h : ℕ) → path ≡ xs ++ h ∷ ys → IsOn near h → AreOff near path → ⊥
-no_place near path xs ys h is on off = at xs (subst (AreOff near) is off) where
-  at : (xs : List ℕ) → AreOff near (xs ++ h ∷ ys) → ⊥
-  at [] off = on_or_off near h on (All-head (IsOff near) h ys off)
-  at (x ∷ xs) off = at xs (All-tail (IsOff near) x (xs ++ h ∷ ys) off)
-
--- what is read there
-pub at_seam : (xs ys : List ℕ) (h d : ℕ) → get_or (xs ++ h ∷ ys) (length xs) d ≡ h
-at_seam [] ys h d = refl
-at_seam (x ∷ xs) ys h d = at_seam xs ys h d
 
 take_past : (xs ys : List ℕ) (h : ℕ) → take (suc (length xs)) (xs ++ h ∷ ys) ≡ xs ++ h ∷ []
 take_past [] ys h = refl
@@ -129,27 +87,6 @@ one_changed f f' was now now' cs cs' k list p less is others here some = record 
 pub pads_fewer : (k : ℕ) (cs : List Crossed) (i : ℕ) (d : Crossed) → i < length cs → 0 < length (pads k (take i cs)) → 0 < length (pads k (take (i + 1) cs))
 pads_fewer k cs i d less more = omega (arith, more, ap length (pads_more k cs i d less), length-append (pads k (take i cs)) (cond ((get_or cs i d).place == k) (0 ∷ []) []))
 
-pub pad_more : (was now now' : List (List ℕ)) (cs : List Crossed) (i : ℕ) (c : Crossed) (list : List ℕ) → ArePadded (λ hs. hs) was (take i cs) now → i < length cs → c ≡ get_or cs i c → c.place < length was → now' ≡ set now c.place list → list ≡ get_or now c.place [] ++ 0 ∷ [] → 0 < length (get_or now c.place [])
-    → ArePadded (λ hs. hs) was (take (i + 1) cs) now'
-pad_more was now now' cs i c list p less is placed set_is list_is held =
-    one_changed (λ hs. hs) (λ hs. hs) was now now' (take i cs) (take (i + 1) cs) c.place list p placed set_is
-    (λ j lj ne. ap (λ (xs : List ℕ). slice_index_or was j [] ++ xs) (pads_same j cs i c less (λ e. ne (e ∙ ap (λ (b : Crossed). b.place) (sym is)))))
-    (list_is ∙ ap (λ (xs : List ℕ). xs ++ 0 ∷ []) (p.each c.place placed) ∙ append_assoc (slice_index_or was c.place []) (pads c.place (take i cs)) (0 ∷ [])
-    ∙ ap (λ (xs : List ℕ). slice_index_or was c.place [] ++ xs) (sym (pads_here c.place cs i c less (ap (λ (b : Crossed). b.place) is))))
-    some
-  where
-    some : (j : ℕ) → j < length was → 0 < length (pads j (take (i + 1) cs)) → 0 < length (slice_index_or was j [])
-    some j lj more = elim (cases_lt 0 (length (pads j (take i cs)))) [
-      | inl before ↦ p.some j lj before
-      | inr none ↦ elim (cases_eq j c.place) [
-        | inl here ↦
-            let read = ap length (p.each c.place placed) ∙ length-append (slice_index_or was c.place []) (pads c.place (take i cs)) in
-            let empty : length (pads c.place (take i cs)) ≡ 0 = ap (λ (k : ℕ). length (pads k (take i cs))) (sym here) ∙ omega (arith, none) in
-            subst (λ (k : ℕ). 0 < length (slice_index_or was k [])) (sym here) (omega (arith, held, read, empty))
-        | inr ne ↦ absurd (omega (arith, none, more, ap length (pads_same j cs i c less (λ e. ne (e ∙ ap (λ (b : Crossed). b.place) (sym is))))))
-      ]
-    ]
-
 pub pad_less : (was now now' : List (List ℕ)) (cs : List Crossed) (i : ℕ) (c : Crossed) (list : List ℕ) → ArePadded (λ hs. hs) was (take (i + 1) cs) now → i < length cs → c ≡ get_or cs i c → c.place < length was → now' ≡ set now c.place list
     → ((xs : List ℕ) (x : ℕ) → 0 < length xs → get_or now c.place [] ≡ xs ++ x ∷ [] → list ≡ xs) → ArePadded (λ hs. hs) was (take i cs) now'
 pad_less was now now' cs i c list p less is placed set_is list_is =
@@ -164,9 +101,6 @@ pad_less was now now' cs i c list p less is placed set_is list_is =
         let here = ap length (pads_here c.place cs i c less (ap (λ (b : Crossed). b.place) is)) ∙ length-append (pads c.place (take i cs)) (0 ∷ []) in
         let some = p.some c.place placed (omega (arith, here)) in
         omega (arith, some, length-append (slice_index_or was c.place []) (pads c.place (take i cs)))
-
-pub pad_none : (was : List (List ℕ)) (cs : List Crossed) → ArePadded (λ hs. hs) was (take 0 cs) was
-pad_none was cs = record { as_many = refl; each = λ k less. sym (append-nil (slice_index_or was k [])); some = λ k less more. absurd (omega (arith, more)) }
 
 -- with no room more the lists are the changed ones
 pub no_pads : (was now : List (List ℕ)) (cs : List Crossed) → ArePadded (λ hs. hs) was (take 0 cs) now → now ≡ was

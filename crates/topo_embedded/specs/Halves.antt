@@ -1,5 +1,5 @@
 -- The halves of the darts of rows.
-use Rattle.std.specs.Prelude.{◌≡◌, ℕ, ◌==◌, true, List, [], length, slice_get, slice_index_or, Some, unwrap_or}
+use Rattle.std.specs.Prelude.{◌≡◌, ℕ, ◌==◌, ◌||◌, Bool, true, List, [], length, slice_get, slice_index_or, Some, unwrap_or}
 use Rattle.std.specs.List.{position_or_len}
 use Rattle.topo_core.specs.declared.darts.Dart.{Dart}
 use Rattle.topo_core.specs.declared.darts.Way.{Way}
@@ -21,6 +21,10 @@ pub record Drawn : Type 0 where
 abbrev pub by_way : ℕ → Way → ℕ
 by_way h Forward = h
 by_way h Back = twin h
+
+-- whether a half is one of the two of a segment, given by either of them
+abbrev pub on_segment : ℕ → ℕ → Bool
+on_segment of h = h == of || h == twin of
 
 -- the halves along an edge
 abbrev pub path_of : Drawn → ℕ → List ℕ

@@ -1,29 +1,18 @@
 //! Cuts: the first segment of an edge that has one face on both sides when those before it are out.
-//! While nothing is out, the labels of the faces tell. Behind that the faces on both sides of a segment are
-//! walked in step, so that a test costs no more than the smaller of them. No test takes memory.
+//! Of the first segment the labels of the faces tell it. For one behind it the faces on both sides are
+//! walked in step, so that a test costs no more than the smaller of them and takes no memory.
 
-ghost use Rattle.std.specs.Prelude.{◌≡◌, ◌↔◌, ◌<◌, IsTrue, length, slice_index_or, true};
+ghost use Rattle.std.specs.Prelude.{◌≡◌, ◌↔◌, IsTrue};
 ghost use Rattle.topo_core.specs.Changes.{HasOneFace};
 ghost use Rattle.topo_core.specs.Openings.{is_opened};
 ghost use Rattle.topo_core.specs.declared.darts.Dart.{Dart};
-ghost use Rattle.topo_core.specs.declared.darts.Way.{Way};
 ghost use Rattle.topo_changes.specs.Cuts.{IsFirstCut, IsLeft, IsNextLeft};
 ghost use Rattle.topo_embedded.specs.Cutting.{IsDartBeside, IsOpenedOn};
-ghost use Rattle.topo_embedded.specs.Halves.{Drawn, by_way, half_in};
+ghost use Rattle.topo_embedded.specs.Halves.{Drawn, half_in};
 ghost use Rattle.topo_map.specs.Rotation.{Rotation};
 
 use crate::path::Path;
-use crate::walking::place_on_path;
 use topo_map::{Embedding, Half};
-
-/// Whether a half is one of the two at a place of a path.
-fn is_at(path: &Path, segment: usize, half: Half) -> bool
-    requires { segment < length path.now }
-    ensures { result ≡ true → (way : Way) × (by_way (slice_index_or path.now segment 0) way ≡ half) }
-{
-    let along = path.at(segment);
-    along == half || along == half.twin()
-}
 
 /// Whether a half of edge `e` is on one of the first `out` segments of its path. A walk round a face mostly
 /// meets the last of them, or comes home to the segment behind, so these are compared first.
@@ -31,14 +20,13 @@ fn is_among(path: &Path, out: usize, half: Half) -> bool
     requires { (p : Drawn) × (r : Rotation) × (d : Dart) × IsDartBeside p r d.edge out path.now half d }
     ensures { (p : Drawn) (r : Rotation) (d : Dart) → IsDartBeside p r d.edge out path.now half d → result ≡ is_opened d.edge out d }
 {
-    if is_at(path, out, half) {
+    if path.is_at(out, half) {
         return false;
     }
-    if out > 0 && is_at(path, out - 1, half) {
+    if out > 0 && path.is_at(out - 1, half) {
         return true;
     }
-    let (segment, _way) = place_on_path(path, half);
-    (segment as usize) < out
+    path.place_of(half) < out
 }
 
 /// Whether a half is out when the first `out` segments of edge `e` are.
@@ -68,10 +56,10 @@ fn next_left(segments: &Embedding, e: u32, path: &Path, out: usize, half: Half) 
     next
 }
 
-/// Whether the segment at which edge `e` is opened has one face on both sides, by walks. The faces are walked
-/// in step: they are one as soon as either walk comes to the start of the other, and two as soon as either
+/// Whether the segment at which edge `e` is opened has one face on both sides. The faces are walked in
+/// step: they are one as soon as either walk comes to the start of the other, and two as soon as either
 /// comes home.
-fn meets_itself(segments: &Embedding, e: u32, path: &Path, segment: usize) -> bool
+fn has_one_face(segments: &Embedding, e: u32, path: &Path, segment: usize) -> bool
     requires { (p : Drawn) × IsOpenedOn p segments.now e segment path.now }
     ensures { (p : Drawn) → IsOpenedOn p segments.now e segment path.now → (IsTrue result ↔ HasOneFace p.rows e segment) }
 {
@@ -92,34 +80,17 @@ fn meets_itself(segments: &Embedding, e: u32, path: &Path, segment: usize) -> bo
     false
 }
 
-/// Whether the first segment of edge `e` has one face on both sides, by the labels of the faces.
-fn starts_in_one_face(segments: &Embedding, e: u32, path: &Path) -> bool
-    requires { (p : Drawn) × IsOpenedOn p segments.now e 0 path.now }
-    ensures { (p : Drawn) → IsOpenedOn p segments.now e 0 path.now → (IsTrue result ↔ HasOneFace p.rows e 0) }
-{
-    let half = path.at(0);
-    let twin = half.twin();
-    segments.same_face(half, twin)
-}
-
-/// Whether the segment at which edge `e` is opened has one face on both sides.
-fn has_one_face(segments: &Embedding, e: u32, path: &Path, segment: usize) -> bool
-    requires { (p : Drawn) × IsOpenedOn p segments.now e segment path.now }
-    ensures { (p : Drawn) → IsOpenedOn p segments.now e segment path.now → (IsTrue result ↔ HasOneFace p.rows e segment) }
-{
-    match segment {
-        0 => starts_in_one_face(segments, e, path),
-        _ => meets_itself(segments, e, path, segment),
-    }
-}
-
 /// The first segment of an edge with this path that has one face on both sides when those before it are
 /// out.
 pub(crate) fn first_cut(segments: &Embedding, e: u32, path: &Path) -> Option<u32>
     requires { (p : Drawn) × IsOpenedOn p segments.now e 0 path.now }
     ensures { (p : Drawn) → IsOpenedOn p segments.now e 0 path.now → IsFirstCut p.rows e result }
 {
-    for segment in 0..path.len() {
+    let first = path.at(0);
+    if segments.same_face(first, first.twin()) {
+        return Some(0);
+    }
+    for segment in 1..path.len() {
         if has_one_face(segments, e, path, segment) {
             return Some(segment as u32);
         }

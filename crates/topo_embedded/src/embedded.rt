@@ -1,12 +1,13 @@
 //! Rows with their embedding.
 
-ghost use Rattle.std.specs.Prelude.{◌≡◌, ◌↔◌, ◌*◌, ◌<◌, ◌≤◌, ◌^◌, true, IfOk, IsTrue, is_some, length, option_map, slice_index_or, sum_by};
+ghost use Rattle.std.specs.List.{position_or_len};
+ghost use Rattle.std.specs.Prelude.{◌≡◌, ◌==◌, ◌↔◌, ◌*◌, ◌<◌, ◌≤◌, ◌^◌, true, IfOk, IsTrue, is_some, length, option_map, sum_by};
 ghost use Rattle.topo_core.specs.declared.darts.Dart.{Dart};
 ghost use Rattle.topo_core.specs.Lawful.{IsWellFormed};
 ghost use Rattle.topo_core.specs.Picture.{corner, darts, edge_at, edge_row, end_dart, segment_count, system};
 ghost use Rattle.topo_core.specs.Routes.{AreFactsOf};
 ghost use Rattle.topo_core.specs.Systems.{SameFace, face_step, has_dart};
-ghost use Rattle.topo_embedded.specs.Halves.{IsHalf, half_in, path_of};
+ghost use Rattle.topo_embedded.specs.Halves.{IsHalf, half_in};
 ghost use Rattle.topo_embedded.specs.Walking.{named_in};
 ghost use Rattle.topo_route.specs.Names.{IsNamed};
 
@@ -110,22 +111,25 @@ impl Embedded {
         requires { has_dart (darts self.now.rows) dart ≡ true }
         ensures { result ≡ half_in self.now dart }
     {
-        let way = dart.way;
-        let half = self.half_along(dart);
-        match way {
-            Way::Forward => half,
-            Way::Back => half.twin(),
-        }
+        self.half_on(self.place_of(&dart), dart)
     }
 
-    // The half that leads along the edge of a dart, on its segment.
-    fn half_along(&self, dart: Dart) -> Half
-        requires { has_dart (darts self.now.rows) dart ≡ true }
-        ensures { result ≡ slice_index_or (path_of self.now dart.edge) dart.seg 0 }
+    // The half of a dart whose edge has this place among the edges.
+    fn half_on(&self, place: usize, dart: Dart) -> Half
+        requires there { has_dart (darts self.now.rows) dart ≡ true }
+        requires place { place ≡ position_or_len (λ row. row.id == dart.edge) self.now.rows.edges }
+        ensures { result ≡ half_in self.now dart }
+    {
+        led(self.paths.as_slice()[place].at(dart.seg as usize), dart.way)
+    }
+
+    // The place of a dart's edge among the edges.
+    fn place_of(&self, dart: &Dart) -> usize
+        requires { has_dart (darts self.now.rows) dart.now ≡ true }
+        ensures { result ≡ position_or_len (λ row. row.id == dart.now.edge) self.now.rows.edges }
     {
         let edges = self.rows.edges.as_slice();
-        let place = place_of_edge(edges, &self.hints, dart.edge.number());
-        self.paths.as_slice()[place].at(dart.seg as usize)
+        place_of_edge(edges, &self.hints, dart.edge.number())
     }
 
     /// The half of the next dart along the face on the left.
@@ -175,7 +179,7 @@ impl Embedded {
         }
     }
 
-    /// The dart of a half. It looks through the list of the edge's halves.
+    /// The dart of a half. It looks along the path of the edge.
     pub fn dart_of(&self, half: Half) -> Dart
         requires { IsHalf self.now half }
         ensures { (d : Dart) → has_dart (darts self.now.rows) d ≡ true → half_in self.now d ≡ half → result ≡ d }
@@ -267,8 +271,8 @@ impl Embedded {
 }
 
 impl Embedded {
-    ghost use Rattle.std.specs.List.{All, position_or_len};
-    ghost use Rattle.std.specs.Prelude.{◌==◌, ◌+◌, OnErr, OnOk};
+    ghost use Rattle.std.specs.List.{All};
+    ghost use Rattle.std.specs.Prelude.{◌+◌, OnErr, OnOk};
     ghost use Rattle.topo_core.specs.Changes.{shown};
     ghost use Rattle.topo_core.specs.Insertions.{IsInsertable};
     ghost use Rattle.topo_core.specs.Routes.{IsSimpleRoute};
@@ -294,17 +298,8 @@ impl Embedded {
         ensures dart { result.dart ≡ dart.now }
     {
         let place = self.place_of(dart);
-        let near = self.half_of(*dart);
+        let near = self.half_on(place, *dart);
         Crossed::new(*dart, place, near)
-    }
-
-    // The place of a dart's edge among the edges.
-    fn place_of(&self, dart: &Dart) -> usize
-        requires { has_dart (darts self.now.rows) dart.now ≡ true }
-        ensures { result ≡ position_or_len (λ row. row.id == dart.now.edge) self.now.rows.edges }
-    {
-        let edges = self.rows.edges.as_slice();
-        place_of_edge(edges, &self.hints, dart.edge.number())
     }
 
     /// Draws a new edge of the given kind along a route that meets no face twice, from the first of the ends

@@ -90,29 +90,12 @@ fn shift_in(path: &mut Path, at: usize, half: Half)
     }
 }
 
-/// The first place of a half or its twin in a list; its length where there is none.
-fn place_on(path: &Path, half: Half) -> usize
-    ensures { (xs ys : List ℕ) (h : ℕ) → path.now ≡ xs ++ h ∷ ys → AreOff half xs → IsOn half h → result ≡ length xs }
-{
-    let back = half.twin();
-    for i in 0..path.len() {
-        let along = path.at(i);
-        if along == half {
-            return i;
-        }
-        if along == back {
-            return i;
-        }
-    }
-    path.len()
-}
-
 /// Puts the half that goes on beyond a half of the list next to it, on the side where it leads. The last half
 /// of the list goes.
 pub(crate) fn put_beside(path: &mut Path, near: Half, beyond: Half)
     ensures { (xs ys : List ℕ) (h last : ℕ) → path.old ≡ xs ++ h ∷ (ys ++ last ∷ []) → AreOff near xs → IsOn near h → path.new ≡ xs ++ (piece (record { dart = 0; near = near; beyond = beyond }) h ++ ys) }
 {
-    let at = place_on(path, near);
+    let at = path.place_of(near);
     if at < path.len() {
         if path.at(at) == near {
             shift_in(path, at + 1, beyond);

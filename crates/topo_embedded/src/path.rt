@@ -1,7 +1,9 @@
 //! The path of an edge: the halves along it.
 
 ghost use Rattle.std.specs.Prelude.{◌≡◌, ◌≢◌, ◌==◌, ◌<◌, ◌++◌, ◌∷◌, ℕ, List, [], IfOk, OnErr, OnOk, filter, length, not, slice_index_or, slice_set};
+ghost use Rattle.std.specs.List.{position_or_len};
 ghost use Rattle.topo_core.specs.Items.{has_id};
+ghost use Rattle.topo_embedded.specs.Halves.{on_segment};
 
 use std::alloc::{AllocError, Global};
 use std::marker::Model;
@@ -70,6 +72,27 @@ impl Path {
         ensures { result ≡ has_id self.now half }
     {
         self.first == half || is_on(self.others.as_slice(), half)
+    }
+
+    /// Whether a half is one of the two on the segment at a place.
+    pub(crate) fn is_at(&self, place: usize, half: Half) -> bool
+        requires { place < length self.now }
+        ensures { result ≡ on_segment half (slice_index_or self.now place 0) }
+    {
+        let along = self.at(place);
+        along == half || along == half.twin()
+    }
+
+    /// The place of the first segment that a half is on; the number of segments where there is none.
+    pub(crate) fn place_of(&self, half: Half) -> usize
+        ensures { result ≡ position_or_len (on_segment half) self.now }
+    {
+        for place in 0..self.len() {
+            if self.is_at(place, half) {
+                return place;
+            }
+        }
+        self.len()
     }
 
     /// Puts another half at a place.

@@ -23,17 +23,12 @@ pub(crate) fn place_on_path(path: &Path, half: Half) -> (u32, Way)
     ensures within { result.0 < length path.now }
     ensures found { by_way (slice_index_or path.now result.0 0) result.1 ≡ half }
 {
-    let back = half.twin();
-    for seg in 0..path.len() {
-        let along = path.at(seg);
-        if along == half {
-            return (seg as u32, Way::Forward);
-        }
-        if along == back {
-            return (seg as u32, Way::Back);
-        }
+    let seg = path.place_of(half);
+    if path.at(seg) == half {
+        (seg as u32, Way::Forward)
+    } else {
+        (seg as u32, Way::Back)
     }
-    unreachable!()
 }
 
 /// A half along an edge, or its twin for the way back.
@@ -60,7 +55,7 @@ pub(crate) fn end_of(row: &EdgeRow, v: u32) -> (usize, Way)
 
 /// Lawful rows with their embedding: what a search walks on that hands out no heights. Darts go by the
 /// numbers of their halves. The next dart along a face takes one read, the twin none, whether two lie
-/// in one face two, and no question takes memory. Where a dart lies on its edge is found by a look along the edge's list of halves, which a
+/// in one face two, and no question takes memory. Where a dart lies on its edge is found by a look along the path of the edge, which a
 /// search asks only of darts that it may cross.
 #[derive(Drop)]
 pub struct EmbeddedRows<'a> {

@@ -1,10 +1,38 @@
-use Rattle.std.proofs.Common.{◌<◌, ap, arith, below_more, is_some, length, sym, ◌∙◌}
+use Rattle.std.proofs.Common.{◌≡◌, ◌<◌, ap, arith, below_more, is_some, length, subst, sym, true, ℕ, ◌∙◌}
 use Rattle.std.proofs.lemmas.Bool.{false≢true}
-use Rattle.topo_embedded.proofs.FaceWalks.{opened_to, path_few, path_is}
+use Rattle.topo_core.specs.Changes.{HasOneFace}
+use Rattle.topo_core.specs.Cycles.{SameCycle}
+use Rattle.topo_core.specs.Rotations.{face_next}
+use Rattle.topo_map.specs.Rotation.{is_live, turn}
+use Rattle.topo_embedded.proofs.FaceWalks.{first_face, first_live, first_twin_live, opened_to, path_few, path_is}
 use Rattle.topo_embedded.proofs.cuts.first_cut.Goals as goal
 
+pub at-first-requires : goal.at-first-requires
+at-first-requires c = let (p, o) = c.requires in omega (arith, path_is p c.args.segments.now c.args.e 0 c.args.path.now o)
+
+pub same_face-requires-clause-live : goal.same_face-requires-clause-live
+same_face-requires-clause-live c = let (p, o) = c.requires in first_live p c.args.segments.now c.args.e c.args.path.now o c.at-first.result c.at-first.ensures
+
+pub same_face-requires-clause-live_other : goal.same_face-requires-clause-live_other
+same_face-requires-clause-live_other c =
+    let (p, o) = c.requires in
+    subst (λ (h : ℕ). is_live c.args.segments.now h ≡ true) (sym c.twin.ensures) (first_twin_live p c.args.segments.now c.args.e c.args.path.now o c.at-first.result c.at-first.ensures)
+
+pub returns-then-same_face : goal.returns-then-same_face
+returns-then-same_face c = λ p o.
+    record {
+      there = ap is_some o.there;
+      on_path = omega arith;
+      one_face = (first_face p c.args.segments.now c.args.e c.args.path.now o c.at-first.result c.at-first.ensures).0
+          (subst (λ (h : ℕ). SameCycle (face_next (turn c.args.segments.now)) c.at-first.result h) c.twin.ensures (c.same_face.ensures.0 c.if-same_face.true));
+      two_faces_before = λ j none one. absurd (omega (arith, none));
+    }
+
 pub loop-segment-init : goal.loop-segment-init
-loop-segment-init c = λ p o j none. absurd (omega arith)
+loop-segment-init c = λ p o j few one.
+    let start : j ≡ 0 = omega (arith, few) in
+    let together = (first_face p c.args.segments.now c.args.e c.args.path.now o c.at-first.result c.at-first.ensures).1 (subst (HasOneFace p.rows c.args.e) start one) in
+    false≢true (sym c.if-same_face.false ∙ c.same_face.ensures.1 (subst (λ (h : ℕ). SameCycle (face_next (turn c.args.segments.now)) c.at-first.result h) (sym c.twin.ensures) together))
 
 pub has_one_face-requires : goal.has_one_face-requires
 has_one_face-requires c = let (p, o) = c.requires in (p, opened_to p c.args.segments.now c.args.e 0 c.args.path.now o c.loop-segment.segment (omega (arith, c.loop-segment-test.true, c.len-segment-end.ensures.len)))

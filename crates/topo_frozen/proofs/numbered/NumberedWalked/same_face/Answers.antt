@@ -1,7 +1,7 @@
-use Rattle.std.proofs.Common.{◌≡◌, ◌<◌, ap, arith, length, List, subst, sym, ℕ}
+use Rattle.std.proofs.Common.{◌≡◌, ap, arith, length, List, subst, sym, ℕ}
 use Rattle.std.proofs.lemmas.Bool.{eq-eqb, eqb-true}
 use Rattle.topo_core.specs.declared.rows.Rows.{Rows}
-use Rattle.topo_core.specs.Picture.{darts, system}
+use Rattle.topo_core.specs.Picture.{system}
 use Rattle.topo_core.specs.Systems.{SameFace}
 use Rattle.topo_core.proofs.Numbering.{images_length}
 use Rattle.topo_frozen.specs.FaceLabels.{AreFaceLabels}

@@ -1,7 +1,7 @@
 use Rattle.topo_embedded.specs.Cutting.{IsOpenedOn}
 use Rattle.topo_embedded.specs.Halves.{Drawn}
 use Rattle.topo_embedded.proofs.FaceWalks.{InStep}
-use Rattle.topo_embedded.proofs.cuts.meets_itself.Given as goal
+use Rattle.topo_embedded.proofs.cuts.has_one_face.Given as goal
 
 -- where the two walks are, and that neither has met the start of the other
 abbrev pub invariant-loop-steps : goal.invariant-loop-steps

@@ -1,0 +1,18 @@
+use Rattle.std.proofs.Common.{◌<◌, ◌≤◌, arith, length, sym, ◌∙◌}
+use Rattle.std.proofs.lemmas.List.Sums.{position_or_len_is}
+use Rattle.topo_embedded.specs.Halves.{on_segment}
+use Rattle.topo_embedded.proofs.path.Path.place_of.Goals as goal
+
+pub is_at-requires : goal.is_at-requires
+is_at-requires c = omega (arith, c.loop-place-test.true, c.len-place-end.ensures.len)
+
+pub returns-then-is_at : goal.returns-then-is_at
+returns-then-is_at c =
+    let less : c.loop-place.place < length c.args.self.now = omega (arith, c.loop-place-test.true, c.len-place-end.ensures.len) in
+    sym (position_or_len_is (on_segment c.args.half) c.args.self.now c.loop-place.place 0 (omega (arith, less)) c.loop-place.invariant (λ inside. sym c.is_at.ensures ∙ c.if-is_at.true))
+
+pub returns : goal.returns
+returns c =
+    let all : length c.args.self.now ≤ c.loop-place.place = omega (arith, c.loop-place-test.false, c.len-place-end.ensures.len) in
+    c.len.ensures.len
+    ∙ sym (position_or_len_is (on_segment c.args.half) c.args.self.now (length c.args.self.now) 0 (omega arith) (λ k less. c.loop-place.invariant k (omega (arith, all, less))) (λ inside. absurd (omega (arith, inside))))
