@@ -111,6 +111,29 @@ fn show<F: Asks, K: Naming<F>, W: Shelf<F, K>, R: Wait>(
     Ok(())
 }
 
+/// The answer to a call that was made ready, once the version after it is published where it is accepted.
+/// After want of memory nothing has changed.
+fn answer_ready<F: Asks, K: Naming<F>, W: Shelf<F, K>, R: Wait>(
+    rt: &R,
+    alloc: Global,
+    head: &Head<K>,
+    front: &mut Front<K>,
+    writer: &mut W,
+    next: &Next,
+) -> Result<Answer, AllocError>
+    requires room { length front.old + 1 < 2 ^ 64 }
+    requires whole { W.published writer.old ≡ front.old }
+    requires follows { IfSome next.now.picture (λ picture. IsVersionFrom (prices_named F.answers K.closure) K.start (front.old ++ next.now.entry ∷ []) picture) }
+    ensures told { IfOk result (λ answer. answer.told ≡ next.now.entry.reply) }
+    ensures front { OnOk result (front.new ≡ (if is_accepted next.now.entry.reply then front.old ++ next.now.entry ∷ [] else front.old)) }
+    ensures published { OnOk result (W.published writer.new ≡ front.new) }
+    ensures err { OnErr result ((front.new ≡ front.old) × (W.published writer.new ≡ W.published writer.old)) }
+{
+    let answer = Answer::of(alloc, &next.entry().reply)?;
+    show::<F, K, W, R>(rt, alloc, head, front, writer, next)?;
+    Ok(answer)
+}
+
 impl<F: Asks, K: Naming<F>, W: Shelf<F, K>> Desk<F, K, W> {
     pub(crate) fn new(
         book: Book<F>,
@@ -178,8 +201,7 @@ impl<F: Asks, K: Naming<F>, W: Shelf<F, K>> Desk<F, K, W> {
     {
         let hint = self.hint(call, brought);
         let next = make_ready(&mut self.book, alloc, caller, call, hint)?;
-        let answer = Answer::of(alloc, &next.entry().reply)?;
-        show::<F, K, W, R>(
+        let answer = answer_ready::<F, K, W, R>(
             rt,
             alloc,
             &self.head,

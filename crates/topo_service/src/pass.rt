@@ -1,19 +1,20 @@
 //! What one caller has.
 
-ghost use Rattle.std.specs.Prelude.{◌≡◌, length, IfOk, IfErr};
+ghost use Rattle.std.specs.Prelude.{◌≡◌, ◌≢◌, length, IfOk, IfErr};
 ghost use Rattle.topo_core.specs.History.{IsPrefix};
 ghost use Rattle.topo_price.specs.Prices.{prices_of};
 ghost use Rattle.topo_route.specs.Plans.{IsPlan};
 ghost use Rattle.topo_frozen.specs.Shown.{Shown};
 ghost use Rattle.topo_versions.specs.Names.{prices_named};
 ghost use Rattle.topo_versions.specs.Versions.{IsVersionFrom};
-ghost use Rattle.topo_service.specs.Faults.{IsPlanFault, IsPlanRefusal};
+ghost use Rattle.topo_service.specs.Faults.{HasVertices, IsPlanFault, IsPlanRefusal};
 
 use crate::faults::PassFault;
 use std::alloc::Global;
 use std::marker::{Model, PhantomData};
 use std::sync::ledger::Share;
 use topo_core::calls::{Call, Refusal, Reply};
+use topo_frozen::Frozen;
 use topo_picture::Picture;
 use topo_price::tariff::{Asks, Tariff};
 use topo_route::plan::Plan;
@@ -56,6 +57,26 @@ impl<F: Asks, K: Naming<F>, G: Glass<F, K>> Model for PassOver<F, K, G> {
     ghost invariant = { λ p. (p.share.parts ≡ 1) × (p.share.amount ≡ length p.receipts.items) × (p.seen ≡ length (G.seen p.reader)) };
 }
 
+/// The first cheapest route on a frozen picture, or why there is none.
+fn plan_in<A: Asks>(
+    alloc: Global,
+    frozen: &Frozen,
+    tariff: &Tariff<A>,
+    u: u32,
+    v: u32,
+) -> Result<Plan, Refusal>
+    requires there { HasVertices frozen.now.rows u v }
+    requires apart { u ≢ v }
+    ensures planned { IfOk result (IsPlan (prices_of (A.answers tariff.now)) frozen.now.rows u v) }
+    ensures refused { IfErr result (IsPlanRefusal (prices_of (A.answers tariff.now)) frozen.now.rows u v) }
+{
+    match search(alloc, frozen, tariff, u, v) {
+        Ok(Some(plan)) => Ok(plan),
+        Ok(None) => Err(Refusal::NoRoute),
+        Err(_) => Err(Refusal::Memory),
+    }
+}
+
 /// The first cheapest route on a picture, or the first reason why there is no plan.
 fn plan_on<A: Asks>(
     alloc: Global,
@@ -74,12 +95,8 @@ fn plan_on<A: Asks>(
     if u == v {
         return Err(Refusal::SameEnds);
     }
-    let Ok(frozen) = picture.freeze(alloc) else {
-        return Err(Refusal::Memory);
-    };
-    match search(alloc, &frozen, tariff, u, v) {
-        Ok(Some(plan)) => Ok(plan),
-        Ok(None) => Err(Refusal::NoRoute),
+    match picture.freeze(alloc) {
+        Ok(frozen) => plan_in(alloc, &frozen, tariff, u, v),
         Err(_) => Err(Refusal::Memory),
     }
 }

@@ -7,11 +7,11 @@ use Rattle.topo_versions.specs.Versions.{IsVersionFrom}
 use Rattle.topo_service.proofs.Versions.{if_some, named_step, version_ready, versions_length}
 use Rattle.topo_service.proofs.desk.Desk.call.Goals as goal
 
-pub show-requires-clause-room : goal.show-requires-clause-room
-show-requires-clause-room g c = omega (arith, ap length c.self.invariant.3, versions_length c.self.inside.book.history, c.make_ready.ensures.room)
+pub answer_ready-requires-clause-room : goal.answer_ready-requires-clause-room
+answer_ready-requires-clause-room g c = omega (arith, ap length c.self.invariant.3, versions_length c.self.inside.book.history, c.make_ready.ensures.room)
 
-pub show-requires-clause-follows : goal.show-requires-clause-follows
-show-requires-clause-follows g c =
+pub answer_ready-requires-clause-follows : goal.answer_ready-requires-clause-follows
+answer_ready-requires-clause-follows g c =
     let n = c.in_ok-next.next in
     let i = c.self.invariant in
     let m = c.make_ready.ensures in
@@ -28,7 +28,7 @@ returns-clause-step g c =
     let b = c.self.inside.book in
     let i = c.self.invariant in
     let m = c.make_ready.ensures in
-    let told : c.in_ok-answer.answer.told ≡ n.entry.reply = c.in_ok-answer.ensures ∙ ap (λ e. e.reply) c.entry.ensures.entry in
+    let told : c.in_ok-answer.answer.told ≡ n.entry.reply = c.in_ok-answer.ensures.told in
     let after : c.commit.new.self.picture ≡ picture_after n.picture b.picture = c.commit.ensures.picture ∙ ap (picture_after n.picture) m.unchanged.1 in
     let step = named_step g.F.Asks.answers g.K.Naming.closure g.K.Naming.start b c.make_ready.new.book n i.1 i.0 m.unchanged m.same_book m.same_limits c.in_ok-next.ensures.ready in
     rw (← c.in_ok-next.ensures.call, told, after, ← ap (λ s. s.picture) c.self.view_is) step
