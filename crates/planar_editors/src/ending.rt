@@ -6,6 +6,7 @@ use anyhow::{Error, Result};
 use std::alloc::Global;
 use topo_book::{Book, replay};
 use topo_core::calls::{Entry, Reply};
+use topo_picture::Picture;
 use topo_price::tariff::Asks;
 use topo_service::close::CloseFault;
 use topo_versions::{Naming, StoreReader};
@@ -23,26 +24,42 @@ pub(crate) fn tell<F: Asks + Drop, K: Naming<F>, R: Print + AllocGlobal>(
     }
 }
 
-/// The calls of each editor by their replies, whether a single thread that makes all calls again gets the
-/// same replies, what the viewer saw, and the size of the picture.
+/// The calls of each editor, the whole history, what the viewer saw, and the size of the picture.
 fn tell_book<F: Asks + Drop, R: Print>(rt: &R, alloc: Global, book: &Book<F>) -> Result<()> {
-    let history = book.history();
     for editor in 0..EDITORS {
-        let grown = count(history, editor, Sort::Grown);
-        let inserted = count(history, editor, Sort::Inserted);
-        let deleted = count(history, editor, Sort::Deleted);
-        let refused = count(history, editor, Sort::Refused);
-        println!(rt;
-            "editor {editor}: {grown} grown, {inserted} inserted, {deleted} deleted, {refused} refused"
-        )?;
+        tell_editor(rt, book.history(), editor)?;
     }
+    tell_history(rt, alloc, book)?;
+    println!(rt; "viewer: {LOOKS} views, none earlier than the one before")?;
+    tell_picture(rt, book.picture())
+}
+
+/// The calls of an editor by their replies.
+fn tell_editor<R: Print>(rt: &R, history: &[Entry], editor: u32) -> Result<()> {
+    let grown = count(history, editor, Sort::Grown);
+    let inserted = count(history, editor, Sort::Inserted);
+    let deleted = count(history, editor, Sort::Deleted);
+    let refused = count(history, editor, Sort::Refused);
+    println!(rt;
+        "editor {editor}: {grown} grown, {inserted} inserted, {deleted} deleted, {refused} refused"
+    )?;
+    Ok(())
+}
+
+/// How many calls there were, and whether a single thread that makes them all again gets the same replies.
+fn tell_history<F: Asks + Drop, R: Print>(rt: &R, alloc: Global, book: &Book<F>) -> Result<()> {
+    let history = book.history();
     let again = replay(alloc, book.start(), history, book.tariff()).is_ok();
     println!(rt;
         "history: {} calls, the same by one thread: {again}",
         history.len()
     )?;
-    println!(rt; "viewer: {LOOKS} views, none earlier than the one before")?;
-    let counts = book.picture().counts();
+    Ok(())
+}
+
+/// The size of a picture.
+fn tell_picture<R: Print>(rt: &R, picture: &Picture) -> Result<()> {
+    let counts = picture.counts();
     println!(rt;
         "picture: {} vertices, {} edges",
         counts.vertices, counts.edges

@@ -1,4 +1,4 @@
--- How darts turn round vertices and crossings, as the lists of the rows say it.
+-- How darts turn round a vertex, as its list in the rows says it.
 use Rattle.std.proofs.Common.{◌≡◌, ◌+◌, ◌<◌, ap, arith, Bool, cond, false, inl, inr, length, List, not, suc, sym, true, ℕ, [], ◌∙◌, ◌∷◌}
 use Rattle.std.specs.Prelude.{map, slice_index_or, ◌==◌}
 use Rattle.std.specs.List.{position_or_len}

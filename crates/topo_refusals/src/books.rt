@@ -137,6 +137,12 @@ fn make<R: Print + Eprint + AllocGlobal, F: Asks>(
     }
 }
 
+/// Prints what an insertion for which there is a plan was answered.
+fn print_planned<R: Print>(rt: &R, u: u32, v: u32, kind: u32, reply: &Reply) -> Result<()> {
+    println!(rt; "planned insertion {u} {v} {kind}: {reply:?}")?;
+    Ok(())
+}
+
 /// An insertion for which there is a plan.
 fn make_planned<R: Print + Eprint + AllocGlobal, F: Asks>(
     rt: &R,
@@ -145,15 +151,14 @@ fn make_planned<R: Print + Eprint + AllocGlobal, F: Asks>(
     plan: &Plan,
     before: &str,
 ) -> Result<()> {
-    let reply = match book.insert_planned(rt.alloc(), CALLER, u, v, kind, plan) {
-        Ok(reply) => reply,
+    match book.insert_planned(rt.alloc(), CALLER, u, v, kind, plan) {
+        Ok(reply) => print_planned(rt, u, v, kind, &reply),
         Err(_) => {
             compare_book(rt, "Book::insert_planned", before, book)?;
-            book.insert_planned(rt.alloc(), CALLER, u, v, kind, plan)?
+            let reply = book.insert_planned(rt.alloc(), CALLER, u, v, kind, plan)?;
+            print_planned(rt, u, v, kind, &reply)
         }
-    };
-    println!(rt; "planned insertion {u} {v} {kind}: {reply:?}")?;
-    Ok(())
+    }
 }
 
 /// Takes one step of a book in this state.

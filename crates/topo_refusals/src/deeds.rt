@@ -3,7 +3,7 @@
 use crate::founds::insert_by_search;
 use crate::lists::work;
 use crate::sights::{
-    CALLER, LOOKER, PLANNER, compare_planning, compare_service, look, show, view_of,
+    CALLER, LOOKER, PLANNER, Sight, compare_planning, compare_service, look, show, view_of,
 };
 use crate::states::picture_state;
 use anyhow::{Result, bail};
@@ -100,10 +100,22 @@ fn answered<F: Asks + Drop, K: Naming<F>, R: Wait + Print + Eprint + AllocGlobal
     plan: Option<&Plan>,
 ) -> Result<Reply> {
     let before = look(rt, passes)?;
+    answered_from(rt, service, passes, &before, call, plan)
+}
+
+/// The same of a service that was so before.
+fn answered_from<F: Asks + Drop, K: Naming<F>, R: Wait + Print + Eprint + AllocGlobal>(
+    rt: &R,
+    service: &Service<F, K>,
+    passes: &mut [Pass<F, K>],
+    before: &Sight,
+    call: Call,
+    plan: Option<&Plan>,
+) -> Result<Reply> {
     match called(rt, service, passes, call, plan) {
         Ok(reply) => Ok(reply),
         Err(_) => {
-            compare_service(rt, name_of(call, plan), &before, passes)?;
+            compare_service(rt, name_of(call, plan), before, passes)?;
             Ok(called(rt, service, passes, call, plan)?)
         }
     }

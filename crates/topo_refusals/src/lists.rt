@@ -13,7 +13,7 @@ use topo_service::{Gate, Pass, Receipt, Service, WorkerEnd, run_workers};
 use topo_versions::Naming;
 
 /// What the worker does.
-const COMMANDS: [Command; 4] = [
+const COMMANDS: &[Command] = &[
     Command::Plain(JOIN),
     Command::Planned {
         u: 4,
@@ -44,6 +44,15 @@ fn list_of(alloc: Global, commands: &[Command]) -> Result<Vec<Vec<Command>>, All
     let mut lists = Vec::with_capacity(alloc, 1)?;
     lists.push(list)?;
     Ok(lists)
+}
+
+/// The same, which is made once more where it wants memory.
+fn listed<R: Eprint + AllocGlobal>(
+    rt: &R,
+    commands: &[Command],
+) -> Result<Vec<Vec<Command>>, AllocError> {
+    let alloc = rt.alloc();
+    again(rt, || list_of(alloc, commands))
 }
 
 /// How many receipts the pass has whose list is run.
@@ -78,6 +87,23 @@ fn run_list<
     }
 }
 
+/// Prints a line that begins with `changed:` where there is not one receipt more for each command before a
+/// place.
+fn compare_receipts<R: Print>(rt: &R, had: usize, has: usize, at: usize) -> Result<()> {
+    if has != had.wrapping_add(at) {
+        println!(rt; "changed: run_workers: {had} receipts became {has} before command {at}")?;
+    }
+    Ok(())
+}
+
+/// The commands from a place on.
+fn rest_of(at: usize) -> Result<&'static [Command]> {
+    match COMMANDS.get(at..) {
+        Some(rest) => Ok(rest),
+        None => bail!("no command {at}"),
+    }
+}
+
 /// Runs the rest of the list after a command that wanted memory, of which there is a receipt of each one
 /// before it.
 fn run_rest<
@@ -86,15 +112,8 @@ fn run_rest<
     R: Threads + Wait + Print + Eprint + AllocGlobal + Sync,
 >(rt: &R, service: &Service<F, K>, passes: &mut [Pass<F, K>], had: usize, at: usize) -> Result<()> {
     tell(rt, "a command of run_workers");
-    let has = receipts(passes);
-    if has != had.wrapping_add(at) {
-        println!(rt; "changed: run_workers: {had} receipts became {has} before command {at}")?;
-    }
-    let Some(rest) = COMMANDS.get(at..) else {
-        bail!("no command {at}");
-    };
-    let alloc = rt.alloc();
-    let lists = again(rt, || list_of(alloc, rest))?;
+    compare_receipts(rt, had, receipts(passes), at)?;
+    let lists = listed(rt, rest_of(at)?)?;
     run_whole(rt, service, passes, lists.as_slice())
 }
 
@@ -172,8 +191,7 @@ pub(crate) fn work<
     K: Naming<F> + Send + Sync,
     R: Threads + Wait + Print + Eprint + AllocGlobal + Sync,
 >(rt: &R, service: &Service<F, K>, passes: &mut [Pass<F, K>]) -> Result<()> {
-    let alloc = rt.alloc();
-    let lists = again(rt, || list_of(alloc, &COMMANDS))?;
+    let lists = listed(rt, COMMANDS)?;
     run(rt, service, passes, lists.as_slice())?;
     print_receipts(rt, passes)?;
     show(rt, passes)

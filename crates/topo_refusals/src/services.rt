@@ -101,6 +101,16 @@ fn use_and_close<
 >(rt: &R, mut service: Service<F, K>) -> Result<bool> {
     let mut passes = Vec::new(rt.alloc());
     let told = use_passes(rt, &mut service, &mut passes);
+    close(rt, service, passes, told)
+}
+
+/// Closes a service with its passes. What is printed then is printed only where the story was told.
+fn close<F: Asks + Drop, K: Naming<F>, R: Wait + Print + Eprint + AllocGlobal>(
+    rt: &R,
+    service: Service<F, K>,
+    passes: Vec<Pass<F, K>>,
+    told: Result<()>,
+) -> Result<bool> {
     let end = service.close(rt, passes);
     finish(rt, told, &end)
 }

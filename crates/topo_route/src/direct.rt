@@ -14,8 +14,8 @@ use topo_core::routes::Route;
 const QUESTIONS: u32 = 32;
 
 /// The first route from `u` to `v` that crosses nothing, where a face at one of the first corners of `u` is
-/// also at `v`. None says nothing of the corners that were not looked at: it is a search for when both ends
-/// have few corners, or the first corners meet, and takes the time of a round of the target's corners.
+/// also at `v`. None says nothing of the corners that were not looked at. It takes the time of one round of
+/// the target's corners.
 pub(crate) fn direct_route<W: Walked>(alloc: Global, walked: &W, u: u32, v: u32) -> Option<Route>
     ensures { IfSome result (IsFirstDirect (W.named walked.now).rows u v) }
 {

@@ -1,6 +1,6 @@
 //! Many workers, with calls that meet one another.
 
-use crate::harness::{Still, Story, Work, bipyramid, run_work};
+use crate::harness::{Still, Story, Work, bipyramid, even_prices, is_told, run_work_at};
 use crate::views::view_of;
 use std::alloc::{AllocError, Global};
 use std::process::Abort;
@@ -11,9 +11,8 @@ use std::thread;
 use std::thread::Threads;
 use topo_core::calls::{Call, Command};
 use topo_core::limits::Limits;
-use topo_core::rows::{Facts, Rows};
+use topo_core::rows::Rows;
 use topo_picture::Picture;
-use topo_price::table::PriceTable;
 use topo_price::tariff::Asks;
 use topo_service::{Pass, Service, WorkerEnd};
 use topo_versions::{Naming, Version};
@@ -23,6 +22,14 @@ use topo_versions::{Naming, Version};
 struct Workers {
     number: usize,
     accepted: u64,
+}
+
+/// How many calls are accepted, as the first pass sees it.
+fn accepted_by<F: Asks + Drop, K: Naming<F>>(passes: &mut [Pass<F, K>]) -> Result<u64, Fail> {
+    match passes.first_mut() {
+        Some(pass) => Ok(view_of(pass)?.number()),
+        None => Ok(0),
+    }
 }
 
 impl Story for Workers {
@@ -39,20 +46,13 @@ impl Story for Workers {
         ends: &[WorkerEnd],
     ) -> Result<String, Fail> {
         let done = ends.iter().all(|end| *end == WorkerEnd::Done);
-        let accepted = match passes.as_mut_slice().first_mut() {
-            Some(pass) => view_of(pass)?.number(),
-            None => 0,
-        };
-        let many = accepted >= self.accepted;
+        let many = accepted_by(passes.as_mut_slice())? >= self.accepted;
         Ok(format!(in alloc; "{} ended, all done: {done}, accepted: {many}", ends.len())?)
     }
 }
 
-#[test]
-fn four_workers_plan_between_the_apexes(rt: HostRuntime) -> Result<(), Fail> {
-    let alloc = rt.alloc();
-    let start = bipyramid(&rt, alloc)?;
-    let table = PriceTable::new([Some(1); 64]).expect(&rt, "a table");
+/// Four lists, each of an insertion between the apexes with a plan and the deletion of an edge.
+fn four_lists(alloc: Global) -> Result<Vec<Vec<Command>>, AllocError> {
     let mut lists = Vec::new(alloc);
     for i in 0..4 {
         let planned = Command::Planned {
@@ -62,20 +62,33 @@ fn four_workers_plan_between_the_apexes(rt: HostRuntime) -> Result<(), Fail> {
         };
         lists.push(vec![in alloc; planned, Command::Plain(Call::Delete { edge: i })]?)?;
     }
-    let told = run_work(
+    Ok(lists)
+}
+
+/// Four workers, all of whose calls are accepted.
+const FOUR: Workers = Workers {
+    number: 4,
+    accepted: 8,
+};
+
+/// What is told of four with these lists.
+fn told_of_four<R: Threads + Wait + Abort + AllocGlobal + Sync>(
+    rt: &R,
+    lists: &[Vec<Command>],
+) -> Result<String, Fail> {
+    let start = bipyramid(rt, rt.alloc())?;
+    let work = Work::Lists(lists, &Still);
+    run_work_at(rt, rt.alloc(), &even_prices(rt), start, work, &FOUR)
+}
+
+#[test]
+fn four_workers_plan_between_the_apexes(rt: HostRuntime) -> Result<(), Fail> {
+    let lists = four_lists(rt.alloc())?;
+    let told = told_of_four(&rt, lists.as_slice())?;
+    is_told(
         &rt,
-        alloc,
-        |facts: &Facts| table.price(facts.kind),
-        start,
-        Work::Lists(lists.as_slice(), &Still),
-        &Workers {
-            number: 4,
-            accepted: 8,
-        },
-    )?;
-    assert_eq!(rt;
         told.as_str(),
-        "4 ended, all done: true, accepted: true; 8 calls, replayed: true"
+        "4 ended, all done: true, accepted: true; 8 calls, replayed: true",
     );
     Ok(())
 }
@@ -280,27 +293,27 @@ fn told_of_sixteen<R: Threads + Wait + Abort + AllocGlobal + Sync>(
     watch: &Watch,
 ) -> Result<String, Fail> {
     let start = tree(rt, rt.alloc())?;
-    let table = PriceTable::new([Some(1); 64]).expect(rt, "a table");
-    run_work(
-        rt,
-        rt.alloc(),
-        |facts: &Facts| table.price(facts.kind),
-        start,
-        Work::<Still>::Crowd(watch),
-        &SIXTEEN,
-    )
+    let work = Work::<Still>::Crowd(watch);
+    run_work_at(rt, rt.alloc(), &even_prices(rt), start, work, &SIXTEEN)
+}
+
+/// Sixteen workers took all views, and nothing was amiss.
+fn is_well(rt: &impl Abort, watch: &Watch) {
+    assert!(rt; watch.views.load(Ordering::SeqCst) == 320);
+    assert!(rt; watch.unlawful.load(Ordering::SeqCst) == 0);
+    assert!(rt; watch.fallen.load(Ordering::SeqCst) == 0);
+    assert!(rt; watch.failed.load(Ordering::SeqCst) == 0);
 }
 
 #[test]
 fn sixteen_workers_make_thousands_of_calls(rt: HostRuntime) -> Result<(), Fail> {
     let watch = Watch::new();
     let told = told_of_sixteen(&rt, &watch)?;
-    assert!(rt;
-        told.as_str() == "0 ended, all done: true, accepted: true; 32000 calls, replayed: true"
+    is_told(
+        &rt,
+        told.as_str(),
+        "0 ended, all done: true, accepted: true; 32000 calls, replayed: true",
     );
-    assert!(rt; watch.views.load(Ordering::SeqCst) == 320);
-    assert!(rt; watch.unlawful.load(Ordering::SeqCst) == 0);
-    assert!(rt; watch.fallen.load(Ordering::SeqCst) == 0);
-    assert!(rt; watch.failed.load(Ordering::SeqCst) == 0);
+    is_well(&rt, &watch);
     Ok(())
 }

@@ -1,14 +1,17 @@
 //! Two workers at one time, in an order that a gate sets.
 
-use crate::harness::{Story, Work, bipyramid, run_work, seed, uneven_prices};
+use crate::harness::{
+    Story, Work, bipyramid, even_prices, is_told, run_work, run_work_at, seed, uneven_prices,
+};
 use crate::views::{edges_of, view_of};
-use std::alloc::Global;
+use std::alloc::{AllocError, Global};
+use std::process::Abort;
 use std::sync::Wait;
 use std::sync::atomic::{AtomicBool, Ordering};
 use std::test::Fail;
+use std::thread::Threads;
 use topo_core::calls::{Call, Command};
 use topo_core::rows::Facts;
-use topo_price::table::PriceTable;
 use topo_price::tariff::Asks;
 use topo_service::{Gate, Pass, Service, WorkerEnd};
 use topo_versions::Naming;
@@ -22,6 +25,16 @@ struct Turn {
     begun: AtomicBool,
     made: AtomicBool,
     late: AtomicBool,
+}
+
+impl Turn {
+    fn new() -> Turn {
+        Turn {
+            begun: AtomicBool::new(false),
+            made: AtomicBool::new(false),
+            late: AtomicBool::new(false),
+        }
+    }
 }
 
 /// Looks for the flag, and notes where it looks in vain.
@@ -89,31 +102,55 @@ impl Story for Pair<'_> {
     }
 }
 
+/// A list for each of these commands.
+fn lists_of(alloc: Global, commands: &[Command]) -> Result<Vec<Vec<Command>>, AllocError> {
+    let mut lists = Vec::new(alloc);
+    for command in commands {
+        lists.push(vec![in alloc; *command]?)?;
+    }
+    Ok(lists)
+}
+
+/// What is told of two workers with these lists, one of whom waits for the other.
+fn told_in_turn<R: Threads + Wait + Abort + AllocGlobal + Sync>(
+    rt: &R,
+    lists: &[Vec<Command>],
+    turn: &Turn,
+) -> Result<String, Fail> {
+    let start = seed(rt, rt.alloc())?;
+    let work = Work::Lists(lists, turn);
+    run_work_at(
+        rt,
+        rt.alloc(),
+        &even_prices(rt),
+        start,
+        work,
+        &Pair { turn },
+    )
+}
+
+/// An insertion of each worker.
+const INSERTIONS: [Command; 2] = [
+    Command::Plain(Call::Insert {
+        u: 0,
+        v: 1,
+        kind: 0,
+    }),
+    Command::Plain(Call::Insert {
+        u: 0,
+        v: 1,
+        kind: 1,
+    }),
+];
+
 #[test]
 fn workers_run_at_one_time(rt: HostRuntime) -> Result<(), Fail> {
-    let start = seed(&rt, rt.alloc())?;
-    let table = PriceTable::new([Some(1); 64]).expect(&rt, "a table");
-    let turn = Turn {
-        begun: AtomicBool::new(false),
-        made: AtomicBool::new(false),
-        late: AtomicBool::new(false),
-    };
-    let mut lists = Vec::new(rt.alloc());
-    for kind in 0..2 {
-        let insert = Command::Plain(Call::Insert { u: 0, v: 1, kind });
-        lists.push(vec![in rt.alloc(); insert]?)?;
-    }
-    let told = run_work(
+    let lists = lists_of(rt.alloc(), &INSERTIONS)?;
+    let told = told_in_turn(&rt, lists.as_slice(), &Turn::new())?;
+    is_told(
         &rt,
-        rt.alloc(),
-        |facts: &Facts| table.price(facts.kind),
-        start,
-        Work::Lists(lists.as_slice(), &turn),
-        &Pair { turn: &turn },
-    )?;
-    assert_eq!(rt;
         told.as_str(),
-        "false [Done, Done] [(1, 3), (1, 3)]; 2 calls, replayed: true"
+        "false [Done, Done] [(1, 3), (1, 3)]; 2 calls, replayed: true",
     );
     Ok(())
 }
@@ -197,37 +234,40 @@ impl Story for PlanAndDelete<'_> {
     }
 }
 
-#[test]
-fn a_plan_is_made_anew_where_the_picture_changed_meanwhile(rt: HostRuntime) -> Result<(), Fail> {
-    let start = bipyramid(&rt, rt.alloc())?;
-    let table = uneven_prices(&rt);
-    let between = Between::new();
+/// What is told of two workers with these lists, one of whom plans while the other changes the picture.
+fn told_between<R: Threads + Wait + Abort + AllocGlobal + Sync>(
+    rt: &R,
+    lists: &[Vec<Command>],
+    between: &Between,
+) -> Result<String, Fail> {
+    let start = bipyramid(rt, rt.alloc())?;
+    let table = uneven_prices(rt);
     let ask = |facts: &Facts| {
         between.ask();
         table.price(facts.kind)
     };
-    let planned = Command::Planned {
+    let work = Work::Lists(lists, between);
+    run_work(rt, rt.alloc(), ask, start, work, &PlanAndDelete { between })
+}
+
+/// What each of the two workers does.
+const PLAN_AND_DELETION: [Command; 2] = [
+    Command::Planned {
         u: 3,
         v: 4,
         kind: 0,
-    };
-    let deletion = Command::Plain(Call::Delete { edge: 1 });
-    let mut lists = Vec::new(rt.alloc());
-    for command in [planned, deletion] {
-        lists.push(vec![in rt.alloc(); command]?)?;
-    }
-    let story = PlanAndDelete { between: &between };
-    let told = run_work(
+    },
+    Command::Plain(Call::Delete { edge: 1 }),
+];
+
+#[test]
+fn a_plan_is_made_anew_where_the_picture_changed_meanwhile(rt: HostRuntime) -> Result<(), Fail> {
+    let lists = lists_of(rt.alloc(), &PLAN_AND_DELETION)?;
+    let told = told_between(&rt, lists.as_slice(), &Between::new())?;
+    is_told(
         &rt,
-        rt.alloc(),
-        ask,
-        start,
-        Work::Lists(lists.as_slice(), &between),
-        &story,
-    )?;
-    assert_eq!(rt;
         told.as_str(),
-        "false [Done, Done] Inserted(Inserted { id: EdgeId(9), route: Route { start: 2, crossed: Listed { items: [] }, end: 2 }, price: 0 }); 2 calls, replayed: true"
+        "false [Done, Done] Inserted(Inserted { id: EdgeId(9), route: Route { start: 2, crossed: Listed { items: [] }, end: 2 }, price: 0 }); 2 calls, replayed: true",
     );
     Ok(())
 }

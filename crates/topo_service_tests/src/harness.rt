@@ -15,12 +15,12 @@ use topo_book::{Book, replay};
 use topo_core::calls::Command;
 use topo_core::limits::Limits;
 use topo_core::listed::Listed;
-use topo_core::rows::{EdgeRow, Rows};
+use topo_core::rows::{EdgeRow, Facts, Rows};
 use topo_picture::Picture;
 use topo_price::table::PriceTable;
 use topo_price::tariff::{Asks, Tariff};
 use topo_service::close::CloseFault;
-use topo_service::{Gate, Pass, Service, Unopened, WorkerEnd, run_workers};
+use topo_service::{EndFault, Gate, Pass, Service, Unopened, WorkerEnd, run_workers};
 use topo_versions::{Naming, StoreReader};
 
 /// What is done with a service.
@@ -61,6 +61,41 @@ pub(crate) enum Work<'a, T> {
     Crowd(&'a Watch),
 }
 
+/// What was told is what is due.
+pub(crate) fn is_told(rt: &impl Abort, told: &str, due: &str) {
+    assert_eq!(rt; told, due);
+}
+
+/// The text of the story, and how the service ended, at the prices of a table.
+pub(crate) fn run_at<S: Story, R: Threads + Wait + Sync>(
+    rt: &R,
+    alloc: Global,
+    table: &PriceTable,
+    start: Picture,
+    story: &S,
+) -> Result<String, Fail> {
+    run_work_at(rt, alloc, table, start, Work::Lists(&[], &Still), story)
+}
+
+/// The same, where the passes have work to do before the story is told.
+pub(crate) fn run_work_at<S: Story, T: Gate, R: Threads + Wait + Sync>(
+    rt: &R,
+    alloc: Global,
+    table: &PriceTable,
+    start: Picture,
+    work: Work<T>,
+    story: &S,
+) -> Result<String, Fail> {
+    run_work(
+        rt,
+        alloc,
+        |facts: &Facts| table.price(facts.kind),
+        start,
+        work,
+        story,
+    )
+}
+
 /// The text of the story, and how the service ended.
 pub(crate) fn run<F: Asks + Drop + Send + Sync, S: Story, R: Threads + Wait + Sync>(
     rt: &R,
@@ -91,8 +126,7 @@ pub(crate) fn run_work<F: Asks + Drop + Send + Sync, S: Story, T: Gate, R: Threa
     named::<F, Brand, S, T, R>(rt, alloc, Unopened::new(), start, tariff, work, story)
 }
 
-/// The same, over the service that K names. The service and its passes are owned here alone, and nothing
-/// returns early while they are.
+/// The same, over the service that K names.
 fn named<
     F: Asks + Drop + Send + Sync,
     K: Naming<F> + Send + Sync,
@@ -114,11 +148,49 @@ fn named<
     requires start { start ≡ K.start }
     requires prices { K.closure ≡ Some (arc_value tariff) }
 {
-    let mut service = Service::<F, K>::new(alloc, unopened, start, tariff)?;
+    let service = Service::<F, K>::new(alloc, unopened, start, tariff)?;
+    tell_and_close(rt, alloc, service, work, story)
+}
+
+/// The text of the story of a service, and how it ended. The service and its passes are owned here alone, and
+/// nothing returns early while they are.
+fn tell_and_close<
+    F: Asks + Drop + Send + Sync,
+    K: Naming<F> + Send + Sync,
+    S: Story,
+    T: Gate,
+    R: Threads + Wait + Sync,
+>(
+    rt: &R,
+    alloc: Global,
+    mut service: Service<F, K>,
+    work: Work<T>,
+    story: &S,
+) -> Result<String, Fail> {
     let mut passes = Vec::new(alloc);
     let told = tell(rt, alloc, &mut service, &mut passes, work, story);
-    let end = service.close(rt, passes);
-    finish(alloc, told, &end)
+    let end = close(rt, alloc, service, passes);
+    both(alloc, told, end)
+}
+
+/// What the story told, and how the service ended.
+fn both(
+    alloc: Global,
+    told: Result<String, Fail>,
+    end: Result<String, AllocError>,
+) -> Result<String, Fail> {
+    let (told, end) = (told?, end?);
+    Ok(format!(in alloc; "{told}; {end}")?)
+}
+
+/// Closes the service with these passes. The text says how it ended.
+fn close<F: Asks + Drop, K: Naming<F>, R: Wait>(
+    rt: &R,
+    alloc: Global,
+    service: Service<F, K>,
+    passes: Vec<Pass<F, K>>,
+) -> Result<String, AllocError> {
+    ending(alloc, service.close(rt, passes))
 }
 
 /// Gives out the passes that the story asks for, lets the workers do their work, and tells the story.
@@ -156,25 +228,28 @@ fn give_out<F: Asks + Drop, K: Naming<F>>(
     Ok(())
 }
 
-/// What the story told, and how the service ended.
-fn finish<F: Asks + Drop, K: Naming<F>>(
+/// How a service ended: with a book or with a fault.
+fn ending<F: Asks + Drop, K: Naming<F>>(
     alloc: Global,
-    told: Result<String, Fail>,
-    end: &Result<Book<F>, CloseFault<F, K, StoreReader<F, K>>>,
-) -> Result<String, Fail> {
-    let text = told?;
+    end: Result<Book<F>, CloseFault<F, K, StoreReader<F, K>>>,
+) -> Result<String, AllocError> {
     match end {
-        Ok(book) => {
-            let calls = book.history().len();
-            let again = replay(alloc, book.start(), book.history(), book.tariff()).is_ok();
-            Ok(format!(in alloc; "{text}; {calls} calls, replayed: {again}")?)
-        }
-        Err(end) => {
-            let number = end.fault.number();
-            let left = end.passes.len();
-            Ok(format!(in alloc; "{text}; {number} {:?}, {left} passes", end.fault)?)
-        }
+        Ok(book) => ended_well(alloc, &book),
+        Err(end) => ended_with(alloc, end.fault, end.passes.len()),
     }
+}
+
+/// How many calls a book has, and whether their replay gives their replies.
+fn ended_well<F: Asks>(alloc: Global, book: &Book<F>) -> Result<String, AllocError> {
+    let calls = book.history().len();
+    let again = replay(alloc, book.start(), book.history(), book.tariff()).is_ok();
+    format!(in alloc; "{calls} calls, replayed: {again}")
+}
+
+/// A fault, and how many passes are left.
+fn ended_with(alloc: Global, fault: EndFault, left: usize) -> Result<String, AllocError> {
+    let number = fault.number();
+    format!(in alloc; "{number} {fault:?}, {left} passes")
 }
 
 /// Lets the passes do their work, each in a thread of its own.
@@ -211,53 +286,74 @@ pub(crate) fn seed(rt: &impl Abort, alloc: Global) -> Result<Picture, AllocError
     Picture::seed(alloc, limits)
 }
 
-/// A triangle between two apexes, 3 and 4; the edges of the triangle are of kinds 1, 2 and 3.
-pub(crate) fn bipyramid(rt: &impl Abort, alloc: Global) -> Result<Picture, AllocError> {
-    let limits = Limits::new(65_536, 65_536, 1_048_576).expect(rt, "the greatest limits");
-    let lists: [&[u32]; 5] = [
-        &[0, 3, 2, 6],
-        &[0, 7, 1, 4],
-        &[1, 8, 2, 5],
-        &[3, 4, 5],
-        &[6, 8, 7],
-    ];
+/// The edges round each vertex of the bipyramid.
+const ROTATIONS: &[&[u32]] = &[
+    &[0, 3, 2, 6],
+    &[0, 7, 1, 4],
+    &[1, 8, 2, 5],
+    &[3, 4, 5],
+    &[6, 8, 7],
+];
+
+/// The ends and the kind of each edge of the bipyramid.
+const EDGES: &[(u32, u32, u32)] = &[
+    (0, 1, 1),
+    (1, 2, 2),
+    (2, 0, 3),
+    (3, 0, 0),
+    (3, 1, 0),
+    (3, 2, 0),
+    (4, 0, 0),
+    (4, 1, 0),
+    (4, 2, 0),
+];
+
+fn rotations(alloc: Global) -> Result<Listed<Listed<u32>>, AllocError> {
     let mut rotations = Vec::new(alloc);
-    for list in lists {
-        rotations.push(Listed::from_vec(Vec::from_slice(alloc, list)?))?;
+    for around in ROTATIONS {
+        rotations.push(Listed::from_vec(Vec::from_slice(alloc, *around)?))?;
     }
-    let ends: [(u32, u32, u32); 9] = [
-        (0, 1, 1),
-        (1, 2, 2),
-        (2, 0, 3),
-        (3, 0, 0),
-        (3, 1, 0),
-        (3, 2, 0),
-        (4, 0, 0),
-        (4, 1, 0),
-        (4, 2, 0),
-    ];
+    Ok(Listed::from_vec(rotations))
+}
+
+fn edges(alloc: Global) -> Result<Listed<EdgeRow>, AllocError> {
     let mut edges = Vec::new(alloc);
-    for id in 0..9u32 {
-        let (a, b, kind) = ends[id as usize];
+    for (id, (a, b, kind)) in (0..9u32).zip(EDGES) {
         edges.push(EdgeRow {
             id,
-            a,
-            b,
-            kind,
+            a: *a,
+            b: *b,
+            kind: *kind,
             crossings: Listed::new(alloc),
         })?;
     }
-    let rows = Rows {
-        rotations: Listed::from_vec(rotations),
-        edges: Listed::from_vec(edges),
+    Ok(Listed::from_vec(edges))
+}
+
+fn bipyramid_rows(alloc: Global) -> Result<Rows, AllocError> {
+    let rotations = rotations(alloc)?;
+    Ok(Rows {
+        rotations,
+        edges: edges(alloc)?,
         crossings: Listed::new(alloc),
         next_edge: 9,
         next_crossing: 0,
-    };
+    })
+}
+
+/// A triangle between two apexes, 3 and 4; the edges of the triangle are of kinds 1, 2 and 3.
+pub(crate) fn bipyramid(rt: &impl Abort, alloc: Global) -> Result<Picture, AllocError> {
+    let limits = Limits::new(65_536, 65_536, 1_048_576).expect(rt, "the greatest limits");
+    let rows = bipyramid_rows(alloc)?;
     match Picture::load(alloc, limits, &rows) {
         Ok(picture) => Ok(picture),
         Err(_) => Err(AllocError),
     }
+}
+
+/// Prices at which each edge costs 1.
+pub(crate) fn even_prices(rt: &impl Abort) -> PriceTable {
+    PriceTable::new([Some(1); 64]).expect(rt, "a table")
 }
 
 /// Prices at which the edges of the triangle cost 5, 2 and 9, so that the cheapest way from one apex to the

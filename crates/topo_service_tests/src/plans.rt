@@ -1,6 +1,6 @@
 //! Insertions with plans that nobody searched for, and with plans of another picture.
 
-use crate::harness::{Story, bipyramid, run, uneven_prices};
+use crate::harness::{Story, bipyramid, is_told, run_at, uneven_prices};
 use crate::views::{plan_of, view_of};
 use std::alloc::{AllocError, Global};
 use std::process::Abort;
@@ -12,7 +12,7 @@ use topo_core::darts::{Dart, Way};
 use topo_core::ids::EdgeId;
 use topo_core::listed::Listed;
 use topo_core::routes::Route;
-use topo_core::rows::Facts;
+use topo_core::rows::Rows;
 use topo_price::tariff::Asks;
 use topo_route::plan::Plan;
 use topo_service::{Pass, Service, WorkerEnd};
@@ -65,13 +65,22 @@ fn join<F: Asks + Drop, K: Naming<F>, R: Wait>(
     }
 }
 
+/// The picture of now.
+fn rows_of<F: Asks + Drop, K: Naming<F>>(
+    alloc: Global,
+    pass: &mut Pass<F, K>,
+) -> Result<Rows, Fail> {
+    let view = view_of(pass)?;
+    Ok(view.picture().rows(alloc)?)
+}
+
 /// A reply, and the picture after it.
 fn text_of<F: Asks + Drop, K: Naming<F>>(
     alloc: Global,
     reply: &Reply,
     pass: &mut Pass<F, K>,
 ) -> Result<String, Fail> {
-    let rows = view_of(pass)?.picture().rows(alloc)?;
+    let rows = rows_of(alloc, pass)?;
     Ok(format!(in alloc; "{reply:?} {rows:?}")?)
 }
 
@@ -121,6 +130,18 @@ fn join_late<F: Asks + Drop, K: Naming<F>, R: Wait>(
     join(rt, service, pass, plan)
 }
 
+/// The reply to the insertion, and the picture after it.
+fn told_late<F: Asks + Drop, K: Naming<F>, R: Wait>(
+    rt: &R,
+    alloc: Global,
+    service: &Service<F, K>,
+    pass: &mut Pass<F, K>,
+    plan: Option<&Plan>,
+) -> Result<String, Fail> {
+    let reply = join_late(rt, service, pass, plan)?;
+    text_of(alloc, &reply, pass)
+}
+
 impl Story for Late {
     fn seats(&self) -> usize {
         1
@@ -139,8 +160,7 @@ impl Story for Late {
         };
         let plan = plan_of(alloc, service, pass)?;
         let used = if self.planned { Some(&plan) } else { None };
-        let reply = join_late(rt, service, pass, used)?;
-        text_of(alloc, &reply, pass)
+        told_late(rt, alloc, service, pass, used)
     }
 }
 
@@ -149,16 +169,8 @@ fn told<S: Story, R: Threads + Wait + Abort + AllocGlobal + Sync>(
     rt: &R,
     story: &S,
 ) -> Result<String, Fail> {
-    let alloc = rt.alloc();
-    let start = bipyramid(rt, alloc)?;
-    let table = uneven_prices(rt);
-    run(
-        rt,
-        alloc,
-        |facts: &Facts| table.price(facts.kind),
-        start,
-        story,
-    )
+    let start = bipyramid(rt, rt.alloc())?;
+    run_at(rt, rt.alloc(), &uneven_prices(rt), start, story)
 }
 
 /// What is said of an insertion with such a plan.
@@ -171,38 +183,80 @@ fn told_of<R: Threads + Wait + Abort + AllocGlobal + Sync>(
     told(rt, &Joined { plan: Some(&plan) })
 }
 
-#[test]
-fn an_invented_plan_changes_no_answer(rt: HostRuntime) -> Result<(), Fail> {
-    let due = told(&rt, &Joined { plan: None })?;
-    assert!(rt;
-        due.as_str().starts_with(
-            "Inserted(Inserted { id: EdgeId(9), route: Route { start: 2, crossed: Listed { items: [Dart { edge: EdgeId(1), seg: 0, way: Back }] }, end: 2 }, price: 2 }) "
-        )
-    );
-    assert!(rt; due.as_str().ends_with("; 1 calls, replayed: true"));
+/// What is told of an insertion with such a plan is what is due.
+fn is_told_of<R: Threads + Wait + Abort + AllocGlobal + Sync>(
+    rt: &R,
+    crossed: Dart,
+    heights: &[u64],
+    due: &str,
+) -> Result<(), Fail> {
+    let told = told_of(rt, crossed, heights)?;
+    assert_eq!(rt; told.as_str(), due, "{crossed:?} {heights:?}");
+    Ok(())
+}
+
+/// The same of the least heights, with each of them raised in turn.
+fn is_told_of_raised<R: Threads + Wait + Abort + AllocGlobal + Sync>(
+    rt: &R,
+    due: &str,
+) -> Result<(), Fail> {
     for at in 0..LEAST.len() {
         let mut heights = LEAST;
         heights[at] = heights[at].wrapping_add(1);
-        let told = told_of(&rt, first(), &heights)?;
-        assert_eq!(rt; told.as_str(), due.as_str(), "height {at} raised");
+        is_told_of(rt, first(), &heights, due)?;
     }
+    Ok(())
+}
+
+/// The same of all invented plans.
+fn is_told_of_all<R: Threads + Wait + Abort + AllocGlobal + Sync>(
+    rt: &R,
+    due: &str,
+) -> Result<(), Fail> {
+    is_told_of_raised(rt, due)?;
     let all: [&[u64]; 3] = [&LEAST, &[u64::MAX; 18], &[0; 18]];
     for heights in all {
-        assert_eq!(rt; told_of(&rt, first(), heights)?.as_str(), due.as_str());
+        is_told_of(rt, first(), heights, due)?;
     }
-    assert_eq!(rt; told_of(&rt, nowhere(), &LEAST)?.as_str(), due.as_str());
+    is_told_of(rt, nowhere(), &LEAST, due)
+}
+
+/// A text begins and ends so.
+fn is_between(rt: &impl Abort, text: &str, begins: &str, ends: &str) {
+    assert!(rt; text.starts_with(begins), "{text}");
+    assert!(rt; text.ends_with(ends), "{text}");
+}
+
+#[test]
+fn an_invented_plan_changes_no_answer(rt: HostRuntime) -> Result<(), Fail> {
+    let due = told(&rt, &Joined { plan: None })?;
+    is_between(
+        &rt,
+        due.as_str(),
+        "Inserted(Inserted { id: EdgeId(9), route: Route { start: 2, crossed: Listed { items: [Dart { edge: EdgeId(1), seg: 0, way: Back }] }, end: 2 }, price: 2 }) ",
+        "; 1 calls, replayed: true",
+    );
+    is_told_of_all(&rt, due.as_str())
+}
+
+/// What is told of a late insertion by a plan is what is due.
+fn is_told_late<R: Threads + Wait + Abort + AllocGlobal + Sync>(
+    rt: &R,
+    due: &str,
+) -> Result<(), Fail> {
+    let told = told(rt, &Late { planned: true })?;
+    is_told(rt, told.as_str(), due);
     Ok(())
 }
 
 #[test]
 fn a_plan_of_another_picture_changes_no_answer(rt: HostRuntime) -> Result<(), Fail> {
     let due = told(&rt, &Late { planned: false })?;
-    assert!(rt;
-        due.as_str()
-            .starts_with("Inserted(Inserted { id: EdgeId(10), ")
+    is_between(
+        &rt,
+        due.as_str(),
+        "Inserted(Inserted { id: EdgeId(10), ",
+        "; 3 calls, replayed: true",
     );
-    assert!(rt; due.as_str().ends_with("; 3 calls, replayed: true"));
-    let told = told(&rt, &Late { planned: true })?;
-    assert_eq!(rt; told.as_str(), due.as_str());
-    Ok(())
+    is_told_late(&rt, due.as_str())
 }

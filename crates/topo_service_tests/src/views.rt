@@ -2,15 +2,16 @@
 
 ghost use Rattle.std.specs.Prelude.{◌<◌, IsTrue, length};
 
-use crate::harness::{Story, bipyramid, run, seed, uneven_prices};
+use crate::harness::{Story, bipyramid, even_prices, is_told, run, run_at, seed, uneven_prices};
 use std::alloc::{AllocError, Global};
+use std::process::Abort;
 use std::sync::Wait;
 use std::sync::atomic::{AtomicU64, Ordering};
 use std::test::Fail;
+use std::thread::Threads;
 use topo_core::calls::Reply;
 use topo_core::rows::Facts;
 use topo_frozen::Frozen;
-use topo_price::table::PriceTable;
 use topo_price::tariff::Asks;
 use topo_route::check::check;
 use topo_route::plan::Plan;
@@ -45,6 +46,53 @@ fn keep<F: Asks + Drop, K: Naming<F>>(
     Ok(())
 }
 
+/// Inserts an edge of kind 0, or asks for one.
+fn insert<F: Asks + Drop, K: Naming<F>, R: Wait>(
+    rt: &R,
+    service: &Service<F, K>,
+    pass: &mut Pass<F, K>,
+    u: u32,
+    v: u32,
+) -> Result<(), AllocError> {
+    let _ = service.insert(rt, pass, u, v, 0)?;
+    Ok(())
+}
+
+/// The first turn of each pass, with three views. It says how many accepted calls the first pass had seen
+/// after its call.
+fn take_first_turns<F: Asks + Drop, K: Naming<F>, R: Wait>(
+    rt: &R,
+    service: &Service<F, K>,
+    a: &mut Pass<F, K>,
+    b: &mut Pass<F, K>,
+    views: &mut Vec<Version<F, K>>,
+) -> Result<u64, Fail> {
+    keep(a, views)?;
+    insert(rt, service, a, 0, 1)?;
+    keep(a, views)?;
+    let seen = a.seen();
+    insert(rt, service, b, 0, 1)?;
+    keep(b, views)?;
+    Ok(seen)
+}
+
+/// The last turn of each pass, with two views. It says how many accepted calls the first pass had seen after
+/// its call.
+fn take_last_turns<F: Asks + Drop, K: Naming<F>, R: Wait>(
+    rt: &R,
+    service: &Service<F, K>,
+    a: &mut Pass<F, K>,
+    b: &mut Pass<F, K>,
+    views: &mut Vec<Version<F, K>>,
+) -> Result<u64, Fail> {
+    keep(b, views)?;
+    insert(rt, service, a, 1, 1)?;
+    let told = a.seen();
+    insert(rt, service, b, 0, 1)?;
+    keep(a, views)?;
+    Ok(told)
+}
+
 /// Calls by two passes in turn, with five views that are all kept. It says how many accepted calls the
 /// first pass had seen after its first call and after its second, and how a call was refused.
 fn take_turns<F: Asks + Drop, K: Naming<F>, R: Wait>(
@@ -59,18 +107,9 @@ fn take_turns<F: Asks + Drop, K: Naming<F>, R: Wait>(
     let Some((b, _)) = rest.split_first_mut() else {
         return Err("two passes".into());
     };
-    keep(a, views)?;
-    let _ = service.insert(rt, a, 0, 1, 0)?;
-    keep(a, views)?;
-    let seen = a.seen();
-    let _ = service.insert(rt, b, 0, 1, 0)?;
-    keep(b, views)?;
+    let seen = take_first_turns(rt, service, a, b, views)?;
     let refused = service.insert(rt, b, 0, 0, 0)?;
-    keep(b, views)?;
-    let _ = service.insert(rt, a, 1, 1, 0)?;
-    let told = a.seen();
-    let _ = service.insert(rt, b, 0, 1, 0)?;
-    keep(a, views)?;
+    let told = take_last_turns(rt, service, a, b, views)?;
     Ok((seen, told, refused))
 }
 
@@ -112,41 +151,49 @@ impl Story for Turns {
         _ends: &[WorkerEnd],
     ) -> Result<String, Fail> {
         let mut views = Vec::new(alloc);
-        let taken = take_turns(rt, service, passes.as_mut_slice(), &mut views);
-        let numbers = numbers_of(alloc, views.as_slice());
-        let receipts = receipts_of(alloc, passes.as_slice());
-        told_of(alloc, taken, numbers, receipts)
+        let (seen, told, refused) = take_turns(rt, service, passes.as_mut_slice(), &mut views)?;
+        tell_turns(
+            alloc,
+            passes.as_slice(),
+            views.as_slice(),
+            (seen, told),
+            &refused,
+        )
     }
 }
 
 /// The text of what was seen.
-fn told_of(
+fn tell_turns<F: Asks + Drop, K: Naming<F>>(
     alloc: Global,
-    taken: Result<(u64, u64, Reply), Fail>,
-    numbers: Result<Vec<(u64, u32)>, AllocError>,
-    receipts: Result<Vec<usize>, AllocError>,
+    passes: &[Pass<F, K>],
+    views: &[Version<F, K>],
+    (seen, told): (u64, u64),
+    refused: &Reply,
 ) -> Result<String, Fail> {
-    let (seen, told, refused) = taken?;
-    let (numbers, receipts) = (numbers?, receipts?);
+    let numbers = numbers_of(alloc, views)?;
+    let receipts = receipts_of(alloc, passes)?;
     Ok(format!(in alloc; "{numbers:?} {seen} {told} {refused:?} {receipts:?}")?)
+}
+
+/// The text of the story of a service that begins with the seed is what is due. Each edge costs 1.
+fn is_told_of_seed<S: Story, R: Threads + Wait + Abort + AllocGlobal + Sync>(
+    rt: &R,
+    story: &S,
+    due: &str,
+) -> Result<(), Fail> {
+    let start = seed(rt, rt.alloc())?;
+    let told = run_at(rt, rt.alloc(), &even_prices(rt), start, story)?;
+    is_told(rt, told.as_str(), due);
+    Ok(())
 }
 
 #[test]
 fn views_follow_the_calls(rt: HostRuntime) -> Result<(), Fail> {
-    let start = seed(&rt, rt.alloc())?;
-    let table = PriceTable::new([Some(1); 64]).expect(&rt, "a table");
-    let told = run(
+    is_told_of_seed(
         &rt,
-        rt.alloc(),
-        |facts: &Facts| table.price(facts.kind),
-        start,
         &Turns,
-    )?;
-    assert_eq!(rt;
-        told.as_str(),
-        "[(0, 1), (1, 2), (2, 3), (2, 3), (3, 4)] 1 2 Refused(SameEnds) [2, 3]; 5 calls, replayed: true"
-    );
-    Ok(())
+        "[(0, 1), (1, 2), (2, 3), (2, 3), (3, 4)] 1 2 Refused(SameEnds) [2, 3]; 5 calls, replayed: true",
+    )
 }
 
 /// As many passes as are given out; the second alone is handed back.
@@ -174,17 +221,7 @@ impl Story for Seats {
 
 #[test]
 fn the_seventeenth_pass_is_refused_and_missing_ones_are_told(rt: HostRuntime) -> Result<(), Fail> {
-    let start = seed(&rt, rt.alloc())?;
-    let table = PriceTable::new([Some(1); 64]).expect(&rt, "a table");
-    let told = run(
-        &rt,
-        rt.alloc(),
-        |facts: &Facts| table.price(facts.kind),
-        start,
-        &Seats,
-    )?;
-    assert_eq!(rt; told.as_str(), "16; 43 PassMissing(0), 1 passes");
-    Ok(())
+    is_told_of_seed(&rt, &Seats, "16; 43 PassMissing(0), 1 passes")
 }
 
 /// No pass at all.
@@ -210,17 +247,7 @@ impl Story for Nobody {
 
 #[test]
 fn a_service_without_passes_ends_with_an_empty_history(rt: HostRuntime) -> Result<(), Fail> {
-    let start = seed(&rt, rt.alloc())?;
-    let table = PriceTable::new([Some(1); 64]).expect(&rt, "a table");
-    let told = run(
-        &rt,
-        rt.alloc(),
-        |facts: &Facts| table.price(facts.kind),
-        start,
-        &Nobody,
-    )?;
-    assert_eq!(rt; told.as_str(), "0 passes; 0 calls, replayed: true");
-    Ok(())
+    is_told_of_seed(&rt, &Nobody, "0 passes; 0 calls, replayed: true")
 }
 
 /// A plan that is still good, and one that another call made stale.
@@ -238,12 +265,22 @@ impl Plans<'_> {
         pass: &mut Pass<F, K>,
         plan: &Plan,
     ) -> Result<(u64, bool), Fail> {
-        let frozen = view_of(pass)?.picture().freeze(alloc)?;
-        if !has_apexes(&frozen) {
+        let frozen = frozen_of(alloc, pass)?;
+        self.checked_on(&frozen, service, plan)
+    }
+
+    /// The same on the picture of a version.
+    fn checked_on<F: Asks + Drop, K: Naming<F>>(
+        &self,
+        frozen: &Frozen,
+        service: &Service<F, K>,
+        plan: &Plan,
+    ) -> Result<(u64, bool), Fail> {
+        if !has_apexes(frozen) {
             return Err("two apexes".into());
         }
         let before = self.asked.load(Ordering::SeqCst);
-        let good = check(&frozen, service.tariff(), 3, 4, plan).is_ok();
+        let good = check(frozen, service.tariff(), 3, 4, plan).is_ok();
         let after = self.asked.load(Ordering::SeqCst);
         Ok((after.wrapping_sub(before), good))
     }
@@ -261,6 +298,59 @@ impl Plans<'_> {
         let after = self.asked.load(Ordering::SeqCst);
         Ok((after.wrapping_sub(before), reply))
     }
+
+    /// Whether the good plan passes, and whether an insertion by it asks for no more prices than the check
+    /// does.
+    fn tell_good<F: Asks + Drop, K: Naming<F>, R: Wait>(
+        &self,
+        rt: &R,
+        alloc: Global,
+        service: &Service<F, K>,
+        pass: &mut Pass<F, K>,
+        plan: &Plan,
+    ) -> Result<String, Fail> {
+        let (checked, good) = self.checked(alloc, service, pass, plan)?;
+        let (asked, first) = self.insert(rt, service, pass, plan)?;
+        let spared = asked == checked;
+        Ok(format!(in alloc; "{good} {spared} {first:?}")?)
+    }
+
+    /// What comes of a plan of the first pass, and of one of the second that is stale by then.
+    fn tell_both<F: Asks + Drop, K: Naming<F>, R: Wait>(
+        &self,
+        rt: &R,
+        alloc: Global,
+        service: &Service<F, K>,
+        (a, b): (&mut Pass<F, K>, &mut Pass<F, K>),
+        plan: &Plan,
+        stale: &Plan,
+    ) -> Result<String, Fail> {
+        let first = self.tell_good(rt, alloc, service, a, plan)?;
+        let second = insert_late(rt, service, a, b, stale)?;
+        Ok(format!(in alloc; "{first} {second:?}")?)
+    }
+
+    /// The same with a plan that the second pass makes now.
+    fn tell_from<F: Asks + Drop, K: Naming<F>, R: Wait>(
+        &self,
+        rt: &R,
+        alloc: Global,
+        service: &Service<F, K>,
+        (a, b): (&mut Pass<F, K>, &mut Pass<F, K>),
+        plan: &Plan,
+    ) -> Result<String, Fail> {
+        let stale = plan_of(alloc, service, b)?;
+        self.tell_both(rt, alloc, service, (a, b), plan, &stale)
+    }
+}
+
+/// The picture of now.
+fn frozen_of<F: Asks + Drop, K: Naming<F>>(
+    alloc: Global,
+    pass: &mut Pass<F, K>,
+) -> Result<Frozen, Fail> {
+    let view = view_of(pass)?;
+    Ok(view.picture().freeze(alloc)?)
 }
 
 /// Whether the apexes are vertices of the picture.
@@ -283,8 +373,18 @@ pub(crate) fn plan_of<F: Asks + Drop, K: Naming<F>>(
     }
 }
 
-/// Takes out the first inserted edge and the edge that it crossed, and then inserts by a plan that was
-/// made before all this.
+/// Takes out the first inserted edge and the edge that it crossed.
+fn take_out<F: Asks + Drop, K: Naming<F>, R: Wait>(
+    rt: &R,
+    service: &Service<F, K>,
+    pass: &mut Pass<F, K>,
+) -> Result<(), AllocError> {
+    let _ = service.delete(rt, pass, 9)?;
+    let _ = service.delete(rt, pass, 1)?;
+    Ok(())
+}
+
+/// An insertion by a plan that was made before those edges are taken out.
 fn insert_late<F: Asks + Drop, K: Naming<F>, R: Wait>(
     rt: &R,
     service: &Service<F, K>,
@@ -292,8 +392,7 @@ fn insert_late<F: Asks + Drop, K: Naming<F>, R: Wait>(
     late: &mut Pass<F, K>,
     stale: &Plan,
 ) -> Result<Reply, AllocError> {
-    let _ = service.delete(rt, early, 9)?;
-    let _ = service.delete(rt, early, 1)?;
+    take_out(rt, service, early)?;
     service.insert_planned(rt, late, 3, 4, 0, stale)
 }
 
@@ -317,31 +416,37 @@ impl Story for Plans<'_> {
             return Err("two passes".into());
         };
         let plan = plan_of(alloc, service, a)?;
-        let stale = plan_of(alloc, service, b)?;
-        let (checked, good) = self.checked(alloc, service, a, &plan)?;
-        let (asked, first) = self.insert(rt, service, a, &plan)?;
-        let second = insert_late(rt, service, a, b, &stale)?;
-        let spared = asked == checked;
-        Ok(format!(in alloc; "{good} {spared} {first:?} {second:?}")?)
+        self.tell_from(rt, alloc, service, (a, b), &plan)
     }
+}
+
+/// The text of the story of a service that begins with the bipyramid. The prices that are asked for are
+/// counted.
+fn told_counted<S: Story, R: Threads + Wait + Abort + AllocGlobal + Sync>(
+    rt: &R,
+    asked: &AtomicU64,
+    story: &S,
+) -> Result<String, Fail> {
+    let start = bipyramid(rt, rt.alloc())?;
+    let table = uneven_prices(rt);
+    let ask = |facts: &Facts| {
+        let _ = asked.fetch_add(1, Ordering::SeqCst);
+        table.price(facts.kind)
+    };
+    run(rt, rt.alloc(), ask, start, story)
 }
 
 #[test]
 fn a_good_plan_spares_the_search_and_a_stale_one_does_not_harm(
     rt: HostRuntime,
 ) -> Result<(), Fail> {
-    let start = bipyramid(&rt, rt.alloc())?;
-    let table = uneven_prices(&rt);
     let asked = AtomicU64::new(0);
-    let ask = |facts: &Facts| {
-        let _ = asked.fetch_add(1, Ordering::SeqCst);
-        table.price(facts.kind)
-    };
-    let told = run(&rt, rt.alloc(), ask, start, &Plans { asked: &asked })?;
-    assert_eq!(rt;
+    let told = told_counted(&rt, &asked, &Plans { asked: &asked })?;
+    is_told(
+        &rt,
         told.as_str(),
         "true true Inserted(Inserted { id: EdgeId(9), route: Route { start: 2, crossed: Listed { items: [Dart { edge: EdgeId(1), seg: 0, way: Back }] }, end: 2 }, price: 2 }) \
-         Inserted(Inserted { id: EdgeId(10), route: Route { start: 2, crossed: Listed { items: [] }, end: 2 }, price: 0 }); 4 calls, replayed: true"
+         Inserted(Inserted { id: EdgeId(10), route: Route { start: 2, crossed: Listed { items: [] }, end: 2 }, price: 0 }); 4 calls, replayed: true",
     );
     Ok(())
 }
@@ -399,9 +504,54 @@ impl Finds<'_> {
         late: &mut Pass<F, K>,
         found: &FoundRoute<F, K>,
     ) -> Result<(u64, Reply), AllocError> {
-        let _ = service.delete(rt, early, 9)?;
-        let _ = service.delete(rt, early, 1)?;
+        take_out(rt, service, early)?;
         self.insert(rt, service, late, found)
+    }
+
+    /// What the first route is, why other routes are not found, and what comes of an insertion along it.
+    fn tell_first<F: Asks + Drop, K: Naming<F>, R: Wait>(
+        &self,
+        rt: &R,
+        alloc: Global,
+        service: &Service<F, K>,
+        pass: &mut Pass<F, K>,
+        found: &FoundRoute<F, K>,
+    ) -> Result<String, Fail> {
+        let (ends, price) = (found.ends(), found.first().price);
+        let faults = [
+            fault_of(alloc, service, pass, 3),
+            fault_of(alloc, service, pass, 9),
+        ];
+        let (asked, first) = self.insert(rt, service, pass, found)?;
+        Ok(format!(in alloc; "{ends:?} {price} {faults:?}; {asked} {first:?}")?)
+    }
+
+    /// What comes of a route of the first pass, and of one of the second that is late by then.
+    fn tell_both<F: Asks + Drop, K: Naming<F>, R: Wait>(
+        &self,
+        rt: &R,
+        alloc: Global,
+        service: &Service<F, K>,
+        (a, b): (&mut Pass<F, K>, &mut Pass<F, K>),
+        found: &FoundRoute<F, K>,
+        late: &FoundRoute<F, K>,
+    ) -> Result<String, Fail> {
+        let first = self.tell_first(rt, alloc, service, a, found)?;
+        let (again, second) = self.insert_late(rt, service, a, b, late)?;
+        Ok(format!(in alloc; "{first}; {again} {second:?}")?)
+    }
+
+    /// The same with a route that the second pass finds now.
+    fn tell_from<F: Asks + Drop, K: Naming<F>, R: Wait>(
+        &self,
+        rt: &R,
+        alloc: Global,
+        service: &Service<F, K>,
+        (a, b): (&mut Pass<F, K>, &mut Pass<F, K>),
+        found: &FoundRoute<F, K>,
+    ) -> Result<String, Fail> {
+        let late = found_of(alloc, service, b)?;
+        self.tell_both(rt, alloc, service, (a, b), found, &late)
     }
 }
 
@@ -425,15 +575,7 @@ impl Story for Finds<'_> {
             return Err("two passes".into());
         };
         let found = found_of(alloc, service, a)?;
-        let late = found_of(alloc, service, b)?;
-        let (ends, price) = (found.ends(), found.first().price);
-        let faults = [
-            fault_of(alloc, service, a, 3),
-            fault_of(alloc, service, a, 9),
-        ];
-        let (asked, first) = self.insert(rt, service, a, &found)?;
-        let (again, second) = self.insert_late(rt, service, a, b, &late)?;
-        Ok(format!(in alloc; "{ends:?} {price} {faults:?}; {asked} {first:?}; {again} {second:?}")?)
+        self.tell_from(rt, alloc, service, (a, b), &found)
     }
 }
 
@@ -441,19 +583,14 @@ impl Story for Finds<'_> {
 fn a_found_route_is_taken_as_it_is_and_a_late_one_does_not_harm(
     rt: HostRuntime,
 ) -> Result<(), Fail> {
-    let start = bipyramid(&rt, rt.alloc())?;
-    let table = uneven_prices(&rt);
     let asked = AtomicU64::new(0);
-    let ask = |facts: &Facts| {
-        let _ = asked.fetch_add(1, Ordering::SeqCst);
-        table.price(facts.kind)
-    };
-    let told = run(&rt, rt.alloc(), ask, start, &Finds { asked: &asked })?;
-    assert_eq!(rt;
+    let told = told_counted(&rt, &asked, &Finds { asked: &asked })?;
+    is_told(
+        &rt,
         told.as_str(),
         "(3, 4) 2 [Some(Refused(SameEnds)), Some(Refused(NoVertex))]; \
          0 Inserted(Inserted { id: EdgeId(9), route: Route { start: 2, crossed: Listed { items: [Dart { edge: EdgeId(1), seg: 0, way: Back }] }, end: 2 }, price: 2 }); \
-         0 Inserted(Inserted { id: EdgeId(10), route: Route { start: 2, crossed: Listed { items: [] }, end: 2 }, price: 0 }); 4 calls, replayed: true"
+         0 Inserted(Inserted { id: EdgeId(10), route: Route { start: 2, crossed: Listed { items: [] }, end: 2 }, price: 0 }); 4 calls, replayed: true",
     );
     Ok(())
 }
