@@ -6,3 +6,4 @@ pub mod Reads
 pub mod ReplyForms
 pub mod RowForms
 pub mod Scripts
+pub mod Spelled

@@ -14,6 +14,7 @@ pub mod reports;
 pub mod row_forms;
 pub mod script_forms;
 pub mod scripts;
+mod spelled;
 
 pub use fault::ScriptFault;
 pub use reports::Report;
