@@ -15,6 +15,7 @@ pub mod row_forms;
 pub mod script_forms;
 pub mod scripts;
 mod spelled;
+mod spelled_rows;
 
 pub use fault::ScriptFault;
 pub use reports::Report;
