@@ -1,10 +1,8 @@
 -- Tokens that spell rows.
-use Rattle.std.proofs.Common.{◌≡◌, ℕ, List, [], ◌∷◌, codes, Some, None, Ok, refl, sym, ap, ◌∙◌, arith}
+use Rattle.std.proofs.Common.{◌≡◌, List, [], ◌∷◌, codes, Some, None, Ok, refl, ◌∙◌, arith}
 use Rattle.json.specs.Token.{Token}
 use Rattle.json.specs.Json.{read_key}
 use Rattle.serde_json.specs.Data.{Data, object, Members, no_members, member}
-use Rattle.topo_core.specs.declared.darts.Sign.{Sign}
-use Rattle.topo_core.specs.declared.darts.Sign.TheVariants.{LeftToRight, RightToLeft}
 use Rattle.topo_core.specs.declared.rows.CrossRow.{CrossRow}
 use Rattle.topo_core.specs.declared.rows.EdgeRow.{EdgeRow}
 use Rattle.topo_core.specs.declared.rows.Rows.{Rows}
@@ -15,16 +13,8 @@ use Rattle.topo_forms.specs.Reads.{number_form, list_form, has_keys, and_then}
 use Rattle.topo_forms.specs.RowForms.{sign_form, crossing_form, edge_form, rows_form}
 use Rattle.topo_forms.specs.Spelled.{Spells, SpellsMember}
 use Rattle.topo_forms.proofs.Lookups.{member_read}
-use Rattle.topo_forms.proofs.Spellings.{string_spelled, members_done, member_then, object_spelled}
+use Rattle.topo_forms.proofs.Spellings.{members_done, member_then, object_spelled}
 use Rattle.topo_forms.proofs.Steps.{went}
-
-pub ltr_spelled : (text : List ℕ) (ts rest : List Token) → ts ≡ Token.string text ∷ rest → text ≡ codes "ltr" → Spells 0 sign_form ts LeftToRight rest
-unfolding sign_form
-ltr_spelled text ts rest e is = string_spelled sign_form (codes "ltr") LeftToRight ts rest (e ∙ ap (λ s. Token.string s ∷ rest) is) (λ path. refl)
-
-pub rtl_spelled : (text : List ℕ) (ts rest : List Token) → ts ≡ Token.string text ∷ rest → text ≡ codes "rtl" → Spells 0 sign_form ts RightToLeft rest
-unfolding sign_form
-rtl_spelled text ts rest e is = string_spelled sign_form (codes "rtl") RightToLeft ts rest (e ∙ ap (λ s. Token.string s ∷ rest) is) (λ path. refl)
 
 -- ---- Crossings
 

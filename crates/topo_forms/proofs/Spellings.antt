@@ -5,14 +5,14 @@ use Rattle.fast_float.specs.Text.{minus, Parts, scan, digits_of, IsInteger}
 use Rattle.json.specs.Token.{Token}
 use Rattle.json.specs.Lex.{tokens}
 use Rattle.json.specs.Json as json
-use Rattle.json.specs.Json.{parse_map, after_end_array, read_key, items, members, value}
+use Rattle.json.specs.Json.{parse_map, after_end_array, read_key, items, members, value, value_with}
 use Rattle.json.proofs.Grammar.{left, value_is, value-begin_array, value-begin_object, skip_value-shorter, read_key-shorter, items_end, items_more, members_end, members_more}
-use Rattle.serde_json.specs.Data.{Data, unsigned, number, string, null, array, object, item, no_items, Members, no_members, put}
+use Rattle.serde_json.specs.Data.{Data, unsigned, number, string, array, object, Items, item, no_items, Members, no_members, put}
 use Rattle.serde_json.specs.Read.{of_json, of_members, number_of, number_from, max_depth, read}
 use Rattle.topo_forms.specs.declared.path.Path.{Path}
 use Rattle.topo_forms.specs.Paths.{element_of}
 use Rattle.topo_forms.specs.Reads.{Read, and_then, number_below, list_form, items_from, value_of}
-use Rattle.topo_forms.specs.Spelled.{Spells, SpellsItems, SpellsMember, SpellsNumber, SpellsText}
+use Rattle.topo_forms.specs.Spelled.{Spells, SpellsItems, GoesOn, SpellsMember, SpellsNumber, SpellsText}
 use Rattle.topo_forms.proofs.Bytes.{within as within_limit, json_of-read}
 use Rattle.topo_forms.proofs.Steps.{went}
 
@@ -29,22 +29,25 @@ whole_number_is text bytes p (Some n) same first parts found =
     let e : number_of bytes ≡ number_from false (scan bytes) = rw first in
     ap number_of (sym same) ∙ e ∙ ap (number_from false) (sym parts) ∙ unsigned_if_whole p found.0 ∙ ap (λ k. Some (unsigned k)) (sym found.1)
 
-pub number_spelled : (bound n : ℕ) (ts rest : List Token) → SpellsNumber ts n rest → n < bound → Spells 0 (number_below bound) ts n rest
+pub number_read : (bound n : ℕ) (path : Path) → n < bound → number_below bound path (number (unsigned n)) ≡ Ok n
 unfolding number_below and_then
+number_read bound n path h = rw (lt-ltb n bound h)
+
+pub number_spelled : (bound n : ℕ) (ts rest : List Token) → SpellsNumber ts n rest → n < bound → Spells 0 (number_below bound) ts n rest
 number_spelled bound n ts rest s h = record {
   written = json.number s.0;
   spelled = number (unsigned n);
   begins = λ depth le. ap (value depth) s.1 ∙ value_is depth (Token.number s.0 ∷ rest);
   means = rw s.2;
-  reads = λ path. rw (lt-ltb n bound h);
+  reads = λ path. number_read bound n path h;
 }
 
-pub string_spelled : {A : Type 0} (form : Path → Data → Read A) (text : List ℕ) (a : A) (ts rest : List Token) → ts ≡ Token.string text ∷ rest
-    → ((path : Path) → form path (string text) ≡ Ok a) → Spells 0 form ts a rest
-string_spelled form text a ts rest e read = record {
-  written = json.string text;
-  spelled = string text;
-  begins = λ depth le. ap (value depth) e ∙ value_is depth (Token.string text ∷ rest);
+pub word_spelled : {A : Type 0} (form : Path → Data → Read A) (word text : List ℕ) (a : A) (ts rest : List Token) → ts ≡ Token.string text ∷ rest → text ≡ word
+    → ((path : Path) → form path (string word) ≡ Ok a) → Spells 0 form ts a rest
+word_spelled form word text a ts rest e is read = record {
+  written = json.string word;
+  spelled = string word;
+  begins = λ depth le. ap (value depth) (e ∙ ap (λ s. Token.string s ∷ rest) is) ∙ value_is depth (Token.string word ∷ rest);
   means = refl;
   reads = read;
 }
@@ -95,6 +98,60 @@ module _ {A : Type 0} (nesting : ℕ) (form : Path → Data → Read A) where
       → ((xs : List A) (rest : List Token) → SpellsItems nesting form mid xs rest → SpellsItems nesting form first (more ++ xs) rest)
   item_found first now mid found more x going s pushed so_far xs rest left_over =
       subst (λ ys. SpellsItems nesting form first ys rest) (sym (append_assoc found (x ∷ []) xs) ∙ ap (λ ys. ys ++ xs) (sym pushed)) (so_far (x ∷ xs) rest (item_then now mid rest x xs going s left_over))
+
+-- ---- Arrays of a few elements
+
+not_closed : (a : json.Parse json.Items) (o : json.Parse json.Members) (ts : List Token) (p : json.Json × List Token) → value_with a o ts ≡ Some p → after_end_array ts ≡ None
+not_closed a o [] p e = refl
+not_closed a o (Token.begin_object ∷ ts) p e = refl
+not_closed a o (Token.end_object ∷ ts) p e = refl
+not_closed a o (Token.begin_array ∷ ts) p e = refl
+not_closed a o (Token.end_array ∷ ts) p e = absurd cc
+not_closed a o (Token.key s ∷ ts) p e = refl
+not_closed a o (Token.string s ∷ ts) p e = refl
+not_closed a o (Token.number s ∷ ts) p e = refl
+not_closed a o (Token.boolean b ∷ ts) p e = refl
+not_closed a o (Token.null ∷ ts) p e = refl
+not_closed a o (Token.bad ∷ ts) p e = refl
+
+pub few_done : (nesting : ℕ) (ts rest : List Token) → after_end_array ts ≡ Some rest → GoesOn nesting ts no_items rest
+few_done nesting ts rest e = record {
+  written = json.no_items;
+  begins = λ depth n d le. items_end (value depth) n ts rest le e;
+  means = refl;
+}
+
+one_more : (nesting : ℕ) (ts mid rest : List Token) (written : json.Json) (d : Data) (ds : Items) → ((depth : ℕ) → nesting ≤ depth → value depth ts ≡ Some (written, mid)) → of_json written ≡ Some d
+    → GoesOn nesting mid ds rest → GoesOn nesting ts (item d ds) rest
+one_more nesting ts mid rest written d ds begins means more =
+    let least = begins nesting (omega arith) in
+    let less = skip_value-shorter nesting ts mid (ap left least) in
+    let going = not_closed _ _ ts (written, mid) (sym (value_is nesting ts) ∙ least) in record {
+      written = json.item written more.written;
+      begins = λ depth n d le. items_more (value depth) n ts mid written (omega arith) going (begins depth d) ∙ ap (parse_map (json.item written)) (more.begins depth (n - 1) d (omega arith));
+      means = rw (means, more.means);
+    }
+
+pub element_then : {A : Type 0} (inner nesting : ℕ) (form : Path → Data → Read A) (ts : List Token) (a : A) (mid rest : List Token) (ds : Items)
+    → (s : Spells inner form ts a mid) → inner ≤ nesting → GoesOn nesting mid ds rest → GoesOn nesting ts (item s.spelled ds) rest
+element_then inner nesting form ts a mid rest ds s within more = one_more nesting ts mid rest s.written s.spelled ds (λ depth le. s.begins depth (omega arith)) s.means more
+
+pub text_then : (nesting : ℕ) (text : List ℕ) (ts mid rest : List Token) (ds : Items) → ts ≡ Token.string text ∷ mid → GoesOn nesting mid ds rest → GoesOn nesting ts (item (string text) ds) rest
+text_then nesting text ts mid rest ds e more = one_more nesting ts mid rest (json.string text) (string text) ds (λ depth le. ap (value depth) e ∙ value_is depth (Token.string text ∷ mid)) refl more
+
+pub number_then : (nesting n : ℕ) (ts mid rest : List Token) (ds : Items) → SpellsNumber ts n mid → GoesOn nesting mid ds rest → GoesOn nesting ts (item (number (unsigned n)) ds) rest
+number_then nesting n ts mid rest ds s more =
+    one_more nesting ts mid rest (json.number s.0) (number (unsigned n)) ds (λ depth le. ap (value depth) s.1 ∙ value_is depth (Token.number s.0 ∷ mid)) (rw s.2) more
+
+pub few_spelled : {A : Type 0} (nesting : ℕ) (form : Path → Data → Read A) (ts mid rest : List Token) (a : A) (ds : Items) → ts ≡ Token.begin_array ∷ mid → GoesOn nesting mid ds rest
+    → ((path : Path) → form path (array ds) ≡ Ok a) → Spells (nesting + 1) form ts a rest
+few_spelled nesting form ts mid rest a ds e more read = record {
+  written = json.array more.written;
+  spelled = array ds;
+  begins = λ depth le. ap (value depth) e ∙ value-begin_array depth mid (omega arith) ∙ ap (parse_map json.array) (more.begins (depth - 1) (length mid) (omega arith) (omega arith));
+  means = rw more.means;
+  reads = read;
+}
 
 -- ---- Objects
 

@@ -7,3 +7,4 @@ pub mod ReplyForms
 pub mod RowForms
 pub mod Scripts
 pub mod Spelled
+pub mod SpelledReports

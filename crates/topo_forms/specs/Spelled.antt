@@ -29,6 +29,13 @@ pub record SpellsItems {A : Type 0} (nesting : ℕ) (form : Path → Data → Re
   pub means : of_items written ≡ Some spelled
   pub reads : (path : Path) (i : ℕ) → items_from form path i spelled ≡ Ok xs
 
+-- The tokens go on with these elements up to the end of an array, and the rest follows. They nest no
+-- deeper than the number.
+pub record GoesOn (nesting : ℕ) (ts : List Token) (spelled : Items) (rest : List Token) : Type 0 where
+  pub written : JsonItems
+  pub begins : (depth n : ℕ) → nesting ≤ depth → length ts ≤ n → items (value depth) n ts ≡ Some (written, rest)
+  pub means : of_items written ≡ Some spelled
+
 -- The bytes are the text of a value that nests no deeper than a text may, and at any place the form reads
 -- it as `a`.
 abbrev pub SpellsText : {A : Type 0} → ℕ → (Path → Data → Read A) → ℕ → List ℕ → A → Type 0

@@ -15,6 +15,9 @@ pub mod row_forms;
 pub mod script_forms;
 pub mod scripts;
 mod spelled;
+mod spelled_calls;
+mod spelled_replies;
+mod spelled_reports;
 mod spelled_rows;
 
 pub use fault::ScriptFault;

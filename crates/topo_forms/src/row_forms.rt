@@ -104,12 +104,12 @@ pub fn read_rows(alloc: Global, bytes: &[u8]) -> Result<Rows, ScriptFault>
 {
     match read_spelled(alloc, MAX_PICTURE_BYTES, bytes) {
         Some(rows) => Ok(rows),
-        None => rows_in(alloc, bytes),
+        None => rows_of_value(alloc, bytes),
     }
 }
 
 /// The rows that the value of a text is.
-fn rows_in(alloc: Global, bytes: &[u8]) -> Result<Rows, ScriptFault>
+fn rows_of_value(alloc: Global, bytes: &[u8]) -> Result<Rows, ScriptFault>
     ensures { Gives result (rows_of bytes.now) }
 {
     let value = parse(alloc, MAX_PICTURE_BYTES, bytes)?;

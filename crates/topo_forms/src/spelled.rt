@@ -2,8 +2,8 @@
 
 ghost use Rattle.std.specs.Prelude.{◌≡◌, ◌==◌, ◌+◌, ◌∷◌, slice_index, IfSome, Some, None};
 ghost use Rattle.fast_float.specs.Text.{minus};
-ghost use Rattle.json.specs.Token.{begin_object, begin_array, string};
-ghost use Rattle.json.specs.Json.{read_key};
+ghost use Rattle.json.specs.Token.{begin_object, begin_array, key, string};
+ghost use Rattle.json.specs.Json.{after_end_array, read_key};
 ghost use Rattle.serde_json.specs.Data.{unsigned};
 ghost use Rattle.serde_json.specs.Read.{number_of};
 ghost use Rattle.topo_forms.specs.Paths.{key_name};
@@ -37,7 +37,7 @@ pub trait Spelled: Drop {
 }
 
 /// The whole number that the text of a number writes.
-fn whole_number(text: &str) -> Option<u64>
+pub fn whole_number(text: &str) -> Option<u64>
     ensures { IfSome result (λ n. number_of text.now ≡ Some (unsigned n)) }
 {
     let bytes = text.as_bytes();
@@ -55,13 +55,20 @@ fn has_minus(bytes: &[u8]) -> bool
 }
 
 /// The whole number that is the next token.
-fn next_number(reader: &mut Reader<'_>) -> Option<u64>
+pub fn next_number(reader: &mut Reader<'_>) -> Option<u64>
     ensures { IfSome result (λ n. SpellsNumber reader.old n reader.new) }
 {
     match reader.next() {
         Some(Token::Number(text)) => whole_number(text),
         _ => None,
     }
+}
+
+/// A number of 64 bits as one of 32.
+pub fn short(number: u64) -> Option<u32>
+    ensures { IfSome result (λ n. n ≡ number) }
+{
+    u32::try_from(number).ok()
 }
 
 impl Spelled for u32 {
@@ -71,11 +78,8 @@ impl Spelled for u32 {
 
     fn from_tokens(_alloc: Global, reader: &mut Reader<'_>) -> Option<Self> {
         let number = next_number(reader)?;
-        if number <= u64::from(u32::MAX) {
-            Some(number as u32)
-        } else {
-            None
-        }
+        let number = short(number)?;
+        Some(number)
     }
 }
 
@@ -124,7 +128,7 @@ impl<T: Spelled> Spelled for Listed<T> {
 }
 
 /// Takes the bracket that opens an array.
-fn begin_array(reader: &mut Reader<'_>) -> Option<()>
+pub fn begin_array(reader: &mut Reader<'_>) -> Option<()>
     ensures { IfSome result (λ _. reader.old ≡ begin_array ∷ reader.new) }
 {
     match reader.next() {
@@ -143,6 +147,17 @@ fn spelled_items<T: Spelled>(alloc: Global, reader: &mut Reader<'_>) -> Option<L
         found.push(item).ok()?;
     }
     Some(Listed::from_vec(found))
+}
+
+/// Takes the bracket that closes an array.
+pub fn end_array(reader: &mut Reader<'_>) -> Option<()>
+    ensures { IfSome result (λ _. after_end_array reader.old ≡ Some reader.new) }
+{
+    if reader.take_end_array() {
+        Some(())
+    } else {
+        None
+    }
 }
 
 /// Takes the brace that opens an object.
@@ -181,6 +196,16 @@ pub fn next_member<T: Spelled>(alloc: Global, key: Key, reader: &mut Reader<'_>)
 {
     take_key(key, reader)?;
     T::from_tokens(alloc, reader)
+}
+
+/// The key that is the next token.
+pub fn next_name<'a>(reader: &mut Reader<'a>) -> Option<&'a str>
+    ensures { IfSome result (λ name. reader.old ≡ key name.now ∷ reader.new) }
+{
+    match reader.next() {
+        Some(Token::Key(name)) => Some(name),
+        _ => None,
+    }
 }
 
 /// The text that is the next token.

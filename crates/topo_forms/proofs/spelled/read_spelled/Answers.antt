@@ -1,4 +1,4 @@
-use Rattle.std.proofs.Common.{◌≡◌, [], IsUtf8, sym, ap, ◌∙◌, rules, arith}
+use Rattle.std.proofs.Common.{◌≡◌, [], IsUtf8, ap, ◌∙◌, rules}
 use Rattle.json.specs.Lex.{tokens}
 use Rattle.topo_forms.proofs.Spellings.{text_spelled}
 use Rattle.topo_forms.proofs.spelled.read_spelled.Goals as goal

@@ -1,4 +1,4 @@
-use Rattle.std.proofs.Common.{sym, ap, ◌∙◌, subst}
+use Rattle.std.proofs.Common.{sym}
 use Rattle.topo_forms.proofs.Spellings.{whole_number_is}
 use Rattle.topo_forms.proofs.spelled.whole_number.Goals as goal
 

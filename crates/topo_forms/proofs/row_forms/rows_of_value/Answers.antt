@@ -1,7 +1,7 @@
 use Rattle.std.proofs.Common.{◌≡◌, Err, rules}
 use Rattle.topo_forms.specs.RowForms.{rows_of}
 use Rattle.topo_forms.proofs.Steps.{gives_past, stops_at}
-use Rattle.topo_forms.proofs.row_forms.rows_in.Goals as goal
+use Rattle.topo_forms.proofs.row_forms.rows_of_value.Goals as goal
 
 pub returns-in_err-value : goal.returns-in_err-value
 unfolding rows_of
