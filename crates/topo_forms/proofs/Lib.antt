@@ -2,4 +2,9 @@ pub mod Bytes
 pub mod Items
 pub mod Lookups
 pub mod PriceLists
+pub mod SpelledCalls
+pub mod SpelledReplies
+pub mod SpelledReports
+pub mod SpelledRows
+pub mod Spellings
 pub mod Steps

@@ -76,3 +76,13 @@ pub member_or_missing : {A : Type 0} (default : A) (form : Path → Data → Rea
     → false ≡ has_key key d → member_or default form path key d ≡ Ok default
 unfolding member_or
 member_or_missing default form path key d missing = rw (sym missing)
+
+pub member_read : {A : Type 0} (form : Path → Data → Read A) (path : Path) (key : Key) (d found : Data) (a : A)
+    → get (key_name key) d ≡ Some found → ((p : Path) → form p found ≡ Ok a) → member_form form path key d ≡ Ok a
+unfolding member_form and_then
+member_read form path key d found a there h = rw there (h (member_of path key))
+
+pub element_read : {A : Type 0} (form : Path → Data → Read A) (path : Path) (i : ℕ) (d found : Data) (a : A)
+    → at i d ≡ Some found → ((p : Path) → form p found ≡ Ok a) → element form path i d ≡ Ok a
+unfolding element and_then
+element_read form path i d found a there h = rw there (h (element_of path i))

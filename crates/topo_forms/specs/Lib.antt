@@ -6,3 +6,5 @@ pub mod Reads
 pub mod ReplyForms
 pub mod RowForms
 pub mod Scripts
+pub mod Spelled
+pub mod SpelledReports

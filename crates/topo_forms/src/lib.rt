@@ -14,6 +14,11 @@ pub mod reports;
 pub mod row_forms;
 pub mod script_forms;
 pub mod scripts;
+mod spelled;
+mod spelled_calls;
+mod spelled_replies;
+mod spelled_reports;
+mod spelled_rows;
 
 pub use fault::ScriptFault;
 pub use reports::Report;

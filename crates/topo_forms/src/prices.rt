@@ -15,7 +15,7 @@ use std::alloc::Global;
 use topo_core::listed::Listed;
 
 /// The greatest number of prices in a list: one for each kind.
-const MAX_PRICES: usize = 64;
+pub(crate) const MAX_PRICES: usize = 64;
 
 fn read_some_price(alloc: Global, path: Path, value: &Value) -> Result<Option<u32>, ScriptFault>
     ensures { Gives result (some_price path (view value.now)) }
@@ -103,7 +103,7 @@ fn read_price_items(
 }
 
 /// The prices without the ones at their end.
-fn without_ones(prices: Listed<Option<u32>>) -> Listed<Option<u32>>
+pub(crate) fn without_ones(prices: Listed<Option<u32>>) -> Listed<Option<u32>>
     ensures { result ≡ without_ones prices }
 {
     let mut prices = prices.into_vec();

@@ -7,6 +7,7 @@ ghost use Rattle.topo_forms.specs.RowForms.{sign_form, edge_form, crossing_form,
 use crate::fault::ScriptFault;
 use crate::form::{Form, check_keys, is_text, parse, read_member};
 use crate::path::{Key, Path};
+use crate::spelled::read_spelled;
 use serde_json::Value;
 use std::alloc::Global;
 use topo_core::darts::Sign;
@@ -99,6 +100,16 @@ impl Form for Rows {
 
 /// The rows that the text of a picture spells.
 pub fn read_rows(alloc: Global, bytes: &[u8]) -> Result<Rows, ScriptFault>
+    ensures { Gives result (rows_of bytes.now) }
+{
+    match read_spelled(alloc, MAX_PICTURE_BYTES, bytes) {
+        Some(rows) => Ok(rows),
+        None => rows_of_value(alloc, bytes),
+    }
+}
+
+/// The rows that the value of a text is.
+fn rows_of_value(alloc: Global, bytes: &[u8]) -> Result<Rows, ScriptFault>
     ensures { Gives result (rows_of bytes.now) }
 {
     let value = parse(alloc, MAX_PICTURE_BYTES, bytes)?;

@@ -18,6 +18,7 @@ use crate::prices::read_prices;
 use crate::reports::Report;
 use crate::row_forms::MAX_PICTURE_BYTES;
 use crate::scripts::{LimitRows, Script};
+use crate::spelled::read_spelled;
 use serde_json::Value;
 use std::alloc::Global;
 use topo_core::calls::Command;
@@ -230,6 +231,16 @@ fn report_in(alloc: Global, value: &Value) -> Result<Report, ScriptFault>
 
 /// The report that bytes spell.
 pub fn read_report(alloc: Global, bytes: &[u8]) -> Result<Report, ScriptFault>
+    ensures { Gives result (report_of bytes.now) }
+{
+    match read_spelled(alloc, MAX_PICTURE_BYTES, bytes) {
+        Some(report) => Ok(report),
+        None => report_of_value(alloc, bytes),
+    }
+}
+
+/// The report that the value of a text is.
+fn report_of_value(alloc: Global, bytes: &[u8]) -> Result<Report, ScriptFault>
     ensures { Gives result (report_of bytes.now) }
 {
     let value = parse(alloc, MAX_PICTURE_BYTES, bytes)?;

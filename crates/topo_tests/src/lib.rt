@@ -28,6 +28,8 @@ mod plans;
 #[cfg(test)]
 mod prices;
 #[cfg(test)]
+mod readers;
+#[cfg(test)]
 mod replicas;
 #[cfg(test)]
 mod searches;

@@ -1,0 +1,20 @@
+-- What stands in the tokens of a report behind what was read.
+use Rattle.std.specs.Prelude.{◌≡◌, ℕ, ◌≤◌, Bool, false, List, length, Option, Ok}
+use Rattle.std.specs.Option.{is_none}
+use Rattle.std.specs.List.{list_any}
+use Rattle.json.specs.Token.{Token}
+use Rattle.serde_json.specs.Data.{Items, array, item, number, string, unsigned}
+use Rattle.topo_core.specs.declared.calls.Refusal.{Refusal}
+use Rattle.topo_forms.specs.declared.path.Path.{Path}
+use Rattle.topo_forms.specs.Prices.{without_ones}
+use Rattle.topo_forms.specs.ReplyForms.{refusal_form}
+use Rattle.topo_forms.specs.Scripts.{nulls_of}
+use Rattle.topo_forms.specs.Spelled.{GoesOn}
+
+-- behind this number and this name, the tokens go on to the end of a refusal
+abbrev pub SpellsRefusal : ℕ → List ℕ → List Token → Refusal → List Token → Type 0
+SpellsRefusal n name ts why rest = (ds : Items) × GoesOn 0 ts ds rest × ((path : Path) → refusal_form path (array (item (number (unsigned n)) (item (string name) ds))) ≡ Ok why)
+
+-- at most 64 prices, with a null only where the version lets it be, and those kept of them
+abbrev pub ArePricesOf : ℕ → List (Option ℕ) → List (Option ℕ) → Type 0
+ArePricesOf version prices kept = (nulls : Bool) × (nulls_of version ≡ Ok nulls) × (length prices ≤ 64) × (nulls ≡ false → list_any is_none prices ≡ false) × (kept ≡ without_ones prices)

@@ -1,0 +1,69 @@
+//! Calls, read from the tokens of a text.
+
+ghost use Rattle.std.specs.Prelude.{◌≡◌, ◌∷◌, IfSome, codes};
+ghost use Rattle.json.specs.Token.{begin_array, string};
+ghost use Rattle.topo_forms.specs.CallForms.{call_form};
+ghost use Rattle.topo_forms.specs.Spelled.{Spells};
+
+use crate::spelled::{Spelled, begin_array, end_array, next_text};
+use json::Reader;
+use std::alloc::Global;
+use topo_core::calls::Call;
+
+/// What follows the word of a call that grows.
+fn spelled_grow(alloc: Global, reader: &mut Reader<'_>) -> Option<Call>
+    ensures { IfSome result (λ call. Spells 1 call_form (begin_array ∷ string (codes "grow") ∷ reader.old) call reader.new) }
+{
+    let u = u32::from_tokens(alloc, reader)?;
+    let position = u32::from_tokens(alloc, reader)?;
+    let kind = u32::from_tokens(alloc, reader)?;
+    end_array(reader)?;
+    Some(Call::Grow { u, position, kind })
+}
+
+/// What follows the word of a call that inserts.
+fn spelled_insert(alloc: Global, reader: &mut Reader<'_>) -> Option<Call>
+    ensures { IfSome result (λ call. Spells 1 call_form (begin_array ∷ string (codes "insert") ∷ reader.old) call reader.new) }
+{
+    let u = u32::from_tokens(alloc, reader)?;
+    let v = u32::from_tokens(alloc, reader)?;
+    let kind = u32::from_tokens(alloc, reader)?;
+    end_array(reader)?;
+    Some(Call::Insert { u, v, kind })
+}
+
+/// What follows the word of a call that deletes.
+fn spelled_delete(alloc: Global, reader: &mut Reader<'_>) -> Option<Call>
+    ensures { IfSome result (λ call. Spells 1 call_form (begin_array ∷ string (codes "delete") ∷ reader.old) call reader.new) }
+{
+    let edge = u32::from_tokens(alloc, reader)?;
+    end_array(reader)?;
+    Some(Call::Delete { edge })
+}
+
+/// What follows the word of a call.
+fn spelled_after(alloc: Global, word: &str, reader: &mut Reader<'_>) -> Option<Call>
+    ensures { IfSome result (λ call. Spells 1 call_form (begin_array ∷ string word.now ∷ reader.old) call reader.new) }
+{
+    if word == "grow" {
+        spelled_grow(alloc, reader)
+    } else if word == "insert" {
+        spelled_insert(alloc, reader)
+    } else if word == "delete" {
+        spelled_delete(alloc, reader)
+    } else {
+        None
+    }
+}
+
+impl Spelled for Call {
+    ghost form = { call_form };
+
+    ghost nesting = { 1 };
+
+    fn from_tokens(alloc: Global, reader: &mut Reader<'_>) -> Option<Self> {
+        begin_array(reader)?;
+        let word = next_text(reader)?;
+        spelled_after(alloc, word, reader)
+    }
+}

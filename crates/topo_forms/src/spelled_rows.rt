@@ -1,0 +1,95 @@
+//! Rows, read from the tokens of a text.
+
+ghost use Rattle.std.specs.Prelude.{◌≡◌};
+ghost use Rattle.topo_forms.specs.RowForms.{sign_form, edge_form, crossing_form, rows_form};
+
+use crate::path::Key;
+use crate::spelled::{Spelled, begin_object, end_object, next_member, next_text};
+use json::Reader;
+use std::alloc::Global;
+use topo_core::darts::Sign;
+use topo_core::rows::{CrossRow, EdgeRow, Rows};
+
+impl Spelled for Sign {
+    ghost form = { sign_form };
+
+    ghost nesting = { 0 };
+
+    fn from_tokens(_alloc: Global, reader: &mut Reader<'_>) -> Option<Self> {
+        let text = next_text(reader)?;
+        if text == "ltr" {
+            Some(Sign::LeftToRight)
+        } else if text == "rtl" {
+            Some(Sign::RightToLeft)
+        } else {
+            None
+        }
+    }
+}
+
+impl Spelled for EdgeRow {
+    ghost form = { edge_form };
+
+    ghost nesting = { 2 };
+
+    fn from_tokens(alloc: Global, reader: &mut Reader<'_>) -> Option<Self> {
+        begin_object(reader)?;
+        let a = next_member(alloc, Key::A, reader)?;
+        let b = next_member(alloc, Key::B, reader)?;
+        let crossings = next_member(alloc, Key::Crossings, reader)?;
+        let id = next_member(alloc, Key::Id, reader)?;
+        let kind = next_member(alloc, Key::Kind, reader)?;
+        end_object(reader)?;
+        Some(EdgeRow {
+            id,
+            a,
+            b,
+            kind,
+            crossings,
+        })
+    }
+}
+
+impl Spelled for CrossRow {
+    ghost form = { crossing_form };
+
+    ghost nesting = { 1 };
+
+    fn from_tokens(alloc: Global, reader: &mut Reader<'_>) -> Option<Self> {
+        begin_object(reader)?;
+        let crossed = next_member(alloc, Key::Crossed, reader)?;
+        let id = next_member(alloc, Key::Id, reader)?;
+        let newcomer = next_member(alloc, Key::Newcomer, reader)?;
+        let sign = next_member(alloc, Key::Sign, reader)?;
+        end_object(reader)?;
+        Some(CrossRow {
+            id,
+            crossed,
+            newcomer,
+            sign,
+        })
+    }
+}
+
+impl Spelled for Rows {
+    ghost form = { rows_form };
+
+    ghost nesting = { 4 };
+
+    fn from_tokens(alloc: Global, reader: &mut Reader<'_>) -> Option<Self> {
+        begin_object(reader)?;
+        let crossings = next_member(alloc, Key::Crossings, reader)?;
+        let edges = next_member(alloc, Key::Edges, reader)?;
+        let next_crossing = next_member(alloc, Key::NextCrossing, reader)?;
+        let next_edge = next_member(alloc, Key::NextEdge, reader)?;
+        let rotations = next_member(alloc, Key::Rotations, reader)?;
+        end_object(reader)?;
+        Some(Rows {
+            rotations,
+            edges,
+            crossings,
+            next_edge,
+            next_crossing,
+        })
+    }
+}

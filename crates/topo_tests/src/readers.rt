@@ -1,0 +1,47 @@
+//! Texts of other layouts than the writer's, which are read all the same.
+
+use crate::pictures::JOINED;
+use std::alloc::Global;
+use std::test::Fail;
+use topo_script::{picture_text, read_report, read_rows, report};
+
+/// `JOINED` with the keys in other orders, blanks between its tokens, an escape in a key and a key that
+/// comes twice.
+const OTHERWISE: &str =
+    r#" { "next_edge":10, "next_crossing":7, "crossings":[{"id":0,"crossed":1,"sign":"rtl","newcomer":9}],
+    "rotations" : [ [0,3,2,6],[0,7,1,4],[1,8,2,5],[3,4,9,5],[6,8,9,7] ],
+    "edges":[{"id":0,"a":0,"b":1,"kind":1,"crossings":[]},{"a":1,"b":2,"crossings":[0],"id":1,"kind":2},{"a":2,"b":0,"crossings":[],"id":2,"kind":3},{"a":3,"b":0,"crossings":[],"id":3,"kind":0},{"a":3,"b":1,"crossings":[],"id":4,"kind":0},{"a":3,"b":2,"crossings":[],"id":5,"kind":0},{"a":4,"b":0,"crossings":[],"id":6,"kind":0},{"a":4,"b":1,"crossings":[],"id":7,"kind":0},{"a":4,"b":2,"crossings":[],"id":8,"kind":0},{"a":3,"b":4,"crossings":[0],"\u0069d":9,"kind":0}],
+    "next_crossing":1 } "#;
+
+/// A report with a number of its own for each field.
+const EACH_FIELD: &str =
+    r#"{"history":[{"call":["grow",20,21,22],"caller":23,"reply":{"edge":24,"vertex":25}},{"call":["insert",26,27,28],"caller":29,"reply":{"crossed":[[30,31,"back"],[32,33,"forward"]],"edge":34,"end":35,"price":36,"start":37}},{"call":["delete",38],"caller":39,"reply":{"refused":[6,"Cut",40]}},{"call":["delete",41],"caller":42,"reply":{"deleted":43}},{"call":["delete",44],"caller":45,"reply":{"refused":[4,"NoEdge"]}}],"limits":{"crossings":46,"edges":47,"vertices":48},"picture":{"crossings":[{"crossed":49,"id":50,"newcomer":51,"sign":"rtl"}],"edges":[{"a":52,"b":53,"crossings":[54],"id":55,"kind":56}],"next_crossing":57,"next_edge":58,"rotations":[[59],[60,61]]},"prices":[62,null,63],"start":{"crossings":[],"edges":[],"next_crossing":64,"next_edge":65,"rotations":[]},"version":2}"#;
+
+/// The same with the keys in other orders, and a price more.
+const EACH_OTHERWISE: &str =
+    r#"{"version":2,"start":{"rotations":[],"edges":[],"next_crossing":64,"next_edge":65,"crossings":[]},"history":[{"caller":23,"call":["grow",20,21,22],"reply":{"vertex":25,"edge":24}},{"call":["insert",26,27,28],"caller":29,"reply":{"start":37,"crossed":[[30,31,"back"],[32,33,"forward"]],"edge":34,"price":36,"end":35}},{"reply":{"refused":[6,"Cut",40]},"call":["delete",38],"caller":39},{"call":["delete",41],"caller":42,"reply":{"deleted":43}},{"call":["delete",44],"caller":45,"reply":{"refused":[4,"NoEdge"]}}],"limits":{"vertices":48,"crossings":46,"edges":47},"prices":[62,null,63,1],"picture":{"crossings":[{"sign":"rtl","crossed":49,"id":50,"newcomer":51}],"edges":[{"kind":56,"a":52,"b":53,"crossings":[54],"id":55}],"next_crossing":57,"next_edge":58,"rotations":[[59],[60,61]]}}"#;
+
+/// The text of the picture that a text is.
+fn rewritten(alloc: Global, text: &str) -> Result<String, Fail> {
+    let rows = read_rows(alloc, text.as_bytes())?;
+    Ok(picture_text(alloc, &rows)?)
+}
+
+#[test]
+fn pictures_of_other_layouts(rt: HostRuntime) -> Result<(), Fail> {
+    for text in [JOINED, OTHERWISE] {
+        let read = rewritten(rt.alloc(), text)?;
+        assert!(rt; read.as_str() == JOINED, "{read}");
+    }
+    Ok(())
+}
+
+#[test]
+fn reports_of_other_layouts(rt: HostRuntime) -> Result<(), Fail> {
+    for text in [EACH_FIELD, EACH_OTHERWISE] {
+        let made = read_report(rt.alloc(), text.as_bytes())?;
+        let read = report(rt.alloc(), &made)?;
+        assert!(rt; read.as_str() == EACH_FIELD, "{read}");
+    }
+    Ok(())
+}
