@@ -21,9 +21,9 @@ grow_spelled u position kind ts r1 r2 r3 rest first second third close =
     let ds = item (string (codes "grow")) (item first.spelled (item second.spelled (item third.spelled no_items))) in (
       ds,
       text_then 0 (codes "grow") _ ts rest _ refl
-      (element_then 0 0 number_form ts u r1 rest _ first (omega arith)
-      (element_then 0 0 number_form r1 position r2 rest _ second (omega arith)
-      (element_then 0 0 number_form r2 kind r3 rest _ third (omega arith) (few_done 0 r3 rest close)))),
+          (element_then 0 0 number_form ts u r1 rest _ first (omega arith)
+          (element_then 0 0 number_form r1 position r2 rest _ second (omega arith)
+          (element_then 0 0 number_form r2 kind r3 rest _ third (omega arith) (few_done 0 r3 rest close)))),
       λ path.
           went _ _ u (element_read number_form path 1 (array ds) first.spelled u refl first.reads)
           ∙ went _ _ position (element_read number_form path 2 (array ds) second.spelled position refl second.reads)
@@ -38,9 +38,9 @@ insert_spelled u v kind ts r1 r2 r3 rest first second third close =
     let ds = item (string (codes "insert")) (item first.spelled (item second.spelled (item third.spelled no_items))) in (
       ds,
       text_then 0 (codes "insert") _ ts rest _ refl
-      (element_then 0 0 number_form ts u r1 rest _ first (omega arith)
-      (element_then 0 0 number_form r1 v r2 rest _ second (omega arith)
-      (element_then 0 0 number_form r2 kind r3 rest _ third (omega arith) (few_done 0 r3 rest close)))),
+          (element_then 0 0 number_form ts u r1 rest _ first (omega arith)
+          (element_then 0 0 number_form r1 v r2 rest _ second (omega arith)
+          (element_then 0 0 number_form r2 kind r3 rest _ third (omega arith) (few_done 0 r3 rest close)))),
       λ path.
           went _ _ u (element_read number_form path 1 (array ds) first.spelled u refl first.reads)
           ∙ went _ _ v (element_read number_form path 2 (array ds) second.spelled v refl second.reads)
@@ -78,6 +78,6 @@ planned_spelled u v kind ts r1 r2 r3 rest first second third close =
     (element_then 0 0 number_form r1 v r2 rest _ second (omega arith)
     (element_then 0 0 number_form r2 kind r3 rest _ third (omega arith) (few_done 0 r3 rest close)))))
     (λ path.
-        went _ _ u (element_read number_form path 1 (array ds) first.spelled u refl first.reads)
-        ∙ went _ _ v (element_read number_form path 2 (array ds) second.spelled v refl second.reads)
-        ∙ went _ _ kind (element_read number_form path 3 (array ds) third.spelled kind refl third.reads))
+    went _ _ u (element_read number_form path 1 (array ds) first.spelled u refl first.reads)
+    ∙ went _ _ v (element_read number_form path 2 (array ds) second.spelled v refl second.reads)
+    ∙ went _ _ kind (element_read number_form path 3 (array ds) third.spelled kind refl third.reads))

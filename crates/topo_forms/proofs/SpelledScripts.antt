@@ -58,7 +58,7 @@ module _ {A : Type 0} (nesting : ℕ) (form : Path → Data → Read A) (name : 
 prices_or_none : (n : ℕ) (ts mid : List Token) (o : Option (List (Option ℕ))) (m : SpellsOptional 1 (list_form (price_form true)) (key_name Prices) ts o mid) (kept : List (Option ℕ))
     → (h : ArePricesOf n (unwrap_or o []) kept) → AreRead (prices_form h.0) [] (data_of 1 (list_form (price_form true)) (key_name Prices) ts mid o m) kept
 prices_or_none n ts mid None m kept h = sym h.4
-prices_or_none n ts mid (Some ps) m kept h path = prices_read h.0 path m.2.spelled ps kept (m.2.reads path) h.2 h.3 h.4
+prices_or_none n ts mid (Some ps) m kept h = λ path. prices_read h.0 path m.2.spelled ps kept (m.2.reads path) h.2 h.3 h.4
 
 -- ---- Scripts
 
@@ -129,7 +129,7 @@ script_spelled x l p s n ts r0 r1 r2 r3 r4 r5 rest e limits prices start version
     (member_then 0 4 number_form _ r3 n r4 rest _ ms version (omega arith)
     (member_then 3 4 workers_form _ r4 x.workers r5 rest _ ms workers (omega arith) (members_done 4 r5 rest ms close))))))
     (λ path.
-        script_read x n dl dp ds version.2.spelled workers.2.spelled kept.0 kept.1
-        (subst (AreRead limits_form greatest_limits dl) (sym same) (or_default 1 limits_form _ r0 r1 greatest_limits l limits))
-        (prices_or_none n r1 r2 p prices x.prices kept)
-        (subst (AreRead start_form None ds) (sym begun) (or_default 4 start_form _ r2 r3 None s start)) version.2.reads workers.2.reads)
+    script_read x n dl dp ds version.2.spelled workers.2.spelled kept.0 kept.1
+    (subst (AreRead limits_form greatest_limits dl) (sym same) (or_default 1 limits_form _ r0 r1 greatest_limits l limits))
+    (prices_or_none n r1 r2 p prices x.prices kept)
+    (subst (AreRead start_form None ds) (sym begun) (or_default 4 start_form _ r2 r3 None s start)) version.2.reads workers.2.reads)

@@ -69,12 +69,14 @@ workers_read path (object ms) ws e some few = absurd cc
 
 pub workers_spelled : (ws : List (List Command)) (ts rest : List Token) → SpellsMember 3 (list_form (list_form command_form)) (key_name Workers) ts ws rest → 0 < length ws → length ws ≤ 16
     → SpellsMember 3 workers_form (key_name Workers) ts ws rest
-workers_spelled ws ts rest m some few =
-    (m.0, m.1, record {
-      written = m.2.written;
-      spelled = m.2.spelled;
-      begins = m.2.begins;
-      means = m.2.means;
-      reads = λ path. workers_read path m.2.spelled ws (m.2.reads path) some few;
-    })
-
+workers_spelled ws ts rest m some few = (
+  m.0,
+  m.1,
+  record {
+    written = m.2.written;
+    spelled = m.2.spelled;
+    begins = m.2.begins;
+    means = m.2.means;
+    reads = λ path. workers_read path m.2.spelled ws (m.2.reads path) some few;
+  },
+)

@@ -104,10 +104,12 @@ fn spelled_workers(alloc: Global, reader: &mut Reader<'_>) -> Option<Listed<List
     ensures { IfSome result (λ workers. SpellsMember 3 workers_form (key_name Workers) reader.old workers reader.new) }
 {
     let workers: Listed<Listed<Command>> = next_member(alloc, Key::Workers, reader)?;
-    if !(0 < workers.len() && workers.len() <= MAX_WORKERS) {
-        return None;
+    let count = workers.len();
+    if 0 < count && count <= MAX_WORKERS {
+        Some(workers)
+    } else {
+        None
     }
-    Some(workers)
 }
 
 impl Spelled for Script {
