@@ -6,5 +6,7 @@ pub mod SpelledCalls
 pub mod SpelledReplies
 pub mod SpelledReports
 pub mod SpelledRows
+pub mod SpelledScripts
+pub mod SpelledStarts
 pub mod Spellings
 pub mod Steps

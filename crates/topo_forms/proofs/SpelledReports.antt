@@ -87,7 +87,7 @@ first_read {A = A} form path i d ds xs e =
     let more = gone (items_from form path (i + 1) ds) (λ (ys : List A). Ok (one.0 ∷ ys)) xs one.2 in
     (one.0, more.0, one.1, more.1, ap found more.2)
 
-counted : {A : Type 0} (form : Path → Data → Read A) (path : Path) (i : ℕ) (ds : Items) (xs : List A) → items_from form path i ds ≡ Ok xs → items_len ds ≡ length xs
+pub counted : {A : Type 0} (form : Path → Data → Read A) (path : Path) (i : ℕ) (ds : Items) (xs : List A) → items_from form path i ds ≡ Ok xs → items_len ds ≡ length xs
 counted form path i no_items xs e = ap (λ r. length (found r)) e
 counted form path i (item d ds) xs e = let s = first_read form path i d ds xs e in ap suc (counted form path (i + 1) ds s.1 s.3) ∙ ap length s.4
 
@@ -118,7 +118,7 @@ either_way : (nulls : Bool) (path : Path) (ds : Items) (ps : List (Option ℕ)) 
 either_way true path ds ps e none = e
 either_way false path ds ps e none = no_nulls path 0 ds ps e (none refl)
 
-prices_read : (nulls : Bool) (path : Path) (d : Data) (ps kept : List (Option ℕ)) → list_form (price_form true) path d ≡ Ok ps → length ps ≤ 64 → (nulls ≡ false → list_any is_none ps ≡ false)
+pub prices_read : (nulls : Bool) (path : Path) (d : Data) (ps kept : List (Option ℕ)) → list_form (price_form true) path d ≡ Ok ps → length ps ≤ 64 → (nulls ≡ false → list_any is_none ps ≡ false)
     → kept ≡ without_ones ps → prices_form nulls path d ≡ Ok kept
 unfolding list_form prices_form and_then
 prices_read nulls path null ps kept e short none is = absurd cc

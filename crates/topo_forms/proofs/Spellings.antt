@@ -52,6 +52,16 @@ word_spelled form word text a ts rest e is read = record {
   reads = read;
 }
 
+-- what nests no deeper than this nests no deeper than more
+pub deeper : {A : Type 0} (inner outer : ℕ) (form : Path → Data → Read A) (ts : List Token) (a : A) (rest : List Token) → inner ≤ outer → Spells inner form ts a rest → Spells outer form ts a rest
+deeper inner outer form ts a rest within s = record {
+  written = s.written;
+  spelled = s.spelled;
+  begins = λ depth le. s.begins depth (omega arith);
+  means = s.means;
+  reads = s.reads;
+}
+
 -- ---- Arrays
 
 pub spelled-shorter : {A : Type 0} (nesting : ℕ) (form : Path → Data → Read A) (ts : List Token) (a : A) (rest : List Token) → Spells nesting form ts a rest → length rest < length ts

@@ -1,5 +1,5 @@
 -- Forms that the tokens of a text spell.
-use Rattle.std.specs.Prelude.{◌≡◌, ℕ, ◌≤◌, List, ◌∷◌, length, Some, Ok}
+use Rattle.std.specs.Prelude.{◌≡◌, ℕ, ◌≤◌, List, ◌∷◌, length, Option, Some, None, Ok}
 use Rattle.json.specs.Token.{Token, number}
 use Rattle.json.specs.Json.{Json, Items as JsonItems, value, items, read_key}
 use Rattle.serde_json.specs.Data.{Data, Items, unsigned}
@@ -19,6 +19,11 @@ pub record Spells {A : Type 0} (nesting : ℕ) (form : Path → Data → Read A)
 -- The tokens begin with this key and then spell `a`.
 abbrev pub SpellsMember : {A : Type 0} → ℕ → (Path → Data → Read A) → List ℕ → List Token → A → List Token → Type 0
 SpellsMember nesting form name ts a rest = (s : List Token) × (read_key ts ≡ Some (Some name, s)) × Spells nesting form s a rest
+
+-- The same of a member that may be missing: then nothing is passed.
+abbrev pub SpellsOptional : {A : Type 0} → ℕ → (Path → Data → Read A) → List ℕ → List Token → Option A → List Token → Type 0
+SpellsOptional nesting form name ts None rest = ts ≡ rest
+SpellsOptional nesting form name ts (Some a) rest = SpellsMember nesting form name ts a rest
 
 -- The tokens go on with elements up to the end of an array. They nest no deeper than the number, and
 -- from any place on the form reads them as `xs`.

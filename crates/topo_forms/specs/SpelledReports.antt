@@ -1,15 +1,21 @@
 -- What stands in the tokens of a report behind what was read.
-use Rattle.std.specs.Prelude.{◌≡◌, ℕ, ◌≤◌, Bool, false, List, length, Option, Ok}
+use Rattle.std.specs.Prelude.{◌≡◌, ℕ, ◌≤◌, Bool, false, List, ◌∷◌, length, codes, Option, Ok}
 use Rattle.std.specs.Option.{is_none}
 use Rattle.std.specs.List.{list_any}
-use Rattle.json.specs.Token.{Token}
+use Rattle.json.specs.Token.{Token, string as text_token}
 use Rattle.serde_json.specs.Data.{Items, array, item, number, string, unsigned}
+use Rattle.topo_core.specs.declared.calls.Call.{Call}
 use Rattle.topo_core.specs.declared.calls.Refusal.{Refusal}
 use Rattle.topo_forms.specs.declared.path.Path.{Path}
+use Rattle.topo_forms.specs.CallForms.{begins, call_form}
 use Rattle.topo_forms.specs.Prices.{without_ones}
 use Rattle.topo_forms.specs.ReplyForms.{refusal_form}
 use Rattle.topo_forms.specs.Scripts.{nulls_of}
 use Rattle.topo_forms.specs.Spelled.{GoesOn}
+
+-- behind this word, the tokens go on to the end of a call, which is no planned insertion
+abbrev pub SpellsCall : List ℕ → List Token → Call → List Token → Type 0
+SpellsCall word ts call rest = (ds : Items) × GoesOn 0 (text_token word ∷ ts) ds rest × ((path : Path) → call_form path (array ds) ≡ Ok call) × (begins (codes "planned") 4 (array ds) ≡ false)
 
 -- behind this number and this name, the tokens go on to the end of a refusal
 abbrev pub SpellsRefusal : ℕ → List ℕ → List Token → Refusal → List Token → Type 0

@@ -19,6 +19,7 @@ mod spelled_calls;
 mod spelled_replies;
 mod spelled_reports;
 mod spelled_rows;
+mod spelled_scripts;
 
 pub use fault::ScriptFault;
 pub use reports::Report;

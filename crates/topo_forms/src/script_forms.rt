@@ -29,7 +29,7 @@ use topo_core::rows::Rows;
 pub const MAX_SCRIPT_BYTES: usize = 1_048_576;
 
 /// The greatest number of lists in a script.
-const MAX_WORKERS: usize = 16;
+pub(crate) const MAX_WORKERS: usize = 16;
 
 impl Form for LimitRows {
     ghost form = { limits_form };
@@ -81,7 +81,7 @@ fn read_nulls(alloc: Global, value: &Value) -> Result<bool, ScriptFault>
 }
 
 /// The greatest limits.
-const GREATEST_LIMITS: LimitRows = LimitRows {
+pub(crate) const GREATEST_LIMITS: LimitRows = LimitRows {
     vertices: 65_536,
     edges: 65_536,
     crossings: 1_048_576,
@@ -194,6 +194,16 @@ fn script_in(alloc: Global, value: &Value) -> Result<Script, ScriptFault>
 
 /// The script that bytes spell.
 pub fn read_script(alloc: Global, bytes: &[u8]) -> Result<Script, ScriptFault>
+    ensures { Gives result (script_of bytes.now) }
+{
+    match read_spelled(alloc, MAX_SCRIPT_BYTES, bytes) {
+        Some(script) => Ok(script),
+        None => script_of_value(alloc, bytes),
+    }
+}
+
+/// The script that the value of a text is.
+fn script_of_value(alloc: Global, bytes: &[u8]) -> Result<Script, ScriptFault>
     ensures { Gives result (script_of bytes.now) }
 {
     let value = parse(alloc, MAX_SCRIPT_BYTES, bytes)?;

@@ -1,9 +1,8 @@
 //! Calls, read from the tokens of a text.
 
-ghost use Rattle.std.specs.Prelude.{◌≡◌, ◌∷◌, IfSome, codes};
-ghost use Rattle.json.specs.Token.{begin_array, string};
+ghost use Rattle.std.specs.Prelude.{◌≡◌, IfSome, codes};
 ghost use Rattle.topo_forms.specs.CallForms.{call_form};
-ghost use Rattle.topo_forms.specs.Spelled.{Spells};
+ghost use Rattle.topo_forms.specs.SpelledReports.{SpellsCall};
 
 use crate::spelled::{Spelled, begin_array, end_array, next_text};
 use json::Reader;
@@ -12,7 +11,7 @@ use topo_core::calls::Call;
 
 /// What follows the word of a call that grows.
 fn spelled_grow(alloc: Global, reader: &mut Reader<'_>) -> Option<Call>
-    ensures { IfSome result (λ call. Spells 1 call_form (begin_array ∷ string (codes "grow") ∷ reader.old) call reader.new) }
+    ensures { IfSome result (λ call. SpellsCall (codes "grow") reader.old call reader.new) }
 {
     let u = u32::from_tokens(alloc, reader)?;
     let position = u32::from_tokens(alloc, reader)?;
@@ -23,7 +22,7 @@ fn spelled_grow(alloc: Global, reader: &mut Reader<'_>) -> Option<Call>
 
 /// What follows the word of a call that inserts.
 fn spelled_insert(alloc: Global, reader: &mut Reader<'_>) -> Option<Call>
-    ensures { IfSome result (λ call. Spells 1 call_form (begin_array ∷ string (codes "insert") ∷ reader.old) call reader.new) }
+    ensures { IfSome result (λ call. SpellsCall (codes "insert") reader.old call reader.new) }
 {
     let u = u32::from_tokens(alloc, reader)?;
     let v = u32::from_tokens(alloc, reader)?;
@@ -34,7 +33,7 @@ fn spelled_insert(alloc: Global, reader: &mut Reader<'_>) -> Option<Call>
 
 /// What follows the word of a call that deletes.
 fn spelled_delete(alloc: Global, reader: &mut Reader<'_>) -> Option<Call>
-    ensures { IfSome result (λ call. Spells 1 call_form (begin_array ∷ string (codes "delete") ∷ reader.old) call reader.new) }
+    ensures { IfSome result (λ call. SpellsCall (codes "delete") reader.old call reader.new) }
 {
     let edge = u32::from_tokens(alloc, reader)?;
     end_array(reader)?;
@@ -42,8 +41,8 @@ fn spelled_delete(alloc: Global, reader: &mut Reader<'_>) -> Option<Call>
 }
 
 /// What follows the word of a call.
-fn spelled_after(alloc: Global, word: &str, reader: &mut Reader<'_>) -> Option<Call>
-    ensures { IfSome result (λ call. Spells 1 call_form (begin_array ∷ string word.now ∷ reader.old) call reader.new) }
+pub fn spelled_after(alloc: Global, word: &str, reader: &mut Reader<'_>) -> Option<Call>
+    ensures { IfSome result (λ call. SpellsCall word.now reader.old call reader.new) }
 {
     if word == "grow" {
         spelled_grow(alloc, reader)

@@ -71,7 +71,7 @@ fn nulls_of(version: u32) -> Option<bool>
 }
 
 /// The prices of a report of this version, without the ones at their end.
-fn kept_prices(prices: Listed<Option<u32>>, version: u32) -> Option<Listed<Option<u32>>>
+pub fn kept_prices(prices: Listed<Option<u32>>, version: u32) -> Option<Listed<Option<u32>>>
     ensures { IfSome result (λ kept. ArePricesOf version prices kept) }
 {
     let nulls = nulls_of(version)?;

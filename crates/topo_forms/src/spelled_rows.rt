@@ -1,7 +1,9 @@
 //! Rows, read from the tokens of a text.
 
-ghost use Rattle.std.specs.Prelude.{◌≡◌};
+ghost use Rattle.std.specs.Prelude.{◌≡◌, ◌∷◌, IfSome};
+ghost use Rattle.json.specs.Token.{begin_object};
 ghost use Rattle.topo_forms.specs.RowForms.{sign_form, edge_form, crossing_form, rows_form};
+ghost use Rattle.topo_forms.specs.Spelled.{Spells};
 
 use crate::path::Key;
 use crate::spelled::{Spelled, begin_object, end_object, next_member, next_text};
@@ -71,6 +73,25 @@ impl Spelled for CrossRow {
     }
 }
 
+/// What follows the brace that opens rows.
+pub fn spelled_members(alloc: Global, reader: &mut Reader<'_>) -> Option<Rows>
+    ensures { IfSome result (λ rows. Spells 4 rows_form (begin_object ∷ reader.old) rows reader.new) }
+{
+    let crossings = next_member(alloc, Key::Crossings, reader)?;
+    let edges = next_member(alloc, Key::Edges, reader)?;
+    let next_crossing = next_member(alloc, Key::NextCrossing, reader)?;
+    let next_edge = next_member(alloc, Key::NextEdge, reader)?;
+    let rotations = next_member(alloc, Key::Rotations, reader)?;
+    end_object(reader)?;
+    Some(Rows {
+        rotations,
+        edges,
+        crossings,
+        next_edge,
+        next_crossing,
+    })
+}
+
 impl Spelled for Rows {
     ghost form = { rows_form };
 
@@ -78,18 +99,6 @@ impl Spelled for Rows {
 
     fn from_tokens(alloc: Global, reader: &mut Reader<'_>) -> Option<Self> {
         begin_object(reader)?;
-        let crossings = next_member(alloc, Key::Crossings, reader)?;
-        let edges = next_member(alloc, Key::Edges, reader)?;
-        let next_crossing = next_member(alloc, Key::NextCrossing, reader)?;
-        let next_edge = next_member(alloc, Key::NextEdge, reader)?;
-        let rotations = next_member(alloc, Key::Rotations, reader)?;
-        end_object(reader)?;
-        Some(Rows {
-            rotations,
-            edges,
-            crossings,
-            next_edge,
-            next_crossing,
-        })
+        spelled_members(alloc, reader)
     }
 }

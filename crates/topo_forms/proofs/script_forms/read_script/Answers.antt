@@ -1,12 +1,8 @@
-use Rattle.std.proofs.Common.{◌≡◌, Err, rules}
+use Rattle.std.proofs.Common.{arith}
+use Rattle.topo_forms.specs.Paths.{whole}
 use Rattle.topo_forms.specs.Scripts.{script_of}
-use Rattle.topo_forms.proofs.Steps.{gives_past, stops_at}
 use Rattle.topo_forms.proofs.script_forms.read_script.Goals as goal
 
-pub returns-in_err-value : goal.returns-in_err-value
+pub returns-in-Some : goal.returns-in-Some
 unfolding script_of
-returns-in_err-value c = let same : c.from_residual.result ≡ Err c.in_err-value.field-0.0 = search rules in stops_at _ _ _ c.from_residual.result same c.in_err-value.ensures
-
-pub returns : goal.returns
-unfolding script_of
-returns c = gives_past _ _ _ c.script_in.result c.in_ok-value.ensures (c.script_in.ensures)
+returns-in-Some c = c.in-Some.ensures (omega arith) whole

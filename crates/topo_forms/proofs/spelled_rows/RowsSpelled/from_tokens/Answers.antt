@@ -1,5 +1,0 @@
-use Rattle.topo_forms.proofs.SpelledRows.{rows_spelled}
-use Rattle.topo_forms.proofs.spelled_rows.RowsSpelled.from_tokens.Goals as goal
-
-pub returns : goal.returns
-returns c = rows_spelled _ c.args.reader.now _ _ _ _ _ _ _ c.in_ok-begin_object.ensures c.in_ok-crossings.ensures c.in_ok-edges.ensures c.in_ok-next_crossing.ensures c.in_ok-next_edge.ensures c.in_ok-rotations.ensures c.in_ok-end_object.ensures

@@ -1,0 +1,146 @@
+//! Scripts, read from the tokens of a text.
+
+ghost use Rattle.std.specs.Prelude.{◌≡◌, ◌<◌, ◌≤◌, ◌∷◌, IfSome, codes, length};
+ghost use Rattle.json.specs.Token.{begin_array, key, string};
+ghost use Rattle.topo_forms.specs.CallForms.{command_form};
+ghost use Rattle.topo_forms.specs.Paths.{key_name};
+ghost use Rattle.topo_forms.specs.declared.path.Key.TheVariants.{Workers};
+ghost use Rattle.topo_forms.specs.Scripts.{script_form, start_form, workers_form};
+ghost use Rattle.topo_forms.specs.Spelled.{Spells, SpellsMember, SpellsOptional};
+
+use crate::path::Key;
+use crate::script_forms::{GREATEST_LIMITS, MAX_WORKERS};
+use crate::scripts::Script;
+use crate::spelled::{
+    Spelled, begin_array, begin_object, end_array, end_object, next_member, next_name, next_text,
+};
+use crate::spelled_calls::spelled_after;
+use crate::spelled_reports::kept_prices;
+use crate::spelled_rows::spelled_members;
+use json::{Reader, Token};
+use std::alloc::Global;
+use topo_core::calls::Command;
+use topo_core::listed::Listed;
+use topo_core::rows::Rows;
+
+/// What follows the word of a planned insertion.
+fn spelled_planned(alloc: Global, reader: &mut Reader<'_>) -> Option<Command>
+    ensures { IfSome result (λ command. Spells 1 command_form (begin_array ∷ string (codes "planned") ∷ reader.old) command reader.new) }
+{
+    let u = u32::from_tokens(alloc, reader)?;
+    let v = u32::from_tokens(alloc, reader)?;
+    let kind = u32::from_tokens(alloc, reader)?;
+    end_array(reader)?;
+    Some(Command::Planned { u, v, kind })
+}
+
+/// What follows the word of a call.
+fn spelled_plain(alloc: Global, word: &str, reader: &mut Reader<'_>) -> Option<Command>
+    ensures { IfSome result (λ command. Spells 1 command_form (begin_array ∷ string word.now ∷ reader.old) command reader.new) }
+{
+    let call = spelled_after(alloc, word, reader)?;
+    Some(Command::Plain(call))
+}
+
+/// What follows the word of a command.
+fn spelled_command(alloc: Global, word: &str, reader: &mut Reader<'_>) -> Option<Command>
+    ensures { IfSome result (λ command. Spells 1 command_form (begin_array ∷ string word.now ∷ reader.old) command reader.new) }
+{
+    if word == "planned" {
+        spelled_planned(alloc, reader)
+    } else {
+        spelled_plain(alloc, word, reader)
+    }
+}
+
+impl Spelled for Command {
+    ghost form = { command_form };
+
+    ghost nesting = { 1 };
+
+    fn from_tokens(alloc: Global, reader: &mut Reader<'_>) -> Option<Self> {
+        begin_array(reader)?;
+        let word = next_text(reader)?;
+        spelled_command(alloc, word, reader)
+    }
+}
+
+impl Spelled for Option<Rows> {
+    ghost form = { start_form };
+
+    ghost nesting = { 4 };
+
+    fn from_tokens(alloc: Global, reader: &mut Reader<'_>) -> Option<Self> {
+        match reader.next() {
+            Some(Token::String(text)) if text == "seed" => Some(None),
+            Some(Token::BeginObject) => {
+                let rows = spelled_members(alloc, reader)?;
+                Some(Some(rows))
+            }
+            _ => None,
+        }
+    }
+}
+
+/// A member behind this key, where it has the key that is asked for, and the key that comes next.
+fn optional_member<'a, T: Spelled>(
+    alloc: Global,
+    wanted: Key,
+    name: &'a str,
+    reader: &mut Reader<'a>,
+) -> Option<(Option<T>, &'a str)>
+    ensures { IfSome result (λ r. SpellsOptional T.nesting T.form (key_name wanted) (key name.now ∷ reader.old) r.0 (key r.1.now ∷ reader.new)) }
+{
+    if name != wanted.name() {
+        return Some((None, name));
+    }
+    let found = T::from_tokens(alloc, reader)?;
+    let next = next_name(reader)?;
+    Some((Some(found), next))
+}
+
+/// One to sixteen lists of commands.
+fn spelled_workers(alloc: Global, reader: &mut Reader<'_>) -> Option<Listed<Listed<Command>>>
+    ensures { IfSome result (λ workers. SpellsMember 3 workers_form (key_name Workers) reader.old workers reader.new) }
+{
+    let workers: Listed<Listed<Command>> = next_member(alloc, Key::Workers, reader)?;
+    let count = workers.len();
+    if 0 < count && count <= MAX_WORKERS {
+        Some(workers)
+    } else {
+        None
+    }
+}
+
+impl Spelled for Script {
+    ghost form = { λ path. script_form };
+
+    ghost nesting = { 5 };
+
+    fn from_tokens(alloc: Global, reader: &mut Reader<'_>) -> Option<Self> {
+        begin_object(reader)?;
+        let name = next_name(reader)?;
+        let Some((limits, name)) = optional_member(alloc, Key::Limits, name, reader) else {
+            return None;
+        };
+        let Some((prices, name)) = optional_member(alloc, Key::Prices, name, reader) else {
+            return None;
+        };
+        let Some((start, name)) = optional_member(alloc, Key::Start, name, reader) else {
+            return None;
+        };
+        if name != Key::Version.name() {
+            return None;
+        }
+        let version = u32::from_tokens(alloc, reader)?;
+        let workers = spelled_workers(alloc, reader)?;
+        end_object(reader)?;
+        let prices = kept_prices(prices.unwrap_or(Listed::new(alloc)), version)?;
+        Some(Script {
+            limits: limits.unwrap_or(GREATEST_LIMITS),
+            prices,
+            start: start.unwrap_or(None),
+            workers,
+        })
+    }
+}
