@@ -99,20 +99,13 @@ pub fn segment_of(half: u32) -> u32 {
     half / 2
 }
 
-/// The place of a number in a list that has it. Blocks are looked through at once.
+/// The place of a number in a list, or its length where it has none. Blocks are looked through at once.
 fn place_in(list: &[u32], number: u32) -> usize {
     const BLOCK: usize = 16;
-    let mut at = 0;
-    for block in list.chunks_exact(BLOCK) {
-        if block.iter().fold(false, |found, other| found | (*other == number)) {
-            break;
-        }
-        at += BLOCK;
-    }
-    while list[at] != number {
-        at += 1;
-    }
-    at
+    let has_number = |block: &[u32]| block.iter().fold(false, |found, other| found | (*other == number));
+    let blocks = list.chunks_exact(BLOCK).position(has_number).unwrap_or(list.len() / BLOCK);
+    let at = blocks * BLOCK;
+    list[at..].iter().position(|other| *other == number).map_or(list.len(), |beyond| at + beyond)
 }
 
 /// The half-edges of lawful rows, the next of each known and no face labelled yet.
@@ -328,7 +321,8 @@ impl Picture {
 
     fn place_round(&self, v: u32, edge: u32) -> usize {
         let (front, back) = self.rotations[v as usize].as_slices();
-        if front.contains(&edge) { place_in(front, edge) } else { front.len() + place_in(back, edge) }
+        let place = place_in(front, edge);
+        if place < front.len() { place } else { place + place_in(back, edge) }
     }
 
     /// The corner before a place of a vertex's list.
@@ -348,12 +342,23 @@ impl Picture {
         }
     }
 
+    /// Takes an edge out of a vertex's list, which begins with its least id again.
     fn take_from(&mut self, v: u32, place: usize) {
-        let around = &mut self.rotations[v as usize];
-        around.remove(place);
-        if place == 0 {
-            let (front, back) = around.as_slices();
-            let least = front.iter().chain(back).fold(u32::MAX, |least, e| least.min(*e));
+        let Some(edge) = self.rotations[v as usize].remove(place) else { return };
+        if place > 0 {
+            return;
+        }
+        let around = &self.rotations[v as usize];
+        // all others are greater, so the least may be one of the next ids
+        let ends_here = |other: &u32| {
+            let ends = &self.ends[*other as usize];
+            self.has_edge(*other) && (ends.a == v || ends.b == v)
+        };
+        let mut next = (edge + 1..self.next_edge()).take(around.len());
+        let least = next.find(ends_here).unwrap_or_else(|| around.iter().fold(u32::MAX, |least, other| least.min(*other)));
+        if around.back() == Some(&least) {
+            self.rotations[v as usize].rotate_right(1);
+        } else {
             let first = self.place_round(v, least);
             self.rotations[v as usize].rotate_left(first);
         }

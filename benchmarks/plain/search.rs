@@ -1,6 +1,6 @@
 //! The first of the cheapest routes between two vertices: a search over the faces from the target, in buckets by distance.
 
-use crate::picture::{Picture, segment_of, twin};
+use crate::picture::{Half, Picture, segment_of, twin};
 
 /// The height of a face that no walk from the target has reached.
 const UNREACHED: u32 = 1 << 31;
@@ -145,9 +145,9 @@ impl Sheet {
     /// Gives the faces their heights, in rising order, up to the lowest one at the start, whose height is the answer. Faces as high
     /// as that or higher may have been passed over.
     fn spread(&mut self, picture: &Picture) -> u32 {
-        let (halves, faces, prices) = (picture.halves(), picture.faces(), picture.prices());
+        let halves = picture.halves();
         for face in &self.reached {
-            self.waiting.push(0, *face);
+            self.waiting.push(0, picture.faces()[*face as usize].half);
         }
         let mut lowest = UNREACHED;
         let mut height = 0;
@@ -157,38 +157,47 @@ impl Sheet {
                 break;
             }
             let turn = self.waiting.take(height);
-            for face in &turn {
-                if self.heights[*face as usize] != height {
+            for first in &turn {
+                let Half { next, face } = halves[*first as usize];
+                if self.heights[face as usize] != height {
                     continue;
                 }
-                let first = faces[*face as usize].half;
-                let mut half = first;
-                loop {
-                    let beyond = halves[twin(half) as usize].face;
-                    let known = &mut self.heights[beyond as usize];
-                    if *known > height + 1 {
-                        let price = u32::from(prices[segment_of(half) as usize]);
-                        let new = height + price;
-                        if new < *known && new <= lowest && price != 0 {
-                            if *known == UNREACHED {
-                                self.reached.push(beyond);
-                            }
-                            *known = new;
-                            if self.is_start[beyond as usize] {
-                                lowest = new;
-                            }
-                            self.waiting.push(new, beyond);
-                        }
-                    }
+                if height == 0 {
+                    // no lower face lies beyond
+                    self.lower(picture, *first, 0, &mut lowest);
+                }
+                let mut half = next;
+                while half != *first {
+                    self.lower(picture, half, height, &mut lowest);
                     half = halves[half as usize].next;
-                    if half == first {
-                        break;
-                    }
                 }
             }
             self.waiting.hand_back(height, turn);
         }
         lowest
+    }
+
+    /// Lowers the face beyond a half-edge of a face with this height.
+    #[inline(always)]
+    fn lower(&mut self, picture: &Picture, half: u32, height: u32, lowest: &mut u32) {
+        let beyond = picture.halves()[twin(half) as usize].face;
+        let known = &mut self.heights[beyond as usize];
+        if *known <= height + 1 {
+            return;
+        }
+        let price = u32::from(picture.prices()[segment_of(half) as usize]);
+        let new = height + price;
+        if price == 0 || new >= *known || new > *lowest {
+            return;
+        }
+        if *known == UNREACHED {
+            self.reached.push(beyond);
+        }
+        *known = new;
+        if self.is_start[beyond as usize] {
+            *lowest = new;
+        }
+        self.waiting.push(new, twin(half));
     }
 
     /// Crosses, face by face, the first half-edge in canonical order that leads down by its price. The answer is the last face.
