@@ -104,6 +104,17 @@ impl<'t> Reader<'t> {
         }
     }
 
+    /// Passes a text where it is this one, without escapes.
+    fn meets_text(&mut self, due: &str) -> bool {
+        self.peek();
+        let is_there = match self.text[self.at..].split_first() {
+            Some((b'"', rest)) => rest.starts_with(due.as_bytes()) && rest.get(due.len()) == Some(&b'"'),
+            _ => false,
+        };
+        self.at += if is_there { due.len() + 2 } else { 0 };
+        is_there
+    }
+
     fn next_byte(&mut self) -> Read<u8> {
         let byte = *self.text.get(self.at).ok_or(Fault::BAD_SHAPE)?;
         self.at += 1;
@@ -178,10 +189,11 @@ impl<'t> Reader<'t> {
         }
         let mut guess = 0;
         loop {
-            let name = self.text()?;
-            let place = if guess < keys.len() && *name == *keys[guess].as_bytes() {
+            // most objects have their keys in order
+            let place = if guess < keys.len() && self.meets_text(keys[guess]) {
                 guess
             } else {
+                let name = self.text()?;
                 keys.iter().position(|key| *name == *key.as_bytes()).ok_or(Fault::BAD_SHAPE)?
             };
             guess = place + 1;
