@@ -37,9 +37,20 @@ pub struct Dart {
 /// The darts that an inserted edge crosses stand in a list beside; here stands how many there are.
 #[derive(Clone, Copy, PartialEq, Eq)]
 pub enum Reply {
-    Grown { edge: u32, vertex: u32 },
-    Inserted { edge: u32, start: u32, end: u32, price: u64, crossed: usize },
-    Deleted { edge: u32 },
+    Grown {
+        edge: u32,
+        vertex: u32,
+    },
+    Inserted {
+        edge: u32,
+        start: u32,
+        end: u32,
+        price: u64,
+        crossed: usize,
+    },
+    Deleted {
+        edge: u32,
+    },
     Refused(Refusal),
 }
 
@@ -54,7 +65,12 @@ pub struct Book {
 
 impl Book {
     pub fn new(picture: Picture, limits: Limits) -> Book {
-        Book { picture, limits, sheet: Sheet::new(), crossed: Vec::new() }
+        Book {
+            picture,
+            limits,
+            sheet: Sheet::new(),
+            crossed: Vec::new(),
+        }
     }
 
     /// Carries out a call. What is refused changes nothing.
@@ -104,16 +120,30 @@ impl Book {
         if edge >= self.limits.edges {
             return Err(Refusal::Full);
         }
-        let route = self.sheet.search(&self.picture, from, to).ok_or(Refusal::NoRoute)?;
+        let route = self
+            .sheet
+            .search(&self.picture, from, to)
+            .ok_or(Refusal::NoRoute)?;
         let halves = &self.sheet.crossed;
         if self.picture.next_crossing() as usize + halves.len() > self.limits.crossings as usize {
             return Err(Refusal::Full);
         }
         for half in halves {
-            self.crossed.push(Dart { edge: self.picture.edge_of(*half), segment: self.picture.place_of(*half), is_forward: half % 2 == 0 });
+            self.crossed.push(Dart {
+                edge: self.picture.edge_of(*half),
+                segment: self.picture.place_of(*half),
+                is_forward: half % 2 == 0,
+            });
         }
-        self.picture.insert(from, to, kind as u8, route.start, halves, route.end);
-        Ok(Reply::Inserted { edge, start: route.start as u32, end: route.end as u32, price: u64::from(route.price), crossed: halves.len() })
+        self.picture
+            .insert(from, to, kind as u8, route.start, halves, route.end);
+        Ok(Reply::Inserted {
+            edge,
+            start: route.start as u32,
+            end: route.end as u32,
+            price: u64::from(route.price),
+            crossed: halves.len(),
+        })
     }
 
     fn delete(&mut self, edge: u32) -> Result<Reply, Refusal> {
@@ -137,9 +167,21 @@ impl Call {
             reader.number()
         };
         let call = match &*name {
-            b"grow" => Call::Grow { at: next()?, position: next()?, kind: next()? },
-            b"insert" => Call::Insert { from: next()?, to: next()?, kind: next()? },
-            b"planned" if may_be_planned => Call::Insert { from: next()?, to: next()?, kind: next()? },
+            b"grow" => Call::Grow {
+                at: next()?,
+                position: next()?,
+                kind: next()?,
+            },
+            b"insert" => Call::Insert {
+                from: next()?,
+                to: next()?,
+                kind: next()?,
+            },
+            b"planned" if may_be_planned => Call::Insert {
+                from: next()?,
+                to: next()?,
+                kind: next()?,
+            },
             b"delete" => Call::Delete { edge: next()? },
             _ => return Err(Fault::BAD_SHAPE),
         };
@@ -184,7 +226,9 @@ impl Refusal {
             reader.comma()?;
             Refusal::Cut(reader.number()?)
         } else {
-            let found = Refusal::PLAIN.iter().find(|plain| plain.0 == number && *plain.1.as_bytes() == *name);
+            let found = Refusal::PLAIN
+                .iter()
+                .find(|plain| plain.0 == number && *plain.1.as_bytes() == *name);
             found.ok_or(Fault::BAD_SHAPE)?.2
         };
         reader.close()?;
@@ -226,7 +270,11 @@ impl Dart {
             _ => return Err(Fault::BAD_SHAPE),
         };
         reader.close()?;
-        Ok(Dart { edge, segment, is_forward })
+        Ok(Dart {
+            edge,
+            segment,
+            is_forward,
+        })
     }
 
     fn write(self, out: &mut Vec<u8>) {
@@ -234,7 +282,14 @@ impl Dart {
         push_number(out, self.edge);
         out.push(b',');
         push_number(out, self.segment);
-        push_text(out, if self.is_forward { ",\"forward\"]" } else { ",\"back\"]" });
+        push_text(
+            out,
+            if self.is_forward {
+                ",\"forward\"]"
+            } else {
+                ",\"back\"]"
+            },
+        );
     }
 }
 
@@ -253,28 +308,39 @@ impl Reply {
         let mut numbers = [0; 8];
         let mut price = 0;
         let mut refusal = Refusal::Full;
-        let seen = reader.object(&["crossed", "deleted", "edge", "end", "price", "refused", "start", "vertex"], |reader, place| {
-            match 1 << place {
-                CROSSED => {
-                    darts.truncate(first);
-                    reader.array(|reader| {
-                        darts.push(Dart::read(reader)?);
-                        Ok(())
-                    })?;
+        let seen = reader.object(
+            &[
+                "crossed", "deleted", "edge", "end", "price", "refused", "start", "vertex",
+            ],
+            |reader, place| {
+                match 1 << place {
+                    CROSSED => {
+                        darts.truncate(first);
+                        reader.array(|reader| {
+                            darts.push(Dart::read(reader)?);
+                            Ok(())
+                        })?;
+                    }
+                    PRICE => price = reader.long()?,
+                    REFUSED => refusal = Refusal::read(reader)?,
+                    _ => numbers[place] = reader.number()?,
                 }
-                PRICE => price = reader.long()?,
-                REFUSED => refusal = Refusal::read(reader)?,
-                _ => numbers[place] = reader.number()?,
-            }
-            Ok(())
-        })?;
+                Ok(())
+            },
+        )?;
         let [_, deleted, edge, end, _, _, start, vertex] = numbers;
         const NEW_EDGE: u32 = CROSSED | EDGE | END | PRICE | START;
         const NEW_VERTEX: u32 = EDGE | VERTEX;
         match seen {
             DELETED => Ok(Reply::Deleted { edge: deleted }),
             REFUSED => Ok(Reply::Refused(refusal)),
-            NEW_EDGE => Ok(Reply::Inserted { edge, start, end, price, crossed: darts.len() - first }),
+            NEW_EDGE => Ok(Reply::Inserted {
+                edge,
+                start,
+                end,
+                price,
+                crossed: darts.len() - first,
+            }),
             NEW_VERTEX => Ok(Reply::Grown { edge, vertex }),
             _ => Err(Fault::BAD_SHAPE),
         }
@@ -288,7 +354,13 @@ impl Reply {
                 push_text(out, ",\"vertex\":");
                 push_number(out, vertex);
             }
-            Reply::Inserted { edge, start, end, price, .. } => {
+            Reply::Inserted {
+                edge,
+                start,
+                end,
+                price,
+                ..
+            } => {
                 push_text(out, "{\"crossed\":[");
                 for (place, dart) in darts.iter().enumerate() {
                     if place > 0 {

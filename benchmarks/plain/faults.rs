@@ -1,4 +1,5 @@
-//! What the program is stopped by, with the numbers and names of `planar`. Where in a text a fault stands is not told.
+//! What the program is stopped by, with the numbers and names of `planar`. Where in a text a fault
+//! stands is not told.
 
 use std::fmt;
 
@@ -28,11 +29,18 @@ impl Fault {
     pub const WRONG_PICTURE: Fault = Fault::named(61, "WrongPicture");
 
     const fn named(number: u32, name: &'static str) -> Fault {
-        Fault { number, name, place: None }
+        Fault {
+            number,
+            name,
+            place: None,
+        }
     }
 
     pub fn at(self, place: usize) -> Fault {
-        Fault { place: Some(place), ..self }
+        Fault {
+            place: Some(place),
+            ..self
+        }
     }
 }
 

@@ -1,8 +1,9 @@
-//! The program that `planar` is compared with: plain Rust without proofs, which reads the same scripts, reports and pictures from
-//! standard input and writes the same lines.
+//! The program that `planar` is compared with: plain Rust without proofs, which reads the same
+//! scripts, reports and pictures from standard input and writes the same lines.
 //!
-//! Scripts may have one list only. Faults end with the same status, but where in a text they stand is not told, and of several
-//! faults another one may be told; a member that is given twice has to be well-formed each time.
+//! Scripts may have one list only. Faults end with the same status, but where in a text they stand
+//! is not told, and of several faults another one may be told; a member that is given twice has to
+//! be well-formed each time.
 
 mod calls;
 mod faults;
@@ -26,8 +27,16 @@ const REPORT_LENGTH: usize = 268_435_456;
 /// Standard input, of at most so many bytes.
 fn read_input(limit: usize) -> Result<Vec<u8>, Fault> {
     let mut text = Vec::new();
-    io::stdin().lock().take(limit as u64 + 1).read_to_end(&mut text).map_err(|_| Fault::READ_FAULT)?;
-    if text.len() > limit { Err(Fault::TOO_LONG) } else { Ok(text) }
+    io::stdin()
+        .lock()
+        .take(limit as u64 + 1)
+        .read_to_end(&mut text)
+        .map_err(|_| Fault::READ_FAULT)?;
+    if text.len() > limit {
+        Err(Fault::TOO_LONG)
+    } else {
+        Ok(text)
+    }
 }
 
 fn perform(command: &str) -> Result<Vec<u8>, Stop> {
@@ -35,7 +44,9 @@ fn perform(command: &str) -> Result<Vec<u8>, Stop> {
         "run" => {
             let script = reports::Script::read(&read_input(SCRIPT_LENGTH)?)?;
             if script.lists.len() > 1 {
-                return Err(Stop::Usage("plain: a script of several lists is not carried out"));
+                return Err(Stop::Usage(
+                    "plain: a script of several lists is not carried out",
+                ));
             }
             Ok(script.run()?)
         }
@@ -58,11 +69,18 @@ impl From<Fault> for Stop {
 
 fn main() -> ExitCode {
     let words: Vec<String> = std::env::args().skip(1).collect();
-    let command = if words.len() == 1 { words[0].as_str() } else { "" };
+    let command = if words.len() == 1 {
+        words[0].as_str()
+    } else {
+        ""
+    };
     let done = perform(command).and_then(|mut line| {
         line.push(b'\n');
         let mut output = io::stdout().lock();
-        output.write_all(&line).and_then(|()| output.flush()).map_err(|_| Stop::Fault(Fault::WRITE_FAULT))
+        output
+            .write_all(&line)
+            .and_then(|()| output.flush())
+            .map_err(|_| Stop::Fault(Fault::WRITE_FAULT))
     });
     match done {
         Ok(()) => ExitCode::SUCCESS,

@@ -1,4 +1,5 @@
-//! Reads JSON without a tree of values: each value is read as what is due there, and anything else is a fault.
+//! Reads JSON without a tree of values: each value is read as what is due there, and anything else
+//! is a fault.
 
 use crate::faults::Fault;
 use std::borrow::Cow;
@@ -34,13 +35,21 @@ impl<'t> Reader<'t> {
     }
 
     fn due(&mut self, byte: u8) -> Read<()> {
-        if self.meets(byte) { Ok(()) } else { Err(Fault::BAD_SHAPE) }
+        if self.meets(byte) {
+            Ok(())
+        } else {
+            Err(Fault::BAD_SHAPE)
+        }
     }
 
     /// Nothing but spaces may be left.
     pub fn end(&mut self) -> Read<()> {
         self.peek();
-        if self.at == self.text.len() { Ok(()) } else { Err(Fault::BAD_SHAPE) }
+        if self.at == self.text.len() {
+            Ok(())
+        } else {
+            Err(Fault::BAD_SHAPE)
+        }
     }
 
     /// A whole number of 64 bits.
@@ -57,7 +66,11 @@ impl<'t> Reader<'t> {
         }
         let digits = self.at - first;
         if digits == 0 {
-            return Err(if self.text.get(first) == Some(&b'-') { Fault::BAD_NUMBER } else { Fault::BAD_SHAPE });
+            return Err(if self.text.get(first) == Some(&b'-') {
+                Fault::BAD_NUMBER
+            } else {
+                Fault::BAD_SHAPE
+            });
         }
         if digits > 1 && self.text[first] == b'0' {
             return Err(Fault::BAD_SHAPE);
@@ -87,7 +100,10 @@ impl<'t> Reader<'t> {
     pub fn text(&mut self) -> Read<Cow<'t, [u8]>> {
         self.due(b'"')?;
         let rest = &self.text[self.at..];
-        let length = rest.iter().position(|b| matches!(b, b'"' | b'\\')).ok_or(Fault::BAD_SHAPE)?;
+        let length = rest
+            .iter()
+            .position(|b| matches!(b, b'"' | b'\\'))
+            .ok_or(Fault::BAD_SHAPE)?;
         self.at += length;
         if rest[length] == b'"' {
             self.at += 1;
@@ -108,7 +124,9 @@ impl<'t> Reader<'t> {
     fn meets_text(&mut self, due: &str) -> bool {
         self.peek();
         let is_there = match self.text[self.at..].split_first() {
-            Some((b'"', rest)) => rest.starts_with(due.as_bytes()) && rest.get(due.len()) == Some(&b'"'),
+            Some((b'"', rest)) => {
+                rest.starts_with(due.as_bytes()) && rest.get(due.len()) == Some(&b'"')
+            }
             _ => false,
         };
         self.at += if is_there { due.len() + 2 } else { 0 };
@@ -121,11 +139,15 @@ impl<'t> Reader<'t> {
         Ok(byte)
     }
 
-    /// What stands behind a backslash. All texts that are due anywhere are ASCII, so another character may stand for all that are not.
+    /// What stands behind a backslash. All texts that are due anywhere are ASCII, so another
+    /// character may stand for all that are not.
     fn escaped(&mut self) -> Read<u8> {
         match self.next_byte()? {
             b'u' => {
-                let digits = self.text.get(self.at..self.at + 4).ok_or(Fault::BAD_SHAPE)?;
+                let digits = self
+                    .text
+                    .get(self.at..self.at + 4)
+                    .ok_or(Fault::BAD_SHAPE)?;
                 self.at += 4;
                 let digits = std::str::from_utf8(digits).map_err(|_| Fault::BAD_SHAPE)?;
                 let code = u32::from_str_radix(digits, 16).map_err(|_| Fault::BAD_SHAPE)?;
@@ -179,9 +201,13 @@ impl<'t> Reader<'t> {
         self.due(b']')
     }
 
-    /// An object with no other keys than these, whose members a function reads by the place of the key. The answer has a bit
-    /// for each key that was there.
-    pub fn object(&mut self, keys: &[&str], mut member: impl FnMut(&mut Self, usize) -> Read<()>) -> Read<u32> {
+    /// An object with no other keys than these, whose members a function reads by the place of the
+    /// key. The answer has a bit for each key that was there.
+    pub fn object(
+        &mut self,
+        keys: &[&str],
+        mut member: impl FnMut(&mut Self, usize) -> Read<()>,
+    ) -> Read<u32> {
         self.due(b'{')?;
         let mut seen = 0;
         if self.meets(b'}') {
@@ -194,7 +220,9 @@ impl<'t> Reader<'t> {
                 guess
             } else {
                 let name = self.text()?;
-                keys.iter().position(|key| *name == *key.as_bytes()).ok_or(Fault::BAD_SHAPE)?
+                keys.iter()
+                    .position(|key| *name == *key.as_bytes())
+                    .ok_or(Fault::BAD_SHAPE)?
             };
             guess = place + 1;
             self.due(b':')?;
@@ -208,8 +236,16 @@ impl<'t> Reader<'t> {
     }
 
     /// An object with all of these keys and no others.
-    pub fn whole_object(&mut self, keys: &[&str], member: impl FnMut(&mut Self, usize) -> Read<()>) -> Read<()> {
+    pub fn whole_object(
+        &mut self,
+        keys: &[&str],
+        member: impl FnMut(&mut Self, usize) -> Read<()>,
+    ) -> Read<()> {
         let seen = self.object(keys, member)?;
-        if seen.count_ones() as usize == keys.len() { Ok(()) } else { Err(Fault::BAD_SHAPE) }
+        if seen.count_ones() as usize == keys.len() {
+            Ok(())
+        } else {
+            Err(Fault::BAD_SHAPE)
+        }
     }
 }

@@ -1,22 +1,32 @@
-//! The three commands: a script is carried out, a report is carried out again, a picture is checked.
+//! The three commands: a script is carried out, a report is carried out again, a picture is
+//! checked.
 
 use crate::calls::{Book, Call, Dart, Reply};
 use crate::faults::Fault;
-use crate::picture::{Picture, count_faces};
+use crate::picture::{count_faces, Picture};
 use crate::reader::{Read, Reader};
 use crate::rows::{Limits, Rows};
 use crate::writer::{push_number, push_text};
 
-/// The prices of the first kinds, as they stand in a text. Nothing crosses edges of a kind whose price is `None`.
+/// The prices of the first kinds, as they stand in a text. Nothing crosses edges of a kind whose
+/// price is `None`.
 type Prices = Vec<Option<u32>>;
 
 fn read_prices(reader: &mut Reader) -> Read<Prices> {
     let mut prices = Vec::new();
     reader.array(|reader| {
-        prices.push(if reader.is_null() { None } else { Some(reader.number()?) });
+        prices.push(if reader.is_null() {
+            None
+        } else {
+            Some(reader.number()?)
+        });
         Ok(())
     })?;
-    if prices.len() > 64 { Err(Fault::BAD_SHAPE) } else { Ok(prices) }
+    if prices.len() > 64 {
+        Err(Fault::BAD_SHAPE)
+    } else {
+        Ok(prices)
+    }
 }
 
 /// The version says whether a price may be `null`.
@@ -59,25 +69,37 @@ pub struct Script {
 impl Script {
     pub fn read(text: &[u8]) -> Read<Script> {
         const VERSION_AND_WORKERS: u32 = 0b11000;
-        let mut script = Script { limits: Limits::GREATEST, prices: Vec::new(), start: Rows::seed(), lists: Vec::new() };
+        let mut script = Script {
+            limits: Limits::GREATEST,
+            prices: Vec::new(),
+            start: Rows::seed(),
+            lists: Vec::new(),
+        };
         let mut version = 0;
         let mut reader = Reader::new(text);
-        let seen = reader.object(&["limits", "prices", "start", "version", "workers"], |reader, place| {
-            match place {
-                0 => script.limits = Limits::read(reader)?,
-                1 => script.prices = read_prices(reader)?,
-                2 => script.start = read_start(reader)?,
-                3 => version = reader.number()?,
-                _ => script.lists = read_lists(reader)?,
-            }
-            Ok(())
-        })?;
+        let seen = reader.object(
+            &["limits", "prices", "start", "version", "workers"],
+            |reader, place| {
+                match place {
+                    0 => script.limits = Limits::read(reader)?,
+                    1 => script.prices = read_prices(reader)?,
+                    2 => script.start = read_start(reader)?,
+                    3 => version = reader.number()?,
+                    _ => script.lists = read_lists(reader)?,
+                }
+                Ok(())
+            },
+        )?;
         reader.end()?;
         if seen & VERSION_AND_WORKERS != VERSION_AND_WORKERS {
             return Err(Fault::BAD_SHAPE);
         }
         judge_version(version, &script.prices)?;
-        if (1..=16).contains(&script.lists.len()) { Ok(script) } else { Err(Fault::BAD_SHAPE) }
+        if (1..=16).contains(&script.lists.len()) {
+            Ok(script)
+        } else {
+            Err(Fault::BAD_SHAPE)
+        }
     }
 
     /// Carries out the first list, and writes the report.
@@ -89,7 +111,14 @@ impl Script {
         let mut out = Vec::with_capacity(100 * calls.len() + 2 * start.len() + 200);
         push_text(&mut out, "{\"history\":[");
         for (place, call) in calls.iter().enumerate() {
-            push_text(&mut out, if place == 0 { "{\"call\":" } else { ",{\"call\":" });
+            push_text(
+                &mut out,
+                if place == 0 {
+                    "{\"call\":"
+                } else {
+                    ",{\"call\":"
+                },
+            );
             let reply = book.answer(*call);
             call.write(&mut out);
             push_text(&mut out, ",\"caller\":0,\"reply\":");
@@ -105,7 +134,11 @@ impl Script {
         push_text(&mut out, "},\"picture\":");
         book.picture.write(&mut out);
         push_text(&mut out, ",\"prices\":[");
-        let count = self.prices.iter().rposition(|price| *price != Some(1)).map_or(0, |last| last + 1);
+        let count = self
+            .prices
+            .iter()
+            .rposition(|price| *price != Some(1))
+            .map_or(0, |last| last + 1);
         for (kind, price) in self.prices[..count].iter().enumerate() {
             push_text(&mut out, if kind == 0 { "" } else { "," });
             match price {
@@ -115,7 +148,14 @@ impl Script {
         }
         push_text(&mut out, "],\"start\":");
         out.extend_from_slice(&start);
-        push_text(&mut out, if self.prices.contains(&None) { ",\"version\":2}" } else { ",\"version\":1}" });
+        push_text(
+            &mut out,
+            if self.prices.contains(&None) {
+                ",\"version\":2}"
+            } else {
+                ",\"version\":1}"
+            },
+        );
         Ok(out)
     }
 }
@@ -124,7 +164,11 @@ fn read_start(reader: &mut Reader) -> Read<Rows> {
     if reader.peek() != b'"' {
         return Rows::read(reader);
     }
-    if &*reader.text()? == b"seed" { Ok(Rows::seed()) } else { Err(Fault::BAD_SHAPE) }
+    if &*reader.text()? == b"seed" {
+        Ok(Rows::seed())
+    } else {
+        Err(Fault::BAD_SHAPE)
+    }
 }
 
 fn read_lists(reader: &mut Reader) -> Read<Vec<Vec<Call>>> {
@@ -164,17 +208,20 @@ impl Report {
         };
         let mut version = 0;
         let mut reader = Reader::new(&text);
-        reader.whole_object(&["history", "limits", "picture", "prices", "start", "version"], |reader, place| {
-            match place {
-                0 => report.read_history(reader)?,
-                1 => report.limits = Limits::read(reader)?,
-                2 => report.picture = Rows::read(reader)?,
-                3 => report.prices = read_prices(reader)?,
-                4 => report.start = Rows::read(reader)?,
-                _ => version = reader.number()?,
-            }
-            Ok(())
-        })?;
+        reader.whole_object(
+            &["history", "limits", "picture", "prices", "start", "version"],
+            |reader, place| {
+                match place {
+                    0 => report.read_history(reader)?,
+                    1 => report.limits = Limits::read(reader)?,
+                    2 => report.picture = Rows::read(reader)?,
+                    3 => report.prices = read_prices(reader)?,
+                    4 => report.start = Rows::read(reader)?,
+                    _ => version = reader.number()?,
+                }
+                Ok(())
+            },
+        )?;
         reader.end()?;
         judge_version(version, &report.prices)?;
         Ok(report)
@@ -210,7 +257,11 @@ impl Report {
         for (place, (call, told)) in self.history.iter().enumerate() {
             let due = book.answer(*call);
             let crossed;
-            (crossed, darts) = darts.split_at(if let Reply::Inserted { crossed, .. } = told { *crossed } else { 0 });
+            (crossed, darts) = darts.split_at(if let Reply::Inserted { crossed, .. } = told {
+                *crossed
+            } else {
+                0
+            });
             if due != *told || book.crossed != crossed {
                 return Err(Fault::WRONG_REPLY.at(place));
             }
@@ -229,7 +280,8 @@ pub fn check(text: Vec<u8>) -> Read<Vec<u8>> {
     reader.end()?;
     drop(text);
     let faces = count_faces(&rows, &Limits::GREATEST)?;
-    let (vertices, crossings, edges) = (rows.rotations.len(), rows.crossings.len(), rows.edges.len());
+    let (vertices, crossings, edges) =
+        (rows.rotations.len(), rows.crossings.len(), rows.edges.len());
     let segments = edges + 2 * crossings;
     Ok(format!("lawful vertices={vertices} crossings={crossings} edges={edges} segments={segments} faces={faces}").into_bytes())
 }

@@ -76,7 +76,11 @@ pub struct Limits {
 }
 
 impl Limits {
-    pub const GREATEST: Limits = Limits { crossings: 1_048_576, edges: 65_536, vertices: 65_536 };
+    pub const GREATEST: Limits = Limits {
+        crossings: 1_048_576,
+        edges: 65_536,
+        vertices: 65_536,
+    };
 
     pub fn read(reader: &mut Reader) -> Read<Limits> {
         let mut limits = Limits::GREATEST;
@@ -94,7 +98,10 @@ impl Limits {
 
     pub fn judge(&self) -> Read<()> {
         let greatest = Limits::GREATEST;
-        if (2..=greatest.vertices).contains(&self.vertices) && (1..=greatest.edges).contains(&self.edges) && self.crossings <= greatest.crossings {
+        if (2..=greatest.vertices).contains(&self.vertices)
+            && (1..=greatest.edges).contains(&self.edges)
+            && self.crossings <= greatest.crossings
+        {
             Ok(())
         } else {
             Err(Fault::BAD_LIMITS)
@@ -105,11 +112,13 @@ impl Limits {
 /// Stands in a table for what is not there.
 const NONE: u32 = u32::MAX;
 
-/// Where the rows of a picture stand, by their ids, and where each crossing stands on its two paths.
+/// Where the rows of a picture stand, by their ids, and where each crossing stands on its two
+/// paths.
 pub struct Places {
     /// By the id of an edge, the place of its row.
     pub edges: Vec<u32>,
-    /// By the row of an edge, the number of its first segment, where all segments are numbered along one edge after another.
+    /// By the row of an edge, the number of its first segment, where all segments are numbered
+    /// along one edge after another.
     pub first_segments: Vec<u32>,
     /// By the row of a crossing, the segment before it on the crossed edge and on the newcomer.
     pub segments_before: Vec<[u32; 2]>,
@@ -118,43 +127,63 @@ pub struct Places {
 
 impl Rows {
     pub fn seed() -> Rows {
-        let mut rows = Rows { next_edge: 1, ..Rows::default() };
+        let mut rows = Rows {
+            next_edge: 1,
+            ..Rows::default()
+        };
         for _ in 0..2 {
             rows.rotations.items.push(0);
             rows.rotations.end_list();
         }
-        rows.edges.push(EdgeRow { b: 1, ..EdgeRow::default() });
+        rows.edges.push(EdgeRow {
+            b: 1,
+            ..EdgeRow::default()
+        });
         rows.paths.end_list();
         rows
     }
 
     pub fn read(reader: &mut Reader) -> Read<Rows> {
         let mut rows = Rows::default();
-        reader.whole_object(&["crossings", "edges", "next_crossing", "next_edge", "rotations"], |reader, place| {
-            match place {
-                0 => rows.read_crossings(reader)?,
-                1 => rows.read_edges(reader)?,
-                2 => rows.next_crossing = reader.number()?,
-                3 => rows.next_edge = reader.number()?,
-                _ => {
-                    let rotations = &mut rows.rotations;
-                    rotations.clear();
-                    reader.array(|reader| {
-                        reader.numbers(&mut rotations.items)?;
-                        rotations.end_list();
-                        Ok(())
-                    })?;
+        reader.whole_object(
+            &[
+                "crossings",
+                "edges",
+                "next_crossing",
+                "next_edge",
+                "rotations",
+            ],
+            |reader, place| {
+                match place {
+                    0 => rows.read_crossings(reader)?,
+                    1 => rows.read_edges(reader)?,
+                    2 => rows.next_crossing = reader.number()?,
+                    3 => rows.next_edge = reader.number()?,
+                    _ => {
+                        let rotations = &mut rows.rotations;
+                        rotations.clear();
+                        reader.array(|reader| {
+                            reader.numbers(&mut rotations.items)?;
+                            rotations.end_list();
+                            Ok(())
+                        })?;
+                    }
                 }
-            }
-            Ok(())
-        })?;
+                Ok(())
+            },
+        )?;
         Ok(rows)
     }
 
     fn read_crossings(&mut self, reader: &mut Reader) -> Read<()> {
         self.crossings.clear();
         reader.array(|reader| {
-            let mut row = CrossRow { id: 0, crossed: 0, newcomer: 0, sign: Sign::LeftToRight };
+            let mut row = CrossRow {
+                id: 0,
+                crossed: 0,
+                newcomer: 0,
+                sign: Sign::LeftToRight,
+            };
             reader.whole_object(&["crossed", "id", "newcomer", "sign"], |reader, place| {
                 match place {
                     0 => row.crossed = reader.number()?,
@@ -201,7 +230,10 @@ impl Rows {
 
     /// All tests but Euler's formula, in the order in which faults are told.
     pub fn judge(&self, limits: &Limits) -> Read<Places> {
-        if self.rotations.len() > limits.vertices as usize || self.next_edge > limits.edges || self.next_crossing > limits.crossings {
+        if self.rotations.len() > limits.vertices as usize
+            || self.next_edge > limits.edges
+            || self.next_crossing > limits.crossings
+        {
             return Err(Fault::TOO_MANY);
         }
         let crossing_places = self.judge_paths()?;
@@ -229,7 +261,12 @@ impl Rows {
         let vertices = self.rotations.len() as u32;
         let mut least = 0;
         for (place, row) in self.edges.iter().enumerate() {
-            let is_good = row.id >= least && row.id < self.next_edge && row.a < vertices && row.b < vertices && row.a != row.b && row.kind < 64;
+            let is_good = row.id >= least
+                && row.id < self.next_edge
+                && row.a < vertices
+                && row.b < vertices
+                && row.a != row.b
+                && row.kind < 64;
             if !is_good || !self.paths.get(place).iter().all(is_there) {
                 return Err(Fault::BAD_PATH);
             }
@@ -246,7 +283,12 @@ impl Rows {
         let is_edge = |id: u32| edges.get(id as usize).is_some_and(|place| *place != NONE);
         let mut least = 0;
         for row in &self.crossings {
-            if row.id < least || row.id >= self.next_crossing || row.crossed == row.newcomer || !is_edge(row.crossed) || !is_edge(row.newcomer) {
+            if row.id < least
+                || row.id >= self.next_crossing
+                || row.crossed == row.newcomer
+                || !is_edge(row.crossed)
+                || !is_edge(row.newcomer)
+            {
                 return Err(Fault::BAD_CROSSING);
             }
             least = row.id + 1;
@@ -275,10 +317,18 @@ impl Rows {
             }
             segment += 1;
         }
-        if segments_before.iter().any(|before| before[0] == NONE || before[1] == NONE) {
+        if segments_before
+            .iter()
+            .any(|before| before[0] == NONE || before[1] == NONE)
+        {
             return Err(Fault::BAD_CROSSING);
         }
-        Ok(Places { edges, first_segments, segments_before, segments: segment })
+        Ok(Places {
+            edges,
+            first_segments,
+            segments_before,
+            segments: segment,
+        })
     }
 
     fn judge_rotations(&self, places: &Places) -> Read<()> {
@@ -305,7 +355,11 @@ impl Rows {
                 ends += 1;
             }
         }
-        if ends == 2 * self.edges.len() { Ok(()) } else { Err(Fault::BAD_ROTATION) }
+        if ends == 2 * self.edges.len() {
+            Ok(())
+        } else {
+            Err(Fault::BAD_ROTATION)
+        }
     }
 
     /// Edges are joined where they meet at a vertex or cross.
@@ -325,18 +379,25 @@ impl Rows {
         for row in &self.crossings {
             parts -= usize::from(joined.join(place_of(row.crossed), place_of(row.newcomer)));
         }
-        if parts <= 1 { Ok(()) } else { Err(Fault::NOT_CONNECTED) }
+        if parts <= 1 {
+            Ok(())
+        } else {
+            Err(Fault::NOT_CONNECTED)
+        }
     }
 }
 
-/// Classes of numbers that are joined step by step: each number leads to another of its class or to itself.
+/// Classes of numbers that are joined step by step: each number leads to another of its class or to
+/// itself.
 pub struct Joined {
     leads_to: Vec<u32>,
 }
 
 impl Joined {
     pub fn new(count: usize) -> Joined {
-        Joined { leads_to: (0..count as u32).collect() }
+        Joined {
+            leads_to: (0..count as u32).collect(),
+        }
     }
 
     /// Makes room for so many numbers, each a class of its own.

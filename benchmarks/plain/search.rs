@@ -1,6 +1,7 @@
-//! The first of the cheapest routes between two vertices: a search over the faces from the target, in buckets by distance.
+//! The first of the cheapest routes between two vertices: a search over the faces from the target,
+//! in buckets by distance.
 
-use crate::picture::{Half, Picture, segment_of, twin};
+use crate::picture::{segment_of, twin, Half, Picture};
 
 /// The height of a face that no walk from the target has reached.
 const UNREACHED: u32 = 1 << 31;
@@ -67,7 +68,8 @@ pub struct Route {
     pub price: u32,
 }
 
-/// What searches write on. Between two searches all heights are `UNREACHED`, no face is a start, and nothing waits.
+/// What searches write on. Between two searches all heights are `UNREACHED`, no face is a start,
+/// and nothing waits.
 pub struct Sheet {
     /// By the label of a face, the least cost of a walk from it to the target that is known.
     heights: Vec<u32>,
@@ -85,7 +87,10 @@ impl Sheet {
             heights: Vec::new(),
             is_start: Vec::new(),
             reached: Vec::new(),
-            waiting: BucketQueue { buckets: vec![Vec::new(); BUCKETS], filled: [0; BUCKETS / 64] },
+            waiting: BucketQueue {
+                buckets: vec![Vec::new(); BUCKETS],
+                filled: [0; BUCKETS / 64],
+            },
             crossed: Vec::new(),
         }
     }
@@ -98,20 +103,27 @@ impl Sheet {
             self.heights.resize(count, UNREACHED);
             self.is_start.resize(count, false);
         }
-        let route = self.search_without_crossing(picture, u, v).or_else(|| self.search_across(picture, u, v));
+        let route = self
+            .search_without_crossing(picture, u, v)
+            .or_else(|| self.search_across(picture, u, v));
         for face in self.reached.drain(..) {
             self.heights[face as usize] = UNREACHED;
         }
         route
     }
 
-    /// A route that crosses nothing is the first of all. If there is none, the faces at v have their height then.
+    /// A route that crosses nothing is the first of all. If there is none, the faces at v have
+    /// their height then.
     fn search_without_crossing(&mut self, picture: &Picture, u: u32, v: u32) -> Option<Route> {
         let first = picture.corner_face(u, picture.rotation(u)[0]);
         for (end, edge) in picture.rotation(v).iter().enumerate() {
             let face = picture.corner_face(v, *edge);
             if face == first {
-                return Some(Route { start: 0, end, price: 0 });
+                return Some(Route {
+                    start: 0,
+                    end,
+                    price: 0,
+                });
             }
             if self.heights[face as usize] != 0 {
                 self.heights[face as usize] = 0;
@@ -126,8 +138,15 @@ impl Sheet {
         let is_lowest = |edge: &u32| self.heights[picture.corner_face(u, *edge) as usize] == height;
         let start = picture.rotation(u).iter().position(is_lowest)?;
         let face = self.follow_down(picture, picture.corner_face(u, picture.rotation(u)[start]));
-        let end = picture.rotation(v).iter().position(|edge| picture.corner_face(v, *edge) == face)?;
-        Some(Route { start, end, price: height })
+        let end = picture
+            .rotation(v)
+            .iter()
+            .position(|edge| picture.corner_face(v, *edge) == face)?;
+        Some(Route {
+            start,
+            end,
+            price: height,
+        })
     }
 
     fn search_across(&mut self, picture: &Picture, u: u32, v: u32) -> Option<Route> {
@@ -139,11 +158,15 @@ impl Sheet {
             self.is_start[picture.corner_face(u, *edge) as usize] = false;
         }
         self.waiting.clear();
-        if height == UNREACHED { None } else { self.start_at_height(picture, u, v, height) }
+        if height == UNREACHED {
+            None
+        } else {
+            self.start_at_height(picture, u, v, height)
+        }
     }
 
-    /// Gives the faces their heights, in rising order, up to the lowest one at the start, whose height is the answer. Faces as high
-    /// as that or higher may have been passed over.
+    /// Gives the faces their heights, in rising order, up to the lowest one at the start, whose
+    /// height is the answer. Faces as high as that or higher may have been passed over.
     fn spread(&mut self, picture: &Picture) -> u32 {
         let halves = picture.halves();
         for face in &self.reached {
@@ -200,7 +223,8 @@ impl Sheet {
         self.waiting.push(new, twin(half));
     }
 
-    /// Crosses, face by face, the first half-edge in canonical order that leads down by its price. The answer is the last face.
+    /// Crosses, face by face, the first half-edge in canonical order that leads down by its price.
+    /// The answer is the last face.
     fn follow_down(&mut self, picture: &Picture, start: u32) -> u32 {
         let (halves, prices) = (picture.halves(), picture.prices());
         let mut face = start;
@@ -215,7 +239,10 @@ impl Sheet {
             loop {
                 let beyond = halves[twin(half) as usize].face;
                 let price = u32::from(prices[segment_of(half) as usize]);
-                if price != 0 && self.heights[beyond as usize] + price == height && best.is_none_or(|other| is_before(picture, half, other)) {
+                if price != 0
+                    && self.heights[beyond as usize] + price == height
+                    && best.is_none_or(|other| is_before(picture, half, other))
+                {
                     best = Some(half);
                 }
                 half = halves[half as usize].next;
