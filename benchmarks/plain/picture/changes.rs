@@ -154,6 +154,7 @@ impl Picture {
             self.halves[fresh as usize].face = face;
             self.faces[face as usize].size += 1;
         }
+        // what arrives may be a half-edge of this segment, at a vertex with no other, so it comes first
         let (before, behind) = match outer {
             // the new segment lies behind the crossing
             Outer::Behind(arrives) => {
@@ -311,6 +312,7 @@ impl Picture {
             self.segment_at(edge, place),
             self.segment_at(edge, place + 1),
         );
+        // as in a crossing that is put in, what arrives comes first
         let (kept, gone) = match self.before_outer(edge, place, place + 1) {
             Outer::Behind(arrives) => {
                 self.set_next(arrives, 2 * before + 1);
