@@ -14,7 +14,6 @@ ghost use Rattle.topo_script.specs.ReportTexts.{limits_data, price_data, prices_
 
 use crate::written::{Written, write_after, write_list};
 use std::alloc::{AllocError, Global};
-use std::fmt::Write;
 use topo_core::calls::{Call, Entry, Refusal, Reply};
 use topo_core::darts::{Dart, Way};
 use topo_core::ids::{EdgeId, VertexId};
@@ -22,15 +21,6 @@ use topo_core::listed::Listed;
 use topo_core::routes::Inserted;
 use topo_forms::prices::kept_len;
 use topo_forms::{LimitRows, Report};
-
-impl Written for u64 {
-    ghost value = { λ n. number (unsigned n) };
-
-    fn write(&self, out: &mut String) -> Result<(), AllocError> {
-        let n = *self;
-        write!(out, "{n}")
-    }
-}
 
 impl Written for EdgeId {
     ghost value = { λ n. number (unsigned n) };

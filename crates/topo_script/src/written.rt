@@ -5,8 +5,8 @@ ghost use Rattle.serde_json.specs.Data.{Data, number, unsigned, array};
 ghost use Rattle.serde_json.specs.View.{items_of};
 ghost use Rattle.serde_json.specs.Written.{compact_text, comma_if};
 
+use itoa::Buffer;
 use std::alloc::AllocError;
-use std::fmt::Write;
 use topo_core::listed::Listed;
 
 /// A value that can be written as JSON. Its `value` says which JSON value that is.
@@ -24,8 +24,17 @@ impl Written for u32 {
     ghost value = { λ n. number (unsigned n) };
 
     fn write(&self, out: &mut String) -> Result<(), AllocError> {
-        let n = *self;
-        write!(out, "{n}")
+        let mut buffer = Buffer::new();
+        out.push_str(buffer.format(*self))
+    }
+}
+
+impl Written for u64 {
+    ghost value = { λ n. number (unsigned n) };
+
+    fn write(&self, out: &mut String) -> Result<(), AllocError> {
+        let mut buffer = Buffer::new();
+        out.push_str(buffer.format(*self))
     }
 }
 
