@@ -16,7 +16,7 @@ use Rattle.topo_frozen.specs.Shown.{IsPicture, Shown}
 use Rattle.topo_book.specs.declared.replicas.Replica.{Replica}
 use Rattle.topo_book.specs.Books.{IsBook, IsDue, IsReplica}
 use Rattle.topo_book.specs.Replicas.{AreReplicas, IsBookWith}
-use Rattle.topo_book.proofs.Histories.{book_replays, book_steps}
+use Rattle.topo_book.proofs.Histories.{book_lawful, book_replays, book_steps}
 use Rattle.topo_book.proofs.Wrong.{legal_at, take_one_more}
 
 -- a list of entries has one replay
@@ -33,6 +33,10 @@ module _ (price : Pricing) (start : Shown) (history : List Entry) where
     there = omega arith;
     stands = subst (λ (h : List Entry). IsBook price start h picture) (sym (take-length history)) book;
   }
+
+  -- a replica is lawful
+  pub replica_lawful : (entries : ℕ) (picture : Shown) → IsReplica price start history entries picture → IsPicture picture.limits picture.rows
+  replica_lawful entries picture replica = book_lawful price start picture (take entries history) replica.stands
 
   -- a replica stays one when the history grows
   pub longer : (entry : Entry) (entries : ℕ) (picture : Shown) → IsReplica price start history entries picture → IsReplica price start (history ++ entry ∷ []) entries picture

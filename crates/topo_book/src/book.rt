@@ -30,6 +30,8 @@ pub struct Book<F: Asks> {
     picture: Arc<Picture>,
     replicas: Replicas,
     scratch: Scratch,
+    // Whether the picture now is the second of the two that take turns.
+    is_second: bool,
 }
 
 /// The picture now of a new book that begins with this one, and what its calls write on.
@@ -39,6 +41,11 @@ fn begun(alloc: Global, start: &Picture) -> Result<(Arc<Picture>, Replicas, Scra
 {
     let picture = Arc::new(alloc, start.copy(alloc)?)?;
     Ok((picture, Replicas::new(alloc)?, Scratch::new(alloc)?))
+}
+
+/// Whether a call is an insertion whose route has to be looked for.
+fn is_search(call: Call, hint: Hint) -> bool {
+    matches!((call, hint), (Call::Insert { .. }, Hint::Nothing))
 }
 
 impl<F: Asks> Model for Book<F> {
@@ -62,7 +69,7 @@ impl<F: Asks> Model for Book<F> {
 }
 
 impl<F: Asks> Book<F> {
-    ghost use Rattle.std.specs.Prelude.{◌≡◌, ◌≢◌, ◌<◌, true, IfOk, OnOk, OnErr, [], ◌∷◌, ◌++◌};
+    ghost use Rattle.std.specs.Prelude.{◌≡◌, ◌≢◌, ◌<◌, true, IfOk, IfSome, OnOk, OnErr, [], ◌∷◌, ◌++◌};
     ghost use Rattle.topo_core.specs.History.{Replays, is_accepted};
     ghost use Rattle.topo_core.specs.Routes.{IsFirst};
     ghost use Rattle.topo_core.specs.Steps.{Step};
@@ -91,6 +98,7 @@ impl<F: Asks> Book<F> {
             picture,
             replicas,
             scratch,
+            is_second: false,
         })
     }
 
@@ -297,6 +305,7 @@ impl<F: Asks> Book<F> {
         self.history.push_reserved(entry);
         if let Some(picture) = picture {
             let before = mem::replace(&mut self.picture, picture);
+            self.is_second = !self.is_second;
             self.replicas.keep(Replica {
                 picture: before,
                 entries,
@@ -350,8 +359,28 @@ impl<F: Asks> Book<F> {
         Ok(Arc::new(alloc, self.picture.copy(alloc)?)?)
     }
 
+    /// A replica that nobody else holds, brought up to date; none where none is free. It is kept no longer.
+    fn take_current(&mut self, alloc: Global) -> Result<Option<Replica>, AllocError>
+        ensures stands { IfOk result (λ found. IfSome found (λ r. IsReplica (prices_of (F.answers self.new.tariff)) self.new.start self.new.history r.entries (arc_value r.picture))) }
+        ensures equal { IfOk result (λ found. IfSome found (λ r. arc_value r.picture ≡ self.new.picture)) }
+        ensures unchanged { IsUnchanged self.old self.new }
+        ensures same_book { IsSameBook self.old self.new }
+        ensures same_room { self.new.spare ≡ self.old.spare }
+    {
+        let least = self.history.len().saturating_sub(self.reach());
+        let Some(mut replica) = self.replicas.take_free(least) else {
+            return Ok(None);
+        };
+        if self.catch_up(alloc, &mut replica).is_err() {
+            self.replicas.keep(replica);
+            return Err(AllocError);
+        }
+        Ok(Some(replica))
+    }
+
     /// A picture that equals the picture now, and that nobody else holds: a replica that is brought up to
     /// date, and a copy where none is free.
+    #[tactic(auto, using(crate::proofs::ReplicaLaws::replica_lawful))]
     fn take_twin(&mut self, alloc: Global) -> Result<Arc<Picture>, AllocError>
         ensures equal { IfOk result (λ p. arc_value p ≡ self.new.picture) }
         ensures lawful { IfOk result (λ p. IsPicture (arc_value p).limits (arc_value p).rows) }
@@ -359,15 +388,64 @@ impl<F: Asks> Book<F> {
         ensures same_book { IsSameBook self.old self.new }
         ensures same_room { self.new.spare ≡ self.old.spare }
     {
-        let least = self.history.len().saturating_sub(self.reach());
-        let Some(mut replica) = self.replicas.take_free(least) else {
-            return self.copied(alloc);
-        };
-        if self.catch_up(alloc, &mut replica).is_err() {
-            self.replicas.keep(replica);
-            return Err(AllocError);
+        match self.take_current(alloc)? {
+            Some(replica) => Ok(replica.picture),
+            None => self.copied(alloc),
         }
-        Ok(replica.picture)
+    }
+
+    /// The reply that is due to a call. Of the two pictures that take turns, searches read one and the same, so
+    /// that the processor's cache holds what they read, and the other is only changed.
+    fn decide_call(&mut self, alloc: Global, call: Call, hint: Hint) -> Result<Reply, AllocError>
+        requires { IsHintFor (prices_of (F.answers self.old.tariff)) self.old.picture.rows call hint }
+        ensures due { IfOk result (IsDue (prices_of (F.answers self.old.tariff)) self.old.picture.limits self.old.picture.rows call) }
+        ensures no_memory { IfOk result (λ reply. reply ≢ Refused Memory) }
+        ensures unchanged { IsUnchanged self.old self.new }
+        ensures same_book { IsSameBook self.old self.new }
+        ensures same_room { self.new.spare ≡ self.old.spare }
+    {
+        if self.is_second && is_search(call, hint) {
+            if let Some(first) = self.take_current(alloc)? {
+                return self.decide_on(alloc, first, call, hint);
+            }
+        }
+        decide(
+            alloc,
+            &self.picture,
+            &self.tariff,
+            call,
+            hint,
+            &mut self.scratch,
+        )
+    }
+
+    /// The reply that is due to a call, read off a replica that is up to date. It is kept again.
+    fn decide_on(
+        &mut self,
+        alloc: Global,
+        replica: Replica,
+        call: Call,
+        hint: Hint,
+    ) -> Result<Reply, AllocError>
+        requires stands { IsReplica (prices_of (F.answers self.old.tariff)) self.old.start self.old.history replica.entries (arc_value replica.picture) }
+        requires equal { arc_value replica.picture ≡ self.old.picture }
+        requires known { IsHintFor (prices_of (F.answers self.old.tariff)) self.old.picture.rows call hint }
+        ensures due { IfOk result (IsDue (prices_of (F.answers self.old.tariff)) self.old.picture.limits self.old.picture.rows call) }
+        ensures no_memory { IfOk result (λ reply. reply ≢ Refused Memory) }
+        ensures unchanged { IsUnchanged self.old self.new }
+        ensures same_book { IsSameBook self.old self.new }
+        ensures same_room { self.new.spare ≡ self.old.spare }
+    {
+        let reply = decide(
+            alloc,
+            &replica.picture,
+            &self.tariff,
+            call,
+            hint,
+            &mut self.scratch,
+        );
+        self.replicas.keep(replica);
+        reply
     }
 
     /// Makes an accepted entry ready, on a picture that nobody else holds.
@@ -408,14 +486,7 @@ impl<F: Asks> Book<F> {
         ensures same_book { IsSameBook self.old self.new }
     {
         self.history.reserve(1)?;
-        let reply = decide(
-            alloc,
-            &self.picture,
-            &self.tariff,
-            call,
-            hint,
-            &mut self.scratch,
-        )?;
+        let reply = self.decide_call(alloc, call, hint)?;
         let entry = Entry {
             caller,
             call,

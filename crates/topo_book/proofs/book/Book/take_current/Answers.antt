@@ -1,10 +1,8 @@
-use Rattle.std.proofs.Common.{length, subst, sym, ◌∙◌}
+use Rattle.std.proofs.Common.{length}
 use Rattle.std.specs.Prelude.{nat_lt}
-use Rattle.topo_frozen.specs.Shown.{IsPicture, Shown}
 use Rattle.topo_book.specs.declared.replicas.TheConstants.{MOST}
-use Rattle.topo_book.proofs.Histories.{book_lawful, on_ok}
 use Rattle.topo_book.proofs.ReplicaLaws.{book_kept, book_left}
-use Rattle.topo_book.proofs.book.Book.take_twin.Goals as goal
+use Rattle.topo_book.proofs.book.Book.take_current.Goals as goal
 
 pub invariant_of-self : goal.invariant_of-self
 invariant_of-self g c = book_left c.self.invariant _ c.take_free.ensures.rest
@@ -19,9 +17,3 @@ invariant_of-self-then-is_err g c =
 
 pub invariant_of-self-else-is_err : goal.invariant_of-self-else-is_err
 invariant_of-self-else-is_err g c = book_left c.self.invariant _ c.take_free.ensures.rest
-
-pub returns-clause-lawful : goal.returns-clause-lawful
-returns-clause-lawful g c =
-    let f = c.self.inside in
-    let same = on_ok c.catch_up.result (sym c.is_err.ensures.value ∙ c.if-is_err.false) c.catch_up.ensures.equal in
-    subst (λ (p : Shown). IsPicture p.limits p.rows) (sym same) (book_lawful _ f.start _ f.history.items c.self.invariant.book)
