@@ -9,7 +9,7 @@ use Rattle.topo_core.specs.declared.calls.Command.TheVariants.{Plain, Planned}
 use Rattle.topo_forms.specs.CallForms.{call_form, grow_form, insert_form, delete_form, command_form, plain_form, planned_form}
 use Rattle.topo_forms.specs.Reads.{number_form}
 use Rattle.topo_forms.specs.Spelled.{Spells, GoesOn}
-use Rattle.topo_forms.specs.SpelledReports.{SpellsCall}
+use Rattle.topo_forms.specs.SpelledParts.{SpellsCall}
 use Rattle.topo_forms.proofs.Lookups.{element_read}
 use Rattle.topo_forms.proofs.Spellings.{few_done, element_then, text_then, few_spelled}
 use Rattle.topo_forms.proofs.Steps.{went}

@@ -16,7 +16,7 @@ use Rattle.topo_forms.specs.Paths.{key_name}
 use Rattle.topo_forms.specs.Reads.{number_form, long_form, list_form, has_keys, and_then}
 use Rattle.topo_forms.specs.ReplyForms.{way_form, dart_form, refusal_form, cut_form, reply_form, deleted_form, refused_form, grown_form, inserted_form, entry_form}
 use Rattle.topo_forms.specs.Spelled.{Spells, SpellsMember, SpellsNumber}
-use Rattle.topo_forms.specs.SpelledReports.{SpellsRefusal}
+use Rattle.topo_forms.specs.SpelledParts.{SpellsRefusal}
 use Rattle.topo_forms.proofs.Lookups.{element_read, member_read}
 use Rattle.topo_forms.proofs.Spellings.{few_done, element_then, text_then, number_then, few_spelled, members_done, member_then, object_spelled}
 use Rattle.topo_forms.proofs.Steps.{went}

@@ -19,7 +19,7 @@ use Rattle.topo_forms.specs.ReplyForms.{entry_form}
 use Rattle.topo_forms.specs.RowForms.{rows_form}
 use Rattle.topo_forms.specs.Scripts.{limits_form, nulls_of, nulls_in, some_price, price_form, prices_form, report_form}
 use Rattle.topo_forms.specs.Spelled.{Spells, SpellsMember, SpellsNumber}
-use Rattle.topo_forms.specs.SpelledReports.{ArePricesOf}
+use Rattle.topo_forms.specs.SpelledParts.{ArePricesOf}
 use Rattle.topo_forms.proofs.Lookups.{member_read}
 use Rattle.topo_forms.proofs.Spellings.{number_read, members_done, member_then, object_spelled}
 use Rattle.topo_forms.proofs.Steps.{went}

@@ -18,7 +18,7 @@ use Rattle.topo_forms.specs.Reads.{Read, and_then, number_form, list_form, has_k
 use Rattle.topo_forms.specs.RowForms.{rows_form}
 use Rattle.topo_forms.specs.Scripts.{greatest_limits, limits_form, nulls_of, nulls_in, price_form, prices_form, picture_form, start_form, workers_form, script_form}
 use Rattle.topo_forms.specs.Spelled.{Spells, SpellsMember, SpellsOptional}
-use Rattle.topo_forms.specs.SpelledReports.{ArePricesOf}
+use Rattle.topo_forms.specs.SpelledParts.{ArePricesOf}
 use Rattle.topo_forms.proofs.Lookups.{member_read}
 use Rattle.topo_forms.proofs.SpelledReports.{counted, prices_read}
 use Rattle.topo_forms.proofs.Spellings.{word_spelled, MembersTo, members_done, member_then, object_spelled}

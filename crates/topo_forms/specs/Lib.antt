@@ -7,4 +7,4 @@ pub mod ReplyForms
 pub mod RowForms
 pub mod Scripts
 pub mod Spelled
-pub mod SpelledReports
+pub mod SpelledParts

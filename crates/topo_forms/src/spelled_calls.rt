@@ -2,7 +2,7 @@
 
 ghost use Rattle.std.specs.Prelude.{◌≡◌, IfSome, codes};
 ghost use Rattle.topo_forms.specs.CallForms.{call_form};
-ghost use Rattle.topo_forms.specs.SpelledReports.{SpellsCall};
+ghost use Rattle.topo_forms.specs.SpelledParts.{SpellsCall};
 
 use crate::spelled::{Spelled, begin_array, end_array, next_text};
 use json::Reader;
@@ -41,7 +41,7 @@ fn spelled_delete(alloc: Global, reader: &mut Reader<'_>) -> Option<Call>
 }
 
 /// What follows the word of a call.
-pub fn spelled_after(alloc: Global, word: &str, reader: &mut Reader<'_>) -> Option<Call>
+pub fn call_after(alloc: Global, word: &str, reader: &mut Reader<'_>) -> Option<Call>
     ensures { IfSome result (λ call. SpellsCall word.now reader.old call reader.new) }
 {
     if word == "grow" {
@@ -63,6 +63,6 @@ impl Spelled for Call {
     fn from_tokens(alloc: Global, reader: &mut Reader<'_>) -> Option<Self> {
         begin_array(reader)?;
         let word = next_text(reader)?;
-        spelled_after(alloc, word, reader)
+        call_after(alloc, word, reader)
     }
 }

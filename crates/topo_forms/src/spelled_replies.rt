@@ -6,7 +6,7 @@ ghost use Rattle.serde_json.specs.Data.{array, item, no_items, number as number_
 ghost use Rattle.topo_forms.specs.declared.path.Path.{Path};
 ghost use Rattle.topo_forms.specs.ReplyForms.{way_form, dart_form, refusal_form, reply_form, entry_form};
 ghost use Rattle.topo_forms.specs.Spelled.{Spells};
-ghost use Rattle.topo_forms.specs.SpelledReports.{SpellsRefusal};
+ghost use Rattle.topo_forms.specs.SpelledParts.{SpellsRefusal};
 
 use crate::path::Key;
 use crate::spelled::{
@@ -162,7 +162,7 @@ fn spelled_inserted(alloc: Global, reader: &mut Reader<'_>) -> Option<Reply>
 }
 
 /// What follows the first key of a reply.
-fn spelled_after(alloc: Global, name: &str, reader: &mut Reader<'_>) -> Option<Reply>
+fn reply_after(alloc: Global, name: &str, reader: &mut Reader<'_>) -> Option<Reply>
     ensures { IfSome result (λ reply. Spells 3 reply_form (begin_object ∷ key name.now ∷ reader.old) reply reader.new) }
 {
     if name == "deleted" {
@@ -186,7 +186,7 @@ impl Spelled for Reply {
     fn from_tokens(alloc: Global, reader: &mut Reader<'_>) -> Option<Self> {
         begin_object(reader)?;
         let name = next_name(reader)?;
-        spelled_after(alloc, name, reader)
+        reply_after(alloc, name, reader)
     }
 }
 

@@ -3,7 +3,7 @@
 ghost use Rattle.std.specs.Prelude.{◌≡◌, IfSome, Ok, true};
 ghost use Rattle.std.specs.Option.{is_none};
 ghost use Rattle.std.specs.List.{list_any};
-ghost use Rattle.topo_forms.specs.SpelledReports.{ArePricesOf};
+ghost use Rattle.topo_forms.specs.SpelledParts.{ArePricesOf};
 ghost use Rattle.topo_forms.specs.Scripts.{limits_form, nulls_of, price_form, report_form};
 
 use crate::path::Key;

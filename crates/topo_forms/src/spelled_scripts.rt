@@ -14,7 +14,7 @@ use crate::scripts::Script;
 use crate::spelled::{
     Spelled, begin_array, begin_object, end_array, end_object, next_member, next_name, next_text,
 };
-use crate::spelled_calls::spelled_after;
+use crate::spelled_calls::call_after;
 use crate::spelled_reports::kept_prices;
 use crate::spelled_rows::spelled_members;
 use json::{Reader, Token};
@@ -38,7 +38,7 @@ fn spelled_planned(alloc: Global, reader: &mut Reader<'_>) -> Option<Command>
 fn spelled_plain(alloc: Global, word: &str, reader: &mut Reader<'_>) -> Option<Command>
     ensures { IfSome result (λ command. Spells 1 command_form (begin_array ∷ string word.now ∷ reader.old) command reader.new) }
 {
-    let call = spelled_after(alloc, word, reader)?;
+    let call = call_after(alloc, word, reader)?;
     Some(Command::Plain(call))
 }
 

@@ -1,7 +1,7 @@
 use Rattle.std.proofs.Common.{[], ◌≡◌, ◌∷◌, ◌∙◌, Some, ap, codes, rules, subst, unwrap_or}
 use Rattle.std.proofs.lemmas.List.{nil_from_length}
 use Rattle.json.specs.Token.{begin_object, key}
-use Rattle.topo_forms.specs.SpelledReports.{ArePricesOf}
+use Rattle.topo_forms.specs.SpelledParts.{ArePricesOf}
 use Rattle.topo_forms.proofs.SpelledScripts.{script_spelled}
 use Rattle.topo_forms.proofs.spelled_scripts.ScriptSpelled.from_tokens.Goals as goal
 

@@ -1,4 +1,4 @@
--- What stands in the tokens of a report behind what was read.
+-- What the tokens of a call, of a refusal and of a list of prices spell.
 use Rattle.std.specs.Prelude.{◌≡◌, ℕ, ◌≤◌, Bool, false, List, ◌∷◌, length, codes, Option, Ok}
 use Rattle.std.specs.Option.{is_none}
 use Rattle.std.specs.List.{list_any}
