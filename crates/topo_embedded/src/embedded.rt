@@ -9,6 +9,7 @@ ghost use Rattle.topo_core.specs.Routes.{AreFactsOf};
 ghost use Rattle.topo_core.specs.Systems.{SameFace, face_step, has_dart};
 ghost use Rattle.topo_embedded.specs.Halves.{IsHalf, half_in};
 ghost use Rattle.topo_embedded.specs.Walking.{named_in};
+ghost use Rattle.topo_frozen.specs.Flats.{AreTurnsOf};
 ghost use Rattle.topo_route.specs.Names.{IsNamed};
 
 use crate::copies::copy_paths;
@@ -28,9 +29,8 @@ use topo_core::ids::EdgeId;
 use topo_core::listed::Listed;
 use topo_core::routes::Route;
 use topo_core::rows::{Facts, Rows};
-use topo_frozen::Hints;
 use topo_frozen::by_id::place_of_edge;
-use topo_frozen::flat::{begins_of, turns_from};
+use topo_frozen::{Hints, Turns};
 use topo_map::{Embedding, Half};
 
 /// Well-formed rows with their embedding. Contracts see the rows, and for each edge, by its place among
@@ -55,26 +55,23 @@ impl Model for Embedded {
 }
 
 impl Embedded {
-    /// The embedding of well-formed rows, few enough for numbers of 32 bits.
-    pub fn of(alloc: Global, rows: Rows) -> Result<Self, AllocError>
+    /// The embedding of well-formed rows, few enough for numbers of 32 bits, whose darts turn as said.
+    pub fn of(alloc: Global, rows: Rows, turns: Turns) -> Result<Self, AllocError>
         requires well_formed { IsWellFormed rows }
         requires few { 2 * sum_by segment_count rows.edges < 2 ^ 32 }
-        requires vertices { length rows.rotations < 2 ^ 32 }
-        requires crossings { length rows.crossings < 2 ^ 32 }
+        requires turns { AreTurnsOf rows turns.begins.items turns.images.items }
         ensures { IfOk result (λ e. e.rows ≡ rows) }
     {
-        let hints = Hints::of(alloc, &rows)?;
         let edges = rows.edges.as_slice();
-        let begins = begins_of(alloc, edges)?;
-        let turns = turns_from(alloc, &rows, begins.as_slice(), &hints)?;
         let labels = labels_of(alloc, edges)?;
-        let (segments, halves) = Embedding::from_turns(alloc, turns.as_slice(), labels.as_slice())?;
-        let paths = paths_of(alloc, edges, begins.as_slice(), halves.as_slice())?;
+        let images = turns.images.as_slice();
+        let (segments, halves) = Embedding::from_turns(alloc, images, labels.as_slice())?;
+        let paths = paths_of(alloc, edges, turns.begins.as_slice(), halves.as_slice())?;
         Ok(Embedded {
             rows,
             paths,
             segments,
-            hints,
+            hints: turns.hints,
         })
     }
 

@@ -70,6 +70,11 @@ pub record AreAhead (rows : Rows) (numbers : List ℕ) : Type 0 where
   pub crossed : (p : ℕ) (x : CrossRow) → slice_get rows.crossings p ≡ Some x → slice_index numbers (2 * p) ≡ index_of rows (ahead rows x.crossed x.id)
   pub newcomer : (p : ℕ) (x : CrossRow) → slice_get rows.crossings p ≡ Some x → slice_index numbers (2 * p + 1) ≡ index_of rows (ahead rows x.newcomer x.id)
 
+-- the lists hold what they should of how the darts of the rows turn: where the darts of each edge begin, and the images of the turn
+pub record AreTurnsOf (rows : Rows) (begins turns : List ℕ) : Type 0 where
+  pub edge_begins : begins ≡ begins_from 0 rows.edges
+  pub images : turns ≡ turn_images rows
+
 -- rows of which it is known that they are lawful
 pub record LawfulRows : Type 0 where
   pub rows : Rows

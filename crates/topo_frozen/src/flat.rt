@@ -5,7 +5,7 @@ ghost use Rattle.std.specs.List.{list_all};
 ghost use Rattle.topo_core.specs.Lawful.{IsWellFormed, has_good_paths};
 ghost use Rattle.topo_core.specs.Picture.{segment_count, index_of, end_dart, edge_row, darts, rotation, vertices, turn_images};
 ghost use Rattle.topo_frozen.specs.Ids.{IdsRise};
-ghost use Rattle.topo_frozen.specs.Flats.{begins_from, places_from, written, links, note_place, path_notes, notes_from, vertex_round, crossing_round, round_ahead, AreAhead};
+ghost use Rattle.topo_frozen.specs.Flats.{begins_from, places_from, written, links, note_place, path_notes, notes_from, vertex_round, crossing_round, round_ahead, AreAhead, AreTurnsOf};
 
 use crate::by_id::{place_of_crossing, place_of_edge};
 use crate::hints::Hints;
@@ -31,7 +31,7 @@ pub(crate) fn fill_begins(begins: &mut Vec<u32>, edges: &[EdgeRow]) -> Result<()
 }
 
 /// For each edge the number of its first dart, and last the number of all darts.
-pub fn begins_of(alloc: Global, edges: &[EdgeRow]) -> Result<Vec<u32>, AllocError>
+fn begins_of(alloc: Global, edges: &[EdgeRow]) -> Result<Vec<u32>, AllocError>
     requires { 2 * sum_by segment_count edges.now < 2 ^ 32 }
     ensures { IfOk result (λ begins. begins.items ≡ begins_from 0 edges.now) }
 {
@@ -251,35 +251,33 @@ pub(crate) fn fill_turns(
     Ok(())
 }
 
-/// The images of the turn in canonical numbers, where the darts of the edges begin as said.
-pub fn turns_from(
-    alloc: Global,
-    rows: &Rows,
-    begins: &[u32],
-    hints: &Hints,
-) -> Result<Vec<u32>, AllocError>
-    requires well_formed { IsWellFormed rows.now }
-    requires begins { begins.now ≡ begins_from 0 rows.now.edges }
-    requires few { 2 * sum_by segment_count rows.now.edges < 2 ^ 32 }
-    requires vertices { length rows.now.rotations < 2 ^ 32 }
-    requires crossings { length rows.now.crossings < 2 ^ 32 }
-    ensures { IfOk result (λ images. images.items ≡ turn_images rows.now) }
-{
-    let mut ahead = Vec::new(alloc);
-    let mut images = Vec::new(alloc);
-    fill_turns(&mut images, &mut ahead, rows, begins, hints)?;
-    Ok(images)
+/// How the darts of rows turn, in canonical numbers, with what that was worked out from.
+#[derive(Drop)]
+pub struct Turns {
+    /// For each dart the next one clockwise at its point.
+    pub images: Vec<u32>,
+    /// For each edge the number of its first dart, and last the number of all darts.
+    pub begins: Vec<u32>,
+    /// Where rows are looked for by their ids first.
+    pub hints: Hints,
 }
 
-/// The images of the turn in canonical numbers.
-pub(crate) fn turns_of(alloc: Global, rows: &Rows) -> Result<Vec<u32>, AllocError>
+/// How the darts of rows turn, in canonical numbers.
+pub fn turns_of(alloc: Global, rows: &Rows) -> Result<Turns, AllocError>
     requires well_formed { IsWellFormed rows.now }
     requires few { 2 * sum_by segment_count rows.now.edges < 2 ^ 32 }
     requires vertices { length rows.now.rotations < 2 ^ 32 }
     requires crossings { length rows.now.crossings < 2 ^ 32 }
-    ensures { IfOk result (λ images. images.items ≡ turn_images rows.now) }
+    ensures { IfOk result (λ turns. AreTurnsOf rows.now turns.begins.items turns.images.items) }
 {
-    let begins = begins_of(alloc, rows.edges.as_slice())?;
     let hints = Hints::of(alloc, rows)?;
-    turns_from(alloc, rows, begins.as_slice(), &hints)
+    let begins = begins_of(alloc, rows.edges.as_slice())?;
+    let mut ahead = Vec::new(alloc);
+    let mut images = Vec::new(alloc);
+    fill_turns(&mut images, &mut ahead, rows, begins.as_slice(), &hints)?;
+    Ok(Turns {
+        images,
+        begins,
+        hints,
+    })
 }

@@ -1,7 +1,7 @@
 //! Rows that are handed in: the first test that they fail.
 
 use crate::faults::{are_crossings_good, are_paths_good, are_rotations_good, within_limits};
-use crate::flat::turns_of;
+use crate::flat::{Turns, turns_of};
 use std::alloc::{AllocError, Global};
 use std::error::Error;
 use std::fmt;
@@ -82,13 +82,14 @@ impl fmt::Display for LoadFault {
 
 impl Error for LoadFault {}
 
-ghost use Rattle.std.specs.Prelude.{◌≡◌, ◌≢◌, ◌==◌, ◌+◌, ◌%◌, ◌<◌, ◌≤◌, ◌*◌, ◌^◌, ◌↔◌, IfOk, IsTrue, MatchOption, Some, length, sum_by};
+ghost use Rattle.std.specs.Prelude.{◌≡◌, ◌≢◌, ◌==◌, ◌+◌, ◌%◌, ◌<◌, ◌≤◌, ◌*◌, ◌^◌, ◌↔◌, IfErr, IfOk, IsTrue, length, sum_by};
 ghost use Rattle.std.specs.List.{list_any};
 ghost use Rattle.topo_core.specs.Cycles.{IsPermutationList};
 ghost use Rattle.topo_core.specs.Lawful.{HasGenusZero, IsWellFormed};
 ghost use Rattle.topo_core.specs.Picture.{segment_count, system, turn_images};
 ghost use Rattle.topo_core.specs.Rotations.{faces_of};
 ghost use Rattle.topo_core.specs.Systems.{Connected};
+ghost use Rattle.topo_frozen.specs.Flats.{AreTurnsOf};
 ghost use Rattle.topo_frozen.specs.Loading.{FailsFirst};
 ghost use Rattle.topo_frozen.specs.Shown.{IsPicture};
 
@@ -141,33 +142,36 @@ fn has_genus_zero(alloc: Global, rows: &Rows, images: &[u32]) -> Result<bool, Al
     Ok(faces(alloc, images)? + points as u64 == segments as u64 + 2)
 }
 
-/// The first test that rows fail, if they fail one. Want of memory is an error, and no such test.
-pub fn first_fault(
+/// How the darts turn of rows that are a picture within the limits, or else the first test that the rows
+/// fail. Want of memory is an error, and no such test.
+pub fn judge(
     alloc: Global,
     limits: &Limits,
     rows: &Rows,
-) -> Result<Option<LoadFault>, AllocError>
-    ensures first { IfOk result (λ found. MatchOption found (IsPicture limits.now rows.now) (FailsFirst limits.now rows.now)) }
-    ensures no_memory { IfOk result (λ found. found ≢ Some LoadFault.Memory) }
+) -> Result<Result<Turns, LoadFault>, AllocError>
+    ensures picture { IfOk result (λ judged. IfOk judged (λ _. IsPicture limits.now rows.now)) }
+    ensures turns { IfOk result (λ judged. IfOk judged (λ turns. AreTurnsOf rows.now turns.begins.items turns.images.items)) }
+    ensures first { IfOk result (λ judged. IfErr judged (FailsFirst limits.now rows.now)) }
+    ensures no_memory { IfOk result (λ judged. IfErr judged (λ fault. fault ≢ LoadFault.Memory)) }
 {
     if !within_limits(limits, rows) {
-        return Ok(Some(LoadFault::TooMany));
+        return Ok(Err(LoadFault::TooMany));
     }
     if !are_paths_good(alloc, rows)? {
-        return Ok(Some(LoadFault::BadPath));
+        return Ok(Err(LoadFault::BadPath));
     }
     if !are_crossings_good(alloc, rows)? {
-        return Ok(Some(LoadFault::BadCrossing));
+        return Ok(Err(LoadFault::BadCrossing));
     }
     if !are_rotations_good(alloc, rows)? {
-        return Ok(Some(LoadFault::BadRotation));
+        return Ok(Err(LoadFault::BadRotation));
     }
-    let images = turns_of(alloc, rows)?;
-    if !is_whole(alloc, rows, &images)? {
-        return Ok(Some(LoadFault::NotConnected));
+    let turns = turns_of(alloc, rows)?;
+    if !is_whole(alloc, rows, &turns.images)? {
+        return Ok(Err(LoadFault::NotConnected));
     }
-    if !has_genus_zero(alloc, rows, &images)? {
-        return Ok(Some(LoadFault::NotPlanar));
+    if !has_genus_zero(alloc, rows, &turns.images)? {
+        return Ok(Err(LoadFault::NotPlanar));
     }
-    Ok(None)
+    Ok(Ok(turns))
 }

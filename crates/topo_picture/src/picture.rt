@@ -13,8 +13,9 @@ use topo_core::routes::Route;
 use topo_core::rows::{EdgeRow, Rows};
 use topo_embedded::{Embedded, EmbeddedRows};
 use topo_frozen::by_id::edge_place;
-use topo_frozen::load::{LoadFault, first_fault};
-use topo_frozen::{Frozen, Hints, NumberLists, Numbered};
+use topo_frozen::flat::turns_of;
+use topo_frozen::load::{LoadFault, judge};
+use topo_frozen::{Frozen, Hints, NumberLists, Numbered, Turns};
 use topo_route::plan::Plan;
 
 /// A connected embedding of a graph of genus zero, within limits. It keeps its rows with the halves along
@@ -54,7 +55,8 @@ impl Picture {
         ensures limits { IfOk result (λ p. p.limits ≡ limits) }
     {
         let rows = seed_rows(alloc)?;
-        let embedded = Embedded::of(alloc, rows)?;
+        let turns = turns_of(alloc, &rows)?;
+        let embedded = Embedded::of(alloc, rows, turns)?;
         Ok(Picture { limits, embedded })
     }
 
@@ -66,12 +68,8 @@ impl Picture {
         ensures lawful { IfOk result (λ _. IsPicture limits rows.now) }
         ensures refused { IfErr result (FailsFirst limits rows.now) }
     {
-        match first_fault(alloc, &limits, rows) {
-            Ok(None) => {}
-            Ok(Some(fault)) => return Err(fault),
-            Err(_) => return Err(LoadFault::Memory),
-        }
-        match new_picture(alloc, limits, rows) {
+        let turns = judged(alloc, &limits, rows)?;
+        match new_picture(alloc, limits, rows, turns) {
             Ok(picture) => Ok(picture),
             Err(_) => Err(LoadFault::Memory),
         }
@@ -91,11 +89,8 @@ impl Picture {
         ensures lawful { IfOk result (λ _. IsPicture limits rows.now) }
         ensures refused { IfErr result (FailsFirst limits rows.now) }
     {
-        match first_fault(alloc, &limits, rows) {
-            Ok(None) => Ok(counted(rows)),
-            Ok(Some(fault)) => Err(fault),
-            Err(_) => Err(LoadFault::Memory),
-        }
+        let _turns = judged(alloc, &limits, rows)?;
+        Ok(counted(rows))
     }
 
     /// How large it is.
@@ -332,16 +327,37 @@ ghost use Rattle.topo_core.specs.Lawful.{has_good_paths};
 ghost use Rattle.topo_core.specs.Picture.{edge_row};
 ghost use Rattle.topo_core.specs.Pictures.{seed};
 ghost use Rattle.topo_core.specs.Steps.{HasRoomFor, grow_refusal, insert_refusal};
+ghost use Rattle.topo_frozen.specs.Flats.{AreTurnsOf};
+ghost use Rattle.topo_frozen.specs.Loading.{FailsFirst};
 ghost use Rattle.topo_frozen.specs.Shown.{IsPicture};
 
-/// The picture with a copy of these rows, which are lawful.
-fn new_picture(alloc: Global, limits: Limits, rows: &Rows) -> Result<Picture, AllocError>
-    requires { IsPicture limits rows.now }
+/// How the darts turn of rows that are a picture within the limits. Else the first test that they fail,
+/// or Memory.
+fn judged(alloc: Global, limits: &Limits, rows: &Rows) -> Result<Turns, LoadFault>
+    ensures picture { IfOk result (λ _. IsPicture limits.now rows.now) }
+    ensures turns { IfOk result (λ turns. AreTurnsOf rows.now turns.begins.items turns.images.items) }
+    ensures refused { IfErr result (FailsFirst limits.now rows.now) }
+{
+    match judge(alloc, limits, rows) {
+        Ok(judged) => judged,
+        Err(_) => Err(LoadFault::Memory),
+    }
+}
+
+/// The picture with a copy of these rows, which are lawful and whose darts turn as said.
+fn new_picture(
+    alloc: Global,
+    limits: Limits,
+    rows: &Rows,
+    turns: Turns,
+) -> Result<Picture, AllocError>
+    requires lawful { IsPicture limits rows.now }
+    requires turns { AreTurnsOf rows.now turns.begins.items turns.images.items }
     ensures rows { IfOk result (λ p. p.rows ≡ rows.now) }
     ensures limits { IfOk result (λ p. p.limits ≡ limits) }
 {
     let copy = copy_rows(alloc, rows)?;
-    let embedded = Embedded::of(alloc, copy)?;
+    let embedded = Embedded::of(alloc, copy, turns)?;
     Ok(Picture { limits, embedded })
 }
 

@@ -8,18 +8,18 @@ use Rattle.topo_embedded.proofs.embedded.Embedded.of.Goals as goal
 
 pub from_turns-requires-clause-permutation : goal.from_turns-requires-clause-permutation
 from_turns-requires-clause-permutation c =
-    subst IsPermutationList (sym (c.as_slice-2.ensures.value ∙ c.in_ok-turns.ensures)) (turn_permutes c.args.rows c.requires.well_formed.paths c.requires.well_formed.crossings c.requires.well_formed.rotations)
+    subst IsPermutationList (sym (c.as_slice-images.ensures.value ∙ c.requires.turns.images)) (turn_permutes c.args.rows c.requires.well_formed.paths c.requires.well_formed.crossings c.requires.well_formed.rotations)
 
 pub from_turns-requires-clause-two_each : goal.from_turns-requires-clause-two_each
 from_turns-requires-clause-two_each c =
-    let many = images_total c.args.rows c.as_slice-2.result.now (c.as_slice-2.ensures.value ∙ c.in_ok-turns.ensures) in
-    let labels = ap length (c.as_slice-3.ensures.value ∙ c.in_ok-labels.ensures ∙ ap labels_of c.as_slice-edges.ensures) ∙ labels_length c.args.rows.edges in
+    let many = images_total c.args.rows c.as_slice-images.result.now (c.as_slice-images.ensures.value ∙ c.requires.turns.images) in
+    let labels = ap length (c.as_slice.ensures.value ∙ c.in_ok-labels.ensures ∙ ap labels_of c.as_slice-edges.ensures) ∙ labels_length c.args.rows.edges in
     omega (arith, many, labels)
 
 pub invariant_of-result : goal.invariant_of-result
 invariant_of-result c = (
   c.requires.well_formed,
-  made_from c.args.rows c.requires.well_formed c.as_slice-edges.result.now c.as_slice-2.result.now c.as_slice-3.result.now c.as_slice-4.result.now c.in_ok-segments.halves.items c.as_slice-5.result.now c.in_ok-paths.paths c.in_ok-segments.segments
-      c.as_slice-edges.ensures (c.as_slice-2.ensures.value ∙ c.in_ok-turns.ensures) (c.as_slice-3.ensures.value ∙ c.in_ok-labels.ensures) (c.as_slice-4.ensures.value ∙ c.in_ok-begins.ensures) c.as_slice-5.ensures.value
+  made_from c.args.rows c.requires.well_formed c.as_slice-edges.result.now c.as_slice-images.result.now c.as_slice.result.now c.as_slice-2.result.now c.in_ok-segments.halves.items c.as_slice-3.result.now c.in_ok-paths.paths c.in_ok-segments.segments
+      c.as_slice-edges.ensures (c.as_slice-images.ensures.value ∙ c.requires.turns.images) (c.as_slice.ensures.value ∙ c.in_ok-labels.ensures) (c.as_slice-2.ensures.value ∙ c.requires.turns.edge_begins) c.as_slice-3.ensures.value
       c.in_ok-segments.ensures.made c.in_ok-segments.ensures.labels c.in_ok-paths.ensures,
 )

@@ -1,6 +1,6 @@
 use Rattle.std.proofs.Common.{sym, ◌∙◌}
 use Rattle.topo_frozen.proofs.Verdicts.{is_small}
-use Rattle.topo_frozen.proofs.load.first_fault.Goals as goal
+use Rattle.topo_frozen.proofs.load.judge.Goals as goal
 
 pub turns_of-requires-clause-few : goal.turns_of-requires-clause-few
 turns_of-requires-clause-few c = (is_small c.args.limits.now c.args.rows.now (sym c.if-not-within_limits.ensures) (sym c.in_ok-are_paths_good.ensures ∙ c.if-not-branch.false) (sym c.in_ok-are_crossings_good.ensures.good ∙ c.if-not-branch-2.false) (c.in_ok-are_crossings_good.ensures.two_each c.if-not-branch-2.false)).segments
