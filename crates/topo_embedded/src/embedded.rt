@@ -98,7 +98,7 @@ impl Embedded {
         &self.rows
     }
 
-    /// Where rows are looked for by their ids first.
+    /// Places of rows by their ids, to be tried before a search.
     pub fn hints(&self) -> &Hints {
         &self.hints
     }

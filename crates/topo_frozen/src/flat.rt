@@ -258,7 +258,7 @@ pub struct Turns {
     pub images: Vec<u32>,
     /// For each edge the number of its first dart, and last the number of all darts.
     pub begins: Vec<u32>,
-    /// Where rows are looked for by their ids first.
+    /// Places of rows by their ids, to be tried before a search.
     pub hints: Hints,
 }
 
