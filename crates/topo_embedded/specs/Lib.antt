@@ -1,3 +1,4 @@
+pub mod Along
 pub mod Halves
 pub mod Making
 pub mod Walking

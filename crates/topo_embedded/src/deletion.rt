@@ -108,7 +108,6 @@ fn smooth_path(
 
 /// Takes the segments of an edge out, with its crossings, and its path.
 fn delete_lists(
-    alloc: Global,
     rows: &Rows,
     paths: &mut Vec<Path>,
     segments: &mut Embedding,
@@ -122,7 +121,7 @@ fn delete_lists(
 {
     segments.laws();
     let place = place_of_edge(rows.edges.as_slice(), hints, edge);
-    let mut path = mem::replace(&mut paths[place], Path::of(alloc, Half::numbered(0)));
+    let mut path = mem::replace(&mut paths[place], Path::of(Half::numbered(0)));
     open_path(rows, paths.as_slice(), segments, hints, &mut path);
     smooth_path(rows, paths, segments, hints, &path);
     paths.remove(place);
@@ -144,7 +143,7 @@ pub(crate) fn delete_drawn(
     ensures shows { ShowsRows (record { rows = rows.new; paths = paths.new }) segments.new }
 {
     let mut lists = mem::replace(paths, Listed::new(alloc)).into_vec();
-    delete_lists(alloc, rows, &mut lists, segments, hints, edge);
+    delete_lists(rows, &mut lists, segments, hints, edge);
     *paths = Listed::from_vec(lists);
     delete_rows(alloc, rows, hints, edge);
     hints.settle(rows);

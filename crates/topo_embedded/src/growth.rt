@@ -47,7 +47,7 @@ fn grow_lists(
     grow_rows(alloc, rows, u, position, kind)?;
     segments.laws();
     let half = segments.hang(named, edge);
-    paths.push(Path::of(alloc, half)).unwrap();
+    paths.push(Path::of(half)).unwrap();
     Ok(())
 }
 

@@ -107,8 +107,9 @@ fn make_room(
     paths.reserve(1)?;
     let mut others = Vec::new(alloc);
     others.resize(crossed.len(), Half::numbered(0))?;
-    pad(paths, crossed)?;
-    Ok(Path::new(Half::numbered(0), others))
+    let line = Path::new(alloc, Half::numbered(0), others)?;
+    pad(alloc, paths, crossed)?;
+    Ok(line)
 }
 
 /// Puts the new edge into the embedding.

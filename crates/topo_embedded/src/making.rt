@@ -37,7 +37,7 @@ fn path_of(
     for i in 0..crossings {
         others.push(halves[begin + 2 + 2 * i])?;
     }
-    Ok(Path::new(halves[begin], others))
+    Path::new(alloc, halves[begin], others)
 }
 
 /// The halves along each edge, where the darts of the edges begin as said.

@@ -6,7 +6,7 @@ ghost use Rattle.topo_embedded.specs.Inserting.{piece};
 ghost use Rattle.topo_embedded.specs.Padding.{AreOff, ArePadded, ArePlaced, IsOn, shifted};
 
 use crate::path::Path;
-use std::alloc::AllocError;
+use std::alloc::{AllocError, Global};
 use topo_core::darts::Dart;
 use topo_map::Half;
 
@@ -39,13 +39,14 @@ impl Crossed {
 
 /// Puts one more half at the end of the list of each crossed dart, as far as there is memory, and answers
 /// for how many.
-fn pad_some(paths: &mut [Path], crossed: &[Crossed]) -> usize
+fn pad_some(alloc: Global, paths: &mut [Path], crossed: &[Crossed]) -> usize
     requires { ArePlaced (length paths.old) crossed.now }
     ensures within { result ≤ length crossed.now }
     ensures padded { ArePadded (λ hs. hs) paths.old (take result crossed.now) paths.new }
 {
     for i in 0..crossed.len() {
-        if paths[crossed[i].place].push(Half::numbered(0)).is_err() {
+        let path = &mut paths[crossed[i].place];
+        if path.push(alloc, Half::numbered(0)).is_err() {
             return i;
         }
     }
@@ -65,12 +66,12 @@ pub(crate) fn unpad(paths: &mut [Path], crossed: &[Crossed])
 }
 
 /// Puts one more half at the end of the list of each crossed dart, or leaves all as they were.
-pub(crate) fn pad(paths: &mut [Path], crossed: &[Crossed]) -> Result<(), AllocError>
+pub(crate) fn pad(alloc: Global, paths: &mut [Path], crossed: &[Crossed]) -> Result<(), AllocError>
     requires { ArePlaced (length paths.old) crossed.now }
     ensures ok { OnOk result (ArePadded (λ hs. hs) paths.old crossed.now paths.new) }
     ensures err { OnErr result (paths.new ≡ paths.old) }
 {
-    let done = pad_some(paths, crossed);
+    let done = pad_some(alloc, paths, crossed);
     if done < crossed.len() {
         unpad(paths, &crossed[..done]);
         return Err(AllocError);

@@ -9,21 +9,30 @@ use std::alloc::{AllocError, Global};
 use std::marker::Model;
 use topo_map::Half;
 
-/// The halves along an edge, one on each of its segments. The first is kept beside the others, so that the
-/// path of an edge without crossings takes no memory, and the half at its end is read at once. Contracts see
-/// the list of all.
+/// The first half, and the others where there are some. They lie behind one word, so that this takes two.
 #[derive(Drop)]
-pub(crate) struct Path {
-    first: Half,
-    others: Vec<Half>,
+enum Line {
+    One(Half),
+    More(Half, Box<Vec<Half>>),
 }
 
+/// The halves along an edge, one on each of its segments. The first is kept beside the others, so that the
+/// path of an edge without crossings takes no memory of its own, and the half at its end is read at once.
+/// Contracts see the list of all.
+#[derive(Drop)]
+pub(crate) struct Path {
+    line: Line,
+}
+
+const _: () = prove!(size_of::<Path>() == 16);
+
 impl Model for Path {
-    ghost use Rattle.std.specs.Prelude.{ℕ, List, ◌∷◌};
+    ghost use Rattle.std.specs.Prelude.{ℕ, List};
+    ghost use Rattle.topo_embedded.specs.Along.{halves_along};
 
     ghost Value = { List ℕ };
 
-    ghost view = { λ p. p.first ∷ p.others.items };
+    ghost view = { λ p. halves_along p.line };
 }
 
 /// Whether a half is one of these.
@@ -33,19 +42,34 @@ fn is_on(halves: &[Half], half: Half) -> bool
     halves.iter().any(|at| *at == half)
 }
 
+/// Takes a half out of the list of the others.
+fn leave(others: &mut Vec<Half>, half: Half)
+    ensures { others.new.items ≡ filter (λ h. not (h == half)) others.old.items }
+{
+    others.retain(|h| *h != half);
+}
+
 impl Path {
     /// The path with these halves.
-    pub(crate) fn new(first: Half, others: Vec<Half>) -> Self
-        ensures { result ≡ first ∷ others.items }
+    pub(crate) fn new(alloc: Global, first: Half, others: Vec<Half>) -> Result<Self, AllocError>
+        ensures { IfOk result (λ path. path ≡ first ∷ others.items) }
     {
-        Path { first, others }
+        if others.is_empty() {
+            return Ok(Path::of(first));
+        }
+        let others = Box::new(alloc, others)?;
+        Ok(Path {
+            line: Line::More(first, others),
+        })
     }
 
     /// The path of an edge without crossings. It takes no memory.
-    pub(crate) fn of(alloc: Global, half: Half) -> Self
+    pub(crate) fn of(half: Half) -> Self
         ensures { result ≡ half ∷ [] }
     {
-        Path::new(half, Vec::new(alloc))
+        Path {
+            line: Line::One(half),
+        }
     }
 
     /// How many segments there are.
@@ -53,7 +77,20 @@ impl Path {
         ensures len { result ≡ length self.now }
         ensures some { 0 < result }
     {
-        self.others.len() + 1
+        match &self.line {
+            Line::One(_) => 1,
+            Line::More(_, others) => others.len() + 1,
+        }
+    }
+
+    /// The half on the first segment.
+    fn first(&self) -> Half
+        ensures { result ≡ slice_index_or self.now 0 0 }
+    {
+        match &self.line {
+            Line::One(first) => *first,
+            Line::More(first, _) => *first,
+        }
     }
 
     /// The half on the segment at a place.
@@ -61,9 +98,9 @@ impl Path {
         requires { place < length self.now }
         ensures { result ≡ slice_index_or self.now place 0 }
     {
-        match place {
-            0 => self.first,
-            _ => self.others[place - 1],
+        match &self.line {
+            Line::More(_, others) if place > 0 => others[place - 1],
+            _ => self.first(),
         }
     }
 
@@ -71,7 +108,10 @@ impl Path {
     pub(crate) fn contains(&self, half: Half) -> bool
         ensures { result ≡ has_id self.now half }
     {
-        self.first == half || is_on(self.others.as_slice(), half)
+        match &self.line {
+            Line::One(first) => *first == half,
+            Line::More(first, others) => *first == half || is_on(others.as_slice(), half),
+        }
     }
 
     /// Whether a half is one of the two on the segment at a place.
@@ -100,27 +140,48 @@ impl Path {
         requires { place < length self.old }
         ensures { self.new ≡ slice_set self.old place half }
     {
-        match place {
-            0 => self.first = half,
-            _ => self.others[place - 1] = half,
+        match &mut self.line {
+            Line::More(_, others) if place > 0 => others[place - 1] = half,
+            Line::More(first, _) => *first = half,
+            Line::One(first) => *first = half,
         }
     }
 
     /// Puts a half behind the others. Where there is no memory for it the path is as it was.
-    pub(crate) fn push(&mut self, half: Half) -> Result<(), AllocError>
+    pub(crate) fn push(&mut self, alloc: Global, half: Half) -> Result<(), AllocError>
         ensures some { 0 < length self.old }
         ensures ok { OnOk result (self.new ≡ self.old ++ half ∷ []) }
         ensures err { OnErr result (self.new ≡ self.old) }
     {
-        self.others.push(half)?;
+        match &mut self.line {
+            Line::More(_, others) => others.push(half)?,
+            Line::One(first) => {
+                let others = Box::new(alloc, vec![in alloc; half]?)?;
+                self.line = Line::More(*first, others);
+            }
+        }
         Ok(())
+    }
+
+    /// Gives the memory of the others back where none are left.
+    fn settle(&mut self)
+        ensures { self.new ≡ self.old }
+    {
+        if let Line::More(first, others) = &self.line {
+            if others.is_empty() {
+                self.line = Line::One(*first);
+            }
+        }
     }
 
     /// Takes out the last half behind the first.
     pub(crate) fn drop_last(&mut self)
         ensures { (xs : List ℕ) (x : ℕ) → 0 < length xs → self.old ≡ xs ++ x ∷ [] → self.new ≡ xs }
     {
-        let _last = self.others.pop();
+        if let Line::More(_, others) = &mut self.line {
+            let _last = others.pop();
+        }
+        self.settle();
     }
 
     /// Takes out a half that is not the first.
@@ -128,14 +189,23 @@ impl Path {
         requires { slice_index_or self.old 0 0 ≢ half }
         ensures { self.new ≡ filter (λ h. not (h == half)) self.old }
     {
-        self.others.retain(|h| *h != half);
+        match &mut self.line {
+            Line::One(_) => {}
+            Line::More(_, others) => leave(others, half),
+        }
+        self.settle();
     }
 
     /// An equal one, in memory of its own.
     pub(crate) fn copy(&self, alloc: Global) -> Result<Self, AllocError>
         ensures { IfOk result (λ copy. copy ≡ self.now) }
     {
-        let others = Vec::from_slice(alloc, self.others.as_slice())?;
-        Ok(Path::new(self.first, others))
+        match &self.line {
+            Line::One(first) => Ok(Path::of(*first)),
+            Line::More(first, others) => {
+                let others = Vec::from_slice(alloc, others.as_slice())?;
+                Path::new(alloc, *first, others)
+            }
+        }
     }
 }

@@ -1,15 +1,25 @@
-use Rattle.std.proofs.Common.{rules, ap, not, sym, ◌≢◌, ◌==◌, ◌∙◌, ◌∷◌, Bool, List, ℕ}
-use Rattle.std.specs.Prelude.{slice_index_or}
+use Rattle.std.proofs.Common.{◌≡◌, ◌≢◌, ◌==◌, ◌∙◌, ◌∷◌, [], List, ap, not, sym, ℕ}
+use Rattle.std.specs.Prelude.{filter, slice_index_or}
 use Rattle.std.proofs.lemmas.Bool.{ne_eqb}
-use Rattle.std.proofs.lemmas.Fn.{filter_same}
+use Rattle.topo_embedded.specs.Along.{halves_along}
 use Rattle.topo_embedded.specs.Deleting.{spared}
 use Rattle.topo_embedded.proofs.LeftHalves.{spared_kept}
+use Rattle.topo_embedded.proofs.path.Path.remove.Goals.{in-More, in-One}
 use Rattle.topo_embedded.proofs.path.Path.remove.Goals as goal
+
+-- the first stays, and what goes is among the others
+first_stays : (half first : ℕ) (others halves : List ℕ) → slice_index_or halves 0 0 ≢ half → first ∷ others ≡ halves → first ∷ filter (λ h. not (h == half)) others ≡ filter (λ h. not (h == half)) halves
+first_stays half first others halves stays same =
+    sym (spared_kept (λ h. h == half) first others (ne_eqb first half (λ is. stays (ap (λ (hs : List ℕ). slice_index_or hs 0 0) (sym same) ∙ is))))
+    ∙ ap (spared (λ h. h == half)) same
 
 pub returns : goal.returns
 returns c =
-    let goes : ℕ → Bool = λ y. y == c.args.half in
-    let stays : c.self.inside.first ≢ c.args.half = λ same. c.requires (ap (λ (hs : List ℕ). slice_index_or hs 0 0) (sym c.self.view_is) ∙ same) in
-    ap (λ (hs : List ℕ). c.self.inside.first ∷ hs) (filter_same _ (λ y. not (y == c.args.half)) _ (λ x b f' k. search rules) _ _ c.retain.ensures.filtered)
-    ∙ sym (spared_kept goes c.self.inside.first c.self.inside.others.items (ne_eqb c.self.inside.first c.args.half stays))
-    ∙ ap (spared goes) c.self.view_is
+    let left : halves_along c.match-self.self-inside.line ≡ filter (λ h. not (h == c.args.half)) c.args.self.now = elim c.match-self.branch [
+      | in-One w ↦ ap (λ inside. halves_along inside.line) w.self-inside-is ∙ ap halves_along w.in-One.is
+          ∙ first_stays c.args.half w.in-One.field-0 [] c.args.self.now c.requires (ap halves_along (sym w.in-One.is) ∙ c.self.view_is)
+      | in-More w ↦ ap (λ inside. halves_along inside.line) w.self-inside-is
+          ∙ ap (λ (hs : List ℕ). w.in-More.field-0 ∷ hs) (w.leave.ensures ∙ ap (λ others. filter (λ h. not (h == c.args.half)) others.items) w.deref_mut.ensures.value)
+          ∙ first_stays c.args.half w.in-More.field-0 w.in-More.others.value.items c.args.self.now c.requires (ap halves_along (sym w.in-More.is) ∙ c.self.view_is)
+    ] in
+    c.settle.ensures ∙ left
