@@ -34,10 +34,12 @@ fn seed_book<F: Asks + Drop>(alloc: Global, ask: F) -> Result<Book<F>, AllocErro
 /// How many vertices its start, its picture and the replay of its history have.
 fn sizes<F: Asks>(alloc: Global, book: &Book<F>) -> Result<[u32; 3], ReplayFault> {
     let again = replay(alloc, book.start(), book.history(), book.tariff())?;
+    let vertices = again.counts().vertices;
+    drop(again);
     Ok([
         book.start().counts().vertices,
         book.picture().counts().vertices,
-        again.counts().vertices,
+        vertices,
     ])
 }
 
@@ -153,7 +155,9 @@ fn enters_calls_from_seed<F: Asks + Drop>(
     requires promise { IsPromise (F.answers ask) }
 {
     let mut book = seed_book(alloc, ask)?;
-    enters_calls(rt, alloc, &mut book)
+    let told = enters_calls(rt, alloc, &mut book);
+    drop(book);
+    told
 }
 
 #[test]
@@ -227,7 +231,9 @@ fn enters_both_from_seed<F: Asks + Drop>(
     requires promise { IsPromise (F.answers ask) }
 {
     let mut book = seed_book(alloc, ask)?;
-    enters_both(rt, alloc, &mut book)
+    let told = enters_both(rt, alloc, &mut book);
+    drop(book);
+    told
 }
 
 #[test]
@@ -245,7 +251,9 @@ fn size_from<F: Asks>(
     tariff: &Tariff<F>,
 ) -> Result<u32, ReplayFault> {
     let picture = replay(alloc, start, entries, tariff)?;
-    Ok(picture.counts().vertices)
+    let vertices = picture.counts().vertices;
+    drop(picture);
+    Ok(vertices)
 }
 
 /// The same from the seed.
@@ -259,7 +267,11 @@ fn replay_from_seed<F: Asks + Drop>(
 {
     let tariff = Tariff::new(ask);
     match seed(alloc) {
-        Ok(start) => size_from(alloc, &start, entries, &tariff),
+        Ok(start) => {
+            let size = size_from(alloc, &start, entries, &tariff);
+            drop(start);
+            size
+        }
         Err(_) => Err(ReplayFault::Memory),
     }
 }
@@ -319,7 +331,9 @@ fn said(
 ) -> Result<Result<u32, ReplayFault>, Fail> {
     let entries = growths(alloc, replies)?;
     let ask = |facts: &Facts| table.price(facts.kind);
-    Ok(replay_from_seed(alloc, entries.as_slice(), ask))
+    let size = replay_from_seed(alloc, entries.as_slice(), ask);
+    drop(entries);
+    Ok(size)
 }
 
 #[test]

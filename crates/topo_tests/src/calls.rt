@@ -45,5 +45,6 @@ fn a_full_picture_judges_vertex_and_kind_first(rt: HostRuntime) -> Result<(), Fa
     assert!(rt; picture.grow(rt.alloc(), 2, 9, 64) == Err(Refusal::NoVertex));
     assert!(rt; picture.grow(rt.alloc(), 0, 0, 64) == Err(Refusal::BadKind));
     assert!(rt; picture.grow(rt.alloc(), 0, 0, 0) == Err(Refusal::Full));
+    drop(picture);
     Ok(())
 }

@@ -117,6 +117,7 @@ fn are_built(
 fn builds_a_segment_from_turns(rt: HostRuntime) -> Result<(), Fail> {
     let (embedding, halves) = Embedding::from_turns(rt.alloc(), &[0, 1], &[5])?;
     are_built(&rt, &embedding, halves.as_slice(), &[0, 1], &[5]);
+    drop(embedding);
     Ok(())
 }
 
@@ -124,6 +125,7 @@ fn builds_a_segment_from_turns(rt: HostRuntime) -> Result<(), Fail> {
 fn builds_two_loops_from_turns(rt: HostRuntime) -> Result<(), Fail> {
     let (embedding, halves) = Embedding::from_turns(rt.alloc(), &[2, 3, 1, 0], &[3, 4])?;
     are_built(&rt, &embedding, halves.as_slice(), &[2, 3, 1, 0], &[3, 4]);
+    drop(embedding);
     Ok(())
 }
 
@@ -214,13 +216,20 @@ fn chord_and_hang(rt: &impl Abort, embedding: &mut Embedding, h: Half) {
     is_unchorded(rt, embedding, h, x, y);
 }
 
+/// The same once there is room.
+fn chord_in_room(rt: &impl Abort, embedding: &mut Embedding, h: Half) -> Result<(), AllocError> {
+    embedding.reserve(100)?;
+    chord_and_hang(rt, embedding, h);
+    Ok(())
+}
+
 #[test]
 fn chords_and_hangs(rt: HostRuntime) -> Result<(), Fail> {
     let (mut embedding, h) = Embedding::seed(rt.alloc(), 7)?;
     is_seed(&rt, &embedding, h);
-    embedding.reserve(100)?;
-    chord_and_hang(&rt, &mut embedding, h);
-    Ok(())
+    let told = chord_in_room(&rt, &mut embedding, h);
+    drop(embedding);
+    Ok(told?)
 }
 
 /// `x` is the new half at the point that parts `h` from its twin.
@@ -261,15 +270,22 @@ fn is_smoothed(rt: &impl Abort, embedding: &Embedding, h: Half) {
     assert!(rt; embedding.turn(t) == t);
 }
 
+/// Puts a point on the seed's segment, once there is room, and takes it out.
+fn split_and_smooth(rt: &impl Abort, embedding: &mut Embedding, h: Half) -> Result<(), AllocError> {
+    embedding.reserve(1)?;
+    let x = split(rt, embedding, h);
+    is_split(rt, embedding, h, x);
+    smooth(rt, embedding, x);
+    is_smoothed(rt, embedding, h);
+    Ok(())
+}
+
 #[test]
 fn splits_and_smooths(rt: HostRuntime) -> Result<(), Fail> {
     let (mut embedding, h) = Embedding::seed(rt.alloc(), 7)?;
-    embedding.reserve(1)?;
-    let x = split(&rt, &mut embedding, h);
-    is_split(&rt, &embedding, h, x);
-    smooth(&rt, &mut embedding, x);
-    is_smoothed(&rt, &embedding, h);
-    Ok(())
+    let told = split_and_smooth(&rt, &mut embedding, h);
+    drop(embedding);
+    Ok(told?)
 }
 
 /// Two embeddings have these halves, with the same turn.
@@ -285,14 +301,16 @@ fn are_alike(rt: &impl Abort, first: &Embedding, second: &Embedding, halves: &[H
 fn is_copied(rt: &impl Abort, embedding: &Embedding, halves: &[Half]) -> Result<(), AllocError> {
     let copy = embedding.copy()?;
     are_alike(rt, embedding, &copy, halves);
+    drop(copy);
     Ok(())
 }
 
 #[test]
 fn copies(rt: HostRuntime) -> Result<(), Fail> {
     let (embedding, halves) = Embedding::from_turns(rt.alloc(), &[2, 3, 1, 0], &[3, 4])?;
-    is_copied(&rt, &embedding, halves.as_slice())?;
-    Ok(())
+    let told = is_copied(&rt, &embedding, halves.as_slice());
+    drop(embedding);
+    Ok(told?)
 }
 
 #[test]
@@ -301,6 +319,7 @@ fn refuses_what_no_memory_holds(rt: HostRuntime) -> Result<(), Fail> {
     assert!(rt; embedding.reserve(usize::MAX).is_err());
     assert!(rt; embedding.contains(h));
     assert!(rt; embedding.turn(h) == h);
+    drop(embedding);
     Ok(())
 }
 
@@ -328,6 +347,7 @@ fn are_labelled_in_copy(
 ) -> Result<(), AllocError> {
     let copy = embedding.copy()?;
     are_labelled(rt, &copy, halves);
+    drop(copy);
     Ok(())
 }
 
@@ -350,6 +370,7 @@ fn labels_follow_all_edits(rt: HostRuntime) -> Result<(), Fail> {
         &[2, 3, 4, 5, 0, 1],
         &[3, 4, 5],
     )?;
-    labels_follow(&rt, &mut embedding, &mut halves)?;
-    Ok(())
+    let told = labels_follow(&rt, &mut embedding, &mut halves);
+    drop(embedding);
+    Ok(told?)
 }

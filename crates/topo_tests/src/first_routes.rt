@@ -84,6 +84,7 @@ fn is_found(
     let table = table_of(rt, question.rest, question.entries);
     let found = route_at(rt, alloc, picture, &table, question.ends, work)?.ok_or("a route")?;
     assert!(rt; is_route(&found, answer), "{:?}: {found:?}", question.ends);
+    drop(found);
     Ok(())
 }
 
@@ -96,7 +97,9 @@ fn is_answered(
     work: &mut Workspace,
 ) -> Result<(), Fail> {
     let picture = picture_of(alloc, question.picture)?;
-    is_found(rt, alloc, &picture, question, answer, work)
+    let told = is_found(rt, alloc, &picture, question, answer, work);
+    drop(picture);
+    told
 }
 
 /// The first route of each question.
@@ -110,7 +113,9 @@ fn are_answered(rt: &impl Abort, alloc: Global, work: &mut Workspace) -> Result<
 #[test]
 fn first_routes_are_those_of_searches(rt: HostRuntime) -> Result<(), Fail> {
     let mut work = Workspace::new(rt.alloc())?;
-    are_answered(&rt, rt.alloc(), &mut work)
+    let told = are_answered(&rt, rt.alloc(), &mut work);
+    drop(work);
+    told
 }
 
 /// Whether there is a route on a picture with the prices of a table.
@@ -122,15 +127,21 @@ fn has_route(
     ends: (u32, u32),
 ) -> Result<bool, AllocError> {
     let mut work = Workspace::new(alloc)?;
-    let found = route_at(rt, alloc, picture, table, ends, &mut work)?;
-    Ok(found.is_some())
+    let found = route_at(rt, alloc, picture, table, ends, &mut work);
+    drop(work);
+    let found = found?;
+    let is_found = found.is_some();
+    drop(found);
+    Ok(is_found)
 }
 
 #[test]
 fn no_first_route_where_the_triangle_is_closed(rt: HostRuntime) -> Result<(), Fail> {
     let picture = picture_of(rt.alloc(), BIPYRAMID)?;
     let table = table_of(&rt, Some(1), &[(1, None), (2, None), (3, None)]);
-    assert!(rt; !has_route(&rt, rt.alloc(), &picture, &table, APEXES)?);
+    let is_found = has_route(&rt, rt.alloc(), &picture, &table, APEXES);
+    drop(picture);
+    assert!(rt; !is_found?);
     Ok(())
 }
 
@@ -173,16 +184,26 @@ fn asks_little(
     let found = route_counted(rt, alloc, picture, &asked, work)?.ok_or("a route")?;
     assert!(rt; found.price == 0);
     assert!(rt; found.route.crossed.as_slice().is_empty());
+    drop(found);
     let asked = asked.load(Ordering::SeqCst);
     assert!(rt; asked < 7, "{asked}");
     Ok(())
 }
 
+/// The same with a new workspace.
+fn asks_little_anew(rt: &impl Abort, alloc: Global, picture: &Picture) -> Result<(), Fail> {
+    let mut work = Workspace::new(alloc)?;
+    let told = asks_little(rt, alloc, picture, &mut work);
+    drop(work);
+    told
+}
+
 #[test]
 fn a_near_end_asks_little(rt: HostRuntime) -> Result<(), Fail> {
     let picture = grown(&rt, rt.alloc())?;
-    let mut work = Workspace::new(rt.alloc())?;
-    asks_little(&rt, rt.alloc(), &picture, &mut work)
+    let told = asks_little_anew(&rt, rt.alloc(), &picture);
+    drop(picture);
+    told
 }
 
 /// Whether a search on a kept workspace and one from nothing found the same: the same route at the same
@@ -212,7 +233,9 @@ fn is_planned<F: Asks>(
     let (u, v) = ends;
     assert!(rt; are_ends_of(frozen, u, v));
     let plan = search(alloc, frozen, tariff, u, v)?;
-    Ok(is_same(found, &plan))
+    let same = is_same(found, &plan);
+    drop(plan);
+    Ok(same)
 }
 
 /// The same of a picture.
@@ -225,7 +248,9 @@ fn is_planned_on<F: Asks>(
     found: &Option<PricedRoute>,
 ) -> Result<bool, AllocError> {
     let frozen = picture.freeze(alloc)?;
-    is_planned(rt, alloc, &frozen, tariff, ends, found)
+    let same = is_planned(rt, alloc, &frozen, tariff, ends, found);
+    drop(frozen);
+    same
 }
 
 /// Whether a search on a workspace that is kept finds what a search from nothing finds.
@@ -244,7 +269,9 @@ fn agrees<F: Asks + Drop>(
     assert!(rt; are_ends(picture, u, v));
     let tariff = Tariff::new(ask);
     let found = first_route(alloc, &picture.embedded(), &tariff, u, v, work)?;
-    is_planned_on(rt, alloc, picture, &tariff, ends, &found)
+    let same = is_planned_on(rt, alloc, picture, &tariff, ends, &found);
+    drop(found);
+    same
 }
 
 /// Searches in a row: on larger and smaller pictures, with a route and without.
@@ -309,8 +336,9 @@ fn is_agreed(
     let picture = picture_of(alloc, question.picture)?;
     let table = table_of(rt, question.rest, question.entries);
     let ask = |facts: &Facts| table.price(facts.kind);
-    let same = agrees(rt, alloc, &picture, ask, question.ends, work)?;
-    assert!(rt; same, "{:?}", question.ends);
+    let same = agrees(rt, alloc, &picture, ask, question.ends, work);
+    drop(picture);
+    assert!(rt; same?, "{:?}", question.ends);
     Ok(())
 }
 
@@ -325,5 +353,7 @@ fn are_agreed(rt: &impl Abort, alloc: Global, work: &mut Workspace) -> Result<()
 #[test]
 fn what_an_earlier_search_left_does_not_matter(rt: HostRuntime) -> Result<(), Fail> {
     let mut work = Workspace::new(rt.alloc())?;
-    are_agreed(&rt, rt.alloc(), &mut work)
+    let told = are_agreed(&rt, rt.alloc(), &mut work);
+    drop(work);
+    told
 }

@@ -67,7 +67,9 @@ pub(crate) fn next_call(numbers: &mut Numbers, vertices: u32, edges: u32) -> Cal
 /// The ids that the next edge and the next crossing of a picture get.
 pub(crate) fn next_ids(alloc: Global, picture: &Picture) -> Result<(u32, u32), AllocError> {
     let rows = picture.rows(alloc)?;
-    Ok((rows.next_edge, rows.next_crossing))
+    let ids = (rows.next_edge, rows.next_crossing);
+    drop(rows);
+    Ok(ids)
 }
 
 /// Whether an edge can be taken out, and these rows are left.
@@ -91,7 +93,9 @@ fn is_taken_back(
 ) -> Result<bool, AllocError> {
     (before.next_edge, before.next_crossing) = next_ids(alloc, picture)?;
     let mut copy = picture.copy(alloc)?;
-    is_deleted(alloc, &mut copy, edge, before)
+    let deleted = is_deleted(alloc, &mut copy, edge, before);
+    drop(copy);
+    deleted
 }
 
 /// Whether the picture is what the reply says, where that is seen without knowing the routes. A cut is
@@ -144,7 +148,9 @@ fn go_on_from<F: Asks>(
     let vertices = book.picture().counts().vertices;
     let call = next_call(numbers, vertices, before.next_edge);
     let reply = made(alloc, book, 0, call)?;
-    is_right(rt, alloc, book.picture(), call, &reply, before)
+    let told = is_right(rt, alloc, book.picture(), call, &reply, before);
+    drop(reply);
+    told
 }
 
 /// Makes one call, and looks at what comes of it.
@@ -155,7 +161,9 @@ fn go_on<F: Asks>(
     numbers: &mut Numbers,
 ) -> Result<(), Fail> {
     let mut before = book.picture().rows(alloc)?;
-    go_on_from(rt, alloc, book, numbers, &mut before)
+    let told = go_on_from(rt, alloc, book, numbers, &mut before);
+    drop(before);
+    told
 }
 
 /// Whether a reply is of the sort with this number: grown, put in across no edge, put in across some,
@@ -227,7 +235,9 @@ fn report_of<F: Asks>(alloc: Global, book: &Book<F>) -> Result<Report, AllocErro
 /// The text of that report.
 fn text_of<F: Asks>(alloc: Global, book: &Book<F>) -> Result<String, AllocError> {
     let made = report_of(alloc, book)?;
-    report(alloc, &made)
+    let text = report(alloc, &made);
+    drop(made);
+    text
 }
 
 /// A picture is like another, in which no vertex is missing.
@@ -238,7 +248,9 @@ fn is_alike(
     wanted: &Picture,
 ) -> Result<(), AllocError> {
     let rows = wanted.rows(alloc)?;
-    assert!(rt; shows(alloc, picture, &rows)?);
+    let same = shows(alloc, picture, &rows);
+    drop(rows);
+    assert!(rt; same?);
     assert!(rt; picture.counts().vertices == 40);
     Ok(())
 }
@@ -246,8 +258,9 @@ fn is_alike(
 /// The replay of a book's history is its picture.
 fn is_replayed<F: Asks>(rt: &impl Abort, alloc: Global, book: &Book<F>) -> Result<(), Fail> {
     let again = replay(alloc, book.start(), book.history(), book.tariff())?;
-    is_alike(rt, alloc, &again, book.picture())?;
-    Ok(())
+    let told = is_alike(rt, alloc, &again, book.picture());
+    drop(again);
+    Ok(told?)
 }
 
 /// There are replies of each sort.
@@ -313,7 +326,9 @@ fn run_from_seed<F: Asks + Drop>(
     requires promise { IsPromise (F.answers ask) }
 {
     let mut book = book_of(alloc, SEED, (40, 1_000, 2_000), ask)?;
-    run(rt, alloc, &mut book, state, calls)
+    let told = run(rt, alloc, &mut book, state, calls);
+    drop(book);
+    told
 }
 
 #[test]

@@ -9,6 +9,7 @@ use topo_core::darts::Way;
 use topo_core::listed::Listed;
 use topo_core::routes::Route;
 use topo_frozen::Frozen;
+use topo_picture::Picture;
 use topo_route::plan::{Plan, PlanFault};
 
 /// How many leaves the star has. Its one face has two darts for each.
@@ -17,13 +18,20 @@ const LEAVES: usize = 30_000;
 /// How many darts the routes cross.
 const CROSSED: u64 = 1_000_000;
 
-/// A star. Vertex 0 is its center.
-fn star(alloc: Global) -> Result<Frozen, Fail> {
-    let mut picture = picture_of(alloc, SEED)?;
+/// The star that the seed grows to.
+fn grown(alloc: Global, picture: &mut Picture) -> Result<Frozen, Fail> {
     for _leaf in 1..LEAVES {
         let _grown = picture.grow(alloc, 0, 0, 0)?;
     }
     Ok(picture.freeze(alloc)?)
+}
+
+/// A star. Vertex 0 is its center.
+fn star(alloc: Global) -> Result<Frozen, Fail> {
+    let mut picture = picture_of(alloc, SEED)?;
+    let star = grown(alloc, &mut picture);
+    drop(picture);
+    star
 }
 
 /// A plan that crosses the first edge from its left so many times. From the twin of that dart the face goes
@@ -55,13 +63,22 @@ fn judged(
 ) -> Result<Result<(), PlanFault>, AllocError> {
     let table = table_of(rt, Some(1), &[]);
     let plan = crossing_again(alloc, price)?;
-    Ok(judged_at(rt, star, &table, (1, 2), &plan))
+    let said = judged_at(rt, star, &table, (1, 2), &plan);
+    drop(plan);
+    Ok(said)
+}
+
+/// The check says so of two prices.
+fn are_judged(rt: &impl Abort, alloc: Global, star: &Frozen) -> Result<(), AllocError> {
+    assert!(rt; judged(rt, alloc, star, CROSSED)? == Err(PlanFault::NotLeast));
+    assert!(rt; judged(rt, alloc, star, CROSSED - 1)? == Err(PlanFault::NotARoute));
+    Ok(())
 }
 
 #[test]
 fn a_long_route_is_checked_in_little_time(rt: HostRuntime) -> Result<(), Fail> {
     let star = star(rt.alloc())?;
-    assert!(rt; judged(&rt, rt.alloc(), &star, CROSSED)? == Err(PlanFault::NotLeast));
-    assert!(rt; judged(&rt, rt.alloc(), &star, CROSSED - 1)? == Err(PlanFault::NotARoute));
-    Ok(())
+    let told = are_judged(&rt, rt.alloc(), &star);
+    drop(star);
+    Ok(told?)
 }

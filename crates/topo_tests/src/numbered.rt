@@ -36,7 +36,9 @@ fn seen_of(
     dart: Dart,
 ) -> Result<Seen, Fail> {
     let picture = picture_of(rt.alloc(), text)?;
-    Ok(seen(&picture, lists, dart)?)
+    let seen = seen(&picture, lists, dart);
+    drop(picture);
+    Ok(seen?)
 }
 
 #[test]

@@ -35,7 +35,9 @@ pub(crate) fn picture_within(
     let (vertices, edges, crossings) = limits;
     let limits = Limits::new(vertices, edges, crossings)?;
     let rows = read_rows(alloc, text.as_bytes())?;
-    Ok(Picture::load(alloc, limits, &rows)?)
+    let picture = Picture::load(alloc, limits, &rows);
+    drop(rows);
+    Ok(picture?)
 }
 
 /// The greatest limits.

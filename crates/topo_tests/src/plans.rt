@@ -70,6 +70,7 @@ fn takes_first<F: Asks>(
 ) -> Result<(), Fail> {
     let reply = joined(alloc, book, plan)?;
     assert!(rt; is_first(&reply), "{reply:?}");
+    drop(reply);
     Ok(())
 }
 
@@ -84,7 +85,9 @@ fn takes_first_from_start<F: Asks + Drop>(
     requires promise { IsPromise (F.answers ask) }
 {
     let mut book = book_of(alloc, BIPYRAMID, WIDE, ask)?;
-    takes_first(rt, alloc, &mut book, plan)
+    let told = takes_first(rt, alloc, &mut book, plan);
+    drop(book);
+    told
 }
 
 /// The same by the plan with this route and these heights.
@@ -96,7 +99,9 @@ fn takes_first_by(
     heights: &[u64],
 ) -> Result<(), Fail> {
     let plan = plan_of(alloc, route, heights)?;
-    takes_first_from_start(rt, alloc, |facts: &Facts| table.price(facts.kind), &plan)
+    let told = takes_first_from_start(rt, alloc, |facts: &Facts| table.price(facts.kind), &plan);
+    drop(plan);
+    told
 }
 
 #[test]
@@ -125,7 +130,9 @@ fn passes<F: Asks>(
 ) -> Result<bool, AllocError> {
     let frozen = book.picture().freeze(alloc)?;
     assert!(rt; has_apexes(&frozen));
-    Ok(check(&frozen, book.tariff(), 3, 4, plan).is_ok())
+    let passed = check(&frozen, book.tariff(), 3, 4, plan).is_ok();
+    drop(frozen);
+    Ok(passed)
 }
 
 /// How often the prices are asked for in a check of the plan, which it passes.
@@ -179,7 +186,9 @@ fn counted_from_start<F: Asks + Drop>(
     requires promise { IsPromise (F.answers ask) }
 {
     let mut book = book_of(alloc, BIPYRAMID, WIDE, ask)?;
-    counted(rt, alloc, asked, &mut book, plan)
+    let counted = counted(rt, alloc, asked, &mut book, plan);
+    drop(book);
+    counted
 }
 
 /// The same with the prices of a table.
@@ -201,7 +210,9 @@ fn counted_at(
 fn a_plan_that_passes_spares_the_search(rt: HostRuntime) -> Result<(), Fail> {
     let table = table_of(&rt, Some(1), FIVE_TWO_NINE);
     let plan = plan_of(rt.alloc(), &(2, 1, Way::Back, 2, 2), &LEAST)?;
-    let (checked, inserted) = counted_at(&rt, rt.alloc(), &table, &plan)?;
+    let counted = counted_at(&rt, rt.alloc(), &table, &plan);
+    drop(plan);
+    let (checked, inserted) = counted?;
     assert!(rt; checked > 0);
     assert!(rt; inserted == checked);
     Ok(())

@@ -25,17 +25,12 @@ struct Held {
     rows: Rows,
 }
 
-/// Holds a version that shows these rows.
-fn hold_with(held: &mut Vec<Held>, picture: &Arc<Picture>, rows: Rows) -> Result<(), AllocError> {
-    let picture = Arc::try_clone(picture)?;
-    held.push(Held { picture, rows })?;
-    Ok(())
-}
-
 /// Takes a share of a version.
 fn hold(alloc: Global, held: &mut Vec<Held>, picture: &Arc<Picture>) -> Result<(), AllocError> {
+    let picture = Arc::try_clone(picture)?;
     let rows = picture.rows(alloc)?;
-    hold_with(held, picture, rows)
+    held.push(Held { picture, rows })?;
+    Ok(())
 }
 
 /// Whether each version shows the rows that it showed.
@@ -58,7 +53,7 @@ fn hold_next(alloc: Global, held: &mut Vec<Held>, next: &Next) -> Result<String,
 
 /// Makes a call ready, and lets that go.
 fn let_go<F: Asks>(alloc: Global, book: &mut Book<F>, call: Call) -> Result<(), AllocError> {
-    let _ = book.prepare(alloc, 0, call)?;
+    drop(book.prepare(alloc, 0, call)?);
     Ok(())
 }
 
@@ -80,7 +75,9 @@ fn enter<F: Asks>(
 /// Makes a call in place. The answer is the reply as text.
 fn make<F: Asks>(alloc: Global, book: &mut Book<F>, call: Call) -> Result<String, AllocError> {
     let reply = made(alloc, book, 0, call)?;
-    format!(in alloc; "{reply:?}")
+    let told = format!(in alloc; "{reply:?}");
+    drop(reply);
+    told
 }
 
 /// The same. The version that it makes is held.
@@ -93,6 +90,11 @@ fn make_and_hold<F: Asks>(
     let told = make(alloc, book, call);
     hold(alloc, held, book.shared_picture())?;
     told
+}
+
+/// A call is replied as it is to be.
+fn is_replied(rt: &impl Abort, call: Call, told: &str, wanted: &str) {
+    assert!(rt; told == wanted, "{call:?}: {told}, not {wanted}");
 }
 
 /// Makes a call in place where it is to, and else ready first. It is replied as it is to be.
@@ -110,8 +112,7 @@ fn makes<F: Asks>(
     } else {
         enter(alloc, book, held, call)
     };
-    let told = told?;
-    assert!(rt; told.as_str() == wanted, "{call:?}: {told}, not {wanted}");
+    is_replied(rt, call, told?.as_str(), wanted);
     Ok(())
 }
 
@@ -139,7 +140,31 @@ fn are_alike(
     call: Call,
 ) -> Result<(), AllocError> {
     let rows = first.rows(alloc)?;
-    assert!(rt; shows(alloc, second, &rows)?, "{call:?}");
+    let same = shows(alloc, second, &rows);
+    drop(rows);
+    assert!(rt; same?, "{call:?}");
+    Ok(())
+}
+
+/// The next call that the generator makes of a picture.
+fn call_of(alloc: Global, numbers: &mut Numbers, picture: &Picture) -> Result<Call, AllocError> {
+    let (next_edge, _) = next_ids(alloc, picture)?;
+    Ok(next_call(numbers, picture.counts().vertices, next_edge))
+}
+
+/// The versions that are held are as they were. Where they are more than so many, the one held longest is
+/// let go.
+fn keep_most(
+    rt: &impl Abort,
+    alloc: Global,
+    held: &mut Vec<Held>,
+    most: usize,
+    call: Call,
+) -> Result<(), AllocError> {
+    assert!(rt; are_as_they_were(alloc, held.as_slice())?, "{call:?}");
+    if held.len() > most {
+        drop(held.remove(0));
+    }
     Ok(())
 }
 
@@ -155,9 +180,7 @@ fn go_on<F: Asks>(
     most: usize,
 ) -> Result<(), AllocError> {
     let (first, second) = books;
-    let (next_edge, _) = next_ids(alloc, first.picture())?;
-    let vertices = first.picture().counts().vertices;
-    let call = next_call(numbers, vertices, next_edge);
+    let call = call_of(alloc, numbers, first.picture())?;
     make_of_both(
         rt,
         alloc,
@@ -167,11 +190,7 @@ fn go_on<F: Asks>(
         turn % 5 == 4,
     )?;
     are_alike(rt, alloc, first.picture(), second.picture(), call)?;
-    assert!(rt; are_as_they_were(alloc, held.as_slice())?, "{call:?}");
-    if held.len() > most {
-        drop(held.remove(0));
-    }
-    Ok(())
+    keep_most(rt, alloc, held, most, call)
 }
 
 /// A book has the history that is told by a text.
@@ -203,15 +222,15 @@ fn go_on_often<F: Asks>(
     rt: &impl Abort,
     alloc: Global,
     books: (&mut Book<F>, &mut Book<F>),
+    held: &mut Vec<Held>,
     most: usize,
     calls: u32,
 ) -> Result<(), AllocError> {
     let (first, second) = books;
     let mut numbers = Numbers { state: 11 };
-    let mut held: Vec<Held> = Vec::new(alloc);
     for turn in 0..calls {
         let books = (&mut *first, &mut *second);
-        go_on(rt, alloc, books, &mut held, &mut numbers, turn, most)?;
+        go_on(rt, alloc, books, held, &mut numbers, turn, most)?;
     }
     Ok(())
 }
@@ -225,7 +244,17 @@ fn run<F: Asks>(
     calls: u32,
 ) -> Result<(), AllocError> {
     let (first, second) = books;
-    go_on_often(rt, alloc, (&mut *first, &mut *second), most, calls)?;
+    let mut held = Vec::new(alloc);
+    let told = go_on_often(
+        rt,
+        alloc,
+        (&mut *first, &mut *second),
+        &mut held,
+        most,
+        calls,
+    );
+    drop(held);
+    told?;
     have_one_history(rt, alloc, first, second)
 }
 
@@ -239,8 +268,8 @@ fn seed_book<F: Asks + Drop>(
     alloc: Global,
     tariff: &Arc<Tariff<F>>,
 ) -> Result<Book<F>, AllocError> {
-    let start = seed(alloc)?;
     let tariff = Arc::try_clone(tariff)?;
+    let start = seed(alloc)?;
     Book::new(alloc, start, tariff)
 }
 
@@ -253,7 +282,9 @@ fn run_beside<F: Asks + Drop>(
     most: usize,
 ) -> Result<(), AllocError> {
     let mut second = seed_book(alloc, tariff)?;
-    run(rt, alloc, (first, &mut second), most, 150)
+    let told = run(rt, alloc, (first, &mut second), most, 150);
+    drop(second);
+    told
 }
 
 /// The run of two books of the same prices that begin with the seed.
@@ -264,7 +295,9 @@ fn run_both<F: Asks + Drop>(
     most: usize,
 ) -> Result<(), AllocError> {
     let mut first = seed_book(alloc, tariff)?;
-    run_beside(rt, alloc, &mut first, tariff, most)
+    let told = run_beside(rt, alloc, &mut first, tariff, most);
+    drop(first);
+    told
 }
 
 /// The run of two books with the prices of a closure.

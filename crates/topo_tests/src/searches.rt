@@ -129,7 +129,10 @@ pub(crate) fn table_of(
 
 /// The frozen picture of a text.
 fn frozen_of(alloc: Global, text: &str) -> Result<Frozen, Fail> {
-    Ok(picture_of(alloc, text)?.freeze(alloc)?)
+    let picture = picture_of(alloc, text)?;
+    let frozen = picture.freeze(alloc);
+    drop(picture);
+    Ok(frozen?)
 }
 
 pub(crate) fn dart(edge: u32, seg: u32, way: Way) -> Dart {
@@ -303,6 +306,7 @@ fn is_found(
     let table = table_of(rt, question.rest, question.entries);
     let plan = plan_at(rt, alloc, frozen, &table, question.ends)?;
     is_judged(rt, frozen, &table, question.ends, &plan, answer);
+    drop(plan);
     Ok(())
 }
 
@@ -314,7 +318,9 @@ fn is_answered(
     answer: &Answer,
 ) -> Result<(), Fail> {
     let frozen = frozen_of(alloc, question.picture)?;
-    is_found(rt, alloc, &frozen, question, answer)
+    let told = is_found(rt, alloc, &frozen, question, answer);
+    drop(frozen);
+    told
 }
 
 #[test]
@@ -349,16 +355,24 @@ fn has_heights(
     let table = table_of(rt, Some(1), entries);
     let plan = plan_at(rt, alloc, frozen, &table, APEXES)?;
     assert!(rt; plan.heights.as_slice() == heights);
+    drop(plan);
+    Ok(())
+}
+
+/// Each search gives its heights.
+fn have_heights(rt: &impl Abort, alloc: Global, frozen: &Frozen) -> Result<(), Fail> {
+    for (entries, heights) in HEIGHTS {
+        has_heights(rt, alloc, frozen, *entries, heights.as_slice())?;
+    }
     Ok(())
 }
 
 #[test]
 fn a_search_gives_the_least_height_of_each_dart(rt: HostRuntime) -> Result<(), Fail> {
     let frozen = frozen_of(rt.alloc(), BIPYRAMID)?;
-    for (entries, heights) in HEIGHTS {
-        has_heights(&rt, rt.alloc(), &frozen, *entries, heights.as_slice())?;
-    }
-    Ok(())
+    let told = have_heights(&rt, rt.alloc(), &frozen);
+    drop(frozen);
+    told
 }
 
 /// Whether the search finds a route with the prices of a table.
@@ -376,14 +390,18 @@ fn has_route(
         |facts: &Facts| table.price(facts.kind),
         ends,
     )?;
-    Ok(plan.is_some())
+    let is_found = plan.is_some();
+    drop(plan);
+    Ok(is_found)
 }
 
 #[test]
 fn no_route_where_the_triangle_is_closed(rt: HostRuntime) -> Result<(), Fail> {
     let frozen = frozen_of(rt.alloc(), BIPYRAMID)?;
     let table = table_of(&rt, Some(1), &[(1, None), (2, None), (3, None)]);
-    assert!(rt; !has_route(&rt, rt.alloc(), &frozen, &table, APEXES)?);
+    let is_found = has_route(&rt, rt.alloc(), &frozen, &table, APEXES);
+    drop(frozen);
+    assert!(rt; !is_found?);
     Ok(())
 }
 
@@ -406,7 +424,9 @@ fn frozen_after(
 /// The picture of four parallel edges, after the growths.
 fn grown(rt: &impl Abort, alloc: Global) -> Result<Frozen, Fail> {
     let mut picture = picture_of(alloc, PARALLEL)?;
-    Ok(frozen_after(rt, alloc, &mut picture)?)
+    let frozen = frozen_after(rt, alloc, &mut picture);
+    drop(picture);
+    Ok(frozen?)
 }
 
 /// Between the grown vertices, at the greatest price.
@@ -421,8 +441,11 @@ const ACROSS_TWO: Answer = Answer {
 fn a_search_after_growths(rt: HostRuntime) -> Result<(), Fail> {
     let frozen = grown(&rt, rt.alloc())?;
     let table = table_of(&rt, Some(1000), &[]);
-    let plan = plan_at(&rt, rt.alloc(), &frozen, &table, (2, 3))?;
+    let plan = plan_at(&rt, rt.alloc(), &frozen, &table, (2, 3));
+    drop(frozen);
+    let plan = plan?;
     assert!(rt; is_answer(&plan, &ACROSS_TWO), "{plan:?}");
+    drop(plan);
     Ok(())
 }
 
@@ -435,6 +458,7 @@ pub(crate) fn invented(
     price: u64,
     heights: &[u64],
 ) -> Result<Plan, AllocError> {
+    let heights = Vec::from_slice(alloc, heights)?;
     let mut darts = Vec::new(alloc);
     darts.push(crossed)?;
     Ok(Plan {
@@ -444,7 +468,7 @@ pub(crate) fn invented(
             end,
         },
         price,
-        heights: Listed::from_vec(Vec::from_slice(alloc, heights)?),
+        heights: Listed::from_vec(heights),
     })
 }
 
@@ -530,17 +554,25 @@ fn is_said(
     let table = table_of(rt, Some(1), *entries);
     let plan = invented(alloc, start, dart(edge, 0, way), end, price, *heights)?;
     let said = judged_at(rt, frozen, &table, APEXES, &plan);
+    drop(plan);
     assert!(rt; said == *due, "{route:?}");
+    Ok(())
+}
+
+/// The check of each plan says what is due.
+fn are_said(rt: &impl Abort, alloc: Global, frozen: &Frozen) -> Result<(), AllocError> {
+    for judgement in JUDGEMENTS {
+        is_said(rt, alloc, frozen, judgement)?;
+    }
     Ok(())
 }
 
 #[test]
 fn plans_fail_the_first_test(rt: HostRuntime) -> Result<(), Fail> {
     let frozen = frozen_of(rt.alloc(), BIPYRAMID)?;
-    for judgement in JUDGEMENTS {
-        is_said(&rt, rt.alloc(), &frozen, judgement)?;
-    }
-    Ok(())
+    let told = are_said(&rt, rt.alloc(), &frozen);
+    drop(frozen);
+    Ok(told?)
 }
 
 /// The check of the least plan, with the height at a place raised by 1, tells an uneven face.
@@ -557,18 +589,26 @@ fn is_uneven(
     heights[place] = heights[place].wrapping_add(1);
     let plan = invented(alloc, 2, dart(1, 0, Way::Back), 2, 2, &heights)?;
     let said = judged_at(rt, frozen, table, APEXES, &plan);
+    drop(plan);
     assert!(rt; said == Err(PlanFault::UnevenFace), "height {place}");
+    Ok(())
+}
+
+/// The same at each place.
+fn are_uneven(rt: &impl Abort, alloc: Global, frozen: &Frozen) -> Result<(), AllocError> {
+    let table = table_of(rt, Some(1), FIVE_TWO_NINE);
+    for place in 0..18 {
+        is_uneven(rt, alloc, frozen, &table, place)?;
+    }
     Ok(())
 }
 
 #[test]
 fn one_height_raised_is_uneven(rt: HostRuntime) -> Result<(), Fail> {
     let frozen = frozen_of(rt.alloc(), BIPYRAMID)?;
-    let table = table_of(&rt, Some(1), FIVE_TWO_NINE);
-    for place in 0..18 {
-        is_uneven(&rt, rt.alloc(), &frozen, &table, place)?;
-    }
-    Ok(())
+    let told = are_uneven(&rt, rt.alloc(), &frozen);
+    drop(frozen);
+    Ok(told?)
 }
 
 /// How often a search between the apexes asks for a price. There is a route.
@@ -585,6 +625,7 @@ fn asked_for(
     };
     let plan = planned(rt, alloc, frozen, ask, APEXES)?;
     assert!(rt; plan.is_some());
+    drop(plan);
     Ok(asks.load(Ordering::SeqCst))
 }
 
@@ -592,7 +633,9 @@ fn asked_for(
 fn each_edge_is_asked_for_once(rt: HostRuntime) -> Result<(), Fail> {
     let frozen = frozen_of(rt.alloc(), BIPYRAMID)?;
     let table = table_of(&rt, Some(1), FIVE_TWO_NINE);
-    assert!(rt; asked_for(&rt, rt.alloc(), &frozen, &table)? == 9);
+    let asked = asked_for(&rt, rt.alloc(), &frozen, &table);
+    drop(frozen);
+    assert!(rt; asked? == 9);
     Ok(())
 }
 
@@ -601,7 +644,9 @@ fn edges_of_a_frozen_picture_have_the_prices_of_their_kinds(rt: HostRuntime) -> 
     let frozen = frozen_of(rt.alloc(), BIPYRAMID)?;
     let table = table_of(&rt, Some(1), FIVE_TWO_NINE);
     let ask = |facts: &Facts| table.price(facts.kind);
-    assert!(rt; prices_of(&rt, &frozen, ask) == [Some(5), Some(2)]);
+    let prices = prices_of(&rt, &frozen, ask);
+    drop(frozen);
+    assert!(rt; prices == [Some(5), Some(2)]);
     Ok(())
 }
 
@@ -671,5 +716,6 @@ fn answers(rt: &impl Abort, frozen: &Frozen) {
 fn a_frozen_picture_answers(rt: HostRuntime) -> Result<(), Fail> {
     let frozen = frozen_of(rt.alloc(), JOINED)?;
     answers(&rt, &frozen);
+    drop(frozen);
     Ok(())
 }

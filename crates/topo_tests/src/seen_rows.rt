@@ -12,19 +12,25 @@ use topo_picture::Picture;
 /// Whether a picture shows these rows.
 pub(crate) fn shows(alloc: Global, picture: &Picture, rows: &Rows) -> Result<bool, AllocError> {
     let now = picture.rows(alloc)?;
-    Ok(now.equals(rows))
+    let same = now.equals(rows);
+    drop(now);
+    Ok(same)
 }
 
 /// Whether rows are loaded under limits and given back.
 fn are_given_back(alloc: Global, limits: Limits, rows: &Rows) -> Result<bool, Fail> {
     let again = Picture::load(alloc, limits, rows)?;
-    Ok(shows(alloc, &again, rows)?)
+    let same = shows(alloc, &again, rows);
+    drop(again);
+    Ok(same?)
 }
 
 /// Whether a picture's rows are loaded under its limits and given back.
 pub(crate) fn is_loaded_again(alloc: Global, picture: &Picture) -> Result<bool, Fail> {
     let rows = picture.rows(alloc)?;
-    are_given_back(alloc, picture.limits(), &rows)
+    let same = are_given_back(alloc, picture.limits(), &rows);
+    drop(rows);
+    same
 }
 
 /// The ids of a list that are not among the others.
@@ -154,5 +160,8 @@ pub(crate) fn falls_apart(
 ) -> Result<bool, Fail> {
     let left = without(alloc, rows, e)?;
     let loaded = Picture::load(alloc, limits, &left);
-    Ok(matches!(loaded, Err(LoadFault::NotConnected)))
+    drop(left);
+    let falls = matches!(loaded, Err(LoadFault::NotConnected));
+    drop(loaded);
+    Ok(falls)
 }
