@@ -18,7 +18,7 @@ use topo_route::plan::Plan;
 pub(crate) const CALLER: u32 = 3;
 
 /// How a call is made of a book.
-#[derive(Clone, Copy, Debug)]
+#[derive(Clone, Copy)]
 pub(crate) enum Step {
     /// Carried out and entered at once.
     Made(Call),
@@ -55,8 +55,9 @@ fn book_again<R: Print + Eprint + AllocGlobal, F: Asks + Drop>(
     before: &str,
 ) -> Result<Book<F>> {
     compare_picture(rt, "Book::new", before, start)?;
+    let tariff = Arc::try_clone(tariff)?;
     let copy = start.copy(rt.alloc())?;
-    Ok(Book::new(rt.alloc(), copy, Arc::try_clone(tariff)?)?)
+    Ok(Book::new(rt.alloc(), copy, tariff)?)
 }
 
 /// The book that begins with a picture.
@@ -67,8 +68,9 @@ pub(crate) fn book_of<R: Print + Eprint + AllocGlobal, F: Asks + Drop>(
 ) -> Result<Book<F>> {
     let alloc = rt.alloc();
     let before = picture_state(rt, start)?;
+    let share = Arc::try_clone(tariff)?;
     let copy = copied(rt, start)?;
-    match Book::new(alloc, copy, Arc::try_clone(tariff)?) {
+    match Book::new(alloc, copy, share) {
         Ok(book) => Ok(book),
         Err(_) => book_again(rt, start, tariff, before.as_str()),
     }
@@ -128,13 +130,16 @@ fn make<R: Print + Eprint + AllocGlobal, F: Asks>(
     call: Call,
     before: &str,
 ) -> Result<()> {
-    match made(rt.alloc(), book, call) {
-        Ok(reply) => print_reply(rt, call, &reply),
+    let reply = match made(rt.alloc(), book, call) {
+        Ok(reply) => reply,
         Err(_) => {
             compare_book(rt, name_of(call), before, book)?;
-            print_reply(rt, call, &made(rt.alloc(), book, call)?)
+            made(rt.alloc(), book, call)?
         }
-    }
+    };
+    let told = print_reply(rt, call, &reply);
+    drop(reply);
+    told
 }
 
 /// Prints what an insertion for which there is a plan was answered.
@@ -151,14 +156,16 @@ fn make_planned<R: Print + Eprint + AllocGlobal, F: Asks>(
     plan: &Plan,
     before: &str,
 ) -> Result<()> {
-    match book.insert_planned(rt.alloc(), CALLER, u, v, kind, plan) {
-        Ok(reply) => print_planned(rt, u, v, kind, &reply),
+    let reply = match book.insert_planned(rt.alloc(), CALLER, u, v, kind, plan) {
+        Ok(reply) => reply,
         Err(_) => {
             compare_book(rt, "Book::insert_planned", before, book)?;
-            let reply = book.insert_planned(rt.alloc(), CALLER, u, v, kind, plan)?;
-            print_planned(rt, u, v, kind, &reply)
+            book.insert_planned(rt.alloc(), CALLER, u, v, kind, plan)?
         }
-    }
+    };
+    let told = print_planned(rt, u, v, kind, &reply);
+    drop(reply);
+    told
 }
 
 /// Takes one step of a book in this state.

@@ -126,7 +126,25 @@ fn pass_on<R: Eprint + AllocGlobal, F: Asks>(
     ensures { OnOk result (IsSimpleRoute picture.now.rows u v plan.now.route) }
 {
     let frozen = frozen_of(rt, picture)?;
-    pass(&frozen, tariff, u, v, plan)
+    let passed = pass(&frozen, tariff, u, v, plan);
+    drop(frozen);
+    passed
+}
+
+/// An insertion along the first route, which is checked.
+fn join_by<R: Print + Eprint + AllocGlobal, F: Asks>(
+    rt: &R,
+    picture: &mut Picture,
+    tariff: &Tariff<F>,
+    u: u32,
+    v: u32,
+    plan: &Plan,
+) -> Result<()> {
+    pass_on(rt, picture, tariff, u, v, plan)?;
+    match picture.admit(u, v, 0) {
+        Ok(()) => apply(rt, picture, u, v, plan),
+        Err(why) => bail!("not admitted: {why:?}"),
+    }
 }
 
 /// An insertion along the first route, which is searched for and checked.
@@ -138,11 +156,9 @@ fn join<R: Print + Eprint + AllocGlobal, F: Asks>(
     v: u32,
 ) -> Result<()> {
     let plan = planned(rt, picture, tariff, u, v)?;
-    pass_on(rt, picture, tariff, u, v, &plan)?;
-    match picture.admit(u, v, 0) {
-        Ok(()) => apply(rt, picture, u, v, &plan),
-        Err(why) => bail!("not admitted: {why:?}"),
-    }
+    let told = join_by(rt, picture, tariff, u, v, &plan);
+    drop(plan);
+    told
 }
 
 /// An edge from apex to apex is put in and taken out, and a vertex grown.
@@ -190,10 +206,12 @@ fn change_with<R: Print + Eprint + AllocGlobal, F: Asks + Drop>(
 {
     let tariff = Tariff::new(ask);
     let mut picture = copied(rt, start)?;
-    match changes {
+    let told = match changes {
         Changes::OfBipyramid => change_bipyramid(rt, &mut picture, &tariff),
         Changes::OfBarrier => change_barrier(rt, &mut picture, &tariff),
-    }
+    };
+    drop(picture);
+    told
 }
 
 /// Changes of a copy of a picture.

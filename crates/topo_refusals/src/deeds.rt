@@ -130,7 +130,9 @@ fn make<F: Asks + Drop, K: Naming<F>, R: Wait + Print + Eprint + AllocGlobal>(
     plan: Option<&Plan>,
 ) -> Result<()> {
     let reply = answered(rt, service, passes, call, plan)?;
-    print_reply(rt, name_of(call, plan), call, &reply)?;
+    let told = print_reply(rt, name_of(call, plan), call, &reply);
+    drop(reply);
+    told?;
     show(rt, passes)
 }
 
@@ -156,10 +158,13 @@ fn print_plan<R: Print>(rt: &R, plan: &Plan) -> Result<()> {
 /// The plan that was answered, which is printed.
 fn plan_of<R: Print>(rt: &R, answer: Result<Plan, PassFault>) -> Result<Plan> {
     match answer {
-        Ok(plan) => {
-            print_plan(rt, &plan)?;
-            Ok(plan)
-        }
+        Ok(plan) => match print_plan(rt, &plan) {
+            Ok(()) => Ok(plan),
+            Err(error) => {
+                drop(plan);
+                Err(error)
+            }
+        },
         Err(fault) => bail!("no plan: {fault:?}"),
     }
 }
@@ -212,7 +217,9 @@ fn insert_by_plan<F: Asks + Drop, K: Naming<F>, R: Wait + Print + Eprint + Alloc
     passes: &mut [Pass<F, K>],
 ) -> Result<()> {
     let plan = planned(rt, service, passes)?;
-    insert_twice(rt, service, passes, &plan)
+    let told = insert_twice(rt, service, passes, &plan);
+    drop(plan);
+    told
 }
 
 /// The first calls, insertions by a plan, the deletion of an edge that is crossed, a list that a worker carries out, and insertions by a route that was found.
@@ -252,5 +259,7 @@ pub(crate) fn tell_deeds<
     };
     let kept = view_of(looker)?;
     let told = make_all(rt, service, passes);
-    show_kept(rt, told, &kept)
+    let shown = show_kept(rt, told, &kept);
+    drop(kept);
+    shown
 }

@@ -107,7 +107,9 @@ fn insert<F: Asks + Drop, K: Naming<F>, R: Wait + Print + Eprint + AllocGlobal>(
     found: &FoundRoute<F, K>,
 ) -> Result<()> {
     let answer = inserted(rt, service, passes, found)?;
-    print_answer(rt, &answer)?;
+    let told = print_answer(rt, &answer);
+    drop(answer);
+    told?;
     show(rt, passes)
 }
 
@@ -131,5 +133,7 @@ pub(crate) fn insert_by_search<
     R: Wait + Print + Eprint + AllocGlobal,
 >(rt: &R, service: &Service<F, K>, passes: &mut [Pass<F, K>]) -> Result<()> {
     let found = found(rt, service, passes)?;
-    insert_twice(rt, service, passes, &found)
+    let told = insert_twice(rt, service, passes, &found);
+    drop(found);
+    told
 }

@@ -114,7 +114,9 @@ fn run_rest<
     tell(rt, "a command of run_workers");
     compare_receipts(rt, had, receipts(passes), at)?;
     let lists = listed(rt, rest_of(at)?)?;
-    run_whole(rt, service, passes, lists.as_slice())
+    let told = run_whole(rt, service, passes, lists.as_slice());
+    drop(lists);
+    told
 }
 
 /// Runs a list to its end.
@@ -192,7 +194,9 @@ pub(crate) fn work<
     R: Threads + Wait + Print + Eprint + AllocGlobal + Sync,
 >(rt: &R, service: &Service<F, K>, passes: &mut [Pass<F, K>]) -> Result<()> {
     let lists = listed(rt, COMMANDS)?;
-    run(rt, service, passes, lists.as_slice())?;
+    let told = run(rt, service, passes, lists.as_slice());
+    drop(lists);
+    told?;
     print_receipts(rt, passes)?;
     show(rt, passes)
 }

@@ -59,7 +59,9 @@ fn run_on<R: Print + Eprint + AllocGlobal>(
     story: &Story,
 ) -> Result<()> {
     let picture = loaded(rt, named)?;
-    call(rt, &picture, changes, story)
+    let told = call(rt, &picture, changes, story);
+    drop(picture);
+    told
 }
 
 /// The calls on one picture after the other, those of an embedding, and those of a service.

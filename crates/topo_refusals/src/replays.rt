@@ -45,5 +45,7 @@ pub(crate) fn replay_from<R: Print + Eprint + AllocGlobal, F: Asks>(
     start: &Picture,
 ) -> Result<()> {
     let answer = replayed(rt, book, start)?;
-    print_replay(rt, &answer)
+    let told = print_replay(rt, &answer);
+    drop(answer);
+    told
 }

@@ -69,9 +69,16 @@ fn print_loaded<R: Print + Eprint + AllocGlobal>(
 pub(crate) fn loaded<R: Print + Eprint + AllocGlobal>(rt: &R, named: &Named) -> Result<Picture> {
     let alloc = rt.alloc();
     let rows = again(rt, || rows_of(alloc, named))?;
-    let picture = load(rt, &rows)?;
-    print_loaded(rt, named.name, &picture)?;
-    Ok(picture)
+    let picture = load(rt, &rows);
+    drop(rows);
+    let picture = picture?;
+    match print_loaded(rt, named.name, &picture) {
+        Ok(()) => Ok(picture),
+        Err(error) => {
+            drop(picture);
+            Err(error)
+        }
+    }
 }
 
 /// Prints whether what a call gave is what the picture is.
@@ -85,8 +92,9 @@ fn print_likeness<R: Print>(rt: &R, call: &str, picture: &str, given: &str) -> R
 fn copy<R: Print + Eprint + AllocGlobal>(rt: &R, picture: &Picture, before: &str) -> Result<()> {
     let alloc = rt.alloc();
     let copy = reading(rt, "Picture::copy", before, picture, || picture.copy(alloc))?;
-    let given = picture_state(rt, &copy)?;
-    print_likeness(rt, "copy", before, given.as_str())
+    let given = picture_state(rt, &copy);
+    drop(copy);
+    print_likeness(rt, "copy", before, given?.as_str())
 }
 
 /// The picture gives its rows.
@@ -97,8 +105,9 @@ fn give_rows<R: Print + Eprint + AllocGlobal>(
 ) -> Result<()> {
     let alloc = rt.alloc();
     let rows = reading(rt, "Picture::rows", before, picture, || picture.rows(alloc))?;
-    let given = rows_state(rt, picture.limits(), &rows)?;
-    print_likeness(rt, "rows", before, given.as_str())
+    let given = rows_state(rt, picture.limits(), &rows);
+    drop(rows);
+    print_likeness(rt, "rows", before, given?.as_str())
 }
 
 /// The picture is frozen.
@@ -111,8 +120,9 @@ fn freeze<R: Print + Eprint + AllocGlobal>(rt: &R, picture: &Picture, before: &s
         picture,
         || picture.freeze(alloc),
     )?;
-    let given = rows_state(rt, picture.limits(), frozen.rows())?;
-    print_likeness(rt, "freeze", before, given.as_str())
+    let given = rows_state(rt, picture.limits(), frozen.rows());
+    drop(frozen);
+    print_likeness(rt, "freeze", before, given?.as_str())
 }
 
 /// How many darts a picture has, once they are numbered in new lists.
@@ -213,7 +223,10 @@ fn planned_on<R: Print + Eprint + AllocGlobal, F: Asks>(
         bail!("no two vertices");
     }
     let found = searched(rt, frozen, limits, tariff, u, v)?;
-    print_found(rt, u, v, &found)?;
+    if let Err(error) = print_found(rt, u, v, &found) {
+        drop(found);
+        return Err(error);
+    }
     match found {
         Some(plan) => Ok(plan),
         None => bail!("no route"),
@@ -229,5 +242,7 @@ pub(crate) fn planned<R: Print + Eprint + AllocGlobal, F: Asks>(
     v: u32,
 ) -> Result<Plan> {
     let frozen = frozen_of(rt, picture)?;
-    planned_on(rt, &frozen, picture.limits(), tariff, u, v)
+    let plan = planned_on(rt, &frozen, picture.limits(), tariff, u, v);
+    drop(frozen);
+    plan
 }

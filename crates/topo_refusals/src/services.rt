@@ -29,9 +29,11 @@ const SEATS: usize = 3;
 
 /// A service that begins with the bipyramid.
 pub(crate) fn serve<R: Threads + Wait + Print + Eprint + AllocGlobal + Sync>(rt: &R) -> Result<()> {
-    let start = loaded(rt, &BIPYRAMID)?;
     let table = table_of([1, 5, 2, 9])?;
-    serve_with(rt, &start, |facts: &Facts| table.price(facts.kind))
+    let start = loaded(rt, &BIPYRAMID)?;
+    let told = serve_with(rt, &start, |facts: &Facts| table.price(facts.kind));
+    drop(start);
+    told
 }
 
 /// A service with the prices of a closure.
@@ -69,8 +71,8 @@ fn begun<F: Asks + Drop + Send + Sync, R: Threads + Wait + Print + Eprint + Allo
     start: &Picture,
     tariff: &Arc<Tariff<F>>,
 ) -> Result<bool> {
-    let copy = copied(rt, start)?;
     let tariff = Arc::try_clone(tariff)?;
+    let copy = copied(rt, start)?;
     named::<F, Brand, R>(rt, Unopened::new(), copy, tariff)
 }
 
@@ -112,7 +114,9 @@ fn close<F: Asks + Drop, K: Naming<F>, R: Wait + Print + Eprint + AllocGlobal>(
     told: Result<()>,
 ) -> Result<bool> {
     let end = service.close(rt, passes);
-    finish(rt, told, &end)
+    let finished = finish(rt, told, &end);
+    drop(end);
+    finished
 }
 
 /// Gives the passes out, and tells the story.

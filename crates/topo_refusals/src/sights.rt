@@ -55,7 +55,9 @@ fn version_text<F: Asks + Drop, K: Naming<F>, R: Eprint + AllocGlobal>(
 ) -> Result<String> {
     let alloc = rt.alloc();
     let rows = picture_rows(rt, version.picture())?;
-    Ok(again(rt, || text_of(alloc, passes, version, &rows))?)
+    let text = again(rt, || text_of(alloc, passes, version, &rows));
+    drop(rows);
+    Ok(text?)
 }
 
 /// What is compared before and after a call that wants memory.
@@ -93,7 +95,9 @@ fn text_now<F: Asks + Drop, K: Naming<F>, R: Eprint + AllocGlobal>(
         bail!("no pass");
     };
     let version = view_of(looker)?;
-    version_text(rt, &*others, &version)
+    let text = version_text(rt, &*others, &version);
+    drop(version);
+    text
 }
 
 /// Prints what is seen of a service.

@@ -134,7 +134,9 @@ pub(crate) fn picture_state<R: Eprint + AllocGlobal>(
     picture: &Picture,
 ) -> Result<String, AllocError> {
     let rows = picture_rows(rt, picture)?;
-    rows_state(rt, picture.limits(), &rows)
+    let state = rows_state(rt, picture.limits(), &rows);
+    drop(rows);
+    state
 }
 
 /// A copy of a picture.
@@ -167,7 +169,9 @@ pub(crate) fn book_state<R: Eprint + AllocGlobal, F: Asks>(
         limits: book.picture().limits(),
         rows: &rows,
     };
-    again(rt, || text_of(alloc, lines))
+    let state = again(rt, || text_of(alloc, lines));
+    drop(rows);
+    state
 }
 
 /// Prints a line that begins with `changed:` where a refused growth of memory changed something.

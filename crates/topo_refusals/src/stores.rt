@@ -90,7 +90,9 @@ fn copy<R: Print + Eprint + AllocGlobal>(
             embedding.copy()?
         }
     };
-    let (as_many, given) = (copy.room() >= embedding.room(), state(rt, &copy, halves)?);
+    let (as_many, given) = (copy.room() >= embedding.room(), state(rt, &copy, halves));
+    drop(copy);
+    let given = given?;
     println!(rt; "copy with as much room: {as_many}{given}")?;
     Ok(())
 }
@@ -110,7 +112,11 @@ fn use_store<R: Print + Eprint + AllocGlobal>(
 /// An embedding of one segment, and one that is made of its turns.
 pub(crate) fn embed<R: Print + Eprint + AllocGlobal>(rt: &R) -> Result<()> {
     let (mut embedding, half) = seed(rt)?;
-    use_store(rt, &mut embedding, &[half, half.twin()])?;
+    let told = use_store(rt, &mut embedding, &[half, half.twin()]);
+    drop(embedding);
+    told?;
     let (mut embedding, halves) = build(rt)?;
-    use_store(rt, &mut embedding, halves.as_slice())
+    let told = use_store(rt, &mut embedding, halves.as_slice());
+    drop(embedding);
+    told
 }

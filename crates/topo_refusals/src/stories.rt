@@ -13,6 +13,7 @@ use topo_core::calls::Call;
 use topo_core::rows::Facts;
 use topo_picture::Picture;
 use topo_price::tariff::{Asks, Tariff};
+use topo_route::plan::Plan;
 
 /// Prices of the kinds 0 to 3, the ends of a planned edge, and the calls.
 pub(crate) struct Story {
@@ -107,6 +108,19 @@ pub(crate) const CHORDS: Story = Story {
     ],
 };
 
+/// The steps of a story by a plan, and replays.
+fn tell_by<R: Print + Eprint + AllocGlobal, F: Asks>(
+    rt: &R,
+    story: &Story,
+    start: &Picture,
+    book: &mut Book<F>,
+    plan: &Plan,
+) -> Result<()> {
+    take(rt, book, plan, story.steps)?;
+    replay_from(rt, book, start)?;
+    replay_from(rt, book, book.picture())
+}
+
 /// A story of a book that begins with a picture.
 fn tell_of<R: Print + Eprint + AllocGlobal, F: Asks>(
     rt: &R,
@@ -117,9 +131,9 @@ fn tell_of<R: Print + Eprint + AllocGlobal, F: Asks>(
     print_new(rt, book)?;
     let (u, v) = story.ends;
     let plan = planned(rt, start, book.tariff(), u, v)?;
-    take(rt, book, &plan, story.steps)?;
-    replay_from(rt, book, start)?;
-    replay_from(rt, book, book.picture())
+    let told = tell_by(rt, story, start, book, &plan);
+    drop(plan);
+    told
 }
 
 /// A story with the prices of a tariff.
@@ -130,7 +144,9 @@ fn tell_at<R: Print + Eprint + AllocGlobal, F: Asks + Drop>(
     tariff: Arc<Tariff<F>>,
 ) -> Result<()> {
     let mut book = book_of(rt, start, &tariff)?;
-    tell_of(rt, story, start, &mut book)
+    let told = tell_of(rt, story, start, &mut book);
+    drop(book);
+    told
 }
 
 /// A story with the prices of a closure.
