@@ -17,12 +17,23 @@ fn begins(alloc: Global, text: &str, number: u32) -> Result<bool, Fail> {
     Ok(text.starts_with(front.as_str()))
 }
 
+/// What was printed is this text, which begins with a number.
+fn check_text(
+    rt: &impl Abort,
+    alloc: Global,
+    printed: &str,
+    text: &str,
+    number: u32,
+) -> Result<(), Fail> {
+    assert!(rt; printed == text, "{printed}");
+    assert!(rt; begins(alloc, text, number)?, "{printed}");
+    Ok(())
+}
+
 /// A fault is printed as this text, which begins with its number.
 fn check_fault(rt: &impl Abort, alloc: Global, fault: &RunFault, text: &str) -> Result<(), Fail> {
     let printed = format!(in alloc; "{fault}")?;
-    assert!(rt; printed.as_str() == text, "{printed}");
-    assert!(rt; begins(alloc, text, fault.number())?, "{printed}");
-    Ok(())
+    check_text(rt, alloc, printed.as_str(), text, fault.number())
 }
 
 /// The faults of commands that name no path, as they are printed.
@@ -89,35 +100,37 @@ fn faults_at_paths(rt: HostRuntime) -> Result<(), Fail> {
     )
 }
 
+/// The faults of replays, as they are printed.
+const REPLAY_FAULTS: &[(ReplayFault, &str)] = &[
+    (ReplayFault::WrongReply(17), "60 WrongReply 17"),
+    (ReplayFault::Memory, "8 Memory"),
+];
+
 #[test]
 fn faults_of_replays(rt: HostRuntime) -> Result<(), Fail> {
-    let table = [
-        (ReplayFault::WrongReply(17), "60 WrongReply 17"),
-        (ReplayFault::Memory, "8 Memory"),
-    ];
-    for (fault, text) in &table {
+    for (fault, text) in REPLAY_FAULTS {
         let printed = format!(in rt.alloc(); "{fault}")?;
-        assert!(rt; printed.as_str() == *text, "{printed}");
-        assert!(rt; begins(rt.alloc(), text, fault.number())?, "{printed}");
+        check_text(&rt, rt.alloc(), printed.as_str(), text, fault.number())?;
     }
     Ok(())
 }
 
+/// The faults of plans, as they are printed.
+const PLAN_FAULTS: &[(PlanFault, &str)] = &[
+    (PlanFault::WrongLength, "30 WrongLength"),
+    (PlanFault::UnevenFace, "31 UnevenFace"),
+    (PlanFault::TooSteep, "32 TooSteep"),
+    (PlanFault::TargetNotZero, "33 TargetNotZero"),
+    (PlanFault::NotARoute, "34 NotARoute"),
+    (PlanFault::NotLeast, "35 NotLeast"),
+    (PlanFault::NotFirst, "36 NotFirst"),
+];
+
 #[test]
 fn faults_of_plans(rt: HostRuntime) -> Result<(), Fail> {
-    let table = [
-        (PlanFault::WrongLength, "30 WrongLength"),
-        (PlanFault::UnevenFace, "31 UnevenFace"),
-        (PlanFault::TooSteep, "32 TooSteep"),
-        (PlanFault::TargetNotZero, "33 TargetNotZero"),
-        (PlanFault::NotARoute, "34 NotARoute"),
-        (PlanFault::NotLeast, "35 NotLeast"),
-        (PlanFault::NotFirst, "36 NotFirst"),
-    ];
-    for (fault, text) in &table {
+    for (fault, text) in PLAN_FAULTS {
         let printed = format!(in rt.alloc(); "{fault}")?;
-        assert!(rt; printed.as_str() == *text, "{printed}");
-        assert!(rt; begins(rt.alloc(), text, fault.number())?, "{printed}");
+        check_text(&rt, rt.alloc(), printed.as_str(), text, fault.number())?;
     }
     Ok(())
 }

@@ -3,6 +3,7 @@
 use crate::pictures::{BIPYRAMID, JOINED, PARALLEL, picture_of};
 use crate::searches::dart;
 use std::alloc::AllocError;
+use std::process::Abort;
 use std::test::Fail;
 use topo_core::darts::{Dart, Point, Way};
 use topo_core::ids::VertexId;
@@ -41,17 +42,47 @@ fn seen_of(
     Ok(seen?)
 }
 
+/// How many darts a picture has, the number of a dart, at which vertex the last dart starts, and which comes
+/// next along its face.
+type Due = (u32, Option<u32>, u32, u32);
+
+/// What the picture of a text answers is what is due.
+fn is_seen<R: Abort + AllocGlobal>(
+    rt: &R,
+    lists: &mut NumberLists,
+    text: &str,
+    seg: u32,
+    due: &Due,
+) -> Result<(), Fail> {
+    let (darts, index, vertex, next) = *due;
+    let seen = seen_of(rt, lists, text, dart(1, seg, Way::Back))?;
+    let start = Point::Vertex(VertexId::new(vertex));
+    assert!(rt; seen == (darts, index, Some(start), Some(next)), "{seen:?}");
+    Ok(())
+}
+
+/// Pictures, which segment of edge 1 is asked for, and what is due.
+const PICTURES: &[(&str, u32, Due)] = &[
+    // the last dart goes from vertex 2 to vertex 4, and the one after it to vertex 1
+    (BIPYRAMID, 0, (18, Some(3), 2, 14)),
+    // edge 1 has one segment alone; the last dart goes from vertex 1 to vertex 0, and back along edge 0
+    (PARALLEL, 1, (8, None, 1, 0)),
+    // the last dart goes from vertex 4 to the crossing, and the one after it to vertex 2
+    (JOINED, 1, (24, Some(5), 4, 4)),
+];
+
+/// One picture after another.
+fn are_seen<R: Abort + AllocGlobal>(rt: &R, lists: &mut NumberLists) -> Result<(), Fail> {
+    for (text, seg, due) in PICTURES {
+        is_seen(rt, lists, text, *seg, due)?;
+    }
+    Ok(())
+}
+
 #[test]
 fn lists_serve_one_picture_after_another(rt: HostRuntime) -> Result<(), Fail> {
     let mut lists = NumberLists::new(rt.alloc());
-    let base = dart(1, 0, Way::Back);
-    let behind = dart(1, 1, Way::Back);
-    let start = |v: u32| Some(Point::Vertex(VertexId::new(v)));
-    // the last dart goes from vertex 2 to vertex 4, and the one after it to vertex 1
-    assert!(rt; seen_of(&rt, &mut lists, BIPYRAMID, base)? == (18, Some(3), start(2), Some(14)));
-    // edge 1 has one segment alone; the last dart goes from vertex 1 to vertex 0, and back along edge 0
-    assert!(rt; seen_of(&rt, &mut lists, PARALLEL, behind)? == (8, None, start(1), Some(0)));
-    // the last dart goes from vertex 4 to the crossing, and the one after it to vertex 2
-    assert!(rt; seen_of(&rt, &mut lists, JOINED, behind)? == (24, Some(5), start(4), Some(4)));
-    Ok(())
+    let told = are_seen(&rt, &mut lists);
+    drop(lists);
+    told
 }

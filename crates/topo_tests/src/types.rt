@@ -84,11 +84,16 @@ fn limits_have_ranges(rt: HostRuntime) {
     }
 }
 
-/// Degrees and edges of these rows.
-fn are_found(rt: &impl Abort, rows: &Rows) -> Result<(), Fail> {
+/// The degrees of these rows.
+fn have_degrees(rt: &impl Abort, rows: &Rows) {
     assert!(rt; rows.degree(0) == 0);
     assert!(rt; rows.degree(2) == 2);
     assert!(rt; rows.degree(3) == 0);
+}
+
+/// Degrees and edges of these rows.
+fn are_found(rt: &impl Abort, rows: &Rows) -> Result<(), Fail> {
+    have_degrees(rt, rows);
     assert!(rt; rows.edge(5).is_none());
     let row = rows.edge(4).ok_or("edge 4")?;
     let facts = Facts::from_row(row).ok_or("facts of edge 4")?;
