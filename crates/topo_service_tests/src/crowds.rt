@@ -27,7 +27,12 @@ struct Workers {
 /// How many calls are accepted, as the first pass sees it.
 fn accepted_by<F: Asks + Drop, K: Naming<F>>(passes: &mut [Pass<F, K>]) -> Result<u64, Fail> {
     match passes.first_mut() {
-        Some(pass) => Ok(view_of(pass)?.number()),
+        Some(pass) => {
+            let view = view_of(pass)?;
+            let number = view.number();
+            drop(view);
+            Ok(number)
+        }
         None => Ok(0),
     }
 }
@@ -84,10 +89,11 @@ fn told_of_four<R: Threads + Wait + Abort + AllocGlobal + Sync>(
 #[test]
 fn four_workers_plan_between_the_apexes(rt: HostRuntime) -> Result<(), Fail> {
     let lists = four_lists(rt.alloc())?;
-    let told = told_of_four(&rt, lists.as_slice())?;
+    let told = told_of_four(&rt, lists.as_slice());
+    drop(lists);
     is_told(
         &rt,
-        told.as_str(),
+        told?.as_str(),
         "4 ended, all done: true, accepted: true; 8 calls, replayed: true",
     );
     Ok(())
@@ -124,6 +130,7 @@ fn tree(rt: &impl Abort, alloc: Global) -> Result<Picture, AllocError> {
     let mut picture = Picture::seed(alloc, limits)?;
     for i in 0..200u32 {
         if picture.grow(alloc, stir(i) % (i + 2), 0, 0).is_err() {
+            drop(picture);
             return Err(AllocError);
         }
     }
@@ -164,7 +171,11 @@ fn count_where(counter: &AtomicU32, is_so: bool) {
 /// Whether a picture shows these rows.
 fn shows(alloc: Global, picture: &Picture, rows: &Rows) -> bool {
     match picture.rows(alloc) {
-        Ok(now) => now.equals(rows),
+        Ok(now) => {
+            let same = now.equals(rows);
+            drop(now);
+            same
+        }
         Err(_) => false,
     }
 }
@@ -172,7 +183,11 @@ fn shows(alloc: Global, picture: &Picture, rows: &Rows) -> bool {
 /// Whether rows are loaded, and given back.
 fn are_lawful(alloc: Global, limits: Limits, rows: &Rows) -> bool {
     match Picture::load(alloc, limits, rows) {
-        Ok(again) => shows(alloc, &again, rows),
+        Ok(again) => {
+            let same = shows(alloc, &again, rows);
+            drop(again);
+            same
+        }
         Err(_) => false,
     }
 }
@@ -180,7 +195,11 @@ fn are_lawful(alloc: Global, limits: Limits, rows: &Rows) -> bool {
 /// Whether a picture is lawful.
 fn is_lawful(alloc: Global, picture: &Picture) -> bool {
     match picture.rows(alloc) {
-        Ok(rows) => are_lawful(alloc, picture.limits(), &rows),
+        Ok(rows) => {
+            let lawful = are_lawful(alloc, picture.limits(), &rows);
+            drop(rows);
+            lawful
+        }
         Err(_) => false,
     }
 }
@@ -206,7 +225,11 @@ fn look<F: Asks + Drop, K: Naming<F>>(
     watch: &Watch,
 ) -> u64 {
     match pass.view() {
-        Ok(view) => look_at(alloc, &view, before, watch),
+        Ok(view) => {
+            let number = look_at(alloc, &view, before, watch);
+            drop(view);
+            number
+        }
         Err(_) => before,
     }
 }
@@ -218,11 +241,14 @@ fn is_made<F: Asks + Drop, K: Naming<F>, R: Wait>(
     pass: &mut Pass<F, K>,
     call: Call,
 ) -> bool {
-    match call {
-        Call::Insert { u, v, kind } => service.insert(rt, pass, u, v, kind).is_ok(),
-        Call::Delete { edge } => service.delete(rt, pass, edge).is_ok(),
-        Call::Grow { u, position, kind } => service.grow(rt, pass, u, position, kind).is_ok(),
-    }
+    let answer = match call {
+        Call::Insert { u, v, kind } => service.insert(rt, pass, u, v, kind),
+        Call::Delete { edge } => service.delete(rt, pass, edge),
+        Call::Grow { u, position, kind } => service.grow(rt, pass, u, position, kind),
+    };
+    let is_made = answer.is_ok();
+    drop(answer);
+    is_made
 }
 
 /// The same of a planned insertion.
@@ -234,7 +260,13 @@ fn is_planned<F: Asks + Drop, K: Naming<F>, R: Wait>(
     (u, v, kind): (u32, u32, u32),
 ) -> bool {
     match pass.find(alloc, service.tariff(), u, v) {
-        Ok(found) => service.insert_found(rt, pass, kind, &found).is_ok(),
+        Ok(found) => {
+            let answer = service.insert_found(rt, pass, kind, &found);
+            drop(found);
+            let is_made = answer.is_ok();
+            drop(answer);
+            is_made
+        }
         Err(_) => is_made(rt, service, pass, Call::Insert { u, v, kind }),
     }
 }

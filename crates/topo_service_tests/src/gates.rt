@@ -77,7 +77,9 @@ fn seen_of<F: Asks + Drop, K: Naming<F>>(
 ) -> Result<Vec<(usize, u32)>, Fail> {
     let mut seen = Vec::new(alloc);
     for pass in passes {
-        let edges = edges_of(&view_of(pass)?);
+        let view = view_of(pass)?;
+        let edges = edges_of(&view);
+        drop(view);
         seen.push((pass.receipts().len(), edges))?;
     }
     Ok(seen)
@@ -146,10 +148,11 @@ const INSERTIONS: [Command; 2] = [
 #[test]
 fn workers_run_at_one_time(rt: HostRuntime) -> Result<(), Fail> {
     let lists = lists_of(rt.alloc(), &INSERTIONS)?;
-    let told = told_in_turn(&rt, lists.as_slice(), &Turn::new())?;
+    let told = told_in_turn(&rt, lists.as_slice(), &Turn::new());
+    drop(lists);
     is_told(
         &rt,
-        told.as_str(),
+        told?.as_str(),
         "false [Done, Done] [(1, 3), (1, 3)]; 2 calls, replayed: true",
     );
     Ok(())
@@ -263,10 +266,11 @@ const PLAN_AND_DELETION: [Command; 2] = [
 #[test]
 fn a_plan_is_made_anew_where_the_picture_changed_meanwhile(rt: HostRuntime) -> Result<(), Fail> {
     let lists = lists_of(rt.alloc(), &PLAN_AND_DELETION)?;
-    let told = told_between(&rt, lists.as_slice(), &Between::new())?;
+    let told = told_between(&rt, lists.as_slice(), &Between::new());
+    drop(lists);
     is_told(
         &rt,
-        told.as_str(),
+        told?.as_str(),
         "false [Done, Done] Inserted(Inserted { id: EdgeId(9), route: Route { start: 2, crossed: Listed { items: [] }, end: 2 }, price: 0 }); 2 calls, replayed: true",
     );
     Ok(())

@@ -234,16 +234,26 @@ fn ending<F: Asks + Drop, K: Naming<F>>(
     end: Result<Book<F>, CloseFault<F, K, StoreReader<F, K>>>,
 ) -> Result<String, AllocError> {
     match end {
-        Ok(book) => ended_well(alloc, &book),
-        Err(end) => ended_with(alloc, end.fault, end.passes.len()),
+        Ok(book) => {
+            let told = ended_well(alloc, &book);
+            drop(book);
+            told
+        }
+        Err(end) => {
+            let told = ended_with(alloc, end.fault, end.passes.len());
+            drop(end);
+            told
+        }
     }
 }
 
 /// How many calls a book has, and whether their replay gives their replies.
 fn ended_well<F: Asks>(alloc: Global, book: &Book<F>) -> Result<String, AllocError> {
     let calls = book.history().len();
-    let again = replay(alloc, book.start(), book.history(), book.tariff()).is_ok();
-    format!(in alloc; "{calls} calls, replayed: {again}")
+    let again = replay(alloc, book.start(), book.history(), book.tariff());
+    let is_replayed = again.is_ok();
+    drop(again);
+    format!(in alloc; "{calls} calls, replayed: {is_replayed}")
 }
 
 /// A fault, and how many passes are left.
@@ -345,7 +355,9 @@ fn bipyramid_rows(alloc: Global) -> Result<Rows, AllocError> {
 pub(crate) fn bipyramid(rt: &impl Abort, alloc: Global) -> Result<Picture, AllocError> {
     let limits = Limits::new(65_536, 65_536, 1_048_576).expect(rt, "the greatest limits");
     let rows = bipyramid_rows(alloc)?;
-    match Picture::load(alloc, limits, &rows) {
+    let loaded = Picture::load(alloc, limits, &rows);
+    drop(rows);
+    match loaded {
         Ok(picture) => Ok(picture),
         Err(_) => Err(AllocError),
     }

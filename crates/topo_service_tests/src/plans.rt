@@ -41,14 +41,16 @@ fn nowhere() -> Dart {
 
 /// A plan with the ends and the price of the first route.
 fn invented(alloc: Global, crossed: Dart, heights: &[u64]) -> Result<Plan, AllocError> {
+    let heights = Vec::from_slice(alloc, heights)?;
+    let crossed = Vec::from_slice(alloc, &[crossed])?;
     Ok(Plan {
         route: Route {
             start: 2,
-            crossed: Listed::from_vec(Vec::from_slice(alloc, &[crossed])?),
+            crossed: Listed::from_vec(crossed),
             end: 2,
         },
         price: 2,
-        heights: Listed::from_vec(Vec::from_slice(alloc, heights)?),
+        heights: Listed::from_vec(heights),
     })
 }
 
@@ -71,7 +73,9 @@ fn rows_of<F: Asks + Drop, K: Naming<F>>(
     pass: &mut Pass<F, K>,
 ) -> Result<Rows, Fail> {
     let view = view_of(pass)?;
-    Ok(view.picture().rows(alloc)?)
+    let rows = view.picture().rows(alloc);
+    drop(view);
+    Ok(rows?)
 }
 
 /// A reply, and the picture after it.
@@ -81,7 +85,9 @@ fn text_of<F: Asks + Drop, K: Naming<F>>(
     pass: &mut Pass<F, K>,
 ) -> Result<String, Fail> {
     let rows = rows_of(alloc, pass)?;
-    Ok(format!(in alloc; "{reply:?} {rows:?}")?)
+    let told = format!(in alloc; "{reply:?} {rows:?}");
+    drop(rows);
+    Ok(told?)
 }
 
 /// An insertion, with the plan if there is one.
@@ -107,7 +113,9 @@ impl Story for Joined<'_> {
             return Err("a pass".into());
         };
         let reply = join(rt, service, pass, self.plan)?;
-        text_of(alloc, &reply, pass)
+        let told = text_of(alloc, &reply, pass);
+        drop(reply);
+        told
     }
 }
 
@@ -125,8 +133,8 @@ fn join_late<F: Asks + Drop, K: Naming<F>, R: Wait>(
     pass: &mut Pass<F, K>,
     plan: Option<&Plan>,
 ) -> Result<Reply, AllocError> {
-    let _ = service.delete(rt, pass, 1)?;
-    let _ = service.grow(rt, pass, 3, 0, 0)?;
+    drop(service.delete(rt, pass, 1)?);
+    drop(service.grow(rt, pass, 3, 0, 0)?);
     join(rt, service, pass, plan)
 }
 
@@ -139,7 +147,9 @@ fn told_late<F: Asks + Drop, K: Naming<F>, R: Wait>(
     plan: Option<&Plan>,
 ) -> Result<String, Fail> {
     let reply = join_late(rt, service, pass, plan)?;
-    text_of(alloc, &reply, pass)
+    let told = text_of(alloc, &reply, pass);
+    drop(reply);
+    told
 }
 
 impl Story for Late {
@@ -160,7 +170,9 @@ impl Story for Late {
         };
         let plan = plan_of(alloc, service, pass)?;
         let used = if self.planned { Some(&plan) } else { None };
-        told_late(rt, alloc, service, pass, used)
+        let told = told_late(rt, alloc, service, pass, used);
+        drop(plan);
+        told
     }
 }
 
@@ -180,7 +192,9 @@ fn told_of<R: Threads + Wait + Abort + AllocGlobal + Sync>(
     heights: &[u64],
 ) -> Result<String, Fail> {
     let plan = invented(rt.alloc(), crossed, heights)?;
-    told(rt, &Joined { plan: Some(&plan) })
+    let told = told(rt, &Joined { plan: Some(&plan) });
+    drop(plan);
+    told
 }
 
 /// What is told of an insertion with such a plan is what is due.

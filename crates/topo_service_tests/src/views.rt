@@ -54,7 +54,7 @@ fn insert<F: Asks + Drop, K: Naming<F>, R: Wait>(
     u: u32,
     v: u32,
 ) -> Result<(), AllocError> {
-    let _ = service.insert(rt, pass, u, v, 0)?;
+    drop(service.insert(rt, pass, u, v, 0)?);
     Ok(())
 }
 
@@ -109,8 +109,13 @@ fn take_turns<F: Asks + Drop, K: Naming<F>, R: Wait>(
     };
     let seen = take_first_turns(rt, service, a, b, views)?;
     let refused = service.insert(rt, b, 0, 0, 0)?;
-    let told = take_last_turns(rt, service, a, b, views)?;
-    Ok((seen, told, refused))
+    match take_last_turns(rt, service, a, b, views) {
+        Ok(told) => Ok((seen, told, refused)),
+        Err(fault) => {
+            drop(refused);
+            Err(fault)
+        }
+    }
 }
 
 /// The numbers of views and how many edges their pictures have, in turn.
@@ -151,19 +156,29 @@ impl Story for Turns {
         _ends: &[WorkerEnd],
     ) -> Result<String, Fail> {
         let mut views = Vec::new(alloc);
-        let (seen, told, refused) = take_turns(rt, service, passes.as_mut_slice(), &mut views)?;
-        tell_turns(
-            alloc,
-            passes.as_slice(),
-            views.as_slice(),
-            (seen, told),
-            &refused,
-        )
+        let told = match take_turns(rt, service, passes.as_mut_slice(), &mut views) {
+            Ok(turns) => tell_turns(alloc, passes.as_slice(), views.as_slice(), turns),
+            Err(fault) => Err(fault),
+        };
+        drop(views);
+        told
     }
 }
 
 /// The text of what was seen.
 fn tell_turns<F: Asks + Drop, K: Naming<F>>(
+    alloc: Global,
+    passes: &[Pass<F, K>],
+    views: &[Version<F, K>],
+    (seen, told, refused): (u64, u64, Reply),
+) -> Result<String, Fail> {
+    let text = text_of_turns(alloc, passes, views, (seen, told), &refused);
+    drop(refused);
+    text
+}
+
+/// The same, where the reply is still needed.
+fn text_of_turns<F: Asks + Drop, K: Naming<F>>(
     alloc: Global,
     passes: &[Pass<F, K>],
     views: &[Version<F, K>],
@@ -266,7 +281,9 @@ impl Plans<'_> {
         plan: &Plan,
     ) -> Result<(u64, bool), Fail> {
         let frozen = frozen_of(alloc, pass)?;
-        self.checked_on(&frozen, service, plan)
+        let checked = self.checked_on(&frozen, service, plan);
+        drop(frozen);
+        checked
     }
 
     /// The same on the picture of a version.
@@ -312,7 +329,9 @@ impl Plans<'_> {
         let (checked, good) = self.checked(alloc, service, pass, plan)?;
         let (asked, first) = self.insert(rt, service, pass, plan)?;
         let spared = asked == checked;
-        Ok(format!(in alloc; "{good} {spared} {first:?}")?)
+        let told = format!(in alloc; "{good} {spared} {first:?}");
+        drop(first);
+        Ok(told?)
     }
 
     /// What comes of a plan of the first pass, and of one of the second that is stale by then.
@@ -327,7 +346,9 @@ impl Plans<'_> {
     ) -> Result<String, Fail> {
         let first = self.tell_good(rt, alloc, service, a, plan)?;
         let second = insert_late(rt, service, a, b, stale)?;
-        Ok(format!(in alloc; "{first} {second:?}")?)
+        let told = format!(in alloc; "{first} {second:?}");
+        drop(second);
+        Ok(told?)
     }
 
     /// The same with a plan that the second pass makes now.
@@ -340,7 +361,9 @@ impl Plans<'_> {
         plan: &Plan,
     ) -> Result<String, Fail> {
         let stale = plan_of(alloc, service, b)?;
-        self.tell_both(rt, alloc, service, (a, b), plan, &stale)
+        let told = self.tell_both(rt, alloc, service, (a, b), plan, &stale);
+        drop(stale);
+        told
     }
 }
 
@@ -350,7 +373,9 @@ fn frozen_of<F: Asks + Drop, K: Naming<F>>(
     pass: &mut Pass<F, K>,
 ) -> Result<Frozen, Fail> {
     let view = view_of(pass)?;
-    Ok(view.picture().freeze(alloc)?)
+    let frozen = view.picture().freeze(alloc);
+    drop(view);
+    Ok(frozen?)
 }
 
 /// Whether the apexes are vertices of the picture.
@@ -379,8 +404,8 @@ fn take_out<F: Asks + Drop, K: Naming<F>, R: Wait>(
     service: &Service<F, K>,
     pass: &mut Pass<F, K>,
 ) -> Result<(), AllocError> {
-    let _ = service.delete(rt, pass, 9)?;
-    let _ = service.delete(rt, pass, 1)?;
+    drop(service.delete(rt, pass, 9)?);
+    drop(service.delete(rt, pass, 1)?);
     Ok(())
 }
 
@@ -416,7 +441,9 @@ impl Story for Plans<'_> {
             return Err("two passes".into());
         };
         let plan = plan_of(alloc, service, a)?;
-        self.tell_from(rt, alloc, service, (a, b), &plan)
+        let told = self.tell_from(rt, alloc, service, (a, b), &plan);
+        drop(plan);
+        told
     }
 }
 
@@ -523,7 +550,9 @@ impl Finds<'_> {
             fault_of(alloc, service, pass, 9),
         ];
         let (asked, first) = self.insert(rt, service, pass, found)?;
-        Ok(format!(in alloc; "{ends:?} {price} {faults:?}; {asked} {first:?}")?)
+        let told = format!(in alloc; "{ends:?} {price} {faults:?}; {asked} {first:?}");
+        drop(first);
+        Ok(told?)
     }
 
     /// What comes of a route of the first pass, and of one of the second that is late by then.
@@ -538,7 +567,9 @@ impl Finds<'_> {
     ) -> Result<String, Fail> {
         let first = self.tell_first(rt, alloc, service, a, found)?;
         let (again, second) = self.insert_late(rt, service, a, b, late)?;
-        Ok(format!(in alloc; "{first}; {again} {second:?}")?)
+        let told = format!(in alloc; "{first}; {again} {second:?}");
+        drop(second);
+        Ok(told?)
     }
 
     /// The same with a route that the second pass finds now.
@@ -551,7 +582,9 @@ impl Finds<'_> {
         found: &FoundRoute<F, K>,
     ) -> Result<String, Fail> {
         let late = found_of(alloc, service, b)?;
-        self.tell_both(rt, alloc, service, (a, b), found, &late)
+        let told = self.tell_both(rt, alloc, service, (a, b), found, &late);
+        drop(late);
+        told
     }
 }
 
@@ -575,7 +608,9 @@ impl Story for Finds<'_> {
             return Err("two passes".into());
         };
         let found = found_of(alloc, service, a)?;
-        self.tell_from(rt, alloc, service, (a, b), &found)
+        let told = self.tell_from(rt, alloc, service, (a, b), &found);
+        drop(found);
+        told
     }
 }
 
