@@ -42,30 +42,41 @@ fn seen_of(
     Ok(seen?)
 }
 
-/// What the picture of a text answers is what is due. The last dart starts at a vertex.
+/// How many darts a picture has, the number of a dart, at which vertex the last dart starts, and which comes
+/// next along its face.
+type Due = (u32, Option<u32>, u32, u32);
+
+/// What the picture of a text answers is what is due.
 fn is_seen<R: Abort + AllocGlobal>(
     rt: &R,
     lists: &mut NumberLists,
     text: &str,
-    dart: Dart,
-    (darts, index, vertex, next): (u32, Option<u32>, u32, u32),
+    seg: u32,
+    due: &Due,
 ) -> Result<(), Fail> {
-    let seen = seen_of(rt, lists, text, dart)?;
+    let (darts, index, vertex, next) = *due;
+    let seen = seen_of(rt, lists, text, dart(1, seg, Way::Back))?;
     let start = Point::Vertex(VertexId::new(vertex));
     assert!(rt; seen == (darts, index, Some(start), Some(next)), "{seen:?}");
     Ok(())
 }
 
-/// Three pictures, one after another.
-fn are_seen<R: Abort + AllocGlobal>(rt: &R, lists: &mut NumberLists) -> Result<(), Fail> {
-    let base = dart(1, 0, Way::Back);
-    let behind = dart(1, 1, Way::Back);
+/// Pictures, which segment of edge 1 is asked for, and what is due.
+const PICTURES: &[(&str, u32, Due)] = &[
     // the last dart goes from vertex 2 to vertex 4, and the one after it to vertex 1
-    is_seen(rt, lists, BIPYRAMID, base, (18, Some(3), 2, 14))?;
+    (BIPYRAMID, 0, (18, Some(3), 2, 14)),
     // edge 1 has one segment alone; the last dart goes from vertex 1 to vertex 0, and back along edge 0
-    is_seen(rt, lists, PARALLEL, behind, (8, None, 1, 0))?;
+    (PARALLEL, 1, (8, None, 1, 0)),
     // the last dart goes from vertex 4 to the crossing, and the one after it to vertex 2
-    is_seen(rt, lists, JOINED, behind, (24, Some(5), 4, 4))
+    (JOINED, 1, (24, Some(5), 4, 4)),
+];
+
+/// One picture after another.
+fn are_seen<R: Abort + AllocGlobal>(rt: &R, lists: &mut NumberLists) -> Result<(), Fail> {
+    for (text, seg, due) in PICTURES {
+        is_seen(rt, lists, text, *seg, due)?;
+    }
+    Ok(())
 }
 
 #[test]
