@@ -1,5 +1,5 @@
 -- The accepted entries of a history are a version.
-use Rattle.std.proofs.Common.{◌≡◌, ◌≤◌, Bool, true, false, List, [], ◌∷◌, ◌++◌, Option, Some, None, IfSome, length, refl, ap, sym, subst, ◌∙◌, arith, if◌then◌else◌}
+use Rattle.std.proofs.Common.{◌≡◌, ◌≤◌, Bool, true, false, List, [], ◌∷◌, ◌++◌, Option, Some, None, IfSome, length, refl, ap, sym, subst, ◌∙◌, arith, append_assoc, length-append, if◌then◌else◌}
 use Rattle.std.proofs.lemmas.List.{append-nil}
 use Rattle.std.proofs.lemmas.List.Elements.{filter-append}
 use Rattle.topo_core.specs.declared.rows.Rows.{Rows}
@@ -7,7 +7,7 @@ use Rattle.topo_core.specs.declared.limits.Limits.{Limits}
 use Rattle.topo_core.specs.declared.calls.Entry.{Entry}
 use Rattle.topo_core.specs.Routes.{Pricing}
 use Rattle.topo_core.specs.Steps.{Step}
-use Rattle.topo_core.specs.History.{IsVersion, Replays, is_accepted, versions}
+use Rattle.topo_core.specs.History.{IsPrefix, IsVersion, Replays, is_accepted, versions}
 use Rattle.topo_core.proofs.Replaying.{replays_on, versions_replay}
 use Rattle.topo_book.specs.Books.{BookState, CanFollow, IsSameBook, IsUnchanged, NextState, picture_after}
 use Rattle.topo_price.specs.Prices.{Asking, prices_of}
@@ -36,6 +36,17 @@ pub versions_on : (es : List Entry) (e : Entry) → is_accepted e.reply ≡ true
 versions_on es e on = versions_go_on es e ∙ by_test on where
   by_test : is_accepted e.reply ≡ true → (if is_accepted e.reply then versions es ++ e ∷ [] else versions es) ≡ versions es ++ e ∷ []
   by_test on = rw on refl
+
+-- what begins the versions begins them with one entry more
+pub begins_on : (seen es : List Entry) (e : Entry) → IsPrefix seen (versions es) → IsPrefix seen (versions (es ++ e ∷ []))
+begins_on seen es e (more, is) = by_reply (is_accepted e.reply) refl where
+  by_reply : (b : Bool) → is_accepted e.reply ≡ b → IsPrefix seen (versions (es ++ e ∷ []))
+  by_reply true on = (more ++ e ∷ [], versions_on es e on ∙ ap (λ l. l ++ e ∷ []) is ∙ append_assoc seen more (e ∷ []))
+  by_reply false off = (more, versions_go_on es e ∙ rw off is)
+
+-- a beginning is no longer than the whole
+pub begins_length : (seen whole : List Entry) → IsPrefix seen whole → length seen ≤ length whole
+begins_length seen whole (more, is) = omega (arith, ap length is, length-append seen more)
 
 -- versions are at most as many as entries
 pub versions_length : (es : List Entry) → length (versions es) ≤ length es

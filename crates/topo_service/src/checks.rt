@@ -13,7 +13,7 @@ use std::sync::Wait;
 use std::sync::ledger::Share;
 use topo_core::calls::Entry;
 use topo_price::tariff::Asks;
-use topo_versions::{Glass, Naming, Shelf};
+use topo_versions::{Glass, Naming, Shelf, wait_forever};
 
 /// Whether a pass with this number is there.
 fn is_there<F: Asks, K: Naming<F>, G: Glass<F, K>>(
@@ -123,7 +123,7 @@ pub(crate) fn first_fault<F: Asks, K: Naming<F>, G: Glass<F, K>>(
     }
 }
 
-/// Joins the shares of the ledger. Each pass sees the version of now once more.
+/// Joins the shares of the ledger. What each pass has seen begins the accepted entries.
 pub(crate) fn gather<F: Asks, K: Naming<F>, W: Shelf<F, K>, G: Glass<F, K>, R: Wait>(
     rt: &R,
     desk: &Desk<F, K, W>,
@@ -141,12 +141,14 @@ pub(crate) fn gather<F: Asks, K: Naming<F>, W: Shelf<F, K>, G: Glass<F, K>, R: W
             number: _,
             receipts: _receipts,
             share,
-            mut reader,
-            mut seen,
+            reader: _reader,
+            front,
             work: _work,
             of: _,
         } = pass;
-        desk.meet(rt, &mut reader, &mut seen);
+        if !front.begins(desk.front()) {
+            wait_forever(rt);
+        }
         rest.merge(share);
     }
     rest

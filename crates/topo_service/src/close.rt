@@ -14,14 +14,15 @@ use crate::faults::EndFault;
 use crate::pass::PassOver;
 use crate::seats::Seats;
 use crate::service::ServiceOver;
-use crate::wait::wait_forever;
 use std::alloc::{AllocError, Global};
 use std::sync::ledger::{Blank, Book as Tally};
 use std::sync::{Arc, Mutex, Wait};
 use topo_book::Book;
 use topo_picture::Picture;
 use topo_price::tariff::{Asks, Tariff};
-use topo_versions::{Front, Glass, Naming, Opened, Shelf, StoreWriter, Version};
+use topo_versions::{
+    Front, Glass, Head, Naming, Opened, Shelf, StoreWriter, Version, wait_forever,
+};
 
 /// The end of a service that was not well, with the book and the passes as they were handed in.
 #[derive(Drop)]
@@ -59,12 +60,10 @@ fn writer_of<F: Asks + Drop, K: Naming<F>>(
     requires prices { K.closure ≡ Some book.now.tariff }
     requires empty { front.now ≡ [] }
     requires places { 0 < places }
-    ensures empty { IfOk result (λ w. w.desk.shown.value.entries ≡ []) }
+    ensures empty { IfOk result (λ w. w.writer.desk.shown.value.entries ≡ []) }
 {
     let shared = Arc::try_clone(book.shared_picture())?;
-    let first = Version::first(alloc, shared, front.again())?;
-    let second = first.again()?;
-    StoreWriter::<F, K>::new(alloc, first, second, places as usize)
+    StoreWriter::new(alloc, Version::new(front.again(), shared), places)
 }
 
 /// A new book that shares the prices.
@@ -95,7 +94,7 @@ fn book_with_store<F: Asks + Drop, K: Naming<F>>(
     requires places { 0 < places }
     ensures book { IfOk result (λ made. (made.0.start ≡ K.start) × (made.0.history ≡ [])) }
     ensures prices { IfOk result (λ made. K.closure ≡ Some made.0.tariff) }
-    ensures empty { IfOk result (λ made. made.1.desk.shown.value.entries ≡ []) }
+    ensures empty { IfOk result (λ made. made.1.writer.desk.shown.value.entries ≡ []) }
 {
     let book = book_of(alloc, start, tariff)?;
     let writer = writer_of(alloc, &book, front, places)?;
@@ -105,19 +104,19 @@ fn book_with_store<F: Asks + Drop, K: Naming<F>>(
 /// What lies under the lock of a service with no call, for so many passes.
 fn desk_of<F: Asks + Drop, K: Naming<F>>(
     alloc: Global,
-    opened: Opened,
+    head: Head<K>,
+    front: Front<K>,
     calls: Tally<K>,
     start: Picture,
     tariff: &Arc<Tariff<F>>,
     places: u32,
 ) -> Result<Desk<F, K, StoreWriter<F, K>>, AllocError>
-    requires list { opened.seen.book ≡ K.book }
+    requires empty { front ≡ [] }
     requires no_call { calls.total ≡ 0 }
     requires start { start ≡ K.start }
     requires prices { K.closure ≡ Some (arc_value tariff.now) }
     requires places { 0 < places }
 {
-    let (head, front) = opened.named::<K>();
     let (book, writer) = book_with_store(alloc, start, tariff, &front, places)?;
     Ok(Desk::new(book, calls, head, front, writer))
 }
@@ -167,12 +166,15 @@ impl<F: Asks + Drop, K: Naming<F>> Service<F, K> {
     {
         let Unopened { blank, opened } = unopened;
         let (calls, rest) = blank.open::<K>();
-        let desk = desk_of(alloc, opened, calls, start, &tariff, places)?;
+        let (head, front) = opened.named::<K>();
+        let nothing = front.again();
+        let desk = desk_of(alloc, head, front, calls, start, &tariff, places)?;
         Ok(ServiceOver {
             alloc,
             tariff,
             desk: Mutex::new(desk),
             seats: Mutex::new(Seats::new(rest)),
+            nothing,
             places,
             given: 0,
         })
@@ -213,6 +215,7 @@ impl<F: Asks + Drop, K: Naming<F>, W: Shelf<F, K>> ServiceOver<F, K, W> {
             tariff: _tariff,
             desk,
             seats,
+            nothing: _nothing,
             places: _,
             given,
         } = self;

@@ -1,7 +1,7 @@
 //! What lies under the lock.
 
 ghost use Rattle.std.specs.Prelude.{◌≡◌, ◌≢◌, ◌+◌, ◌<◌, ◌^◌, ◌∷◌, ◌++◌, [], length, is_ok, if◌then◌else◌, IfOk, IfSome, OnOk, OnErr, Some, true};
-ghost use Rattle.topo_core.specs.History.{IsPrefix, IsVersion, Replays, is_accepted, versions};
+ghost use Rattle.topo_core.specs.History.{IsVersion, Replays, is_accepted, versions};
 ghost use Rattle.topo_core.specs.Routes.{IsFirst};
 ghost use Rattle.topo_core.specs.Steps.{Step};
 ghost use Rattle.topo_core.specs.declared.calls.Refusal.TheVariants.{Memory};
@@ -15,7 +15,6 @@ ghost use Rattle.topo_service.specs.Passes.{entry_of};
 
 use crate::answer::Answer;
 use crate::found::{Brought, FoundRoute};
-use crate::wait::wait_forever;
 use std::alloc::{AllocError, Global};
 use std::marker::Model;
 use std::sync::ledger::{Book as Tally, Share};
@@ -23,7 +22,7 @@ use std::sync::{Arc, Wait};
 use topo_book::{Book, Hint, Next};
 use topo_core::calls::{Call, Entry};
 use topo_price::tariff::Asks;
-use topo_versions::{Front, Glass, Head, Lends, Naming, Shelf};
+use topo_versions::{Front, Glass, Head, Lends, Naming, Shelf, wait_forever};
 
 /// The book, the number of its calls, and the versions. Contracts see the book.
 ///
@@ -83,11 +82,10 @@ fn make_ready<F: Asks>(
     }
 }
 
-/// Publishes the version after a call that was made ready, where it is accepted. After want of memory
-/// nothing has changed.
+/// Adds a call that was made ready to the accepted entries, and publishes the version after it, where it is
+/// accepted. After want of memory nothing has changed.
 fn show<F: Asks, K: Naming<F>, W: Shelf<F, K>, R: Wait>(
     rt: &R,
-    alloc: Global,
     head: &Head<K>,
     front: &mut Front<K>,
     writer: &mut W,
@@ -103,11 +101,12 @@ fn show<F: Asks, K: Naming<F>, W: Shelf<F, K>, R: Wait>(
     let Some(picture) = next.shared() else {
         return Ok(());
     };
-    let entry = next.entry();
-    writer.publish(rt, alloc, front, entry, picture)?;
-    if !front.add(head, entry) {
+    let share = Arc::try_clone(picture)?;
+    writer.make_room()?;
+    if !front.add(head, next.entry()) {
         wait_forever(rt);
     }
+    writer.publish(rt, front, share);
     Ok(())
 }
 
@@ -130,7 +129,7 @@ fn answer_ready<F: Asks, K: Naming<F>, W: Shelf<F, K>, R: Wait>(
     ensures err { OnErr result ((front.new ≡ front.old) × (W.published writer.new ≡ W.published writer.old)) }
 {
     let answer = Answer::of(alloc, &next.entry().reply)?;
-    show::<F, K, W, R>(rt, alloc, head, front, writer, next)?;
+    show::<F, K, W, R>(rt, head, front, writer, next)?;
     Ok(answer)
 }
 
@@ -163,7 +162,7 @@ impl<F: Asks, K: Naming<F>, W: Shelf<F, K>> Desk<F, K, W> {
     {
         self.book.history();
         found.first();
-        found.is_of(u, v, self.writer.current())
+        found.is_of(u, v, &self.front)
     }
 
     /// What is known of the route of a call, by what the call brings along.
@@ -214,25 +213,19 @@ impl<F: Asks, K: Naming<F>, W: Shelf<F, K>> Desk<F, K, W> {
         Ok(answer)
     }
 
-    /// Lets a reader see the version of now.
-    pub(crate) fn meet<G: Glass<F, K>, R: Wait>(&self, rt: &R, reader: &mut G, count: &mut u64)
-        requires { count.old ≡ length (G.seen reader.old) }
-        ensures count { count.new ≡ length (G.seen reader.new) }
-        ensures now { G.seen reader.new ≡ versions self.now.history }
-        ensures later { IsPrefix (G.seen reader.old) (G.seen reader.new) }
-        ensures replayed { IsVersion (prices_named F.answers K.closure) K.start.limits K.start.rows (G.seen reader.new) self.now.picture.rows }
+    /// The accepted entries.
+    pub(crate) fn front(&self) -> &Front<K>
+        ensures now { result.now ≡ versions self.now.history }
+        ensures replayed { IsVersion (prices_named F.answers K.closure) K.start.limits K.start.rows result.now self.now.picture.rows }
     {
-        if !reader.meets(count, self.writer.current()) {
-            wait_forever(rt);
-        }
         self.book.history();
+        &self.front
     }
 
-    /// A reader that has seen nothing.
+    /// A reader of versions.
     pub(crate) fn reader<G: Glass<F, K>>(&self) -> Result<G, AllocError>
     where
         W: Lends<F, K, G>,
-        ensures { IfOk result (λ r. G.seen r ≡ []) }
     {
         self.writer.reader()
     }

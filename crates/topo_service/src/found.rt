@@ -18,7 +18,7 @@ use topo_price::tariff::{Asks, Tariff};
 use topo_route::plan::{Plan, PricedRoute};
 use topo_route::search::first_route;
 use topo_route::workspace::Workspace;
-use topo_versions::{Glass, Mark, Naming, Version};
+use topo_versions::{Front, Glass, Naming, Version};
 
 /// The first of the cheapest routes between two vertices at the service's prices, as it was found on one
 /// version. It remembers which version that was, so that the service takes it with no check where that
@@ -28,7 +28,8 @@ pub struct FoundRoute<F: Asks, K: Naming<F>> {
     u: u32,
     v: u32,
     first: PricedRoute,
-    mark: Mark<K>,
+    // The accepted entries that lead to that version.
+    front: Front<K>,
     of: PhantomData<F>,
 }
 
@@ -38,9 +39,9 @@ impl<F: Asks, K: Naming<F>> Model for FoundRoute<F, K> {
 
     ghost Value = { FoundState };
 
-    ghost view = { λ f. record { u = f.u; v = f.v; route = f.first.route; price = f.first.price; entries = f.mark } };
+    ghost view = { λ f. record { u = f.u; v = f.v; route = f.first.route; price = f.first.price; entries = f.front } };
 
-    ghost invariant = { λ f. IsFoundRoute (prices_named F.answers K.closure) K.start (record { u = f.u; v = f.v; route = f.first.route; price = f.first.price; entries = f.mark }) };
+    ghost invariant = { λ f. IsFoundRoute (prices_named F.answers K.closure) K.start (record { u = f.u; v = f.v; route = f.first.route; price = f.first.price; entries = f.front }) };
 }
 
 impl<F: Asks, K: Naming<F>> FoundRoute<F, K> {
@@ -61,13 +62,13 @@ impl<F: Asks, K: Naming<F>> FoundRoute<F, K> {
         (self.u, self.v)
     }
 
-    /// Whether it leads between these and was found on this version.
-    pub(crate) fn is_of(&self, u: u32, v: u32, version: &Version<F, K>) -> bool
+    /// Whether it leads between these and was found on the version after these entries.
+    pub(crate) fn is_of(&self, u: u32, v: u32, front: &Front<K>) -> bool
         ensures u { result ≡ true → self.now.u ≡ u }
         ensures v { result ≡ true → self.now.v ≡ v }
-        ensures entries { result ≡ true → self.now.entries ≡ version.now.entries }
+        ensures entries { result ≡ true → self.now.entries ≡ front.now }
     {
-        self.u == u && self.v == v && version.is_marked(&self.mark)
+        self.u == u && self.v == v && self.front.is(front)
     }
 
     /// The search on a version.
@@ -85,16 +86,13 @@ impl<F: Asks, K: Naming<F>> FoundRoute<F, K> {
         ensures refused { IfErr result (IsPlanRefusal (prices_named F.answers K.closure) version.now.picture.rows ends.0 ends.1) }
     {
         let first = first_on(alloc, version.picture(), tariff, ends.0, ends.1, work)?;
-        match version.mark(alloc) {
-            Ok(mark) => Ok(FoundRoute {
-                u: ends.0,
-                v: ends.1,
-                first,
-                mark,
-                of: PhantomData,
-            }),
-            Err(_) => Err(Refusal::Memory),
-        }
+        Ok(FoundRoute {
+            u: ends.0,
+            v: ends.1,
+            first,
+            front: version.front().again(),
+            of: PhantomData,
+        })
     }
 }
 

@@ -17,7 +17,6 @@ pub mod found;
 pub mod pass;
 mod seats;
 pub mod service;
-mod wait;
 pub mod workers;
 
 pub use close::{CloseFault, Service, Unopened};

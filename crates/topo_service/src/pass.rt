@@ -20,7 +20,7 @@ use topo_price::tariff::{Asks, Tariff};
 use topo_route::plan::Plan;
 use topo_route::search::search;
 use topo_route::workspace::Workspace;
-use topo_versions::{Glass, Naming, StoreReader, Version};
+use topo_versions::{Front, Glass, Naming, StoreReader, Version};
 
 /// A call of a pass, and what it was answered.
 #[derive(Drop)]
@@ -29,15 +29,16 @@ pub struct Receipt {
     pub reply: Reply,
 }
 
-/// A caller's number, its receipts, its share of the ledger and its reader of versions. Contracts see its
-/// number, its receipts and the accepted entries that it has seen.
+/// A caller's number, its receipts, its share of the ledger, its reader of versions and the accepted entries
+/// that it has seen. Contracts see its number, its receipts and these entries.
 #[derive(Drop)]
 pub struct PassOver<F: Asks, K: Naming<F>, G: Glass<F, K>> {
     pub(crate) number: u32,
     pub(crate) receipts: Vec<Receipt>,
     pub(crate) share: Share<K>,
     pub(crate) reader: G,
-    pub(crate) seen: u64,
+    // The accepted entries that it has seen.
+    pub(crate) front: Front<K>,
     // What its searches write on, once there was one.
     pub(crate) work: Option<Workspace>,
     pub(crate) of: PhantomData<F>,
@@ -52,9 +53,9 @@ impl<F: Asks, K: Naming<F>, G: Glass<F, K>> Model for PassOver<F, K, G> {
 
     ghost Value = { PassState };
 
-    ghost view = { λ p. record { number = p.number; receipts = p.receipts.items; seen = G.seen p.reader } };
+    ghost view = { λ p. record { number = p.number; receipts = p.receipts.items; seen = p.front } };
 
-    ghost invariant = { λ p. (p.share.parts ≡ 1) × (p.share.amount ≡ length p.receipts.items) × (p.seen ≡ length (G.seen p.reader)) };
+    ghost invariant = { λ p. (p.share.parts ≡ 1) × (p.share.amount ≡ length p.receipts.items) };
 }
 
 /// The first cheapest route on a frozen picture, or why there is none.
@@ -120,7 +121,7 @@ impl<F: Asks, K: Naming<F>, G: Glass<F, K>> PassOver<F, K, G> {
     pub fn seen(&self) -> u64
         ensures { result ≡ length self.now.seen }
     {
-        self.seen
+        self.front.len()
     }
 
     /// The version of now: the picture after accepted entries that begin with all that the pass has seen,
@@ -134,13 +135,15 @@ impl<F: Asks, K: Naming<F>, G: Glass<F, K>> PassOver<F, K, G> {
         ensures version { IfOk result (λ v. IsVersionFrom (prices_named F.answers K.closure) K.start v.entries v.picture) }
         ensures fault { IfErr result (λ e. e ≡ PassFault.NoView) }
     {
-        match self.reader.look(&mut self.seen) {
-            Some(version) => {
-                version.picture();
-                Ok(version)
-            }
-            None => Err(PassFault::NoView),
+        let Some(version) = self.reader.look() else {
+            return Err(PassFault::NoView);
+        };
+        if !self.front.begins(version.front()) {
+            return Err(PassFault::NoView);
         }
+        self.front = version.front().again();
+        version.picture();
+        Ok(version)
     }
 
     /// The first cheapest route from `u` to `v` at these prices on the version of now, with its price and

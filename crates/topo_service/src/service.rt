@@ -15,14 +15,13 @@ use crate::faults::ServiceFault;
 use crate::found::{Brought, FoundRoute};
 use crate::pass::{PassOver, Receipt};
 use crate::seats::Seats;
-use crate::wait::wait_forever;
 use std::alloc::{AllocError, Global};
 use std::marker::{Model, PhantomData};
 use std::sync::{Arc, Mutex, Wait};
 use topo_core::calls::{Call, Reply};
 use topo_price::tariff::{Asks, Tariff};
 use topo_route::plan::Plan;
-use topo_versions::{Glass, Lends, Naming, Shelf};
+use topo_versions::{Front, Glass, Lends, Naming, Shelf, wait_forever};
 
 /// One lock round a book, with the passes that were given out. Contracts see what answers its prices, how
 /// many passes it gives out at most, and how many it has given out.
@@ -31,12 +30,14 @@ pub struct ServiceOver<F: Asks, K: Naming<F>, W: Shelf<F, K>> {
     pub(crate) tariff: Arc<Tariff<F>>,
     pub(crate) desk: Mutex<Desk<F, K, W>>,
     pub(crate) seats: Mutex<Seats<K>>,
+    // What a new pass has seen.
+    pub(crate) nothing: Front<K>,
     pub(crate) places: u32,
     pub(crate) given: u32,
 }
 
 impl<F: Asks, K: Naming<F>, W: Shelf<F, K>> Model for ServiceOver<F, K, W> {
-    ghost use Rattle.std.specs.Prelude.{◌≡◌, ◌≤◌, Some};
+    ghost use Rattle.std.specs.Prelude.{◌≡◌, ◌≤◌, [], Some};
     ghost use Rattle.std.specs.Arc.{arc_value};
     ghost use Rattle.topo_service.specs.Passes.{ServiceState};
 
@@ -44,7 +45,7 @@ impl<F: Asks, K: Naming<F>, W: Shelf<F, K>> Model for ServiceOver<F, K, W> {
 
     ghost view = { λ s. record { tariff = arc_value s.tariff; places = s.places; given = s.given } };
 
-    ghost invariant = { λ s. (K.closure ≡ Some (arc_value s.tariff)) × (K.parts ≡ 16) × (s.places ≤ 16) };
+    ghost invariant = { λ s. (K.closure ≡ Some (arc_value s.tariff)) × (K.parts ≡ 16) × (s.places ≤ 16) × (s.nothing ≡ []) };
 }
 
 impl<F: Asks, K: Naming<F>, W: Shelf<F, K>> ServiceOver<F, K, W> {
@@ -87,7 +88,7 @@ impl<F: Asks, K: Naming<F>, W: Shelf<F, K>> ServiceOver<F, K, W> {
             receipts: Vec::new(self.alloc),
             share,
             reader,
-            seen: 0,
+            front: self.nothing.again(),
             work: None,
             of: PhantomData,
         })
@@ -217,21 +218,13 @@ impl<F: Asks, K: Naming<F>, W: Shelf<F, K>> ServiceOver<F, K, W> {
         pass.receipts.reserve(1)?;
         let mut guard = self.desk.lock(rt);
         let desk = &mut *guard;
+        if !pass.front.begins(desk.front()) {
+            wait_forever(rt);
+        }
         let made = desk.call(rt, self.alloc, &mut pass.share, pass.number, call, brought);
         let Answer { told, kept } = made?;
         pass.receipts.push_reserved(Receipt { call, reply: kept });
-        let seen = pass.seen;
-        desk.meet(rt, &mut pass.reader, &mut pass.seen);
-        if is_change(&told) && pass.seen <= seen {
-            wait_forever(rt);
-        }
+        pass.front = desk.front().again();
         Ok(told)
     }
-}
-
-/// Whether the reply is that of an accepted call.
-fn is_change(reply: &Reply) -> bool
-    ensures { result ≡ is_accepted reply.now }
-{
-    !matches!(reply, Reply::Refused(_))
 }

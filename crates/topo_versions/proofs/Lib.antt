@@ -1,3 +1,3 @@
 pub mod Fronts
 pub mod Adding
-pub mod Seen
+pub mod Pending

@@ -1,4 +1,3 @@
 pub mod Listing
 pub mod Names
-pub mod Seeing
 pub mod Versions

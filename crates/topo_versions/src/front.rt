@@ -1,5 +1,6 @@
 //! Beginnings of the one list of accepted entries.
 ghost use Rattle.std.specs.Prelude.{◌≡◌, ◌+◌, ◌==◌, ◌<◌, ◌≤◌, ◌^◌, ◌++◌, ◌∷◌, [], length, true, MatchBool};
+ghost use Rattle.topo_core.specs.History.{IsPrefix};
 ghost use Rattle.topo_versions.specs.Listing.{head_of};
 
 use crate::naming::Logged;
@@ -144,6 +145,15 @@ impl<K: Logged> Front<K> {
         let mut both = self.seen.again();
         both.learn(&other.seen);
         self.len == other.len
+    }
+
+    /// Whether it begins the other: of two beginnings of one list the shorter begins the longer.
+    pub fn begins(&self, other: &Front<K>) -> bool
+        ensures { result ≡ true → IsPrefix self.now other.now }
+    {
+        let mut both = self.seen.again();
+        both.learn(&other.seen);
+        self.len <= other.len
     }
 
     /// Adds an entry to all that was seen, and says whether it did. It did not where the list is longer.

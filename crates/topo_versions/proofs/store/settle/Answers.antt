@@ -1,13 +1,8 @@
 use Rattle.std.proofs.Common.{◌<◌, ◌∙◌, length, sym}
 use Rattle.std.proofs.lemmas.Bool.{false≢true}
 use Rattle.std.specs.Prelude.{drop}
-use Rattle.topo_versions.proofs.Seen.{sees, settled, settles}
+use Rattle.topo_versions.proofs.Pending.{settled}
 use Rattle.topo_versions.proofs.store.settle.Goals as goal
-
-pub publish_as-settled-requires : goal.publish_as-settled-requires
-publish_as-settled-requires g c next is =
-    let none : 0 < length (drop c.args.writer.behind c.args.writer.log.items) → ⊥ = λ some. false≢true (sym c.if-has_pending_operations.false ∙ c.has_pending_operations.ensures.1 some) in
-    sees _ _ c.args.writer.desk.shown.value next (settles _ next _ none is)
 
 pub returns : goal.returns
 returns g c =

@@ -12,6 +12,6 @@ returns g c good =
     let i = c.self.invariant in
     let found = c.args.found.now in
     let of = c.is_of.ensures in
-    let same : found.entries ≡ versions b.history = of.entries good ∙ c.current.ensures ∙ i.4 in
+    let same : found.entries ≡ versions b.history = of.entries good ∙ i.3 in
     subst (λ (s : BookState _). IsFirst (prices_of (g.F.Asks.answers s.tariff)) s.picture.rows c.args.u c.args.v found.route found.price) c.self.view_is
     (first_now g.F.Asks.answers g.K.Naming.closure g.K.Naming.start b.start b.tariff b.history b.picture.rows found c.args.u c.args.v i.1 i.0 c.history.ensures.legal c.first.ensures.found same (of.u good) (of.v good))

@@ -51,3 +51,8 @@ pub returns-clause-seen : goal.returns-clause-seen
 returns-clause-seen g c =
     let same = ap (λ b. b.history) (c.into_book-2.ensures.same ∙ c.audit.ensures.same) in
     subst (λ (h : List Entry). All (λ (p : PassState). IsPrefix p.seen (versions h)) c.args.passes.items) (sym same) c.gather-all.ensures.seen
+
+pub returns-in-Some-clause-fault : goal.returns-in-Some-clause-fault
+returns-in-Some-clause-fault g c =
+    let same = ap (λ b. b.history) c.into_book.ensures.same in
+    rw (← c.self.view_is, same, ← c.as_slice.ensures.value, ← c.history.ensures) c.in-Some.ensures.fault
