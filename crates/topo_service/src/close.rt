@@ -60,10 +60,12 @@ fn writer_of<F: Asks + Drop, K: Naming<F>>(
     requires prices { K.closure ≡ Some book.now.tariff }
     requires empty { front.now ≡ [] }
     requires places { 0 < places }
-    ensures empty { IfOk result (λ w. w.writer.desk.shown.value.entries ≡ []) }
+    ensures empty { IfOk result (λ w. w.desk.shown.value.entries ≡ []) }
 {
     let shared = Arc::try_clone(book.shared_picture())?;
-    StoreWriter::new(alloc, Version::new(front.again(), shared), places)
+    let first = Version::new(front.again(), shared);
+    let second = first.again()?;
+    StoreWriter::<F, K>::new(alloc, first, second, places as usize)
 }
 
 /// A new book that shares the prices.
@@ -94,7 +96,7 @@ fn book_with_store<F: Asks + Drop, K: Naming<F>>(
     requires places { 0 < places }
     ensures book { IfOk result (λ made. (made.0.start ≡ K.start) × (made.0.history ≡ [])) }
     ensures prices { IfOk result (λ made. K.closure ≡ Some made.0.tariff) }
-    ensures empty { IfOk result (λ made. made.1.writer.desk.shown.value.entries ≡ []) }
+    ensures empty { IfOk result (λ made. made.1.desk.shown.value.entries ≡ []) }
 {
     let book = book_of(alloc, start, tariff)?;
     let writer = writer_of(alloc, &book, front, places)?;

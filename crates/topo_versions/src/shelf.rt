@@ -19,7 +19,7 @@ pub trait Shelf<F: Asks, K: Naming<F>> {
     /// The entries of the version that readers take now.
     ghost published: { Self → List Entry };
 
-    /// Makes room for publishing, where there is none yet.
+    /// Makes room for one version to publish. The room stays, so once is enough.
     fn make_room(&mut self) -> Result<(), AllocError>
         ensures { published self.new ≡ published self.old };
 
