@@ -18,19 +18,30 @@ fn copy_rotations(alloc: Global, lists: &[Listed<u32>]) -> Result<Vec<Listed<u32
     Ok(copy)
 }
 
+/// An equal path.
+fn copy_path(alloc: Global, path: &[u32]) -> Result<Listed<u32>, AllocError>
+    ensures { IfOk result (λ copy. copy ≡ path.now) }
+{
+    if path.is_empty() {
+        return Ok(Listed::new(alloc));
+    }
+    let crossings = Vec::from_slice(alloc, path)?;
+    Ok(Listed::from_vec(crossings))
+}
+
 /// An equal list of edges.
 fn copy_edges(alloc: Global, edges: &[EdgeRow]) -> Result<Vec<EdgeRow>, AllocError>
     ensures { IfOk result (λ copy. copy.items ≡ edges.now) }
 {
     let mut copy = Vec::with_capacity(alloc, edges.len())?;
     for row in edges {
-        let crossings = Vec::from_slice(alloc, row.crossings.as_slice())?;
+        let crossings = copy_path(alloc, row.crossings.as_slice())?;
         copy.push(EdgeRow {
             id: row.id,
             a: row.a,
             b: row.b,
             kind: row.kind,
-            crossings: Listed::from_vec(crossings),
+            crossings,
         })?;
     }
     Ok(copy)

@@ -63,8 +63,8 @@ impl Embedded {
         ensures { IfOk result (λ e. e.rows ≡ rows) }
     {
         let edges = rows.edges.as_slice();
-        let labels = labels_of(alloc, edges)?;
         let images = turns.images.as_slice();
+        let labels = labels_of(alloc, edges, images.len() / 2)?;
         let (segments, halves) = Embedding::from_turns(alloc, images, labels.as_slice())?;
         let paths = paths_of(alloc, edges, turns.begins.as_slice(), halves.as_slice())?;
         Ok(Embedded {

@@ -11,12 +11,16 @@ use topo_core::listed::Listed;
 use topo_core::rows::EdgeRow;
 use topo_map::Half;
 
-/// For each segment the id of its edge.
-pub(crate) fn labels_of(alloc: Global, edges: &[EdgeRow]) -> Result<Vec<u32>, AllocError>
+/// For each segment the id of its edge. So many segments are expected.
+pub(crate) fn labels_of(
+    alloc: Global,
+    edges: &[EdgeRow],
+    expected: usize,
+) -> Result<Vec<u32>, AllocError>
     requires few { 2 * sum_by segment_count edges.now < 2 ^ 32 }
     ensures { IfOk result (λ labels. labels.items ≡ labels_of edges.now) }
 {
-    let mut labels = Vec::new(alloc);
+    let mut labels = Vec::with_capacity(alloc, expected)?;
     for row in edges {
         labels.resize(labels.len() + row.crossings.as_slice().len() + 1, row.id)?;
     }

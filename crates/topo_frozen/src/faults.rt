@@ -8,7 +8,8 @@ ghost use Rattle.topo_core.specs.Lawful.{has_good_paths, has_good_crossings, has
 ghost use Rattle.topo_frozen.specs.Loading.{fits};
 ghost use Rattle.topo_frozen.specs.Pairs.{begins_with_least, crossing_pairs, end_pairs, is_path_over, path_pairs, rotation_pairs};
 
-use crate::pairs::{crossing_pairs, end_pairs, hold_the_same, path_pairs, rotation_pairs};
+use crate::hints::Hints;
+use crate::pairs::{Member, agree, crossing_pairs, end_pairs, path_pairs, rotation_pairs};
 use std::alloc::{AllocError, Global};
 use topo_core::limits::Limits;
 use topo_core::listed::Listed;
@@ -135,18 +136,27 @@ fn rise_and_differ(alloc: Global, rows: &Rows) -> Result<bool, AllocError>
 }
 
 /// Whether the paths have just the crossings that the crossings want.
-fn paths_agree(alloc: Global, edges: &[EdgeRow], crossings: &[CrossRow]) -> Result<bool, AllocError>
+fn paths_agree(
+    alloc: Global,
+    edges: &[EdgeRow],
+    crossings: &[CrossRow],
+    hints: &Hints,
+) -> Result<bool, AllocError>
     ensures same { IfOk result (λ yes. IsTrue yes ↔ ((k : ℕ) → occurrences k (path_pairs edges.now) ≡ occurrences k (crossing_pairs crossings.now))) }
     ensures as_many { IfOk result (λ yes. IsTrue yes → length (path_pairs edges.now) ≡ length (crossing_pairs crossings.now)) }
 {
-    let mut stand = path_pairs(alloc, edges)?;
     let mut due = crossing_pairs(alloc, crossings)?;
-    Ok(hold_the_same(&mut stand, &mut due))
+    let mut stand = path_pairs(alloc, edges, due.len())?;
+    Ok(agree(&mut stand, &mut due, hints, Member::Crossing))
 }
 
 /// Whether the crossings are good, where the paths are. If they are, a path entry stands for each
 /// end of an edge at a crossing, so there are two for each crossing.
-pub(crate) fn are_crossings_good(alloc: Global, rows: &Rows) -> Result<bool, AllocError>
+pub(crate) fn are_crossings_good(
+    alloc: Global,
+    rows: &Rows,
+    hints: &Hints,
+) -> Result<bool, AllocError>
     requires { has_good_paths rows.now ≡ true }
     ensures good { IfOk result (λ yes. yes ≡ has_good_crossings rows.now) }
     ensures two_each { IfOk result (λ yes. IsTrue yes → length (path_pairs rows.now.edges) ≡ 2 * length rows.now.crossings) }
@@ -155,7 +165,8 @@ pub(crate) fn are_crossings_good(alloc: Global, rows: &Rows) -> Result<bool, All
     if !rise_and_differ(alloc, rows)? {
         return Ok(false);
     }
-    let agree = paths_agree(alloc, rows.edges.as_slice(), rows.crossings.as_slice())?;
+    let crossings = rows.crossings.as_slice();
+    let agree = paths_agree(alloc, rows.edges.as_slice(), crossings, hints)?;
     Ok(agree)
 }
 
@@ -184,17 +195,22 @@ fn rotations_agree(
     alloc: Global,
     rotations: &[Listed<u32>],
     edges: &[EdgeRow],
+    hints: &Hints,
 ) -> Result<bool, AllocError>
     requires { length rotations.now < 2 ^ 32 }
     ensures { IfOk result (λ yes. IsTrue yes ↔ ((k : ℕ) → occurrences k (rotation_pairs 0 rotations.now) ≡ occurrences k (end_pairs edges.now))) }
 {
-    let mut stand = rotation_pairs(alloc, rotations)?;
     let mut due = end_pairs(alloc, edges)?;
-    Ok(hold_the_same(&mut stand, &mut due))
+    let mut stand = rotation_pairs(alloc, rotations, due.len())?;
+    Ok(agree(&mut stand, &mut due, hints, Member::Edge))
 }
 
 /// Whether the rotations are good, where the paths are.
-pub(crate) fn are_rotations_good(alloc: Global, rows: &Rows) -> Result<bool, AllocError>
+pub(crate) fn are_rotations_good(
+    alloc: Global,
+    rows: &Rows,
+    hints: &Hints,
+) -> Result<bool, AllocError>
     requires paths { has_good_paths rows.now ≡ true }
     requires few { length rows.now.rotations < 2 ^ 32 }
     ensures { IfOk result (λ yes. yes ≡ has_good_rotations rows.now) }
@@ -203,6 +219,6 @@ pub(crate) fn are_rotations_good(alloc: Global, rows: &Rows) -> Result<bool, All
     if !begin_with_least(rotations) {
         return Ok(false);
     }
-    let agree = rotations_agree(alloc, rotations, rows.edges.as_slice())?;
+    let agree = rotations_agree(alloc, rotations, rows.edges.as_slice(), hints)?;
     Ok(agree)
 }

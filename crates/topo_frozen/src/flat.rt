@@ -120,6 +120,10 @@ fn fill_ahead(ahead: &mut Vec<u32>, rows: &Rows, hints: &Hints) -> Result<(), Al
     ensures { OnOk result (AreAhead rows.now ahead.new.items) }
 {
     let crossings = rows.crossings.as_slice();
+    if crossings.is_empty() {
+        ahead.clear();
+        return Ok(());
+    }
     ahead.resize(2 * crossings.len(), 0)?;
     note_paths(ahead, crossings, hints, rows.edges.as_slice());
     Ok(())
@@ -271,6 +275,17 @@ pub fn turns_of(alloc: Global, rows: &Rows) -> Result<Turns, AllocError>
     ensures { IfOk result (λ turns. AreTurnsOf rows.now turns.begins.items turns.images.items) }
 {
     let hints = Hints::of(alloc, rows)?;
+    hinted_turns(alloc, rows, hints)
+}
+
+/// The same, where hints are made already.
+pub(crate) fn hinted_turns(alloc: Global, rows: &Rows, hints: Hints) -> Result<Turns, AllocError>
+    requires well_formed { IsWellFormed rows.now }
+    requires few { 2 * sum_by segment_count rows.now.edges < 2 ^ 32 }
+    requires vertices { length rows.now.rotations < 2 ^ 32 }
+    requires crossings { length rows.now.crossings < 2 ^ 32 }
+    ensures { IfOk result (λ turns. AreTurnsOf rows.now turns.begins.items turns.images.items) }
+{
     let begins = begins_of(alloc, rows.edges.as_slice())?;
     let mut ahead = Vec::new(alloc);
     let mut images = Vec::new(alloc);

@@ -1,7 +1,8 @@
 //! Rows that are handed in: the first test that they fail.
 
 use crate::faults::{are_crossings_good, are_paths_good, are_rotations_good, within_limits};
-use crate::flat::{Turns, turns_of};
+use crate::flat::{Turns, hinted_turns};
+use crate::hints::Hints;
 use std::alloc::{AllocError, Global};
 use std::error::Error;
 use std::fmt;
@@ -160,13 +161,14 @@ pub fn judge(
     if !are_paths_good(alloc, rows)? {
         return Ok(Err(LoadFault::BadPath));
     }
-    if !are_crossings_good(alloc, rows)? {
+    let hints = Hints::of(alloc, rows)?;
+    if !are_crossings_good(alloc, rows, &hints)? {
         return Ok(Err(LoadFault::BadCrossing));
     }
-    if !are_rotations_good(alloc, rows)? {
+    if !are_rotations_good(alloc, rows, &hints)? {
         return Ok(Err(LoadFault::BadRotation));
     }
-    let turns = turns_of(alloc, rows)?;
+    let turns = hinted_turns(alloc, rows, hints)?;
     if !is_whole(alloc, rows, &turns.images)? {
         return Ok(Err(LoadFault::NotConnected));
     }

@@ -179,13 +179,13 @@ fn unlabel(segments: &mut Slab<Segment>)
     }
 }
 
-/// Each face gets a label of its own. Answers what is unused then.
+/// Each face gets a label of its own, where none has one. Answers what is unused then.
 pub(crate) fn label_faces(segments: &mut Slab<Segment>) -> Option<u32>
-    requires { IsKept segments.old }
+    requires kept { IsKept segments.old }
+    requires blank { AreBlank segments.old }
     ensures same { Repaints segments.old segments.new (face_in segments.new) }
     ensures labels { AreLabels segments.new result }
 {
-    unlabel(segments);
     let mut unused = Some(1);
     for number in 0..limit(segments) {
         let half = Half::numbered(number as u32);
@@ -207,6 +207,9 @@ fn renew(segments: &mut Slab<Segment>, unused: Option<u32>) -> Option<u32>
 {
     match unused {
         Some(_) => unused,
-        None => label_faces(segments),
+        None => {
+            unlabel(segments);
+            label_faces(segments)
+        }
     }
 }

@@ -1,4 +1,4 @@
-use Rattle.std.proofs.Common.{◌≡◌, ◌<◌, ℕ, ◌∙◌, ap, sym, subst, arith, length}
+use Rattle.std.proofs.Common.{◌≡◌, ◌<◌, ℕ, Bool, ◌∙◌, ap, sym, subst, arith, length}
 use Rattle.std.proofs.lemmas.Grind.{get_or_default_zero}
 use Rattle.topo_core.specs.Cycles.{map_of}
 use Rattle.topo_map.specs.Segments.{holds}
@@ -27,6 +27,7 @@ loop-place-preserved c =
     let lt : map_of c.args.turns.now k < length c.args.halves.now = subst (λ (n : ℕ). map_of c.args.turns.now k < n) (sym c.requires.same_length) (c.requires.permutation.within k lk) in
     record {
       labels = c.link.ensures.edges ∙ c.loop-place.invariant.labels;
+      blank = λ a h. ap (λ (l : ℕ → ℕ). l a) c.link.ensures.faces ∙ c.loop-place.invariant.blank a (ap (λ (p : ℕ → Bool). p a) (sym c.link.ensures.live) ∙ h);
       joined = joined_more c.loop-place.segments c.link.new.segments c.args.halves.now c.args.turns.now k c.index-halves-place.result c.index-halves-turns.result
           c.requires.permutation c.requires.same_length lk
           (c.index-halves-place.is ∙ get_or_default_zero c.args.halves.now k _ lh)

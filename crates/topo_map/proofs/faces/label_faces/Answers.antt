@@ -1,9 +1,7 @@
 use Rattle.std.proofs.Common.{◌≡◌, ◌+◌, ◌<◌, ℕ, sym, ◌∙◌, subst, arith, Option}
 use Rattle.slab.specs.Slab.{Slab}
-use Rattle.topo_map.specs.Segments.{IsKept}
 use Rattle.topo_map.specs.declared.segments.Segment.{Segment}
 use Rattle.topo_map.proofs.Stored.{below_limit}
-use Rattle.topo_map.proofs.Walked.{painted_kept}
 use Rattle.topo_map.proofs.LabelledAll.{IsPartlyLabelled, step_over, step_painted, all_given}
 use Rattle.topo_map.proofs.faces.label_faces.Goals as goal
 use Rattle.topo_map.proofs.faces.label_faces.Goals.{then-lacks_label, else-lacks_label}
@@ -11,15 +9,14 @@ use Rattle.topo_map.proofs.faces.label_faces.Goals.{then-lacks_label, else-lacks
 pub loop-number-preserved : goal.loop-number-preserved
 loop-number-preserved c =
     let k : ℕ = c.loop-number.number in
-    let s : Slab Segment = c.unlabel.new.segments in
+    let s : Slab Segment = c.args.segments.now in
     let y : ℕ = c.numbered-half.result in
-    let kept : IsKept s = painted_kept c.args.segments.now s _ c.requires c.unlabel.ensures.same in
     record {
       partly = elim c.if-lacks_label.branch [
         | then-lacks_label w ↦
             let at = c.lacks_label.ensures.yes w.if-lacks_label.true in
             let done : IsPartlyLabelled s w.paint.new.segments (k + 1) w.take_label-label.result.1 =
-            step_painted s c.loop-number.segments w.paint.new.segments k y w.take_label-label.result.0 c.loop-number.unused w.take_label-label.result.1 kept c.loop-number.invariant.partly c.numbered-half.ensures
+            step_painted s c.loop-number.segments w.paint.new.segments k y w.take_label-label.result.0 c.loop-number.unused w.take_label-label.result.1 c.requires.kept c.loop-number.invariant.partly c.numbered-half.ensures
             at.0 at.1 w.take_label-label.ensures w.paint.ensures in
             subst (λ (t : Slab Segment). IsPartlyLabelled s t (k + 1) c.if-lacks_label.unused) (sym w.segments-is)
             (subst (λ (u : Option ℕ). IsPartlyLabelled s w.paint.new.segments (k + 1) u) (sym w.unused-is) done)
@@ -33,8 +30,7 @@ loop-number-preserved c =
 
 pub returns-clause-labels : goal.returns-clause-labels
 returns-clause-labels c =
-    let s : Slab Segment = c.unlabel.new.segments in
-    let kept : IsKept s = painted_kept c.args.segments.now s _ c.requires c.unlabel.ensures.same in
+    let s : Slab Segment = c.args.segments.now in
     let all : c.loop-number.number ≡ c.limit-number-end.result = omega arith in
     all_given s c.loop-number.segments c.loop-number.number c.loop-number.unused c.loop-number.invariant.partly
-    (λ a h. subst (λ (n : ℕ). a < n) (sym (all ∙ c.limit-number-end.ensures.value)) (below_limit s a kept c.limit-number-end.ensures.slots h))
+    (λ a h. subst (λ (n : ℕ). a < n) (sym (all ∙ c.limit-number-end.ensures.value)) (below_limit s a c.requires.kept c.limit-number-end.ensures.slots h))
