@@ -42,7 +42,9 @@ pub fn check_bytes(alloc: Global, bytes: &[u8]) -> Result<String, RunFault>
         Ok(rows) => rows,
         Err(fault) => return Err(RunFault::Script(fault)),
     };
-    let counts = match Picture::counts_of(alloc, greatest_limits(), &rows) {
+    let counts = Picture::counts_of(alloc, greatest_limits(), &rows);
+    drop(rows);
+    let counts = match counts {
         Ok(counts) => counts,
         Err(fault) => return Err(RunFault::Load(fault)),
     };

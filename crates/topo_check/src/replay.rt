@@ -51,8 +51,11 @@ pub fn replay_bytes(alloc: Global, bytes: &[u8]) -> Result<String, RunFault>
         Ok(report) => report,
         Err(fault) => return Err(RunFault::Script(fault)),
     };
-    judge(alloc, &report)?;
-    match calls_line(alloc, report.history.len()) {
+    let judged = judge(alloc, &report);
+    let calls = report.history.len();
+    drop(report);
+    judged?;
+    match calls_line(alloc, calls) {
         Ok(line) => Ok(line),
         Err(_) => Err(RunFault::Memory),
     }
@@ -73,12 +76,16 @@ fn judge(alloc: Global, report: &Report) -> Result<(), RunFault>
 {
     let prices = report.prices.as_slice();
     let (table, start) = setting(alloc, report.limits, prices, Some(&report.start))?;
-    let rows = match replayed_rows(alloc, report, &start, &table) {
+    let replayed = replayed_rows(alloc, report, &start, &table);
+    drop(start);
+    let rows = match replayed {
         Ok(rows) => rows,
         Err(ReplayFault::WrongReply(place)) => return Err(RunFault::WrongReply(place)),
         Err(ReplayFault::Memory) => return Err(RunFault::Memory),
     };
-    if rows.equals(&report.picture) {
+    let is_same = rows.equals(&report.picture);
+    drop(rows);
+    if is_same {
         Ok(())
     } else {
         Err(RunFault::WrongPicture)
@@ -99,7 +106,9 @@ fn replayed_rows(
     ensures illegal { IfErr result (IsIllegalAt (priced report.now.prices) start.now.limits start.now.rows report.now.history) }
 {
     let picture = priced_replay(alloc, report, start, table)?;
-    match picture.rows(alloc) {
+    let rows = picture.rows(alloc);
+    drop(picture);
+    match rows {
         Ok(rows) => Ok(rows),
         Err(_) => Err(ReplayFault::Memory),
     }

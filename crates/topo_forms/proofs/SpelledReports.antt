@@ -1,6 +1,6 @@
 -- Tokens that spell limits, prices and reports.
-use Rattle.std.proofs.Common.{◌≡◌, ℕ, suc, ◌+◌, ◌<◌, ◌≤◌, ◌^◌, ◌||◌, Bool, true, false, List, [], ◌∷◌, length, codes, Option, Some, None, Ok, Err, refl, sym, ap, ◌∙◌, arith, le-leb}
-use Rattle.std.specs.Option.{is_none}
+use Rattle.std.proofs.Common.{◌≡◌, ℕ, suc, ◌+◌, ◌<◌, ◌≤◌, ◌^◌, ◌||◌, Bool, true, false, List, [], ◌∷◌, length, codes, Option, Some, None, IfSome, Ok, Err, refl, sym, ap, subst, ◌∙◌, arith, le-leb}
+use Rattle.std.specs.Option.{is_none, option_and, option_zip}
 use Rattle.std.specs.List.{list_any}
 use Rattle.json.specs.Token.{Token, begin_object}
 use Rattle.json.specs.Json.{read_key}
@@ -8,6 +8,8 @@ use Rattle.json.specs.Json as json
 use Rattle.json.proofs.Grammar.{value_is}
 use Rattle.serde_json.specs.Data.{Data, null, boolean, number, string, array, object, unsigned, Items, no_items, item, Members, member, no_members}
 use Rattle.serde_json.specs.Events.{items_len}
+use Rattle.topo_core.specs.declared.calls.Entry.{Entry}
+use Rattle.topo_core.specs.declared.rows.Rows.{Rows}
 use Rattle.topo_forms.specs.declared.path.Key.TheVariants.{Crossings, Edges, History, Limits, Picture, Prices, Start, Version, Vertices}
 use Rattle.topo_forms.specs.declared.path.Path.{Path}
 use Rattle.topo_forms.specs.declared.reports.Report.{Report}
@@ -18,8 +20,8 @@ use Rattle.topo_forms.specs.Reads.{Read, and_then, number_form, list_form, items
 use Rattle.topo_forms.specs.ReplyForms.{entry_form}
 use Rattle.topo_forms.specs.RowForms.{rows_form}
 use Rattle.topo_forms.specs.Scripts.{limits_form, nulls_of, nulls_in, some_price, price_form, prices_form, report_form}
-use Rattle.topo_forms.specs.Spelled.{Spells, SpellsMember, SpellsNumber}
-use Rattle.topo_forms.specs.SpelledParts.{ArePricesOf}
+use Rattle.topo_forms.specs.Spelled.{Spells, SpellsMember, SpellsNumber, SpellsThree}
+use Rattle.topo_forms.specs.SpelledParts.{ArePricesOf, SpellsEnding}
 use Rattle.topo_forms.proofs.Lookups.{member_read}
 use Rattle.topo_forms.proofs.Spellings.{number_read, members_done, member_then, object_spelled}
 use Rattle.topo_forms.proofs.Steps.{went}
@@ -148,6 +150,17 @@ unfolding nulls_in
 version_read n nulls history limits picture prices start version read of =
     went _ _ tt refl ∙ went _ _ n (member_read number_form whole Version (object (report_members history limits picture prices start version)) version n refl read) ∙ of
 
+-- the prices, the start and the version of a report, closed and kept
+pub ending_spelled : {U : Type 0} (ps : List (Option ℕ)) (start : Rows) (n : ℕ) (ts end rest : List Token) (closed : Option U) (kept : Option (List (Option ℕ))) (both_there : Option (List (Option ℕ)))
+    (r : Option (List (Option ℕ) × Rows)) → SpellsThree 1 4 0 (list_form (price_form true)) rows_form number_form (key_name Prices) (key_name Start) (key_name Version) ts ps start n end
+    → IfSome closed (λ _. read_key end ≡ Some (None, rest)) → IfSome kept (ArePricesOf n ps) → both_there ≡ option_and closed kept → r ≡ option_zip both_there (Some start)
+    → IfSome r (λ found. SpellsEnding ts found.0 found.1 rest)
+ending_spelled ps start n ts end rest None kept both_there r members close are there is = let none : r ≡ None = is ∙ ap (λ o. option_zip o (Some start)) there in rw none tt
+ending_spelled ps start n ts end rest (Some u) None both_there r members close are there is = let none : r ≡ None = is ∙ ap (λ o. option_zip o (Some start)) there in rw none tt
+ending_spelled ps start n ts end rest (Some u) (Some kept) both_there r members close are there is =
+    let found : r ≡ Some (kept, start) = is ∙ ap (λ o. option_zip o (Some start)) there in
+    rw found (record { prices = ps; version = n; end = end; members = members; closed = close; are_kept = are })
+
 pub report_spelled : (x : Report) (ps : List (Option ℕ)) (n : ℕ) (ts r0 r1 r2 r3 r4 r5 r6 rest : List Token) → ts ≡ begin_object ∷ r0
     → SpellsMember 5 (list_form entry_form) (key_name History) r0 x.history r1 → SpellsMember 1 limits_form (key_name Limits) r1 x.limits r2 → SpellsMember 4 rows_form (key_name Picture) r2 x.picture r3
     → SpellsMember 1 (list_form (price_form true)) (key_name Prices) r3 ps r4 → SpellsMember 4 rows_form (key_name Start) r4 x.start r5 → SpellsMember 0 number_form (key_name Version) r5 n r6
@@ -171,3 +184,23 @@ report_spelled x ps n ts r0 r1 r2 r3 r4 r5 r6 rest e history limits picture pric
     ∙ went _ _ x.picture (member_read rows_form whole Picture (object ms) _ x.picture refl picture.2.reads)
     ∙ went _ _ x.prices (member_read form whole Prices (object ms) _ x.prices refl (λ p. prices_read kept.0 p prices.2.spelled ps x.prices (prices.2.reads p) kept.2 kept.3 kept.4))
     ∙ went _ _ x.start (member_read rows_form whole Start (object ms) _ x.start refl start.2.reads))
+
+-- a head, and the ending that is zipped to it
+pub zip_ends : {A B : Type 0} (a : A) (o : Option B) (p : A × B) (P : B → Type 0) → Some p ≡ option_zip (Some a) o → IfSome o P → (a ≡ p.0) × P p.1
+zip_ends a None p P e h = absurd cc
+zip_ends a (Some b) p P e h = let same : (a, b) ≡ p = cc in (ap (λ q. q.0) same, subst (λ q. P q.1) same h)
+
+pub zip_starts : {A B : Type 0} (o : Option A) (b : B) (p : A × B) (P : A → Type 0) → Some p ≡ option_zip o (Some b) → IfSome o P → P p.0 × (b ≡ p.1)
+zip_starts None b p P e h = absurd cc
+zip_starts (Some a) b p P e h = let same : (a, b) ≡ p = cc in (subst (λ q. P q.0) same h, ap (λ q. q.1) same)
+
+pub report_zipped : (head : List Entry × LimitRows × Rows) (ending : Option (List (Option ℕ) × Rows)) (p : (List Entry × LimitRows × Rows) × (List (Option ℕ) × Rows)) (ts r0 r1 rest : List Token) → ts ≡ begin_object ∷ r0
+    → SpellsThree 5 1 4 (list_form entry_form) limits_form rows_form (key_name History) (key_name Limits) (key_name Picture) r0 head.0 head.1 head.2 r1
+    → IfSome ending (λ found. SpellsEnding r1 found.0 found.1 rest) → Some p ≡ option_zip (Some head) ending
+    → Spells 6 (λ path. report_form) ts (record { limits = p.0.1; prices = p.1.0; start = p.1.1; history = p.0.0; picture = p.0.2 }) rest
+report_zipped head ending p ts r0 r1 rest e members ends zipped =
+    let z = zip_ends head ending p (λ found. SpellsEnding r1 found.0 found.1 rest) zipped ends in
+    let end = z.1 in
+    let first = subst (λ h. SpellsThree 5 1 4 (list_form entry_form) limits_form rows_form (key_name History) (key_name Limits) (key_name Picture) r0 h.0 h.1 h.2 r1) z.0 members in
+    report_spelled (record { limits = p.0.1; prices = p.1.0; start = p.1.1; history = p.0.0; picture = p.0.2 }) end.prices end.version ts _ _ _ _ _ _ _ rest e first.two.first first.two.second first.third
+    end.members.two.first end.members.two.second end.members.third end.closed end.are_kept

@@ -1,9 +1,9 @@
 -- Tokens that spell scripts.
-use Rattle.std.proofs.Common.{◌≡◌, ℕ, ◌<◌, ◌≤◌, Bool, true, false, List, [], ◌∷◌, length, codes, Option, Some, None, Ok, unwrap_or, refl, sym, ap, subst, ◌∙◌, arith, lt-ltb, le-leb}
-use Rattle.json.specs.Token.{Token, begin_object, key, string as text_token}
+use Rattle.std.proofs.Common.{◌≡◌, ℕ, ◌≤◌, Bool, true, List, [], ◌∷◌, codes, Option, Some, None, IfSome, Ok, unwrap_or, refl, sym, ap, subst, ◌∙◌, arith}
+use Rattle.std.specs.Option.{option_and, option_zip}
+use Rattle.json.specs.Token.{Token, begin_object}
 use Rattle.json.specs.Json.{read_key}
-use Rattle.serde_json.specs.Data.{Data, null, boolean, number, string, array, object, Items, Members, no_members, put}
-use Rattle.serde_json.specs.Events.{items_len}
+use Rattle.serde_json.specs.Data.{Data, object, Members, no_members, put}
 use Rattle.serde_json.specs.Find.{get}
 use Rattle.topo_core.specs.declared.calls.Command.{Command}
 use Rattle.topo_core.specs.declared.rows.Rows.{Rows}
@@ -12,16 +12,14 @@ use Rattle.topo_forms.specs.declared.path.Key.TheVariants.{Limits, Prices, Start
 use Rattle.topo_forms.specs.declared.path.Path.{Path}
 use Rattle.topo_forms.specs.declared.scripts.LimitRows.{LimitRows}
 use Rattle.topo_forms.specs.declared.scripts.Script.{Script}
-use Rattle.topo_forms.specs.CallForms.{command_form}
-use Rattle.topo_forms.specs.Paths.{key_name, member_of, whole}
+use Rattle.topo_forms.specs.Paths.{key_name, whole}
 use Rattle.topo_forms.specs.Reads.{Read, and_then, number_form, list_form, has_keys, member_or}
-use Rattle.topo_forms.specs.RowForms.{rows_form}
-use Rattle.topo_forms.specs.Scripts.{greatest_limits, limits_form, nulls_of, nulls_in, price_form, prices_form, picture_form, start_form, workers_form, script_form}
-use Rattle.topo_forms.specs.Spelled.{Spells, SpellsMember, SpellsOptional}
-use Rattle.topo_forms.specs.SpelledParts.{ArePricesOf}
+use Rattle.topo_forms.specs.Scripts.{greatest_limits, limits_form, nulls_of, nulls_in, price_form, prices_form, start_form, workers_form, script_form}
+use Rattle.topo_forms.specs.Spelled.{Spells, SpellsMember, SpellsOptional, SpellsOptionals}
+use Rattle.topo_forms.specs.SpelledParts.{ArePricesOf, SpellsLists}
 use Rattle.topo_forms.proofs.Lookups.{member_read}
-use Rattle.topo_forms.proofs.SpelledReports.{counted, prices_read}
-use Rattle.topo_forms.proofs.Spellings.{word_spelled, MembersTo, members_done, member_then, object_spelled}
+use Rattle.topo_forms.proofs.SpelledReports.{prices_read, zip_ends, zip_starts}
+use Rattle.topo_forms.proofs.Spellings.{MembersTo, members_done, member_then, object_spelled}
 use Rattle.topo_forms.proofs.Steps.{went}
 
 -- ---- Members that may be missing
@@ -133,3 +131,32 @@ script_spelled x l p s n ts r0 r1 r2 r3 r4 r5 rest e limits prices start version
     (subst (AreRead limits_form greatest_limits dl) (sym same) (or_default 1 limits_form _ r0 r1 greatest_limits l limits))
     (prices_or_none n r1 r2 p prices x.prices kept)
     (subst (AreRead start_form None ds) (sym begun) (or_default 4 start_form _ r2 r3 None s start)) version.2.reads workers.2.reads)
+
+-- ---- Parts that are zipped
+
+pub lists_spelled : {U : Type 0} (ts mid : List Token) (n : ℕ) (version : SpellsMember 0 number_form (key_name Version) ts n mid) (end rest : List Token) (workers : Option (List (List Command))) (closed : Option U)
+    (both_there : Option ℕ) (r : Option (ℕ × List (List Command))) → IfSome workers (λ ws. SpellsMember 3 workers_form (key_name Workers) mid ws end)
+    → IfSome closed (λ _. read_key end ≡ Some (None, rest)) → both_there ≡ option_and closed (Some n) → r ≡ option_zip both_there workers → IfSome r (λ found. SpellsLists ts found.0 found.1 rest)
+lists_spelled ts mid n version end rest workers None both_there r lists close there is = let none : r ≡ None = is ∙ ap (λ o. option_zip o workers) there in rw none tt
+lists_spelled ts mid n version end rest None (Some u) both_there r lists close there is = let none : r ≡ None = is ∙ ap (λ o. option_zip o None) there in rw none tt
+lists_spelled ts mid n version end rest (Some ws) (Some u) both_there r lists close there is =
+    let found : r ≡ Some (n, ws) = is ∙ ap (λ o. option_zip o (Some ws)) there in
+    rw found (record { mid = _; end = end; first = version; second = lists; closed = close })
+
+pub script_zipped : (front : Option LimitRows × Option (List (Option ℕ)) × Option (Option Rows)) (ending : Option (ℕ × List (List Command)))
+    (p : (Option LimitRows × Option (List (Option ℕ)) × Option (Option Rows)) × (ℕ × List (List Command))) (none : List (Option ℕ)) (given : List (Option ℕ)) (kept : Option (List (Option ℕ)))
+    (q : List (Option ℕ) × (Option (Option Rows) × List (List Command))) (limits : LimitRows) (start : Option Rows) (ts r0 r1 rest : List Token) → ts ≡ begin_object ∷ r0
+    → SpellsOptionals 1 1 4 limits_form (list_form (price_form true)) start_form (key_name Limits) (key_name Prices) (key_name Start) r0 front.0 front.1 front.2 r1
+    → IfSome ending (λ found. SpellsLists r1 found.0 found.1 rest) → Some p ≡ option_zip (Some front) ending → none ≡ [] → given ≡ unwrap_or p.0.1 none → IfSome kept (ArePricesOf p.1.0 given)
+    → Some q ≡ option_zip kept (Some (p.0.2, p.1.1)) → limits ≡ unwrap_or p.0.0 greatest_limits → start ≡ unwrap_or q.1.0 None
+    → Spells 5 (λ path. script_form) ts (record { limits = limits; prices = q.0; start = start; workers = q.1.1 }) rest
+script_zipped front ending p none given kept q limits start ts r0 r1 rest e members ends zipped empty given_is is_kept zipped_kept limits_is start_is =
+    let z = zip_ends front ending p (λ found. SpellsLists r1 found.0 found.1 rest) zipped ends in
+    let lists = z.1 in
+    let first = subst (λ f. SpellsOptionals 1 1 4 limits_form (list_form (price_form true)) start_form (key_name Limits) (key_name Prices) (key_name Start) r0 f.0 f.1 f.2 r1) z.0 members in
+    let w = zip_starts kept (p.0.2, p.1.1) q (ArePricesOf p.1.0 given) zipped_kept is_kept in
+    let prices : ArePricesOf p.1.0 (unwrap_or p.0.1 []) q.0 = subst (λ ps. ArePricesOf p.1.0 ps q.0) (given_is ∙ ap (unwrap_or p.0.1) empty) w.0 in
+    let workers : p.1.1 ≡ q.1.1 = ap (λ r. r.1) w.1 in
+    let begun : p.0.2 ≡ q.1.0 = ap (λ r. r.0) w.1 in
+    script_spelled (record { limits = limits; prices = q.0; start = start; workers = q.1.1 }) p.0.0 p.0.1 p.0.2 p.1.0 ts _ _ _ _ _ _ rest e first.first first.second first.third lists.first
+    (subst (λ ws. SpellsMember 3 workers_form (key_name Workers) lists.mid ws lists.end) workers lists.second) lists.closed limits_is prices (start_is ∙ ap (λ o. unwrap_or o None) (sym begun))

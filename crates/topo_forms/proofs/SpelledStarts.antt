@@ -1,27 +1,20 @@
 -- Tokens that spell starts and lists of commands.
-use Rattle.std.proofs.Common.{◌≡◌, ℕ, ◌<◌, ◌≤◌, Bool, true, false, List, [], ◌∷◌, length, codes, Option, Some, None, Ok, unwrap_or, refl, sym, ap, subst, ◌∙◌, arith, lt-ltb, le-leb}
-use Rattle.json.specs.Token.{Token, begin_object, key, string as text_token}
-use Rattle.json.specs.Json.{read_key}
-use Rattle.serde_json.specs.Data.{Data, null, boolean, number, string, array, object, Items, Members, no_members, put}
+use Rattle.std.proofs.Common.{◌≡◌, ℕ, ◌<◌, ◌≤◌, false, List, ◌∷◌, length, codes, Some, None, Ok, refl, arith, lt-ltb, le-leb}
+use Rattle.json.specs.Token.{Token, string as text_token}
+use Rattle.serde_json.specs.Data.{Data, null, boolean, number, string, array, object}
 use Rattle.serde_json.specs.Events.{items_len}
-use Rattle.serde_json.specs.Find.{get}
 use Rattle.topo_core.specs.declared.calls.Command.{Command}
 use Rattle.topo_core.specs.declared.rows.Rows.{Rows}
-use Rattle.topo_forms.specs.declared.path.Key.{Key}
-use Rattle.topo_forms.specs.declared.path.Key.TheVariants.{Limits, Prices, Start, Version, Workers}
+use Rattle.topo_forms.specs.declared.path.Key.TheVariants.{Workers}
 use Rattle.topo_forms.specs.declared.path.Path.{Path}
-use Rattle.topo_forms.specs.declared.scripts.LimitRows.{LimitRows}
-use Rattle.topo_forms.specs.declared.scripts.Script.{Script}
 use Rattle.topo_forms.specs.CallForms.{command_form}
-use Rattle.topo_forms.specs.Paths.{key_name, member_of, whole}
-use Rattle.topo_forms.specs.Reads.{Read, and_then, is_text, list_form, has_keys}
+use Rattle.topo_forms.specs.Paths.{key_name}
+use Rattle.topo_forms.specs.Reads.{and_then, is_text, list_form, has_keys}
 use Rattle.topo_forms.specs.RowForms.{rows_form}
-use Rattle.topo_forms.specs.Scripts.{greatest_limits, limits_form, nulls_of, nulls_in, price_form, prices_form, picture_form, start_form, workers_form, script_form}
-use Rattle.topo_forms.specs.Spelled.{Spells, SpellsMember, SpellsOptional}
-use Rattle.topo_forms.specs.SpelledParts.{ArePricesOf}
-use Rattle.topo_forms.proofs.Lookups.{member_read}
-use Rattle.topo_forms.proofs.SpelledReports.{counted, prices_read}
-use Rattle.topo_forms.proofs.Spellings.{word_spelled, deeper, MembersTo, members_done, member_then, object_spelled}
+use Rattle.topo_forms.specs.Scripts.{picture_form, start_form, workers_form}
+use Rattle.topo_forms.specs.Spelled.{Spells, SpellsMember}
+use Rattle.topo_forms.proofs.SpelledReports.{counted}
+use Rattle.topo_forms.proofs.Spellings.{word_spelled, deeper}
 use Rattle.topo_forms.proofs.Steps.{went}
 
 -- ---- Starts

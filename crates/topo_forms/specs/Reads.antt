@@ -25,6 +25,13 @@ infixl 10 ◌>>=◌
 abbrev pub ◌>>=◌ : {A B : Type 0} → Read A → (A → Read B) → Read B
 found >>= next = and_then found next
 
+-- what is found twice and thrice, or the first fault
+abbrev pub both : {A B : Type 0} → Read A → Read B → Read (A × B)
+both a b = a >>= λ x. b >>= λ y. Ok (x, y)
+
+abbrev pub all_three : {A B C : Type 0} → Read A → Read B → Read C → Read (A × B × C)
+all_three a b c = a >>= λ x. b >>= λ y. c >>= λ z. Ok (x, y, z)
+
 abbrev pub read_map : {A B : Type 0} → (A → B) → Read A → Read B
 read_map f (Ok a) = Ok (f a)
 read_map f (Err fault) = Err fault
@@ -96,6 +103,10 @@ element form path i d = do
   found ← due (BadShape path) (at i d)
   form (element_of path i) found
 
+-- three elements from a place on
+abbrev pub three_elements : {A B C : Type 0} → (Path → Data → Read A) → (Path → Data → Read B) → (Path → Data → Read C) → Path → ℕ → Data → Read (A × B × C)
+three_elements a b c path i d = all_three (element a path i d) (element b path (i + 1) d) (element c path (i + 2) d)
+
 -- ---- Objects
 
 abbrev pub has_key : Key → Data → Bool
@@ -127,6 +138,13 @@ unfoldable pub member_form : {A : Type 0} → (Path → Data → Read A) → Pat
 member_form form path key d = do
   found ← due (BadShape (member_of path key)) (get (key_name key) d)
   form (member_of path key) found
+
+-- two members, and three
+abbrev pub two_members : {A B : Type 0} → (Path → Data → Read A) → (Path → Data → Read B) → Path → Key → Key → Data → Read (A × B)
+two_members a b path first second d = both (member_form a path first d) (member_form b path second d)
+
+abbrev pub three_members : {A B C : Type 0} → (Path → Data → Read A) → (Path → Data → Read B) → (Path → Data → Read C) → Path → Key → Key → Key → Data → Read (A × B × C)
+three_members a b c path first second third d = all_three (member_form a path first d) (member_form b path second d) (member_form c path third d)
 
 -- a member that may be missing
 unfoldable pub member_or : {A : Type 0} → A → (Path → Data → Read A) → Path → Key → Data → Read A

@@ -6,7 +6,7 @@ ghost use Rattle.topo_forms.specs.Reads.{Gives};
 ghost use Rattle.topo_forms.specs.CallForms.{begins, call_form, grow_form, insert_form, delete_form, command_form, planned_form, plain_form};
 
 use crate::fault::ScriptFault;
-use crate::form::{Form, element_count, is_text, read_element};
+use crate::form::{Form, element_count, is_text, read_element, read_elements};
 use crate::path::Path;
 use serde_json::Value;
 use std::alloc::Global;
@@ -28,18 +28,14 @@ fn begins(word: &str, count: usize, value: &Value) -> bool
 fn read_grow(alloc: Global, path: Path, value: &Value) -> Result<Call, ScriptFault>
     ensures { Gives result (grow_form path (view value.now)) }
 {
-    let u = read_element(alloc, path, 1, value)?;
-    let position = read_element(alloc, path, 2, value)?;
-    let kind = read_element(alloc, path, 3, value)?;
+    let (u, position, kind) = read_elements(alloc, path, 1, value)?;
     Ok(Call::Grow { u, position, kind })
 }
 
 fn read_insert(alloc: Global, path: Path, value: &Value) -> Result<Call, ScriptFault>
     ensures { Gives result (insert_form path (view value.now)) }
 {
-    let u = read_element(alloc, path, 1, value)?;
-    let v = read_element(alloc, path, 2, value)?;
-    let kind = read_element(alloc, path, 3, value)?;
+    let (u, v, kind) = read_elements(alloc, path, 1, value)?;
     Ok(Call::Insert { u, v, kind })
 }
 
@@ -53,9 +49,7 @@ fn read_delete(alloc: Global, path: Path, value: &Value) -> Result<Call, ScriptF
 fn read_planned(alloc: Global, path: Path, value: &Value) -> Result<Command, ScriptFault>
     ensures { Gives result (planned_form path (view value.now)) }
 {
-    let u = read_element(alloc, path, 1, value)?;
-    let v = read_element(alloc, path, 2, value)?;
-    let kind = read_element(alloc, path, 3, value)?;
+    let (u, v, kind) = read_elements(alloc, path, 1, value)?;
     Ok(Command::Planned { u, v, kind })
 }
 

@@ -3,7 +3,7 @@
 ghost use Rattle.std.specs.Prelude.{◌≡◌, ◌+◌, ◌==◌};
 ghost use Rattle.topo_forms.specs.declared.fault.ScriptFault.TheVariants.{BadShape};
 ghost use Rattle.serde_json.specs.View.{view, items_view, members_view};
-ghost use Rattle.topo_forms.specs.Reads.{Gives, passes, read_map, number_below, number_form, is_text, element_count, items_from, list_form, element, has_key, is_known, all_known, all_there, has_keys, member_form, member_or, value_of};
+ghost use Rattle.topo_forms.specs.Reads.{Gives, passes, read_map, number_below, number_form, is_text, element_count, items_from, list_form, element, has_key, is_known, all_known, all_there, has_keys, member_form, member_or, two_members, three_members, three_elements, value_of};
 
 use crate::fault::ScriptFault;
 use crate::path::{Key, Path};
@@ -117,6 +117,37 @@ pub fn read_member<T: Form>(
     }
 }
 
+/// What two members are read as, one after the other.
+pub fn read_two<A: Form, B: Form>(
+    alloc: Global,
+    path: Path,
+    first: Key,
+    second: Key,
+    value: &Value,
+) -> Result<(A, B), ScriptFault>
+    ensures { Gives result (two_members A.form B.form path first second (view value.now)) }
+{
+    let a = read_member(alloc, path, first, value)?;
+    let b = read_member(alloc, path, second, value)?;
+    Ok((a, b))
+}
+
+/// What three members are read as, one after the other.
+pub fn read_three<A: Form, B: Form, C: Form>(
+    alloc: Global,
+    path: Path,
+    first: Key,
+    second: Key,
+    third: Key,
+    value: &Value,
+) -> Result<(A, B, C), ScriptFault>
+    ensures { Gives result (three_members A.form B.form C.form path first second third (view value.now)) }
+{
+    let (a, b) = read_two(alloc, path, first, second, value)?;
+    let c = read_member(alloc, path, third, value)?;
+    Ok((a, b, c))
+}
+
 /// What a member is read as, or a default where it is missing.
 pub fn read_member_or<T: Form>(
     alloc: Global,
@@ -146,6 +177,22 @@ pub fn read_element<T: Form>(
         Some(found) => T::read(alloc, path.element(i), found),
         None => Err(ScriptFault::BadShape(path)),
     }
+}
+
+/// What three elements are read as, the first of them at place `i`.
+pub fn read_elements<A: Form, B: Form, C: Form>(
+    alloc: Global,
+    path: Path,
+    i: u32,
+    value: &Value,
+) -> Result<(A, B, C), ScriptFault>
+    ensures { Gives result (three_elements A.form B.form C.form path i (view value.now)) }
+{
+    let i = i as usize;
+    let a = read_element(alloc, path, i, value)?;
+    let b = read_element(alloc, path, i + 1, value)?;
+    let c = read_element(alloc, path, i + 2, value)?;
+    Ok((a, b, c))
 }
 
 /// Whether a value is an object with this key.

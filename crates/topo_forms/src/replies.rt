@@ -7,8 +7,8 @@ ghost use Rattle.topo_forms.specs.ReplyForms.{is_number, is_pair, way_form, dart
 
 use crate::fault::ScriptFault;
 use crate::form::{
-    Form, check_count, check_keys, element_count, has_key, is_text, read_element, read_member,
-    read_number,
+    Form, check_count, check_keys, element_count, has_key, is_text, read_element, read_elements,
+    read_member, read_number, read_three, read_two,
 };
 use crate::path::{Key, Path};
 use serde_json::Value;
@@ -45,9 +45,7 @@ impl Form for Dart {
 
     fn read(alloc: Global, path: Path, value: &Value) -> Result<Self, ScriptFault> {
         check_count(path, 3, value)?;
-        let edge = read_element(alloc, path, 0, value)?;
-        let seg = read_element(alloc, path, 1, value)?;
-        let way = read_element(alloc, path, 2, value)?;
+        let (edge, seg, way) = read_elements(alloc, path, 0, value)?;
         Ok(Dart { edge, seg, way })
     }
 }
@@ -136,8 +134,7 @@ fn read_grown(alloc: Global, path: Path, value: &Value) -> Result<Reply, ScriptF
     ensures { Gives result (grown_form path (view value.now)) }
 {
     check_keys(path, &[Key::Edge, Key::Vertex], &[], value)?;
-    let edge = read_member(alloc, path, Key::Edge, value)?;
-    let vertex = read_member(alloc, path, Key::Vertex, value)?;
+    let (edge, vertex) = read_two(alloc, path, Key::Edge, Key::Vertex, value)?;
     Ok(Reply::Grown { vertex, edge })
 }
 
@@ -146,11 +143,8 @@ fn read_inserted(alloc: Global, path: Path, value: &Value) -> Result<Reply, Scri
 {
     let keys = [Key::Crossed, Key::Edge, Key::End, Key::Price, Key::Start];
     check_keys(path, &keys, &[], value)?;
-    let crossed = read_member(alloc, path, Key::Crossed, value)?;
-    let id = read_member(alloc, path, Key::Edge, value)?;
-    let end = read_member(alloc, path, Key::End, value)?;
-    let price = read_member(alloc, path, Key::Price, value)?;
-    let start = read_member(alloc, path, Key::Start, value)?;
+    let (crossed, id, end) = read_three(alloc, path, Key::Crossed, Key::Edge, Key::End, value)?;
+    let (price, start) = read_two(alloc, path, Key::Price, Key::Start, value)?;
     let route = Route {
         start,
         crossed,
@@ -181,9 +175,14 @@ impl Form for Entry {
 
     fn read(alloc: Global, path: Path, value: &Value) -> Result<Self, ScriptFault> {
         check_keys(path, &[Key::Call, Key::Caller, Key::Reply], &[], value)?;
-        let call = read_member(alloc, path, Key::Call, value)?;
-        let caller = read_member(alloc, path, Key::Caller, value)?;
-        let reply = read_member(alloc, path, Key::Reply, value)?;
+        let (call, caller, reply) = read_three(
+            alloc,
+            path,
+            Key::Call,
+            Key::Caller,
+            Key::Reply,
+            value,
+        )?;
         Ok(Entry {
             caller,
             call,

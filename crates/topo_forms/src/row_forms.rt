@@ -5,7 +5,7 @@ ghost use Rattle.topo_forms.specs.Reads.{Gives};
 ghost use Rattle.topo_forms.specs.RowForms.{sign_form, edge_form, crossing_form, rows_form, rows_of};
 
 use crate::fault::ScriptFault;
-use crate::form::{Form, check_keys, is_text, parse, read_member};
+use crate::form::{Form, check_keys, is_text, parse, read_three, read_two};
 use crate::path::{Key, Path};
 use crate::spelled::read_spelled;
 use serde_json::Value;
@@ -37,11 +37,15 @@ impl Form for EdgeRow {
     fn read(alloc: Global, path: Path, value: &Value) -> Result<Self, ScriptFault> {
         let keys = [Key::A, Key::B, Key::Crossings, Key::Id, Key::Kind];
         check_keys(path, &keys, &[], value)?;
-        let a = read_member(alloc, path, Key::A, value)?;
-        let b = read_member(alloc, path, Key::B, value)?;
-        let crossings = read_member(alloc, path, Key::Crossings, value)?;
-        let id = read_member(alloc, path, Key::Id, value)?;
-        let kind = read_member(alloc, path, Key::Kind, value)?;
+        let (a, b) = read_two(alloc, path, Key::A, Key::B, value)?;
+        let (crossings, id, kind) = read_three(
+            alloc,
+            path,
+            Key::Crossings,
+            Key::Id,
+            Key::Kind,
+            value,
+        )?;
         Ok(EdgeRow {
             id,
             a,
@@ -58,10 +62,8 @@ impl Form for CrossRow {
     fn read(alloc: Global, path: Path, value: &Value) -> Result<Self, ScriptFault> {
         let keys = [Key::Crossed, Key::Id, Key::Newcomer, Key::Sign];
         check_keys(path, &keys, &[], value)?;
-        let crossed = read_member(alloc, path, Key::Crossed, value)?;
-        let id = read_member(alloc, path, Key::Id, value)?;
-        let newcomer = read_member(alloc, path, Key::Newcomer, value)?;
-        let sign = read_member(alloc, path, Key::Sign, value)?;
+        let (crossed, id) = read_two(alloc, path, Key::Crossed, Key::Id, value)?;
+        let (newcomer, sign) = read_two(alloc, path, Key::Newcomer, Key::Sign, value)?;
         Ok(CrossRow {
             id,
             crossed,
@@ -83,11 +85,15 @@ impl Form for Rows {
             Key::Rotations,
         ];
         check_keys(path, &keys, &[], value)?;
-        let crossings = read_member(alloc, path, Key::Crossings, value)?;
-        let edges = read_member(alloc, path, Key::Edges, value)?;
-        let next_crossing = read_member(alloc, path, Key::NextCrossing, value)?;
-        let next_edge = read_member(alloc, path, Key::NextEdge, value)?;
-        let rotations = read_member(alloc, path, Key::Rotations, value)?;
+        let (crossings, edges) = read_two(alloc, path, Key::Crossings, Key::Edges, value)?;
+        let (next_crossing, next_edge, rotations) = read_three(
+            alloc,
+            path,
+            Key::NextCrossing,
+            Key::NextEdge,
+            Key::Rotations,
+            value,
+        )?;
         Ok(Rows {
             rotations,
             edges,

@@ -4,14 +4,16 @@ ghost use Rattle.std.specs.Prelude.{◌≡◌, ◌&&◌, [], nat_lt, nat_le, is_
 ghost use Rattle.serde_json.specs.View.{view};
 ghost use Rattle.serde_json.specs.Find.{as_object};
 ghost use Rattle.topo_forms.specs.declared.fault.ScriptFault.TheVariants.{BadShape};
-ghost use Rattle.topo_forms.specs.Reads.{Gives, passes, element_count, member_form, member_or};
+ghost use Rattle.topo_forms.specs.Reads.{Gives, passes, both, element_count, member_form, member_or};
+ghost use Rattle.topo_forms.specs.RowForms.{rows_form};
 ghost use Rattle.topo_forms.specs.Paths.{whole};
-ghost use Rattle.topo_forms.specs.declared.path.Key.TheVariants.{Prices, Workers};
+ghost use Rattle.topo_forms.specs.declared.path.Key.TheVariants.{Prices, Start, Workers};
 ghost use Rattle.topo_forms.specs.Scripts.{limits_form, nulls_of, nulls_in, prices_form, picture_form, start_form, workers_form, script_form, script_of, report_form, report_of};
 
 use crate::fault::ScriptFault;
 use crate::form::{
     Form, check_keys, element_count, has_key, is_text, parse, read_member, read_member_or,
+    read_three,
 };
 use crate::path::{Key, Path};
 use crate::prices::read_prices;
@@ -37,9 +39,14 @@ impl Form for LimitRows {
     fn read(alloc: Global, path: Path, value: &Value) -> Result<Self, ScriptFault> {
         let keys = [Key::Crossings, Key::Edges, Key::Vertices];
         check_keys(path, &keys, &[], value)?;
-        let crossings = read_member(alloc, path, Key::Crossings, value)?;
-        let edges = read_member(alloc, path, Key::Edges, value)?;
-        let vertices = read_member(alloc, path, Key::Vertices, value)?;
+        let (crossings, edges, vertices) = read_three(
+            alloc,
+            path,
+            Key::Crossings,
+            Key::Edges,
+            Key::Vertices,
+            value,
+        )?;
         Ok(LimitRows {
             vertices,
             edges,
@@ -183,13 +190,18 @@ fn script_in(alloc: Global, value: &Value) -> Result<Script, ScriptFault>
     let limits = read_member_or(alloc, whole, Key::Limits, value, GREATEST_LIMITS)?;
     let prices = read_prices_or_none(alloc, nulls, value)?;
     let start = read_member_or(alloc, whole, Key::Start, value, None)?;
-    let workers = read_workers_member(alloc, value)?;
-    Ok(Script {
-        limits,
-        prices,
-        start,
-        workers,
-    })
+    match read_workers_member(alloc, value) {
+        Ok(workers) => Ok(Script {
+            limits,
+            prices,
+            start,
+            workers,
+        }),
+        Err(fault) => {
+            drop(start);
+            Err(fault)
+        }
+    }
 }
 
 /// The script that bytes spell.
@@ -210,6 +222,19 @@ fn script_of_value(alloc: Global, bytes: &[u8]) -> Result<Script, ScriptFault>
     script_in(alloc, &value)
 }
 
+/// The prices and the start of a report.
+fn prices_and_start(
+    alloc: Global,
+    nulls: bool,
+    value: &Value,
+) -> Result<(Listed<Option<u32>>, Rows), ScriptFault>
+    ensures { Gives result (both (member_form (prices_form nulls) whole Prices (view value.now)) (member_form rows_form whole Start (view value.now))) }
+{
+    let prices = read_price_member(alloc, nulls, value)?;
+    let start = read_member(alloc, Path::WHOLE, Key::Start, value)?;
+    Ok((prices, start))
+}
+
 /// The report that a value is.
 fn report_in(alloc: Global, value: &Value) -> Result<Report, ScriptFault>
     ensures { Gives result (report_form (view value.now)) }
@@ -225,18 +250,23 @@ fn report_in(alloc: Global, value: &Value) -> Result<Report, ScriptFault>
         Key::Version,
     ];
     check_keys(whole, &keys, &[], value)?;
-    let history = read_member(alloc, whole, Key::History, value)?;
-    let limits = read_member(alloc, whole, Key::Limits, value)?;
-    let picture = read_member(alloc, whole, Key::Picture, value)?;
-    let prices = read_price_member(alloc, nulls, value)?;
-    let start = read_member(alloc, whole, Key::Start, value)?;
-    Ok(Report {
-        limits,
-        prices,
-        start,
-        history,
-        picture,
-    })
+    let head = read_three(alloc, whole, Key::History, Key::Limits, Key::Picture, value)?;
+    match prices_and_start(alloc, nulls, value) {
+        Ok((prices, start)) => {
+            let (history, limits, picture) = head;
+            Ok(Report {
+                limits,
+                prices,
+                start,
+                history,
+                picture,
+            })
+        }
+        Err(fault) => {
+            drop(head);
+            Err(fault)
+        }
+    }
 }
 
 /// The report that bytes spell.

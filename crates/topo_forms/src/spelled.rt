@@ -8,7 +8,7 @@ ghost use Rattle.serde_json.specs.Data.{unsigned};
 ghost use Rattle.serde_json.specs.Read.{number_of};
 ghost use Rattle.topo_forms.specs.Paths.{key_name};
 ghost use Rattle.topo_forms.specs.Reads.{number_form, long_form, list_form};
-ghost use Rattle.topo_forms.specs.Spelled.{Spells, SpellsItems, SpellsMember, SpellsNumber, SpellsText};
+ghost use Rattle.topo_forms.specs.Spelled.{Spells, SpellsItems, SpellsMember, SpellsNumber, SpellsNumbers, SpellsText, SpellsThree, SpellsTwo};
 
 use crate::path::Key;
 use fast_float::Numeral;
@@ -196,6 +196,46 @@ pub fn next_member<T: Spelled>(alloc: Global, key: Key, reader: &mut Reader<'_>)
 {
     take_key(key, reader)?;
     T::from_tokens(alloc, reader)
+}
+
+/// What the next two members spell, which have these keys.
+pub fn next_two<A: Spelled, B: Spelled>(
+    alloc: Global,
+    first: Key,
+    second: Key,
+    reader: &mut Reader<'_>,
+) -> Option<(A, B)>
+    ensures { IfSome result (λ found. SpellsTwo A.nesting B.nesting A.form B.form (key_name first) (key_name second) reader.old found.0 found.1 reader.new) }
+{
+    let a = next_member(alloc, first, reader)?;
+    let b = next_member(alloc, second, reader)?;
+    Some((a, b))
+}
+
+/// What the next three members spell, which have these keys.
+pub fn next_three<A: Spelled, B: Spelled, C: Spelled>(
+    alloc: Global,
+    first: Key,
+    second: Key,
+    third: Key,
+    reader: &mut Reader<'_>,
+) -> Option<(A, B, C)>
+    ensures { IfSome result (λ found. SpellsThree A.nesting B.nesting C.nesting A.form B.form C.form (key_name first) (key_name second) (key_name third) reader.old found.0 found.1 found.2 reader.new) }
+{
+    let (a, b) = next_two(alloc, first, second, reader)?;
+    let c = next_member(alloc, third, reader)?;
+    Some((a, b, c))
+}
+
+/// The three numbers that the tokens up to the end of an array spell.
+pub fn last_numbers(alloc: Global, reader: &mut Reader<'_>) -> Option<(u32, u32, u32)>
+    ensures { IfSome result (λ found. SpellsNumbers reader.old found.0 found.1 found.2 reader.new) }
+{
+    let a = u32::from_tokens(alloc, reader)?;
+    let b = u32::from_tokens(alloc, reader)?;
+    let c = u32::from_tokens(alloc, reader)?;
+    end_array(reader)?;
+    Some((a, b, c))
 }
 
 /// The key that is the next token.

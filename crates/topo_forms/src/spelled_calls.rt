@@ -4,7 +4,7 @@ ghost use Rattle.std.specs.Prelude.{◌≡◌, IfSome, codes};
 ghost use Rattle.topo_forms.specs.CallForms.{call_form};
 ghost use Rattle.topo_forms.specs.SpelledParts.{SpellsCall};
 
-use crate::spelled::{Spelled, begin_array, end_array, next_text};
+use crate::spelled::{Spelled, begin_array, end_array, last_numbers, next_text};
 use json::Reader;
 use std::alloc::Global;
 use topo_core::calls::Call;
@@ -13,10 +13,7 @@ use topo_core::calls::Call;
 fn spelled_grow(alloc: Global, reader: &mut Reader<'_>) -> Option<Call>
     ensures { IfSome result (λ call. SpellsCall (codes "grow") reader.old call reader.new) }
 {
-    let u = u32::from_tokens(alloc, reader)?;
-    let position = u32::from_tokens(alloc, reader)?;
-    let kind = u32::from_tokens(alloc, reader)?;
-    end_array(reader)?;
+    let (u, position, kind) = last_numbers(alloc, reader)?;
     Some(Call::Grow { u, position, kind })
 }
 
@@ -24,10 +21,7 @@ fn spelled_grow(alloc: Global, reader: &mut Reader<'_>) -> Option<Call>
 fn spelled_insert(alloc: Global, reader: &mut Reader<'_>) -> Option<Call>
     ensures { IfSome result (λ call. SpellsCall (codes "insert") reader.old call reader.new) }
 {
-    let u = u32::from_tokens(alloc, reader)?;
-    let v = u32::from_tokens(alloc, reader)?;
-    let kind = u32::from_tokens(alloc, reader)?;
-    end_array(reader)?;
+    let (u, v, kind) = last_numbers(alloc, reader)?;
     Some(Call::Insert { u, v, kind })
 }
 

@@ -11,7 +11,7 @@ ghost use Rattle.topo_forms.specs.SpelledParts.{SpellsRefusal};
 use crate::path::Key;
 use crate::spelled::{
     Spelled, begin_array, begin_object, end_array, end_object, next_member, next_name, next_number,
-    next_text,
+    next_text, next_three, next_two,
 };
 use json::Reader;
 use std::alloc::Global;
@@ -148,10 +148,8 @@ fn spelled_inserted(alloc: Global, reader: &mut Reader<'_>) -> Option<Reply>
     ensures { IfSome result (λ reply. Spells 3 reply_form (begin_object ∷ key (codes "crossed") ∷ reader.old) reply reader.new) }
 {
     let crossed = Listed::from_tokens(alloc, reader)?;
-    let id = next_member(alloc, Key::Edge, reader)?;
-    let end = next_member(alloc, Key::End, reader)?;
-    let price = next_member(alloc, Key::Price, reader)?;
-    let start = next_member(alloc, Key::Start, reader)?;
+    let (id, end) = next_two(alloc, Key::Edge, Key::End, reader)?;
+    let (price, start) = next_two(alloc, Key::Price, Key::Start, reader)?;
     end_object(reader)?;
     let route = Route {
         start,
@@ -197,9 +195,7 @@ impl Spelled for Entry {
 
     fn from_tokens(alloc: Global, reader: &mut Reader<'_>) -> Option<Self> {
         begin_object(reader)?;
-        let call = next_member(alloc, Key::Call, reader)?;
-        let caller = next_member(alloc, Key::Caller, reader)?;
-        let reply = next_member(alloc, Key::Reply, reader)?;
+        let (call, caller, reply) = next_three(alloc, Key::Call, Key::Caller, Key::Reply, reader)?;
         end_object(reader)?;
         Some(Entry {
             caller,

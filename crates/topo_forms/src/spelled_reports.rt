@@ -3,17 +3,18 @@
 ghost use Rattle.std.specs.Prelude.{◌≡◌, IfSome, Ok, true};
 ghost use Rattle.std.specs.Option.{is_none};
 ghost use Rattle.std.specs.List.{list_any};
-ghost use Rattle.topo_forms.specs.SpelledParts.{ArePricesOf};
+ghost use Rattle.topo_forms.specs.SpelledParts.{ArePricesOf, SpellsEnding};
 ghost use Rattle.topo_forms.specs.Scripts.{limits_form, nulls_of, price_form, report_form};
 
 use crate::path::Key;
 use crate::prices::{MAX_PRICES, without_ones};
 use crate::reports::Report;
 use crate::scripts::LimitRows;
-use crate::spelled::{Spelled, begin_object, end_object, next_member, short, whole_number};
+use crate::spelled::{Spelled, begin_object, end_object, next_three, short, whole_number};
 use json::{Reader, Token};
 use std::alloc::Global;
 use topo_core::listed::Listed;
+use topo_core::rows::Rows;
 
 impl Spelled for LimitRows {
     ghost form = { limits_form };
@@ -22,9 +23,13 @@ impl Spelled for LimitRows {
 
     fn from_tokens(alloc: Global, reader: &mut Reader<'_>) -> Option<Self> {
         begin_object(reader)?;
-        let crossings = next_member(alloc, Key::Crossings, reader)?;
-        let edges = next_member(alloc, Key::Edges, reader)?;
-        let vertices = next_member(alloc, Key::Vertices, reader)?;
+        let (crossings, edges, vertices) = next_three(
+            alloc,
+            Key::Crossings,
+            Key::Edges,
+            Key::Vertices,
+            reader,
+        )?;
         end_object(reader)?;
         Some(LimitRows {
             vertices,
@@ -81,6 +86,22 @@ pub fn kept_prices(prices: Listed<Option<u32>>, version: u32) -> Option<Listed<O
     Some(without_ones(prices))
 }
 
+/// What follows the picture of a report: its prices, without the ones at their end, and its start.
+fn spelled_ending(alloc: Global, reader: &mut Reader<'_>) -> Option<(Listed<Option<u32>>, Rows)>
+    ensures { IfSome result (λ found. SpellsEnding reader.old found.0 found.1 reader.new) }
+{
+    let (prices, start, version) = next_three(
+        alloc,
+        Key::Prices,
+        Key::Start,
+        Key::Version,
+        reader,
+    )?;
+    let closed = end_object(reader);
+    let kept = closed.and(kept_prices(prices, version));
+    kept.zip(Some(start))
+}
+
 impl Spelled for Report {
     ghost form = { λ path. report_form };
 
@@ -88,14 +109,9 @@ impl Spelled for Report {
 
     fn from_tokens(alloc: Global, reader: &mut Reader<'_>) -> Option<Self> {
         begin_object(reader)?;
-        let history = next_member(alloc, Key::History, reader)?;
-        let limits = next_member(alloc, Key::Limits, reader)?;
-        let picture = next_member(alloc, Key::Picture, reader)?;
-        let prices = next_member(alloc, Key::Prices, reader)?;
-        let start = next_member(alloc, Key::Start, reader)?;
-        let version = next_member(alloc, Key::Version, reader)?;
-        end_object(reader)?;
-        let prices = kept_prices(prices, version)?;
+        let head = next_three(alloc, Key::History, Key::Limits, Key::Picture, reader)?;
+        let ending = spelled_ending(alloc, reader);
+        let ((history, limits, picture), (prices, start)) = Some(head).zip(ending)?;
         Some(Report {
             limits,
             prices,

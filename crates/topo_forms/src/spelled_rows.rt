@@ -6,7 +6,7 @@ ghost use Rattle.topo_forms.specs.RowForms.{sign_form, edge_form, crossing_form,
 ghost use Rattle.topo_forms.specs.Spelled.{Spells};
 
 use crate::path::Key;
-use crate::spelled::{Spelled, begin_object, end_object, next_member, next_text};
+use crate::spelled::{Spelled, begin_object, end_object, next_text, next_three, next_two};
 use json::Reader;
 use std::alloc::Global;
 use topo_core::darts::Sign;
@@ -36,11 +36,8 @@ impl Spelled for EdgeRow {
 
     fn from_tokens(alloc: Global, reader: &mut Reader<'_>) -> Option<Self> {
         begin_object(reader)?;
-        let a = next_member(alloc, Key::A, reader)?;
-        let b = next_member(alloc, Key::B, reader)?;
-        let crossings = next_member(alloc, Key::Crossings, reader)?;
-        let id = next_member(alloc, Key::Id, reader)?;
-        let kind = next_member(alloc, Key::Kind, reader)?;
+        let (a, b) = next_two(alloc, Key::A, Key::B, reader)?;
+        let (crossings, id, kind) = next_three(alloc, Key::Crossings, Key::Id, Key::Kind, reader)?;
         end_object(reader)?;
         Some(EdgeRow {
             id,
@@ -59,10 +56,8 @@ impl Spelled for CrossRow {
 
     fn from_tokens(alloc: Global, reader: &mut Reader<'_>) -> Option<Self> {
         begin_object(reader)?;
-        let crossed = next_member(alloc, Key::Crossed, reader)?;
-        let id = next_member(alloc, Key::Id, reader)?;
-        let newcomer = next_member(alloc, Key::Newcomer, reader)?;
-        let sign = next_member(alloc, Key::Sign, reader)?;
+        let (crossed, id) = next_two(alloc, Key::Crossed, Key::Id, reader)?;
+        let (newcomer, sign) = next_two(alloc, Key::Newcomer, Key::Sign, reader)?;
         end_object(reader)?;
         Some(CrossRow {
             id,
@@ -77,11 +72,14 @@ impl Spelled for CrossRow {
 pub fn spelled_members(alloc: Global, reader: &mut Reader<'_>) -> Option<Rows>
     ensures { IfSome result (λ rows. Spells 4 rows_form (begin_object ∷ reader.old) rows reader.new) }
 {
-    let crossings = next_member(alloc, Key::Crossings, reader)?;
-    let edges = next_member(alloc, Key::Edges, reader)?;
-    let next_crossing = next_member(alloc, Key::NextCrossing, reader)?;
-    let next_edge = next_member(alloc, Key::NextEdge, reader)?;
-    let rotations = next_member(alloc, Key::Rotations, reader)?;
+    let (crossings, edges) = next_two(alloc, Key::Crossings, Key::Edges, reader)?;
+    let (next_crossing, next_edge, rotations) = next_three(
+        alloc,
+        Key::NextCrossing,
+        Key::NextEdge,
+        Key::Rotations,
+        reader,
+    )?;
     end_object(reader)?;
     Some(Rows {
         rotations,

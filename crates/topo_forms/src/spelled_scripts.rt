@@ -6,13 +6,14 @@ ghost use Rattle.topo_forms.specs.CallForms.{command_form};
 ghost use Rattle.topo_forms.specs.Paths.{key_name};
 ghost use Rattle.topo_forms.specs.declared.path.Key.TheVariants.{Workers};
 ghost use Rattle.topo_forms.specs.Scripts.{script_form, start_form, workers_form};
-ghost use Rattle.topo_forms.specs.Spelled.{Spells, SpellsMember, SpellsOptional};
+ghost use Rattle.topo_forms.specs.Spelled.{Spells, SpellsMember, SpellsOptional, SpellsOptionals};
+ghost use Rattle.topo_forms.specs.SpelledParts.{SpellsLists};
 
 use crate::path::Key;
 use crate::script_forms::{GREATEST_LIMITS, MAX_WORKERS};
 use crate::scripts::Script;
 use crate::spelled::{
-    Spelled, begin_array, begin_object, end_array, end_object, next_member, next_name, next_text,
+    Spelled, begin_array, begin_object, end_object, last_numbers, next_member, next_name, next_text,
 };
 use crate::spelled_calls::call_after;
 use crate::spelled_reports::kept_prices;
@@ -27,10 +28,7 @@ use topo_core::rows::Rows;
 fn spelled_planned(alloc: Global, reader: &mut Reader<'_>) -> Option<Command>
     ensures { IfSome result (λ command. Spells 1 command_form (begin_array ∷ string (codes "planned") ∷ reader.old) command reader.new) }
 {
-    let u = u32::from_tokens(alloc, reader)?;
-    let v = u32::from_tokens(alloc, reader)?;
-    let kind = u32::from_tokens(alloc, reader)?;
-    end_array(reader)?;
+    let (u, v, kind) = last_numbers(alloc, reader)?;
     Some(Command::Planned { u, v, kind })
 }
 
@@ -99,6 +97,30 @@ fn optional_member<'a, T: Spelled>(
     Some((Some(found), next))
 }
 
+/// Three members behind this key, where it and those that follow are the keys that are asked for, and the
+/// key that comes next.
+fn optional_members<'a, A: Spelled, B: Spelled, C: Spelled>(
+    alloc: Global,
+    first: Key,
+    second: Key,
+    third: Key,
+    name: &'a str,
+    reader: &mut Reader<'a>,
+) -> Option<((Option<A>, Option<B>, Option<C>), &'a str)>
+    ensures { IfSome result (λ r. SpellsOptionals A.nesting B.nesting C.nesting A.form B.form C.form (key_name first) (key_name second) (key_name third) (key name.now ∷ reader.old) r.0.0 r.0.1 r.0.2 (key r.1.now ∷ reader.new)) }
+{
+    let Some((a, name)) = optional_member(alloc, first, name, reader) else {
+        return None;
+    };
+    let Some((b, name)) = optional_member(alloc, second, name, reader) else {
+        return None;
+    };
+    let Some((c, name)) = optional_member(alloc, third, name, reader) else {
+        return None;
+    };
+    Some(((a, b, c), name))
+}
+
 /// One to sixteen lists of commands.
 fn spelled_workers(alloc: Global, reader: &mut Reader<'_>) -> Option<Listed<Listed<Command>>>
     ensures { IfSome result (λ workers. SpellsMember 3 workers_form (key_name Workers) reader.old workers reader.new) }
@@ -112,6 +134,22 @@ fn spelled_workers(alloc: Global, reader: &mut Reader<'_>) -> Option<Listed<List
     }
 }
 
+/// What follows the members of a script that may be missing: its version and its lists.
+fn spelled_ending(
+    alloc: Global,
+    name: &str,
+    reader: &mut Reader<'_>,
+) -> Option<(u32, Listed<Listed<Command>>)>
+    ensures { IfSome result (λ found. SpellsLists (key name.now ∷ reader.old) found.0 found.1 reader.new) }
+{
+    if name != Key::Version.name() {
+        return None;
+    }
+    let version = u32::from_tokens(alloc, reader)?;
+    let workers = spelled_workers(alloc, reader);
+    end_object(reader).and(Some(version)).zip(workers)
+}
+
 impl Spelled for Script {
     ghost form = { λ path. script_form };
 
@@ -120,22 +158,20 @@ impl Spelled for Script {
     fn from_tokens(alloc: Global, reader: &mut Reader<'_>) -> Option<Self> {
         begin_object(reader)?;
         let name = next_name(reader)?;
-        let Some((limits, name)) = optional_member(alloc, Key::Limits, name, reader) else {
+        let Some((front, name)) = optional_members(
+            alloc,
+            Key::Limits,
+            Key::Prices,
+            Key::Start,
+            name,
+            reader,
+        ) else {
             return None;
         };
-        let Some((prices, name)) = optional_member(alloc, Key::Prices, name, reader) else {
-            return None;
-        };
-        let Some((start, name)) = optional_member(alloc, Key::Start, name, reader) else {
-            return None;
-        };
-        if name != Key::Version.name() {
-            return None;
-        }
-        let version = u32::from_tokens(alloc, reader)?;
-        let workers = spelled_workers(alloc, reader)?;
-        end_object(reader)?;
-        let prices = kept_prices(prices.unwrap_or(Listed::new(alloc)), version)?;
+        let ending = spelled_ending(alloc, name, reader);
+        let ((limits, prices, start), (version, workers)) = Some(front).zip(ending)?;
+        let kept = kept_prices(prices.unwrap_or(Listed::new(alloc)), version);
+        let (prices, (start, workers)) = kept.zip(Some((start, workers)))?;
         Some(Script {
             limits: limits.unwrap_or(GREATEST_LIMITS),
             prices,

@@ -1,8 +1,9 @@
 //! The words of a command line.
 
-ghost use Rattle.std.specs.Prelude.{◌≡◌, IfOk, IfErr, Some, map, true, is_some};
-ghost use Rattle.clap.specs.Words.{FailsBy, app_of, kind_of, takes};
-ghost use Rattle.topo_words.specs.Words.{planar_app, verb_named, asked_verb, with_command, word_faults};
+ghost use Rattle.std.specs.Prelude.{◌≡◌, IfOk, IfErr, Some, codes, map, true, is_some};
+ghost use Rattle.clap.specs.Simple.{on_top};
+ghost use Rattle.clap.specs.Words.{FailsBy, app_of, kind_of, new_app, takes};
+ghost use Rattle.topo_words.specs.Words.{planar_app, planar_shape, verb_named, asked_verb, with_command, word_faults};
 
 use crate::Verb;
 use clap::error::ErrorKind;
@@ -105,15 +106,22 @@ fn with_command<'a>(
     planar.subcommand(command)
 }
 
+/// The program before it has its commands.
+fn without_commands<'a>(alloc: Global) -> Command<'a>
+    ensures { app_of result ≡ on_top planar_shape (new_app (codes "planar")) }
+{
+    Command::new(alloc, "planar")
+        .about(ABOUT)
+        .after_help(AFTER)
+        .subcommand_required(true)
+        .arg_required_else_help(true)
+}
+
 /// The command line of the program.
 fn planar_command<'a>(alloc: Global) -> Result<Command<'a>, AllocError>
     ensures { IfOk result (λ command. app_of command ≡ planar_app) }
 {
-    let planar = Command::new(alloc, "planar")
-        .about(ABOUT)
-        .after_help(AFTER)
-        .subcommand_required(true)
-        .arg_required_else_help(true);
+    let planar = without_commands(alloc);
     let planar = with_command(alloc, planar, "run", RUN, RUN_LONG)?;
     let planar = with_command(alloc, planar, "replay", REPLAY, REPLAY_LONG)?;
     with_command(alloc, planar, "check", CHECK, CHECK_LONG)
@@ -140,11 +148,25 @@ pub fn verb<'a, S: AsStr>(alloc: Global, words: &'a [S]) -> Result<Verb, Error>
     ensures err { IfErr result (λ e. takes planar_app (map S.text words.entry.now) ≡ true → is_some (asked_verb (map S.text words.entry.now)) ≡ true → kind_of e ≡ ErrorKind.OutOfMemory) }
 {
     let mut planar = planar_command(alloc)?;
+    let asked = asked_of(&mut planar, words);
+    drop(planar);
+    asked
+}
+
+/// The command that the words ask the program for.
+fn asked_of<'a, S: AsStr>(planar: &mut Command<'a>, words: &'a [S]) -> Result<Verb, Error>
+    requires { app_of planar.old ≡ planar_app }
+    ensures ok { IfOk result (λ v. asked_verb (map S.text words.entry.now) ≡ Some v) }
+    ensures kinds { FailsBy (word_faults (map S.text words.entry.now)) result }
+    ensures err { IfErr result (λ e. takes planar_app (map S.text words.entry.now) ≡ true → is_some (asked_verb (map S.text words.entry.now)) ≡ true → kind_of e ≡ ErrorKind.OutOfMemory) }
+{
     let matches = match planar.try_get_matches_from_mut(words) {
         Ok(matches) => matches,
         Err(error) => return Err(error),
     };
-    match matches.subcommand_name().and_then(verb_named) {
+    let named = matches.subcommand_name().and_then(verb_named);
+    drop(matches);
+    match named {
         Some(verb) => Ok(verb),
         None => Err(planar.error(ErrorKind::MissingSubcommand, "a command is missing")?),
     }

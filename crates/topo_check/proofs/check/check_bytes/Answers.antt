@@ -7,8 +7,8 @@ returns-in-Ok-size_line-clause-line c = record {
   spelled = search rules;
   limits = c.greatest_limits.result;
   greatest = c.greatest_limits.ensures;
-  lawful = c.in-Ok-counts_of.ensures.lawful;
-  counts = c.in-Ok-counts_of.counts;
-  counted = c.in-Ok-counts_of.ensures.counts;
+  lawful = c.in-Ok-counts.ensures.lawful;
+  counts = c.in-Ok-counts.counts;
+  counted = c.in-Ok-counts.ensures.counts;
   told = c.in-Ok-size_line.ensures;
 }

@@ -1,6 +1,6 @@
 use Rattle.std.proofs.Common.{◌≡◌, Err, sym, rules, ◌∙◌}
 use Rattle.topo_forms.specs.ReplyForms.{grown_form}
-use Rattle.topo_forms.proofs.Steps.{went, gives_past, stops_at, told}
+use Rattle.topo_forms.proofs.Steps.{gives_past, stops_at, stops_at2, told, went, went2}
 use Rattle.topo_forms.proofs.replies.read_grown.Goals as goal
 
 pub returns-in_err-check_keys : goal.returns-in_err-check_keys
@@ -9,12 +9,8 @@ returns-in_err-check_keys c = let same : c.from_residual.result ≡ Err c.in_err
 
 pub returns-in_err-edge : goal.returns-in_err-edge
 unfolding grown_form
-returns-in_err-edge c = let same : c.from_residual-in_err-edge.result ≡ Err c.in_err-edge.field-0.0 = search rules in gives_past _ _ _ c.from_residual-in_err-edge.result (sym c.in_ok-check_keys.ensures) (stops_at _ _ _ c.from_residual-in_err-edge.result same c.in_err-edge.ensures)
-
-pub returns-in_err-vertex : goal.returns-in_err-vertex
-unfolding grown_form
-returns-in_err-vertex c = let same : c.from_residual-in_err-vertex.result ≡ Err c.in_err-vertex.field-0.0 = search rules in gives_past _ _ _ c.from_residual-in_err-vertex.result (sym c.in_ok-check_keys.ensures) (gives_past _ _ _ c.from_residual-in_err-vertex.result c.in_ok-edge.ensures (stops_at _ _ _ c.from_residual-in_err-vertex.result same c.in_err-vertex.ensures))
+returns-in_err-edge c = let same : c.from_residual-in_err-edge.result ≡ Err c.in_err-edge.field-0.0 = search rules in gives_past _ _ _ c.from_residual-in_err-edge.result (sym c.in_ok-check_keys.ensures) (stops_at2 _ _ _ _ c.from_residual-in_err-edge.result same c.in_err-edge.ensures)
 
 pub returns : goal.returns
 unfolding grown_form
-returns c = went _ _ _ (sym c.in_ok-check_keys.ensures) ∙ went _ _ _ c.in_ok-edge.ensures ∙ went _ _ _ c.in_ok-vertex.ensures
+returns c = went _ _ _ (sym c.in_ok-check_keys.ensures) ∙ went2 _ _ _ _ _ c.in_ok-edge.ensures

@@ -1,6 +1,6 @@
-use Rattle.std.proofs.Common.{◌≡◌, Err, sym, rules, ◌∙◌}
+use Rattle.std.proofs.Common.{◌≡◌, Err, refl, sym, rules, ◌∙◌}
 use Rattle.topo_forms.specs.Scripts.{report_form}
-use Rattle.topo_forms.proofs.Steps.{went, gives_past, stops_at, told}
+use Rattle.topo_forms.proofs.Steps.{went, went2, went3, gives_past, gives_past3, stops_at, stops_at2, stops_at3, told}
 use Rattle.topo_forms.proofs.script_forms.report_in.Goals as goal
 
 pub returns-in_err-nulls : goal.returns-in_err-nulls
@@ -11,26 +11,14 @@ pub returns-in_err-check_keys : goal.returns-in_err-check_keys
 unfolding report_form
 returns-in_err-check_keys c = let same : c.from_residual-in_err-check_keys.result ≡ Err c.in_err-check_keys.field-0.0 = search rules in gives_past _ _ _ c.from_residual-in_err-check_keys.result c.in_ok-nulls.ensures (stops_at _ _ _ c.from_residual-in_err-check_keys.result same (told _ _ c.in_err-check_keys.ensures))
 
-pub returns-in_err-history : goal.returns-in_err-history
+pub returns-in_err-head : goal.returns-in_err-head
 unfolding report_form
-returns-in_err-history c = let same : c.from_residual-in_err-history.result ≡ Err c.in_err-history.field-0.0 = search rules in gives_past _ _ _ c.from_residual-in_err-history.result c.in_ok-nulls.ensures (gives_past _ _ _ c.from_residual-in_err-history.result (sym c.in_ok-check_keys.ensures) (stops_at _ _ _ c.from_residual-in_err-history.result same c.in_err-history.ensures))
+returns-in_err-head c = let same : c.from_residual-in_err-head.result ≡ Err c.in_err-head.field-0.0 = search rules in gives_past _ _ _ c.from_residual-in_err-head.result c.in_ok-nulls.ensures (gives_past _ _ _ c.from_residual-in_err-head.result (sym c.in_ok-check_keys.ensures) (stops_at3 _ _ _ _ _ c.from_residual-in_err-head.result same c.in_err-head.ensures))
 
-pub returns-in_err-limits : goal.returns-in_err-limits
+pub returns-in-Ok : goal.returns-in-Ok
 unfolding report_form
-returns-in_err-limits c = let same : c.from_residual-in_err-limits.result ≡ Err c.in_err-limits.field-0.0 = search rules in gives_past _ _ _ c.from_residual-in_err-limits.result c.in_ok-nulls.ensures (gives_past _ _ _ c.from_residual-in_err-limits.result (sym c.in_ok-check_keys.ensures) (gives_past _ _ _ c.from_residual-in_err-limits.result c.in_ok-history.ensures (stops_at _ _ _ c.from_residual-in_err-limits.result same c.in_err-limits.ensures)))
+returns-in-Ok c = went _ _ _ c.in_ok-nulls.ensures ∙ went _ _ _ (sym c.in_ok-check_keys.ensures) ∙ went3 _ _ _ _ _ _ _ c.in_ok-head.ensures ∙ went2 _ _ _ _ _ c.in-Ok.ensures
 
-pub returns-in_err-picture : goal.returns-in_err-picture
+pub returns-in-Err : goal.returns-in-Err
 unfolding report_form
-returns-in_err-picture c = let same : c.from_residual-in_err-picture.result ≡ Err c.in_err-picture.field-0.0 = search rules in gives_past _ _ _ c.from_residual-in_err-picture.result c.in_ok-nulls.ensures (gives_past _ _ _ c.from_residual-in_err-picture.result (sym c.in_ok-check_keys.ensures) (gives_past _ _ _ c.from_residual-in_err-picture.result c.in_ok-history.ensures (gives_past _ _ _ c.from_residual-in_err-picture.result c.in_ok-limits.ensures (stops_at _ _ _ c.from_residual-in_err-picture.result same c.in_err-picture.ensures))))
-
-pub returns-in_err-prices : goal.returns-in_err-prices
-unfolding report_form
-returns-in_err-prices c = let same : c.from_residual-in_err-prices.result ≡ Err c.in_err-prices.field-0.0 = search rules in gives_past _ _ _ c.from_residual-in_err-prices.result c.in_ok-nulls.ensures (gives_past _ _ _ c.from_residual-in_err-prices.result (sym c.in_ok-check_keys.ensures) (gives_past _ _ _ c.from_residual-in_err-prices.result c.in_ok-history.ensures (gives_past _ _ _ c.from_residual-in_err-prices.result c.in_ok-limits.ensures (gives_past _ _ _ c.from_residual-in_err-prices.result c.in_ok-picture.ensures (stops_at _ _ _ c.from_residual-in_err-prices.result same c.in_err-prices.ensures)))))
-
-pub returns-in_err-start : goal.returns-in_err-start
-unfolding report_form
-returns-in_err-start c = let same : c.from_residual-in_err-start.result ≡ Err c.in_err-start.field-0.0 = search rules in gives_past _ _ _ c.from_residual-in_err-start.result c.in_ok-nulls.ensures (gives_past _ _ _ c.from_residual-in_err-start.result (sym c.in_ok-check_keys.ensures) (gives_past _ _ _ c.from_residual-in_err-start.result c.in_ok-history.ensures (gives_past _ _ _ c.from_residual-in_err-start.result c.in_ok-limits.ensures (gives_past _ _ _ c.from_residual-in_err-start.result c.in_ok-picture.ensures (gives_past _ _ _ c.from_residual-in_err-start.result c.in_ok-prices.ensures (stops_at _ _ _ c.from_residual-in_err-start.result same c.in_err-start.ensures))))))
-
-pub returns : goal.returns
-unfolding report_form
-returns c = went _ _ _ c.in_ok-nulls.ensures ∙ went _ _ _ (sym c.in_ok-check_keys.ensures) ∙ went _ _ _ c.in_ok-history.ensures ∙ went _ _ _ c.in_ok-limits.ensures ∙ went _ _ _ c.in_ok-picture.ensures ∙ went _ _ _ c.in_ok-prices.ensures ∙ went _ _ _ c.in_ok-start.ensures
+returns-in-Err c = gives_past _ _ _ (Err c.in-Err.fault) c.in_ok-nulls.ensures (gives_past _ _ _ (Err c.in-Err.fault) (sym c.in_ok-check_keys.ensures) (gives_past3 _ _ _ _ _ _ _ (Err c.in-Err.fault) c.in_ok-head.ensures (stops_at2 _ _ _ c.in-Err.fault (Err c.in-Err.fault) refl c.in-Err.ensures)))

@@ -1,4 +1,4 @@
-use Rattle.std.proofs.Common.{◌≡◌, Err, sym, rules, ◌∙◌}
+use Rattle.std.proofs.Common.{◌≡◌, Err, refl, sym, rules, ◌∙◌}
 use Rattle.topo_forms.specs.Scripts.{script_form}
 use Rattle.topo_forms.proofs.Steps.{went, gives_past, stops_at, told}
 use Rattle.topo_forms.proofs.script_forms.script_in.Goals as goal
@@ -23,10 +23,10 @@ pub returns-in_err-start : goal.returns-in_err-start
 unfolding script_form
 returns-in_err-start c = let same : c.from_residual-in_err-start.result ≡ Err c.in_err-start.field-0.0 = search rules in gives_past _ _ _ c.from_residual-in_err-start.result c.in_ok-nulls.ensures (gives_past _ _ _ c.from_residual-in_err-start.result (sym c.in_ok-check_keys.ensures) (gives_past _ _ _ c.from_residual-in_err-start.result c.in_ok-limits.ensures (gives_past _ _ _ c.from_residual-in_err-start.result c.in_ok-prices.ensures (stops_at _ _ _ c.from_residual-in_err-start.result same c.in_err-start.ensures))))
 
-pub returns-in_err-workers : goal.returns-in_err-workers
+pub returns-in-Err : goal.returns-in-Err
 unfolding script_form
-returns-in_err-workers c = let same : c.from_residual-in_err-workers.result ≡ Err c.in_err-workers.field-0.0 = search rules in gives_past _ _ _ c.from_residual-in_err-workers.result c.in_ok-nulls.ensures (gives_past _ _ _ c.from_residual-in_err-workers.result (sym c.in_ok-check_keys.ensures) (gives_past _ _ _ c.from_residual-in_err-workers.result c.in_ok-limits.ensures (gives_past _ _ _ c.from_residual-in_err-workers.result c.in_ok-prices.ensures (gives_past _ _ _ c.from_residual-in_err-workers.result c.in_ok-start.ensures (stops_at _ _ _ c.from_residual-in_err-workers.result same c.in_err-workers.ensures)))))
+returns-in-Err c = gives_past _ _ _ (Err c.in-Err.fault) c.in_ok-nulls.ensures (gives_past _ _ _ (Err c.in-Err.fault) (sym c.in_ok-check_keys.ensures) (gives_past _ _ _ (Err c.in-Err.fault) c.in_ok-limits.ensures (gives_past _ _ _ (Err c.in-Err.fault) c.in_ok-prices.ensures (gives_past _ _ _ (Err c.in-Err.fault) c.in_ok-start.ensures (stops_at _ _ _ (Err c.in-Err.fault) refl c.in-Err.ensures)))))
 
-pub returns : goal.returns
+pub returns-in-Ok : goal.returns-in-Ok
 unfolding script_form
-returns c = went _ _ _ c.in_ok-nulls.ensures ∙ went _ _ _ (sym c.in_ok-check_keys.ensures) ∙ went _ _ _ c.in_ok-limits.ensures ∙ went _ _ _ c.in_ok-prices.ensures ∙ went _ _ _ c.in_ok-start.ensures ∙ went _ _ _ c.in_ok-workers.ensures
+returns-in-Ok c = went _ _ _ c.in_ok-nulls.ensures ∙ went _ _ _ (sym c.in_ok-check_keys.ensures) ∙ went _ _ _ c.in_ok-limits.ensures ∙ went _ _ _ c.in_ok-prices.ensures ∙ went _ _ _ c.in_ok-start.ensures ∙ went _ _ _ c.in-Ok.ensures

@@ -1,5 +1,5 @@
 use Rattle.std.proofs.Common.{◌≡◌, ◌∷◌, codes, rules, sym, subst}
-use Rattle.json.specs.Token.{Token, string, begin_object}
+use Rattle.json.specs.Token.{string, begin_object}
 use Rattle.topo_forms.specs.RowForms.{rows_form}
 use Rattle.topo_forms.specs.Spelled.{Spells}
 use Rattle.topo_forms.proofs.SpelledStarts.{start_spelled, seed_spelled}
