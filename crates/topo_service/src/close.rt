@@ -5,6 +5,7 @@ ghost use Rattle.std.specs.Arc.{arc_value};
 ghost use Rattle.topo_core.specs.History.{IsPrefix, Replays, versions};
 ghost use Rattle.topo_book.specs.Books.{ReplaysLawfully};
 ghost use Rattle.topo_price.specs.Prices.{prices_of};
+ghost use Rattle.topo_versions.specs.Versions.{entries_shown};
 ghost use Rattle.topo_service.specs.Faults.{IsEndFault};
 ghost use Rattle.topo_service.specs.Receipts.{AllAgree, AreWhole, HasNumber, receipt_count};
 
@@ -21,7 +22,7 @@ use topo_book::Book;
 use topo_picture::Picture;
 use topo_price::tariff::{Asks, Tariff};
 use topo_versions::{
-    Front, Glass, Head, Naming, Opened, Shelf, StoreWriter, Version, wait_forever,
+    Front, Glass, Head, Naming, Opened, Shelf, StoreWriter, Version, new_store, wait_forever,
 };
 
 /// The end of a service that was not well, with the book and the passes as they were handed in.
@@ -60,12 +61,10 @@ fn writer_of<F: Asks + Drop, K: Naming<F>>(
     requires prices { K.closure ≡ Some book.now.tariff }
     requires empty { front.now ≡ [] }
     requires places { 0 < places }
-    ensures empty { IfOk result (λ w. w.desk.shown.value.entries ≡ []) }
+    ensures empty { IfOk result (λ w. entries_shown w.desk.shown.value ≡ []) }
 {
     let shared = Arc::try_clone(book.shared_picture())?;
-    let first = Version::new(front.again(), shared);
-    let second = first.again()?;
-    StoreWriter::<F, K>::new(alloc, first, second, places as usize)
+    new_store(alloc, Version::new(front.again(), shared), places as usize)
 }
 
 /// A new book that shares the prices.
@@ -96,7 +95,7 @@ fn book_with_store<F: Asks + Drop, K: Naming<F>>(
     requires places { 0 < places }
     ensures book { IfOk result (λ made. (made.0.start ≡ K.start) × (made.0.history ≡ [])) }
     ensures prices { IfOk result (λ made. K.closure ≡ Some made.0.tariff) }
-    ensures empty { IfOk result (λ made. made.1.desk.shown.value.entries ≡ []) }
+    ensures empty { IfOk result (λ made. entries_shown made.1.desk.shown.value ≡ []) }
 {
     let book = book_of(alloc, start, tariff)?;
     let writer = writer_of(alloc, &book, front, places)?;

@@ -35,8 +35,6 @@ pub struct Desk<F: Asks, K: Naming<F>, W: Shelf<F, K>> {
     // The accepted entries.
     front: Front<K>,
     writer: W,
-    // Whether the store has room to publish, which it keeps.
-    has_room: bool,
 }
 
 impl<F: Asks, K: Naming<F>, W: Shelf<F, K>> Model for Desk<F, K, W> {
@@ -84,20 +82,6 @@ fn make_ready<F: Asks>(
     }
 }
 
-/// Makes room to publish, where there is none yet.
-fn make_room<F: Asks, K: Naming<F>, W: Shelf<F, K>>(
-    writer: &mut W,
-    has_room: &mut bool,
-) -> Result<(), AllocError>
-    ensures { W.published writer.new ≡ W.published writer.old }
-{
-    if !*has_room {
-        writer.make_room()?;
-        *has_room = true;
-    }
-    Ok(())
-}
-
 /// Adds a call that was made ready to the accepted entries, and publishes the version after it, where it is
 /// accepted. After want of memory nothing has changed.
 fn show<F: Asks, K: Naming<F>, W: Shelf<F, K>, R: Wait>(
@@ -105,7 +89,6 @@ fn show<F: Asks, K: Naming<F>, W: Shelf<F, K>, R: Wait>(
     head: &Head<K>,
     front: &mut Front<K>,
     writer: &mut W,
-    has_room: &mut bool,
     next: &Next,
 ) -> Result<(), AllocError>
     requires room { length front.old + 1 < 2 ^ 64 }
@@ -119,7 +102,6 @@ fn show<F: Asks, K: Naming<F>, W: Shelf<F, K>, R: Wait>(
         return Ok(());
     };
     let share = Arc::try_clone(picture)?;
-    make_room::<F, K, W>(writer, has_room)?;
     if !front.add(head, next.entry()) {
         wait_forever(rt);
     }
@@ -135,7 +117,6 @@ fn answer_ready<F: Asks, K: Naming<F>, W: Shelf<F, K>, R: Wait>(
     head: &Head<K>,
     front: &mut Front<K>,
     writer: &mut W,
-    has_room: &mut bool,
     next: &Next,
 ) -> Result<Answer, AllocError>
     requires room { length front.old + 1 < 2 ^ 64 }
@@ -147,7 +128,7 @@ fn answer_ready<F: Asks, K: Naming<F>, W: Shelf<F, K>, R: Wait>(
     ensures err { OnErr result ((front.new ≡ front.old) × (W.published writer.new ≡ W.published writer.old)) }
 {
     let answer = Answer::of(alloc, &next.entry().reply)?;
-    show::<F, K, W, R>(rt, head, front, writer, has_room, next)?;
+    show::<F, K, W, R>(rt, head, front, writer, next)?;
     Ok(answer)
 }
 
@@ -170,7 +151,6 @@ impl<F: Asks, K: Naming<F>, W: Shelf<F, K>> Desk<F, K, W> {
             head,
             front,
             writer,
-            has_room: false,
         }
     }
 
@@ -225,7 +205,6 @@ impl<F: Asks, K: Naming<F>, W: Shelf<F, K>> Desk<F, K, W> {
             &self.head,
             &mut self.front,
             &mut self.writer,
-            &mut self.has_room,
             &next,
         )?;
         self.book.commit(next);
@@ -272,7 +251,6 @@ impl<F: Asks, K: Naming<F>, W: Shelf<F, K>> Desk<F, K, W> {
             head: _head,
             front: _front,
             writer,
-            has_room: _,
         } = self;
         writer.end(rt);
         book.history();

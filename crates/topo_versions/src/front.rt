@@ -140,7 +140,8 @@ impl<K: Logged> Front<K> {
 
     /// Whether the two are one: beginnings of one list are, where they are as long.
     pub fn is(&self, other: &Front<K>) -> bool
-        ensures { result ≡ true → self.now ≡ other.now }
+        ensures same { result ≡ true → self.now ≡ other.now }
+        ensures all { self.now ≡ other.now → result ≡ true }
     {
         let mut both = self.seen.again();
         both.learn(&other.seen);
@@ -149,7 +150,8 @@ impl<K: Logged> Front<K> {
 
     /// Whether it begins the other: of two beginnings of one list the shorter begins the longer.
     pub fn begins(&self, other: &Front<K>) -> bool
-        ensures { result ≡ true → IsPrefix self.now other.now }
+        ensures begins { result ≡ true → IsPrefix self.now other.now }
+        ensures all { IsPrefix self.now other.now → result ≡ true }
     {
         let mut both = self.seen.again();
         both.learn(&other.seen);

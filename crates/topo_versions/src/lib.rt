@@ -10,6 +10,7 @@
 pub mod front;
 pub mod naming;
 pub mod shelf;
+pub mod side;
 pub mod store;
 pub mod version;
 pub mod wait;
@@ -17,6 +18,7 @@ pub mod wait;
 pub use front::{Front, Head, Opened};
 pub use naming::{Logged, Naming};
 pub use shelf::{Glass, Lends, Shelf};
-pub use store::{StoreReader, StoreWriter};
+pub use side::Side;
+pub use store::{StoreReader, StoreWriter, new_store};
 pub use version::Version;
 pub use wait::wait_forever;

@@ -19,11 +19,8 @@ pub trait Shelf<F: Asks, K: Naming<F>> {
     /// The entries of the version that readers take now.
     ghost published: { Self → List Entry };
 
-    /// Makes room for one version to publish. The room stays, so once is enough.
-    fn make_room(&mut self) -> Result<(), AllocError>
-        ensures { published self.new ≡ published self.old };
-
-    /// Publishes the version after these entries, with the picture that they lead to.
+    /// Publishes the version after these entries, with the picture that they lead to. It keeps no version
+    /// before it.
     fn publish<R: Wait>(&mut self, rt: &R, front: &Front<K>, picture: Arc<Picture>)
         requires follows { IsVersionFrom (prices_named F.answers K.closure) K.start front.now (arc_value picture) }
         ensures { published self.new ≡ front.now };

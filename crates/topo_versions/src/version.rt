@@ -7,7 +7,6 @@ ghost use Rattle.topo_versions.specs.Versions.{IsVersionFrom};
 
 use crate::front::Front;
 use crate::naming::Naming;
-use left_right::Absorb;
 use std::alloc::AllocError;
 use std::marker::{Model, PhantomData};
 use std::sync::Arc;
@@ -36,32 +35,6 @@ impl<F: Asks, K: Naming<F>> Model for Version<F, K> {
 }
 
 /// An operation puts the next version in the place of the one before, whatever was pending.
-impl<F: Asks + Drop, K: Naming<F>> Absorb<Version<F, K>> for Version<F, K> {
-    type State = Version<F, K>;
-
-    ghost state = { λ v. v };
-
-    ghost applied = { λ s o. o };
-
-    fn absorb_first(
-        &mut self,
-        operation: &Version<F, K>,
-        _other: &Version<F, K>,
-    ) -> Result<(), AllocError> {
-        *self = operation.again()?;
-        Ok(())
-    }
-
-    fn absorb_second(
-        &mut self,
-        operation: Version<F, K>,
-        _other: &Version<F, K>,
-    ) -> Result<(), Version<F, K>> {
-        *self = operation;
-        Ok(())
-    }
-}
-
 impl<F: Asks, K: Naming<F>> Version<F, K> {
     /// The version after these entries, with the picture that they lead to.
     pub fn new(front: Front<K>, picture: Arc<Picture>) -> Version<F, K>

@@ -1,0 +1,67 @@
+//! One of the two sides of the version store.
+
+ghost use Rattle.std.specs.Prelude.{◌≡◌, IfSome, Some, None};
+
+use crate::naming::Naming;
+use crate::version::Version;
+use left_right::Absorb;
+use std::alloc::AllocError;
+use std::marker::Model;
+use topo_price::tariff::Asks;
+
+/// A side of the store: the version that readers take, and nothing on the side that they have left, so that
+/// the store keeps no version before the one of now.
+#[derive(Drop)]
+pub struct Side<F: Asks, K: Naming<F>> {
+    version: Option<Version<F, K>>,
+}
+
+impl<F: Asks, K: Naming<F>> Model for Side<F, K> {
+    ghost use Rattle.std.specs.Prelude.{Option};
+    ghost use Rattle.topo_versions.specs.Versions.{VersionState};
+
+    ghost Value = { Option VersionState };
+
+    ghost view = { λ s. s.version };
+}
+
+// A side is written whole, and takes in no operations.
+impl<F: Asks + Drop, K: Naming<F>> Absorb<()> for Side<F, K> {
+    type State = ();
+
+    ghost state = { λ s. tt };
+
+    ghost applied = { λ s o. s };
+
+    fn absorb_first(&mut self, _operation: &(), _other: &Side<F, K>) -> Result<(), AllocError> {
+        Ok(())
+    }
+}
+
+impl<F: Asks, K: Naming<F>> Side<F, K> {
+    /// The side that shows a version.
+    pub fn of(version: Version<F, K>) -> Side<F, K>
+        ensures { result ≡ Some version }
+    {
+        Side {
+            version: Some(version),
+        }
+    }
+
+    /// The side that nobody looks at.
+    pub fn blank() -> Side<F, K>
+        ensures { result ≡ None }
+    {
+        Side { version: None }
+    }
+
+    /// The version that it shows, over one more share of the picture where one is left.
+    pub fn version(&self) -> Option<Version<F, K>>
+        ensures { IfSome result (λ version. self.now ≡ Some version) }
+    {
+        match &self.version {
+            Some(version) => version.again().ok(),
+            None => None,
+        }
+    }
+}
