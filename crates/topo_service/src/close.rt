@@ -61,7 +61,7 @@ fn writer_of<F: Asks + Drop, K: Naming<F>>(
     requires prices { K.closure ≡ Some book.now.tariff }
     requires empty { front.now ≡ [] }
     requires places { 0 < places }
-    ensures empty { IfOk result (λ w. entries_shown w.desk.shown.value ≡ []) }
+    ensures empty { IfOk result (λ w. entries_shown w.desk.shown.value ≡ Some []) }
 {
     let shared = Arc::try_clone(book.shared_picture())?;
     new_store(alloc, Version::new(front.again(), shared), places as usize)
@@ -95,7 +95,7 @@ fn book_with_store<F: Asks + Drop, K: Naming<F>>(
     requires places { 0 < places }
     ensures book { IfOk result (λ made. (made.0.start ≡ K.start) × (made.0.history ≡ [])) }
     ensures prices { IfOk result (λ made. K.closure ≡ Some made.0.tariff) }
-    ensures empty { IfOk result (λ made. entries_shown made.1.desk.shown.value ≡ []) }
+    ensures empty { IfOk result (λ made. entries_shown made.1.desk.shown.value ≡ Some []) }
 {
     let book = book_of(alloc, start, tariff)?;
     let writer = writer_of(alloc, &book, front, places)?;

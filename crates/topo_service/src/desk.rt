@@ -47,7 +47,7 @@ impl<F: Asks, K: Naming<F>, W: Shelf<F, K>> Model for Desk<F, K, W> {
     ghost view = { λ d. d.book };
 
     ghost invariant = { λ d. (d.book.start ≡ K.start) × (K.closure ≡ Some d.book.tariff) × (d.calls.total ≡ length d.book.history)
-        × (d.front ≡ versions d.book.history) × (W.published d.writer ≡ versions d.book.history) };
+        × (d.front ≡ versions d.book.history) × (W.published d.writer ≡ Some (versions d.book.history)) };
 }
 
 /// Makes a call ready, with what is known of its route. The rest is what is true of every book.
@@ -92,10 +92,10 @@ fn show<F: Asks, K: Naming<F>, W: Shelf<F, K>, R: Wait>(
     next: &Next,
 ) -> Result<(), AllocError>
     requires room { length front.old + 1 < 2 ^ 64 }
-    requires whole { W.published writer.old ≡ front.old }
+    requires whole { W.published writer.old ≡ Some front.old }
     requires follows { IfSome next.now.picture (λ picture. IsVersionFrom (prices_named F.answers K.closure) K.start (front.old ++ next.now.entry ∷ []) picture) }
     ensures front { OnOk result (front.new ≡ (if is_accepted next.now.entry.reply then front.old ++ next.now.entry ∷ [] else front.old)) }
-    ensures published { OnOk result (W.published writer.new ≡ front.new) }
+    ensures published { OnOk result (W.published writer.new ≡ Some front.new) }
     ensures err { OnErr result ((front.new ≡ front.old) × (W.published writer.new ≡ W.published writer.old)) }
 {
     let Some(picture) = next.shared() else {
@@ -120,11 +120,11 @@ fn answer_ready<F: Asks, K: Naming<F>, W: Shelf<F, K>, R: Wait>(
     next: &Next,
 ) -> Result<Answer, AllocError>
     requires room { length front.old + 1 < 2 ^ 64 }
-    requires whole { W.published writer.old ≡ front.old }
+    requires whole { W.published writer.old ≡ Some front.old }
     requires follows { IfSome next.now.picture (λ picture. IsVersionFrom (prices_named F.answers K.closure) K.start (front.old ++ next.now.entry ∷ []) picture) }
     ensures told { IfOk result (λ answer. answer.told ≡ next.now.entry.reply) }
     ensures front { OnOk result (front.new ≡ (if is_accepted next.now.entry.reply then front.old ++ next.now.entry ∷ [] else front.old)) }
-    ensures published { OnOk result (W.published writer.new ≡ front.new) }
+    ensures published { OnOk result (W.published writer.new ≡ Some front.new) }
     ensures err { OnErr result ((front.new ≡ front.old) × (W.published writer.new ≡ W.published writer.old)) }
 {
     let answer = Answer::of(alloc, &next.entry().reply)?;
@@ -142,7 +142,7 @@ impl<F: Asks, K: Naming<F>, W: Shelf<F, K>> Desk<F, K, W> {
     ) -> Desk<F, K, W>
         requires book { (book.start ≡ K.start) × (book.history ≡ []) }
         requires prices { K.closure ≡ Some book.tariff }
-        requires empty { (calls.total ≡ 0) × (front ≡ []) × (W.published writer ≡ []) }
+        requires empty { (calls.total ≡ 0) × (front ≡ []) × (W.published writer ≡ Some []) }
         ensures { result ≡ book }
     {
         Desk {

@@ -1,5 +1,5 @@
 -- A version as contracts see it.
-use Rattle.std.specs.Prelude.{◌≡◌, List, [], Option, Some, None}
+use Rattle.std.specs.Prelude.{◌≡◌, List, Option, Some, None}
 use Rattle.topo_core.specs.declared.calls.Entry.{Entry}
 use Rattle.topo_core.specs.Routes.{Pricing}
 use Rattle.topo_core.specs.History.{IsVersion}
@@ -16,7 +16,7 @@ pub record IsVersionFrom (price : Pricing) (start : Shown) (entries : List Entry
   pub same_limits : picture.limits ≡ start.limits
   pub lawful : IsPicture picture.limits picture.rows
 
--- the entries of the version that a side of the store shows; none where it shows none
-abbrev pub entries_shown : Option VersionState → List Entry
-entries_shown (Some version) = version.entries
-entries_shown None = []
+-- the entries of the version that a side of the store shows, if it shows one
+abbrev pub entries_shown : Option VersionState → Option (List Entry)
+entries_shown (Some version) = Some version.entries
+entries_shown None = None

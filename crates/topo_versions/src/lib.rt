@@ -18,7 +18,6 @@ pub mod wait;
 pub use front::{Front, Head, Opened};
 pub use naming::{Logged, Naming};
 pub use shelf::{Glass, Lends, Shelf};
-pub use side::Side;
 pub use store::{StoreReader, StoreWriter, new_store};
 pub use version::Version;
 pub use wait::wait_forever;

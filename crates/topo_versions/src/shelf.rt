@@ -1,6 +1,6 @@
 //! What a service asks of its version store.
 
-ghost use Rattle.std.specs.Prelude.{◌≡◌, List};
+ghost use Rattle.std.specs.Prelude.{◌≡◌, List, Option, Some};
 ghost use Rattle.std.specs.Arc.{arc_value};
 ghost use Rattle.topo_core.specs.declared.calls.Entry.{Entry};
 ghost use Rattle.topo_versions.specs.Names.{prices_named};
@@ -16,14 +16,14 @@ use topo_price::tariff::Asks;
 
 /// What publishes versions.
 pub trait Shelf<F: Asks, K: Naming<F>> {
-    /// The entries of the version that readers take now.
-    ghost published: { Self → List Entry };
+    /// The entries of the version that readers take now, if there is one.
+    ghost published: { Self → Option (List Entry) };
 
     /// Publishes the version after these entries, with the picture that they lead to. It keeps no version
     /// before it.
     fn publish<R: Wait>(&mut self, rt: &R, front: &Front<K>, picture: Arc<Picture>)
         requires follows { IsVersionFrom (prices_named F.answers K.closure) K.start front.now (arc_value picture) }
-        ensures { published self.new ≡ front.now };
+        ensures { published self.new ≡ Some front.now };
 
     /// Ends it.
     fn end<R: Wait>(self, rt: &R);

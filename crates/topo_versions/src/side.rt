@@ -40,7 +40,7 @@ impl<F: Asks + Drop, K: Naming<F>> Absorb<()> for Side<F, K> {
 
 impl<F: Asks, K: Naming<F>> Side<F, K> {
     /// The side that shows a version.
-    pub fn of(version: Version<F, K>) -> Side<F, K>
+    pub(crate) fn of(version: Version<F, K>) -> Side<F, K>
         ensures { result ≡ Some version }
     {
         Side {
@@ -49,14 +49,14 @@ impl<F: Asks, K: Naming<F>> Side<F, K> {
     }
 
     /// The side that nobody looks at.
-    pub fn blank() -> Side<F, K>
+    pub(crate) fn blank() -> Side<F, K>
         ensures { result ≡ None }
     {
         Side { version: None }
     }
 
     /// The version that it shows, over one more share of the picture where one is left.
-    pub fn version(&self) -> Option<Version<F, K>>
+    pub(crate) fn version(&self) -> Option<Version<F, K>>
         ensures { IfSome result (λ version. self.now ≡ Some version) }
     {
         match &self.version {

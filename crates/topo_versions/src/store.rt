@@ -1,6 +1,6 @@
 //! The version store: `left_right`, with a version on the side that readers take.
 
-ghost use Rattle.std.specs.Prelude.{◌≡◌, ◌<◌, ◌^◌, IfOk};
+ghost use Rattle.std.specs.Prelude.{◌≡◌, ◌<◌, ◌^◌, IfOk, Some};
 ghost use Rattle.std.specs.Arc.{arc_value};
 ghost use Rattle.topo_versions.specs.Names.{prices_named};
 ghost use Rattle.topo_versions.specs.Versions.{IsVersionFrom, entries_shown};
@@ -32,7 +32,7 @@ pub fn new_store<F: Asks + Drop, K: Naming<F>>(
     readers: usize,
 ) -> Result<StoreWriter<F, K>, AllocError>
     requires readers { (0 < readers) × (readers < 2 ^ 32) }
-    ensures { IfOk result (λ w. entries_shown w.desk.shown.value ≡ first.entries) }
+    ensures { IfOk result (λ w. w.desk.shown.value ≡ Some first) }
 {
     StoreWriter::<F, K>::new(alloc, Side::of(first), Side::blank(), readers)
 }
@@ -57,7 +57,7 @@ impl<F: Asks + Drop, K: Naming<F>> Shelf<F, K> for StoreWriter<F, K> {
     // becomes blank.
     fn publish<R: Wait>(&mut self, rt: &R, front: &Front<K>, picture: Arc<Picture>)
         requires follows { IsVersionFrom (prices_named F.answers K.closure) K.start front.now (arc_value picture) }
-        ensures { entries_shown self.new.desk.shown.value ≡ front.now }
+        ensures { entries_shown self.new.desk.shown.value ≡ Some front.now }
     {
         let next = Side::of(Version::new(front.again(), picture));
         replace_with(

@@ -34,7 +34,6 @@ impl<F: Asks, K: Naming<F>> Model for Version<F, K> {
     ghost invariant = { λ v. IsVersionFrom (prices_named F.answers K.closure) K.start v.front (arc_value v.picture) };
 }
 
-/// An operation puts the next version in the place of the one before, whatever was pending.
 impl<F: Asks, K: Naming<F>> Version<F, K> {
     /// The version after these entries, with the picture that they lead to.
     pub fn new(front: Front<K>, picture: Arc<Picture>) -> Version<F, K>
