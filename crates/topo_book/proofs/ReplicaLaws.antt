@@ -20,7 +20,7 @@ use Rattle.topo_book.proofs.Histories.{book_lawful, book_replays, book_steps}
 use Rattle.topo_book.proofs.Wrong.{legal_at, take_one_more}
 
 -- a list of entries has one replay
-one_replay : (price : Pricing) (limits : Limits) (entries : List Entry) (p q r : Rows) → Replays price limits p entries q → Replays price limits p entries r → q ≡ r
+pub one_replay : (price : Pricing) (limits : Limits) (entries : List Entry) (p q r : Rows) → Replays price limits p entries q → Replays price limits p entries r → q ≡ r
 one_replay price limits [] p q r way other = way ∙ sym other
 one_replay price limits (entry ∷ entries) p q r way other =
     let same = one_step price limits p entry.call entry.reply entry.reply way.0 other.0 way.1 other.1 in

@@ -17,12 +17,13 @@ use Rattle.topo_core.proofs.Members.{in_left, in_map, in_range, or_second}
 use Rattle.topo_core.proofs.NewDarts.{or_right_false}
 use Rattle.topo_core.proofs.Numbering.{distinct_system}
 use Rattle.topo_core.proofs.Points.{turn_at_point}
-use Rattle.topo_core.proofs.RoundPoints.{next_of_first, point_distinct}
+use Rattle.topo_core.proofs.RoundPoints.{next_of_first}
 use Rattle.topo_core.proofs.RouteDarts.{has_item}
 use Rattle.topo_core.proofs.ShownPlaces.{in_counted}
 use Rattle.topo_core.proofs.Standing.{end_dart_edge, good_rotation}
 use Rattle.topo_core.proofs.SystemDarts.{path_facts, row_id, row_in}
 use Rattle.topo_core.proofs.Turning.{distinct_tail, head_not_later, IsDistinct, next_around}
+use Rattle.topo_core.proofs.Bypassing.{point_distinct}
 
 -- ---- Darts that follow themselves
 

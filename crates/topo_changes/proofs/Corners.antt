@@ -1,7 +1,6 @@
 -- Corners of vertices, and their darts.
-use Rattle.std.proofs.Common.{◌≡◌, ◌<◌, ap, arith, length, List, refl, Some, sym, true, ℕ, [], ◌∙◌}
-use Rattle.std.specs.Prelude.{is_some, slice_get, slice_index, slice_index_or}
-use Rattle.std.proofs.lemmas.List.{get_or_default}
+use Rattle.std.proofs.Common.{◌≡◌, ◌<◌, arith, length, List, refl, Some, sym, true, ℕ, [], ◌∙◌}
+use Rattle.std.specs.Prelude.{is_some, slice_get, slice_index}
 use Rattle.std.proofs.lemmas.Option.{slice_get-get_or}
 use Rattle.topo_core.specs.declared.darts.Dart.{Dart}
 use Rattle.topo_core.specs.declared.rows.Rows.{Rows}
@@ -16,10 +15,6 @@ module _ (rows : Rows) (good : IsWellFormed rows) where
   module _ (v : ℕ) (inside : v < length rows.rotations) where
     abbrev pub around : List ℕ
     around = rotation rows v
-
-    -- as it is read
-    pub around_read : (lists : List (List ℕ)) (x read : List ℕ) → lists ≡ rows.rotations → x ≡ slice_index_or lists v x → read ≡ x → read ≡ around
-    around_read lists x read same is read_is = read_is ∙ is ∙ ap (λ ls. slice_index_or ls v x) same ∙ get_or_default rows.rotations v x [] inside
 
     pub entry_in : (p : ℕ) → p < length around → slice_get around p ≡ Some (slice_index around p)
     entry_in p below = slice_get-get_or around p 0 below

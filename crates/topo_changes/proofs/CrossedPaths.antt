@@ -12,6 +12,7 @@ use Rattle.topo_core.proofs.Counting.{eqb_less, eqb_more}
 use Rattle.topo_core.proofs.Members.{left_true, right_true, test_of_each}
 use Rattle.topo_core.proofs.ShownRows.{in_images, number_below, number_from}
 use Rattle.topo_core.proofs.Weaving.{in_filter}
+use Rattle.topo_core.proofs.UndoneInsertions.{filter_whole}
 use Rattle.topo_changes.specs.Inserting.{crossed_path, crossings_on, segment_end}
 
 -- ---- Numbered items
@@ -32,13 +33,6 @@ numbered_step f n xs i d inside =
     ∙ ap (λ m. map f (enumerate_from n (take i xs)) ++ f (n + m, get_or xs i d) ∷ []) (length-take-le i xs (omega arith))
 
 -- ---- Filters
-
--- what each item passes keeps the list
-pub filter_all : {X : Type 0} (p : X → Bool) (xs : List X) → ((x : X) → IsIn x xs → p x ≡ true) → filter p xs ≡ xs
-filter_all p [] passes = refl
-filter_all p (x ∷ xs) passes =
-    ap (λ (b : Bool). cond b (x ∷ filter p xs) (filter p xs)) (passes x (inl refl))
-    ∙ ap (λ rest. x ∷ rest) (filter_all p xs (λ y h. passes y (inr h)))
 
 -- ---- The crossings of darts on a segment
 
@@ -190,7 +184,7 @@ put_out p e around old = by_place p where
       ∙ sym (filter-append low xs ys)
 
   kept : filter low around ≡ around
-  kept = filter_all low around (λ x h. test_of_each low x around old h)
+  kept = filter_whole low around (λ x h. test_of_each low x around old h)
 
   by_place : (p : ℕ) → filter low (put_in p e around) ≡ around
   by_place zero = apart around [] ∙ ap (filter low) (append-nil around) ∙ kept

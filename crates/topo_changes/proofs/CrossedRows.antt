@@ -1,7 +1,7 @@
 -- Edges whose paths are crossed one by one.
-use Rattle.std.proofs.Common.{Err, Ok, OnErr, OnOk, Result, ◌≡◌, ◌≢◌, ℕ, zero, suc, ◌+◌, ◌<◌, ◌≤◌, append-nil, Bool, true, false, cond, List, [], ◌∷◌, ◌++◌, length, get_or, set, take, refl, subst, sym, ap, ◌∙◌, arith, inl, inr}
+use Rattle.std.proofs.Common.{Err, Ok, OnErr, OnOk, Result, ◌≡◌, ◌≢◌, ℕ, zero, suc, ◌+◌, ◌<◌, ◌≤◌, append-nil, Bool, true, false, cond, List, [], ◌∷◌, ◌++◌, length, get_or, set, take, refl, sym, ap, ◌∙◌, arith, inl, inr}
 use Rattle.std.specs.Prelude.{◌==◌, ◌&&◌, nat_lt, map, filter, find, None, Some}
-use Rattle.std.specs.List.{All, list_all}
+use Rattle.std.specs.List.{list_all}
 use Rattle.std.specs.Result.{is_err}
 use Rattle.std.proofs.lemmas.Bool.{cases_Bool, eq-eqb, eqb-true, lt-ltb, le-ltb}
 use Rattle.std.proofs.lemmas.List.{length-take-le, take_more}
@@ -12,16 +12,11 @@ use Rattle.topo_core.specs.Items.{IsIn, rises_below}
 use Rattle.topo_core.specs.Changes.{woven}
 use Rattle.topo_core.proofs.Counting.{eqb_symm, ids_above, lt_of_test}
 use Rattle.topo_core.proofs.Members.{in_map, right_true, test_of_each}
+use Rattle.topo_core.proofs.UndoneInsertions.{filter_whole, map_whole}
 use Rattle.topo_changes.specs.Inserting.{AreOnPaths, EdgesRise, crossed_by, crossed_path, crossings_on, paths_below, repathed}
-use Rattle.topo_changes.proofs.CrossedPaths.{crossed_woven, crossings_below, crossings_from, crossings_more, filter_all, filter_woven, woven_none, woven_same}
+use Rattle.topo_changes.proofs.CrossedPaths.{crossed_woven, crossings_below, crossings_from, crossings_more, filter_woven, woven_none, woven_same}
 
 -- ---- Lists
-
--- what holds at each place holds of each item
-pub all_in : {X : Type 0} (P : X → Type 0) (xs : List X) → All P xs → (x : X) → IsIn x xs → P x
-all_in P [] all x h = absurd h
-all_in P (y ∷ xs) all x (inl e) = subst P (sym e) (all 0 y (omega arith))
-all_in P (y ∷ xs) all x (inr h) = all_in P xs (λ k d inside. all (suc k) d (omega arith)) x h
 
 -- what stands at a place is an item
 pub in_at : {X : Type 0} (xs : List X) (i : ℕ) (d : X) → i < length xs → IsIn (get_or xs i d) xs
@@ -34,11 +29,6 @@ pub map_map_same : {X Y Z : Type 0} (f : Y → Z) (g : X → Y) (h : X → Z) (x
 map_map_same f g h [] same = refl
 map_map_same f g h (x ∷ xs) same =
     ap (λ y. y ∷ map f (map g xs)) (same x (inl refl)) ∙ ap (λ ys. h x ∷ ys) (map_map_same f g h xs (λ y k. same y (inr k)))
-
--- a map that changes nothing
-pub map_same : {X : Type 0} (f : X → X) (xs : List X) → ((x : X) → IsIn x xs → f x ≡ x) → map f xs ≡ xs
-map_same f [] same = refl
-map_same f (x ∷ xs) same = ap (λ y. y ∷ map f xs) (same x (inl refl)) ∙ ap (λ ys. x ∷ ys) (map_same f xs (λ y k. same y (inr k)))
 
 -- ---- A path changed
 
@@ -65,7 +55,7 @@ pub repathed_at : (limit e i : ℕ) (change : List ℕ → List ℕ) (d : EdgeRo
 repathed_at limit e i change d [] rise inside here = absurd (omega arith)
 repathed_at limit e zero change d (row ∷ edges) rise inside here =
     ap (λ (b : Bool). record row { crossings = cond b (change row.crossings) row.crossings } ∷ edges) (sym (eq-eqb row.id e here))
-    ∙ ap (λ rest. repathed e change row ∷ rest) (sym (map_same (repathed e change) edges (λ other h.
+    ∙ ap (λ rest. repathed e change row ∷ rest) (sym (map_whole (repathed e change) edges (λ other h.
     repathed_other e change other (λ same. let above = ids_above limit row.id (map (λ row. row.id) edges) rise other.id (in_map (λ row. row.id) other edges h) in omega arith))))
 repathed_at limit e (suc i) change d (row ∷ edges) rise inside here =
     let at = in_at edges i d (omega arith) in
@@ -87,7 +77,7 @@ crossed_rise first darts edges rise = (rise.0, ap (rises_below rise.0) (map_map_
 
 -- no dart crosses nothing
 pub crossed_by_none : (first : ℕ) (edges : List EdgeRow) → map (crossed_by first []) edges ≡ edges
-crossed_by_none first edges = map_same (crossed_by first []) edges (λ row h. ap (λ path. record row { crossings = path }) (woven_none (crossings_on first [] row.id) 0 row.crossings (λ i. refl)))
+crossed_by_none first edges = map_whole (crossed_by first []) edges (λ row h. ap (λ path. record row { crossings = path }) (woven_none (crossings_on first [] row.id) 0 row.crossings (λ i. refl)))
 
 module _ (first : ℕ) (darts : List Dart) (d : Dart) where
   abbrev pub x : ℕ
@@ -116,7 +106,7 @@ module _ (first : ℕ) (darts : List Dart) (d : Dart) where
       ∙ filter-append low (before e s) (cond (d.edge == e && d.seg == s) (x ∷ []) [])
       ∙ ap (λ rest. filter low (before e s) ++ rest) (dropped (d.edge == e && d.seg == s))
       ∙ append-nil (filter low (before e s))
-      ∙ filter_all low (before e s) (λ y h. lt-ltb y x (crossings_below first darts e s y h)) where
+      ∙ filter_whole low (before e s) (λ y h. lt-ltb y x (crossings_below first darts e s y h)) where
         dropped : (b : Bool) → filter low (cond b (x ∷ []) []) ≡ []
         dropped true = ap (λ (t : Bool). cond t (x ∷ []) []) (le-ltb x x (omega arith))
         dropped false = refl

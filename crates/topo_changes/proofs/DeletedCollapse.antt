@@ -36,10 +36,7 @@ use Rattle.topo_perm.proofs.Stages.{left_after, left_of}
 use Rattle.topo_changes.proofs.DeletedSegments.{IsPart, collapsed, collapsed_lifted, collapsed_onward, part_of}
 use Rattle.topo_changes.proofs.DeletedTurns.{left_away, over, straight}
 use Rattle.topo_changes.proofs.InsertedNumbers.{dart_here, dart_of, dart_of_number, even_count, number_less, number_of, numbers_apart, turn_number, turned, twinned}
-
-onward_edge : (q : Rows) (x e : ℕ) (way : Way) → (onward_by q x e way).edge ≡ e
-onward_edge q x e Forward = refl
-onward_edge q x e Back = refl
+use Rattle.topo_changes.proofs.InsertedPassage.{onward_edge}
 
 module _ (q : Rows) (e : ℕ) (p : Rows) (hq : IsWellFormed q) (hp : IsWellFormed p) (known : is_some (edge_row q e) ≡ true) (s : HidesTurns q e p) where
   abbrev pub Was : Dart → Type 0

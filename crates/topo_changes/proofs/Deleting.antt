@@ -20,11 +20,13 @@ use Rattle.topo_core.proofs.Standing.{good_crossing, good_rotation}
 use Rattle.topo_core.proofs.SystemDarts.{crossing_there, edge_at_row, path_facts, row_id, row_in, some_of}
 use Rattle.topo_core.proofs.Weaving.{in_filter}
 use Rattle.topo_core.proofs.WithoutRows.{filter_passes, find_passing, has_id_in, in_has_id, left_apart, rises_passing}
+use Rattle.topo_core.proofs.WovenPaths.{counted_in}
+use Rattle.topo_core.proofs.UndoneInsertions.{filter_whole}
 use Rattle.topo_changes.specs.Deleting.{IsCrossed, left_by, other_edge, rotation_without}
 use Rattle.topo_frozen.specs.Ids.{IdsRise, IsPlaceOf}
 use Rattle.topo_frozen.proofs.Begins.{edge_ids_climb}
-use Rattle.topo_changes.proofs.Leaving.{filter_alike, filter_all, got_in, least_first, place_named, removed_is}
-use Rattle.topo_frozen.proofs.Sorting.{in_counted}
+use Rattle.topo_changes.proofs.Leaving.{filter_alike, least_first, place_named, removed_is}
+use Rattle.topo_changes.proofs.CrossedRows.{in_at}
 
 -- ---- The other edge of a crossing
 
@@ -75,7 +77,7 @@ two_set f (suc a) (suc b) (x ∷ xs) d a_in b_in apart same =
 begins_there : (around : List ℕ) → list_all (nat_le (get_or around 0 0)) around ≡ true → from_least around ≡ around
 begins_there [] h = refl
 begins_there (x ∷ xs) h =
-    sym (least_first (x ∷ xs) 0 (omega arith) (λ _. omega arith) (λ k inside. (let t = test_of_each (nat_le x) (get_or (x ∷ xs) k 0) (x ∷ xs) h (got_in (x ∷ xs) k 0 inside) in le_from x (get_or (x ∷ xs) k 0) t)) (λ k below. absurd (omega arith)))
+    sym (least_first (x ∷ xs) 0 (omega arith) (λ _. omega arith) (λ k inside. (let t = test_of_each (nat_le x) (get_or (x ∷ xs) k 0) (x ∷ xs) h (in_at (x ∷ xs) k 0 inside) in le_from x (get_or (x ∷ xs) k 0) t)) (λ k below. absurd (omega arith)))
     ∙ no_more (x ∷ xs) where
       le_from : (m n : ℕ) → nat_le m n ≡ true → m ≤ n
       le_from m n h = grind (arith, nat_tests)
@@ -87,7 +89,7 @@ begins_there (x ∷ xs) h =
 -- an edge that does not stand in it leaves it as it is
 stays : (e : ℕ) (around : List ℕ) → has_id around e ≡ false → list_all (nat_le (get_or around 0 0)) around ≡ true → rotation_without e around ≡ around
 stays e around none least =
-    ap from_least (filter_all (λ f. not (f == e)) around (λ f h. elim (cases_Bool (f == e)) [
+    ap from_least (filter_whole (λ f. not (f == e)) around (λ f h. elim (cases_Bool (f == e)) [
       | inl is ↦ absurd (false≢true (sym none ∙ has_id_there e around (subst (λ n. IsIn n around) (eqb-true f e is) h)))
       | inr is ↦ ap not is
     ])) ∙ begins_there around least where
@@ -125,7 +127,7 @@ module _ (rows : Rows) (good : IsWellFormed rows) (e : ℕ) where
     on_edge : (c : CrossRow) → IsIn c rows.crossings → IsIn c.id row.crossings → (e == c.crossed || e == c.newcomer) ≡ true
     on_edge c h on =
         let counted = (good_crossing rows good.crossings c h).counted row row_there in
-        let some = in_counted c.id row.crossings on in
+        let some = counted_in c.id row.crossings on in
         subst (λ n. (n == c.crossed || n == c.newcomer) ≡ true) (row_id rows e row there) (counted_one (row.id == c.crossed || row.id == c.newcomer) (omega arith)) where
           counted_one : (t : Bool) → 1 ≤ one t → t ≡ true
           counted_one true h = refl

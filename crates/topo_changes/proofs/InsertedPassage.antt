@@ -29,7 +29,7 @@ use Rattle.topo_perm.proofs.Bends.{AreBends, AreOnOthers, Bend, IsBend, IsNamed,
 use Rattle.topo_perm.proofs.Passages.{AreAlong, AreStrange, IsPassage, IsPlaced, MeetsOnce, Walks, all_at, all_of, links_permutation, over_link, over_link_back, past_links}
 use Rattle.topo_changes.proofs.InsertedNumbers.{dart_here, dart_of, dart_of_number, even_count, face_same, number_less, number_of, numbers_apart, same_face, segment_apart, turn_number, turned, twinned}
 
-onward_edge : (q : Rows) (x e : ℕ) (way : Way) → (onward_by q x e way).edge ≡ e
+pub onward_edge : (q : Rows) (x e : ℕ) (way : Way) → (onward_by q x e way).edge ≡ e
 onward_edge q x e Forward = refl
 onward_edge q x e Back = refl
 

@@ -1,44 +1,34 @@
 -- What is true of well-formed rows where an edge is inserted.
-use Rattle.std.proofs.Common.{◌≡◌, ℕ, ◌+◌, ◌<◌, Bool, true, List, [], ◌∷◌, ◌++◌, length, refl, sym, ap, subst, ◌∙◌, arith, inl, inr}
-use Rattle.std.specs.Prelude.{◌&&◌, nat_lt, map, Some}
+use Rattle.std.proofs.Common.{◌≡◌, ℕ, ◌+◌, ◌<◌, true, List, [], ◌∷◌, ◌++◌, length, refl, sym, ap, subst, ◌∙◌, arith}
+use Rattle.std.specs.Prelude.{nat_lt, map, Some}
 use Rattle.std.specs.List.{list_all, enumerate_from}
 use Rattle.std.proofs.lemmas.Bool.{lt-ltb}
 use Rattle.topo_core.specs.declared.rows.CrossRow.{CrossRow}
 use Rattle.topo_core.specs.declared.rows.EdgeRow.{EdgeRow}
 use Rattle.topo_core.specs.declared.rows.Rows.{Rows}
 use Rattle.topo_core.specs.declared.routes.Route.{Route}
-use Rattle.topo_core.specs.Items.{IsIn}
 use Rattle.topo_core.specs.Picture.{darts, edge_row, rotation, segment_count}
 use Rattle.topo_core.specs.Systems.{has_dart}
-use Rattle.topo_core.specs.Lawful.{has_good_path, IsWellFormed}
+use Rattle.topo_core.specs.Lawful.{IsWellFormed}
 use Rattle.topo_core.specs.Changes.{new_crossing, shown, with_end}
 use Rattle.topo_core.specs.Insertions.{IsInsertable}
-use Rattle.topo_core.proofs.Members.{in_range, left_true}
+use Rattle.topo_core.proofs.Members.{in_range}
 use Rattle.topo_core.proofs.ShownForm.{each_of}
 use Rattle.topo_core.proofs.ShownRows.{known_crossing_below, known_edge_below, row_found}
 use Rattle.topo_core.proofs.Standing.{good_rotation, listed_test, of_rows_is_dart}
 use Rattle.topo_core.proofs.SystemDarts.{crossing_there}
-use Rattle.topo_changes.specs.Inserting.{AreOnPaths, EdgesRise, crossed_by, paths_below}
-
--- a test that each item passes
-all_pass : {X : Type 0} (p : X → Bool) (xs : List X) → ((x : X) → IsIn x xs → p x ≡ true) → list_all p xs ≡ true
-all_pass p [] each = refl
-all_pass p (x ∷ xs) each = both (p x) (list_all p xs) (each x (inl refl)) (all_pass p xs (λ y h. each y (inr h))) where
-  both : (a b : Bool) → a ≡ true → b ≡ true → (a && b) ≡ true
-  both a b e f = ap (λ (t : Bool). t && b) e ∙ f
+use Rattle.topo_core.proofs.Growing.{all_from}
+use Rattle.topo_changes.specs.Inserting.{AreOnPaths, crossed_by, paths_below}
 
 module _ (rows : Rows) (good : IsWellFormed rows) where
-  pub edges_rise : EdgesRise rows.edges
-  edges_rise = (rows.next_edge, left_true _ (list_all (has_good_path rows) rows.edges) good.paths)
-
   -- the crossings on the paths are old
   pub crossings_old : paths_below rows.next_crossing rows.edges ≡ true
-  crossings_old = all_pass (λ row. list_all (λ x. nat_lt x rows.next_crossing) row.crossings) rows.edges (λ row h.
-      all_pass (λ x. nat_lt x rows.next_crossing) row.crossings (λ x k. lt-ltb x rows.next_crossing (known_crossing_below rows good.crossings x (crossing_there rows good.paths row h x k))))
+  crossings_old = all_from (λ row. list_all (λ x. nat_lt x rows.next_crossing) row.crossings) rows.edges (λ row h.
+      all_from (λ x. nat_lt x rows.next_crossing) row.crossings (λ x k. lt-ltb x rows.next_crossing (known_crossing_below rows good.crossings x (crossing_there rows good.paths row h x k))))
 
   -- the edges in a rotation are old
   pub rotation_old : (v : ℕ) → v < length rows.rotations → list_all (λ e. nat_lt e rows.next_edge) (rotation rows v) ≡ true
-  rotation_old v inside = all_pass (λ e. nat_lt e rows.next_edge) (rotation rows v) (λ e h.
+  rotation_old v inside = all_from (λ e. nat_lt e rows.next_edge) (rotation rows v) (λ e h.
       lt-ltb e rows.next_edge (known_edge_below rows good.paths e ((good_rotation rows good.rotations v (in_range 0 (length rows.rotations) v (omega arith) (omega arith))).known e h)))
 
   -- the darts of a route lie on the paths

@@ -17,16 +17,13 @@ use Rattle.topo_core.proofs.Members.{in_map}
 use Rattle.topo_core.proofs.ShownPlaces.{at_its_place}
 use Rattle.topo_core.proofs.ShownRows.{in_images}
 use Rattle.topo_core.proofs.Weaving.{in_filter}
+use Rattle.topo_core.proofs.UndoneInsertions.{filter_whole, map_whole}
 use Rattle.topo_changes.specs.Deleting.{IsCrossed, other_edge}
 use Rattle.topo_frozen.specs.Ids.{IsPlaceOf}
 use Rattle.topo_frozen.proofs.Sorting.{apart, up_tail}
+use Rattle.topo_changes.proofs.CrossedRows.{in_at}
 
 -- ---- Items that pass a test
-
--- a filter that all items pass
-pub filter_all : {X : Type 0} (p : X → Bool) (xs : List X) → ((x : X) → IsIn x xs → p x ≡ true) → filter p xs ≡ xs
-filter_all p [] all = refl
-filter_all p (x ∷ xs) all = ap (λ (b : Bool). cond b (x ∷ filter p xs) (filter p xs)) (all x (inl refl)) ∙ ap (λ ys. x ∷ ys) (filter_all p xs (λ y h. all y (inr h)))
 
 -- two tests that agree on the items
 pub filter_alike : {X : Type 0} (p q : X → Bool) (xs : List X) → ((x : X) → IsIn x xs → p x ≡ q x) → filter p xs ≡ filter q xs
@@ -40,19 +37,6 @@ filter_twice p q (x ∷ xs) = by_test (q x) (filter_twice p q xs) where
   by_test : (b : Bool) → filter p (filter q xs) ≡ filter (λ x. q x && p x) xs → filter p (cond b (x ∷ filter q xs) (filter q xs)) ≡ cond (b && p x) (x ∷ filter (λ x. q x && p x) xs) (filter (λ x. q x && p x) xs)
   by_test true rest = ap (λ ys. cond (p x) (x ∷ ys) ys) rest
   by_test false rest = rest
-
-map_alike : {X Y : Type 0} (f g : X → Y) (xs : List X) → ((x : X) → IsIn x xs → f x ≡ g x) → map f xs ≡ map g xs
-map_alike f g [] same = refl
-map_alike f g (x ∷ xs) same = ap (λ y. y ∷ map f xs) (same x (inl refl)) ∙ ap (λ ys. g x ∷ ys) (map_alike f g xs (λ y h. same y (inr h)))
-
-map_itself : {X : Type 0} (f : X → X) (xs : List X) → ((x : X) → IsIn x xs → f x ≡ x) → map f xs ≡ xs
-map_itself f [] same = refl
-map_itself f (x ∷ xs) same = ap (λ y. y ∷ map f xs) (same x (inl refl)) ∙ ap (λ ys. x ∷ ys) (map_itself f xs (λ y h. same y (inr h)))
-
-pub got_in : {X : Type 0} (xs : List X) (i : ℕ) (d : X) → i < length xs → IsIn (get_or xs i d) xs
-got_in [] i d inside = absurd (omega arith)
-got_in (x ∷ xs) zero d inside = inl refl
-got_in (x ∷ xs) (suc i) d inside = inr (got_in xs i d (omega arith))
 
 take_more : {X : Type 0} (xs : List X) (i : ℕ) (d : X) → i < length xs → take (suc i) xs ≡ take i xs ++ get_or xs i d ∷ []
 take_more [] i d inside = absurd (omega arith)
@@ -80,12 +64,12 @@ module _ {X : Type 0} (id : X → ℕ) where
   pub removed_is : (xs : List X) (i x : ℕ) → IsStrictlyIncreasing (map id xs) → i < length xs → slice_index (map id xs) i ≡ x → remove xs i ≡ filter (λ y. not (id y == x)) xs
   removed_is [] i x up inside at = absurd (omega arith)
   removed_is (z ∷ zs) zero x up inside at =
-      let kept : filter (λ y. not (id y == x)) zs ≡ zs = filter_all (λ y. not (id y == x)) zs (λ y h.
+      let kept : filter (λ y. not (id y == x)) zs ≡ zs = filter_whole (λ y. not (id y == x)) zs (λ y h.
       let less = above_first (id z) (map id zs) up (id y) (in_map id y zs h) in ap not (eqb_symm (id y) x ∙ apart x (id y) (omega arith))) in
       sym (ap (λ (b : Bool). cond (not b) (z ∷ filter (λ y. not (id y == x)) zs) (filter (λ y. not (id y == x)) zs)) (eq-eqb (id z) x at) ∙ kept)
   removed_is (z ∷ zs) (suc i) x up inside at =
       let as_many = length-map zs id in
-      let less = above_first (id z) (map id zs) up x (subst (λ y. IsIn y (map id zs)) at (got_in (map id zs) i 0 (omega arith))) in
+      let less = above_first (id z) (map id zs) up x (subst (λ y. IsIn y (map id zs)) at (in_at (map id zs) i 0 (omega arith))) in
       ap (λ ys. z ∷ ys) (removed_is zs i x (up_tail (id z) (map id zs) up) (omega arith) at)
       ∙ sym (ap (λ (b : Bool). cond (not b) (z ∷ filter (λ y. not (id y == x)) zs) (filter (λ y. not (id y == x)) zs)) (apart (id z) x less))
 
@@ -100,7 +84,7 @@ least_first (x ∷ xs) i within inside least first =
     let here : i < length (x ∷ xs) = inside (omega arith) in
     let stands = at_its_place m (x ∷ xs) (least_in x xs) in
     let most = least (position_or_len (λ y. y == m) (x ∷ xs)) stands.0 in
-    let low = least_below x xs (get_or (x ∷ xs) i 0) (got_in (x ∷ xs) i 0 here) in
+    let low = least_below x xs (get_or (x ∷ xs) i 0) (in_at (x ∷ xs) i 0 here) in
     let there = stands.1 in
     let same : get_or (x ∷ xs) i 0 ≡ m = omega arith in
     let place : position_or_len (λ y. y == m) (x ∷ xs) ≡ i = position_or_len_is (λ y. y == m) (x ∷ xs) i 0 within
@@ -119,7 +103,7 @@ out_of_one x ys = filter_alike (λ y. not (y == x)) (λ y. not (has_id (x ∷ []
 
 -- a path without the crossing stays as it is
 pub unchanged : (x : ℕ) (row : EdgeRow) → has_id row.crossings x ≡ false → uncrossed_row (x ∷ []) row ≡ row
-unchanged x row none = ap (λ (path : List ℕ). record row { crossings = path }) (sym (out_of_one x row.crossings) ∙ filter_all (λ y. not (y == x)) row.crossings (λ y h. elim (cases_Bool (y == x)) [
+unchanged x row none = ap (λ (path : List ℕ). record row { crossings = path }) (sym (out_of_one x row.crossings) ∙ filter_whole (λ y. not (y == x)) row.crossings (λ y h. elim (cases_Bool (y == x)) [
   | inl e ↦ absurd (false≢true (sym none ∙ has_id_in x row.crossings (subst (λ z. IsIn z row.crossings) (eqb-true y x e) h)))
   | inr e ↦ ap not e
 ]))
@@ -130,7 +114,7 @@ pub path_left : (edges : List EdgeRow) (i x other : ℕ) (row : EdgeRow) → IsS
     → set edges i (record row { crossings = filter (λ y. not (y == x)) row.crossings }) ≡ map (uncrossed_row (x ∷ [])) edges
 path_left [] i x other row up inside at read elsewhere = absurd (omega arith)
 path_left (z ∷ zs) zero x other row up inside at read elsewhere =
-    let rest : map (uncrossed_row (x ∷ [])) zs ≡ zs = map_itself (uncrossed_row (x ∷ [])) zs (λ y h.
+    let rest : map (uncrossed_row (x ∷ [])) zs ≡ zs = map_whole (uncrossed_row (x ∷ [])) zs (λ y h.
     let less = above_first z.id (map (λ row. row.id) zs) up y.id (in_map (λ row. row.id) y zs h) in
     unchanged x y (elsewhere y (inr h) (λ same. (let e = same in omega arith)))) in
     ap (λ (row : EdgeRow). record row { crossings = filter (λ y. not (y == x)) row.crossings } ∷ zs) read
@@ -138,7 +122,7 @@ path_left (z ∷ zs) zero x other row up inside at read elsewhere =
     ∙ ap (λ zs. uncrossed_row (x ∷ []) z ∷ zs) (sym rest)
 path_left (z ∷ zs) (suc i) x other row up inside at read elsewhere =
     let as_many = length-map zs (λ (row : EdgeRow). row.id) in
-    let less = above_first z.id (map (λ row. row.id) zs) up other (subst (λ y. IsIn y (map (λ row. row.id) zs)) at (got_in (map (λ row. row.id) zs) i 0 (omega arith))) in
+    let less = above_first z.id (map (λ row. row.id) zs) up other (subst (λ y. IsIn y (map (λ row. row.id) zs)) at (in_at (map (λ row. row.id) zs) i 0 (omega arith))) in
     ap (λ ys. z ∷ ys) (path_left zs i x other row (up_tail z.id (map (λ row. row.id) zs) up) (omega arith) at read (λ y h. elsewhere y (inr h)))
     ∙ ap (λ y. y ∷ map (uncrossed_row (x ∷ [])) zs) (sym (unchanged x z (elsewhere z (inl refl) (λ same. (let e = same in omega arith)))))
 
@@ -146,7 +130,7 @@ path_left (z ∷ zs) (suc i) x other row up inside at read elsewhere =
 
 -- none is taken out
 pub none_out : (edges : List EdgeRow) → map (uncrossed_row []) edges ≡ edges
-none_out edges = map_itself (uncrossed_row []) edges (λ row h. ap (λ (path : List ℕ). record row { crossings = path }) (filter_all (λ x. not (has_id [] x)) row.crossings (λ y k. refl)))
+none_out edges = map_whole (uncrossed_row []) edges (λ row h. ap (λ (path : List ℕ). record row { crossings = path }) (filter_whole (λ x. not (has_id [] x)) row.crossings (λ y k. refl)))
 
 -- the ids stay
 pub ids_stay : (gone : List ℕ) (edges : List EdgeRow) → map (λ row. row.id) (map (uncrossed_row gone) edges) ≡ map (λ row. row.id) edges

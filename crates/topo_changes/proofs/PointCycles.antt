@@ -20,9 +20,9 @@ use Rattle.topo_core.proofs.Numbering.{distinct_system, get_place, has_at, index
 use Rattle.topo_core.proofs.Orbits.{is_met-SameCycle, SameCycle-is_met}
 use Rattle.topo_core.proofs.Points.{at_point_in, turn_at_point}
 use Rattle.topo_core.proofs.Renumbering.{after_carried, turn_carried}
-use Rattle.topo_core.proofs.RoundPoints.{point_distinct}
 use Rattle.topo_core.proofs.Standing.{system_test}
 use Rattle.topo_core.proofs.Turning.{distinct_right, distinct_tail, head_not_later, IsDistinct, not_in_both, turn_in}
+use Rattle.topo_core.proofs.Bypassing.{point_distinct}
 use Rattle.topo_perm.proofs.Classes.{IsEquivalence, is_first-from}
 use Rattle.topo_perm.proofs.Exchange.{is_met-equivalence}
 use Rattle.topo_perm.proofs.Points.{class_count-carries}

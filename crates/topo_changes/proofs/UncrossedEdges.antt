@@ -8,9 +8,9 @@ use Rattle.topo_core.specs.Changes.{uncrossed_row, without}
 use Rattle.topo_core.specs.Items.{has_id}
 use Rattle.topo_core.specs.Lawful.{IsWellFormed}
 use Rattle.topo_core.specs.Picture.{edge_row}
+use Rattle.topo_core.proofs.UndoneInsertions.{filter_whole}
 use Rattle.topo_changes.specs.Deleting.{left_by}
 use Rattle.topo_changes.proofs.Deleting.{crossings_left, parts_left}
-use Rattle.topo_changes.proofs.Leaving.{filter_all}
 
 nothing : (xs : List ℕ) → length xs ≡ 0 → xs ≡ []
 nothing [] none = refl
@@ -19,7 +19,7 @@ nothing (x ∷ xs) none = absurd (omega arith)
 module _ (rows : Rows) (good : IsWellFormed rows) (e : ℕ) (row : EdgeRow) (there : edge_row rows e ≡ Some row) (none : length row.crossings ≡ 0) where
   crossings_stay : filter (λ x. not (x.crossed == e) && not (x.newcomer == e)) rows.crossings ≡ rows.crossings
   crossings_stay = crossings_left rows good e row there
-      ∙ filter_all (λ (x : CrossRow). not (has_id row.crossings x.id)) rows.crossings (λ x h. ap (λ (path : List ℕ). not (has_id path x.id)) (nothing row.crossings none))
+      ∙ filter_whole (λ (x : CrossRow). not (has_id row.crossings x.id)) rows.crossings (λ x h. ap (λ (path : List ℕ). not (has_id path x.id)) (nothing row.crossings none))
 
   -- all parts together, where the crossings are left alone
   pub parts_left_uncrossed : (after_edge after_ends : Rows)

@@ -21,7 +21,7 @@ use Rattle.topo_core.proofs.Standing.{good_rotation}
 use Rattle.topo_core.proofs.SystemDarts.{crossing_there, edge_at_row, row_id, row_in, some_of}
 use Rattle.topo_core.proofs.WithoutRows.{filter_passes, gone, in_has_id, IsRotated, is_left, occurrences-passing, without_rotated, without_rotation, without_vertices}
 use Rattle.topo_core.proofs.WovenPaths.{counted_in}
-use Rattle.topo_changes.proofs.Totals.{equally_long}
+use Rattle.topo_frozen.proofs.RowCounts.{same_length}
 
 -- ---- How many
 
@@ -73,7 +73,7 @@ crossings_without rows good e row there =
     let long : length (filter (λ (x : CrossRow). has_id row.crossings x.id) rows.crossings) ≡ length row.crossings =
     sym (length-map (filter (λ (x : CrossRow). has_id row.crossings x.id) rows.crossings) (λ (x : CrossRow). x.id))
     ∙ ap length (ids_passing (λ (x : CrossRow). x.id) (has_id row.crossings) rows.crossings)
-    ∙ equally_long (filter (has_id row.crossings) (map (λ (x : CrossRow). x.id) rows.crossings)) row.crossings same in
+    ∙ same_length (filter (has_id row.crossings) (map (λ (x : CrossRow). x.id) rows.crossings)) row.crossings same in
     let both = length-filter_both (λ (x : CrossRow). has_id row.crossings x.id) (λ x. not (has_id row.crossings x.id)) (λ x. refl) rows.crossings in
     let left : length (without rows e).crossings ≡ length (filter (λ (x : CrossRow). not (has_id row.crossings x.id)) rows.crossings) = ap (λ path. length (filter (λ (x : CrossRow). not (has_id path x.id)) rows.crossings)) path in
     omega arith

@@ -33,13 +33,13 @@ same_lists : (xs : List Dart) → slice_cmp dart_cmp xs xs ≡ Equal
 same_lists [] = refl
 same_lists (x ∷ xs) = ap (λ o. ordering_then o (slice_cmp dart_cmp xs xs)) (dart_cmp_self x) ∙ same_lists xs
 
-not_above : (m n : ℕ) → m ≤ n → nat_cmp m n ≢ Greater
+pub not_above : (m n : ℕ) → m ≤ n → nat_cmp m n ≢ Greater
 not_above m n h e = grind (arith, nat_tests)
 
 not_below : (m n : ℕ) → (n < m → ⊥) → m ≤ n
 not_below m n h = omega arith
 
-start_before : (p q : ℕ) (rest : Ordering) → p < q → ordering_then (nat_cmp p q) rest ≢ Greater
+pub start_before : (p q : ℕ) (rest : Ordering) → p < q → ordering_then (nat_cmp p q) rest ≢ Greater
 start_before p q rest h e =
     let less : nat_cmp p q ≡ Less = grind (arith, nat_tests) in
     let now : ordering_then Less rest ≡ Greater = sym (ap (λ o. ordering_then o rest) less) ∙ e in cc
@@ -130,7 +130,7 @@ arrives : (s : System) (xs : List Dart) (c d : Dart) → Crosses s c xs d → Sa
 arrives s [] c d walk = walk
 arrives s (x ∷ xs) c d walk = arrives s xs (dart_twin x) d walk.1
 
-same_some : {X : Type 0} (o : Option X) (x y : X) → o ≡ Some x → o ≡ Some y → x ≡ y
+pub same_some : {X : Type 0} (o : Option X) (x y : X) → o ≡ Some x → o ≡ Some y → x ≡ y
 same_some o x y here there = cc
 
 -- ---- Routes

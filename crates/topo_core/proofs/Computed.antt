@@ -22,16 +22,9 @@ use Rattle.topo_core.specs.Evidence.{by_kind, IsCutAt, IsNoCut}
 use Rattle.topo_core.proofs.DartLaws.{for_each, same_dart_true}
 use Rattle.topo_core.proofs.Connection.{connected_by_spread, spreads_in}
 use Rattle.topo_core.proofs.Certificates.{Certified, first_by_heights}
+use Rattle.topo_core.proofs.Members.{left_true, right_true}
 
 -- ---- Tests
-
-left_true : (a b : Bool) → (a && b) ≡ true → a ≡ true
-left_true true b h = refl
-left_true false b h = h
-
-right_true : (a b : Bool) → (a && b) ≡ true → b ≡ true
-right_true true b h = h
-right_true false b h = cc
 
 both_true : (a b : Bool) → a ≡ true → b ≡ true → (a && b) ≡ true
 both_true true b h k = k

@@ -16,6 +16,7 @@ use Rattle.topo_core.specs.Routes.{IsFirst, Pricing}
 use Rattle.topo_core.specs.Changes.{IsCut, shown}
 use Rattle.topo_core.specs.Steps.{HasRoomFor, IsRefused, Step, insert_refusal}
 use Rattle.topo_core.proofs.RouteOrder.{one_first, one_least}
+use Rattle.topo_core.proofs.Certificates.{same_some}
 
 not_below : (m n : ℕ) → (m < n → ⊥) → n ≤ m
 not_below m n h = omega arith
@@ -30,9 +31,6 @@ one_cut p e i j cut other =
 some_apart : {X : Type 0} (o : Option X) (x : X) → o ≡ None → o ≡ Some x → ⊥
 some_apart o x empty full = cc
 
-some_once : {X : Type 0} (o : Option X) (x y : X) → o ≡ Some x → o ≡ Some y → x ≡ y
-some_once o x y first other = cc
-
 is_none : {X : Type 0} (o : Option X) → o ≡ None → is_some o ≡ true → ⊥
 is_none None empty full = cc
 is_none (Some x) empty full = cc
@@ -46,7 +44,7 @@ module _ (price : Pricing) (limits : Limits) (p : Rows) where
   grows_once u position kind (Grown v e) (Grown w f) q r step step' = (cc, cc)
   grows_once u position kind (Grown v e) (Refused why) q r step step' = absurd (some_apart _ why step.0 step'.0)
   grows_once u position kind (Refused why) (Grown v e) q r step step' = absurd (some_apart _ why step'.0 step.0)
-  grows_once u position kind (Refused why) (Refused other) q r step step' = (ap Refused (some_once _ why other step.0 step'.0), step.1 ∙ sym step'.1)
+  grows_once u position kind (Refused why) (Refused other) q r step step' = (ap Refused (same_some _ why other step.0 step'.0), step.1 ∙ sym step'.1)
   grows_once u position kind (Put made) other q r step step' = absurd step
   grows_once u position kind (Deleted e) other q r step step' = absurd step
   grows_once u position kind (Grown v e) (Put made) q r step step' = absurd step'
@@ -65,7 +63,7 @@ module _ (price : Pricing) (limits : Limits) (p : Rows) where
       omega arith
 
   refused_once : (u v kind : ℕ) (why other : Refusal) → IsRefused price limits p (Insert u v kind) why → IsRefused price limits p (Insert u v kind) other → why ≡ other
-  refused_once u v kind why other (inl early) (inl early') = some_once _ why other early early'
+  refused_once u v kind why other (inl early) (inl early') = same_some _ why other early early'
   refused_once u v kind why other (inl early) (inr (inl late)) = absurd (some_apart _ why late.0 early)
   refused_once u v kind why other (inl early) (inr (inr late)) = absurd (some_apart _ why late.0 early)
   refused_once u v kind why other (inr (inl late)) (inl early) = absurd (some_apart _ other late.0 early)

@@ -101,10 +101,10 @@ taken_later gone x path s e = ap (λ (b : Bool). cond b (gone_on gone path (suc 
 kept_later : (gone : List ℕ) (x : ℕ) (path : List ℕ) (s : ℕ) → has_id gone x ≡ false → gone_on gone (x ∷ path) (suc s) ≡ gone_on gone path s
 kept_later gone x path s e = ap (λ (b : Bool). cond b (gone_on gone path (suc s)) (gone_on gone path s)) e
 
-left_taken : (gone : List ℕ) (x : ℕ) (path : List ℕ) → has_id gone x ≡ true → left_of gone (x ∷ path) ≡ left_of gone path
+pub left_taken : (gone : List ℕ) (x : ℕ) (path : List ℕ) → has_id gone x ≡ true → left_of gone (x ∷ path) ≡ left_of gone path
 left_taken gone x path e = ap (λ (b : Bool). cond (not b) (x ∷ left_of gone path) (left_of gone path)) e
 
-left_kept : (gone : List ℕ) (x : ℕ) (path : List ℕ) → has_id gone x ≡ false → left_of gone (x ∷ path) ≡ x ∷ left_of gone path
+pub left_kept : (gone : List ℕ) (x : ℕ) (path : List ℕ) → has_id gone x ≡ false → left_of gone (x ∷ path) ≡ x ∷ left_of gone path
 left_kept gone x path e = ap (λ (b : Bool). cond (not b) (x ∷ left_of gone path) (left_of gone path)) e
 
 -- what is gone from a segment of a path that begins with a crossing that is gone

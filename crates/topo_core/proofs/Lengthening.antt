@@ -7,7 +7,7 @@ use Rattle.topo_core.proofs.Orbits.{SameCycle-is_met, SameCycle-refl, SameCycle-
 -- ---- Counts
 
 -- tests that follow from each other are equal
-same_tests : (a b : Bool) → (a ≡ true → b ≡ true) → (b ≡ true → a ≡ true) → a ≡ b
+pub same_tests : (a b : Bool) → (a ≡ true → b ≡ true) → (b ≡ true → a ≡ true) → a ≡ b
 same_tests true b to from = sym (to refl)
 same_tests false true to from = from refl
 same_tests false false to from = refl

@@ -55,14 +55,14 @@ abbrev Rises : List Dart → Type 0
 Rises [] = Unit {0}
 Rises (c ∷ ds) = Leads c ds × Rises ds
 
-either : (a b : Bool) → (a || b) ≡ true → (a ≡ true) ⊎ (b ≡ true)
+pub either : (a b : Bool) → (a || b) ≡ true → (a ≡ true) ⊎ (b ≡ true)
 either true b h = inl refl
 either false b h = inr h
 
 left_holds : (a b : Bool) → a ≡ true → (a || b) ≡ true
 left_holds a b e = ap (λ x. x || b) e
 
-right_holds : (a b : Bool) → b ≡ true → (a || b) ≡ true
+pub right_holds : (a b : Bool) → b ≡ true → (a || b) ≡ true
 right_holds true b e = refl
 right_holds false b e = e
 

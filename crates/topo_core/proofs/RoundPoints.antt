@@ -5,22 +5,16 @@ use Rattle.std.proofs.lemmas.List.Sums.{sum_by-append, sum_by-cons}
 use Rattle.std.proofs.lemmas.Bool.{cases_Bool, eqb-true, or_left, or_right}
 use Rattle.topo_core.specs.declared.darts.Dart.{Dart}
 use Rattle.topo_core.specs.Darts.{same_dart}
-use Rattle.topo_core.specs.Items.{IsIn, occurrences}
-use Rattle.topo_core.specs.Systems.{darts_in, follower, has_dart, System}
+use Rattle.topo_core.specs.Items.{occurrences}
+use Rattle.topo_core.specs.Systems.{follower, has_dart}
 use Rattle.topo_core.proofs.Counting.{one}
 use Rattle.topo_core.proofs.DartLaws.{same_dart_self, same_dart_true}
 use Rattle.topo_core.proofs.Members.{or_second}
 use Rattle.topo_core.proofs.NewDarts.{follower_new, has_dart-append}
 use Rattle.topo_core.proofs.RouteDarts.{has_item}
-use Rattle.topo_core.proofs.Turning.{distinct_left, distinct_right, IsDistinct, next_around, not_in_both}
+use Rattle.topo_core.proofs.Turning.{distinct_right, IsDistinct, next_around, not_in_both}
 
 -- ---- Lists that begin elsewhere
-
--- a point of a system in which no dart stands twice
-pub point_distinct : (s : System) (around : List Dart) → IsDistinct (darts_in s) → IsIn around s → IsDistinct around
-point_distinct [] around distinct at = absurd at
-point_distinct (first ∷ s) around distinct (inl e) = subst IsDistinct (sym e) (distinct_left first (darts_in s) distinct)
-point_distinct (first ∷ s) around distinct (inr k) = point_distinct s around (distinct_right first (darts_in s) distinct) k
 
 -- the two parts of a list, exchanged
 pub distinct_exchanged : (xs ys : List Dart) → IsDistinct (xs ++ ys) → IsDistinct (ys ++ xs)

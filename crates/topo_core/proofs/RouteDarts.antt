@@ -17,7 +17,7 @@ use Rattle.topo_core.proofs.Numbering.{turn_stays, twin_in}
 use Rattle.topo_core.proofs.Standing.{system_test}
 use Rattle.topo_core.proofs.SystemDarts.{at_vertex_in}
 
-item_at : {X : Type 0} (x : X) (xs : List X) (i : ℕ) → slice_get xs i ≡ Some x → IsIn x xs
+pub item_at : {X : Type 0} (x : X) (xs : List X) (i : ℕ) → slice_get xs i ≡ Some x → IsIn x xs
 item_at x [] i e = cc
 item_at x (y ∷ xs) zero e = let same : y ≡ x = cc in inl (sym same)
 item_at x (y ∷ xs) (suc i) e = inr (item_at x xs i e)

@@ -24,6 +24,7 @@ use Rattle.topo_core.proofs.ShownRows.{crossing_below, edge_below, in_images, kn
 use Rattle.topo_core.proofs.Standing.{good_crossing, good_rotation, one_of_both, listed_test, of_rows_is_dart}
 use Rattle.topo_core.proofs.SystemDarts.{crossing_there, eqb_self}
 use Rattle.topo_core.proofs.Weaving.{below_never, below_not_counted, in_filter, in_woven, number_counted, number_once, occurrences-woven}
+use Rattle.topo_core.proofs.NumberOrder.{right_holds}
 
 -- ---- Tests and numbers
 
@@ -41,10 +42,6 @@ weighed false w h = refl
 or_fails : (t w : Bool) → w ≡ false → (t || w) ≡ t
 or_fails true w h = refl
 or_fails false w h = h
-
-or_later : (t w : Bool) → w ≡ true → (t || w) ≡ true
-or_later true w h = refl
-or_later false w h = h
 
 new_ends : (u v n kind : ℕ) → u < n → v < n → u ≢ v → kind < 64 → (nat_lt u n && nat_lt v n && not (eqb u v) && nat_lt kind 64) ≡ true
 new_ends u v n kind u_in v_in apart known = grind (arith, nat_tests)
@@ -132,7 +129,7 @@ module _ (rows : Rows) (u v kind : ℕ) (r : Route) (good : IsWellFormed rows) (
         | inl (old, in_old, is) ↦ ap (λ (row : EdgeRow). occurrences x row.crossings == (if row.id == d.edge || row.id == rows.next_edge then 1 else 0)) is
             ∙ eq-eqb _ _ (new_on_old x d h old in_old ∙ sym (ap one (or_fails (old.id == d.edge) (old.id == rows.next_edge) (eqb_less old.id rows.next_edge (edge_below rows good.paths old in_old)))))
         | inr is ↦ ap (λ (row : EdgeRow). occurrences x row.crossings == (if row.id == d.edge || row.id == rows.next_edge then 1 else 0)) is
-            ∙ eq-eqb _ _ (number_once rows.next_crossing x d r.crossed h ∙ sym (ap one (or_later (rows.next_edge == d.edge) (rows.next_edge == rows.next_edge) (eqb_self rows.next_edge))))
+            ∙ eq-eqb _ _ (number_once rows.next_crossing x d r.crossed h ∙ sym (ap one (right_holds (rows.next_edge == d.edge) (rows.next_edge == rows.next_edge) (eqb_self rows.next_edge))))
       ]))
 
   -- the crossings of the picture are good

@@ -38,13 +38,13 @@ same_segment_self : (d : Dart) → same_segment d d ≡ true
 same_segment_self d = and_from (d.edge == d.edge) (d.seg == d.seg) (eqb_self d.edge) (eqb_self d.seg)
 
 -- the ids of the numbered darts on the segment of d
-abbrev ids_on : Dart → List (ℕ × Dart) → List ℕ
+abbrev pub ids_on : Dart → List (ℕ × Dart) → List ℕ
 ids_on d xs = map (λ x. x.0) (filter (λ x. same_segment x.1 d) xs)
 
-skipped : (d : Dart) (x : ℕ × Dart) (xs : List (ℕ × Dart)) → same_segment x.1 d ≡ false → ids_on d (x ∷ xs) ≡ ids_on d xs
+pub skipped : (d : Dart) (x : ℕ × Dart) (xs : List (ℕ × Dart)) → same_segment x.1 d ≡ false → ids_on d (x ∷ xs) ≡ ids_on d xs
 skipped d x xs e = ap (λ (t : Bool). map {A = ℕ × Dart} (λ x. x.0) (cond t (x ∷ filter (λ x. same_segment x.1 d) xs) (filter (λ x. same_segment x.1 d) xs))) e
 
-taken : (d : Dart) (x : ℕ × Dart) (xs : List (ℕ × Dart)) → same_segment x.1 d ≡ true → ids_on d (x ∷ xs) ≡ x.0 ∷ ids_on d xs
+pub taken : (d : Dart) (x : ℕ × Dart) (xs : List (ℕ × Dart)) → same_segment x.1 d ≡ true → ids_on d (x ∷ xs) ≡ x.0 ∷ ids_on d xs
 taken d x xs e = ap (λ (t : Bool). map {A = ℕ × Dart} (λ x. x.0) (cond t (x ∷ filter (λ x. same_segment x.1 d) xs) (filter (λ x. same_segment x.1 d) xs))) e
 
 none_on : (d : Dart) (n : ℕ) (ds : List Dart) → ((c : Dart) → IsIn c ds → same_segment c d ≡ false) → ids_on d (enumerate_from n ds) ≡ []

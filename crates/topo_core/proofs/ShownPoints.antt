@@ -53,7 +53,7 @@ two_pass : (keep : Dart → Bool) (sign : Sign) (a b c d : Dart) → keep a ≡ 
 two_pass keep LeftToRight a b c d a_is b_is c_is d_is = rw (a_is, b_is, c_is, d_is)
 two_pass keep RightToLeft a b c d a_is b_is c_is d_is = rw (a_is, b_is, c_is, d_is)
 
-image_of_clockwise : (g : Dart → Dart) (sign : Sign) (a b c d : Dart) → clockwise sign (g a) (g b) (g c) (g d) ≡ map g (clockwise sign a b c d)
+pub image_of_clockwise : (g : Dart → Dart) (sign : Sign) (a b c d : Dart) → clockwise sign (g a) (g b) (g c) (g d) ≡ map g (clockwise sign a b c d)
 image_of_clockwise g LeftToRight a b c d = refl
 image_of_clockwise g RightToLeft a b c d = refl
 

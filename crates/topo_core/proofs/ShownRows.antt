@@ -75,12 +75,6 @@ numbered_in n x d [] h = absurd h
 numbered_in n x d (c ∷ ds) (inl e) = inl (ap (λ p. p.1) e)
 numbered_in n x d (c ∷ ds) (inr h) = inr (numbered_in (n + 1) x d ds h)
 
--- and each item has a number
-pub number_of : {X : Type 0} (n : ℕ) (d : X) (ds : List X) → IsIn d ds → (x : ℕ) × IsIn (x, d) (enumerate_from n ds)
-number_of n d [] h = absurd h
-number_of n d (c ∷ ds) (inl e) = (n, inl (ap (λ y. (n, y)) e))
-number_of n d (c ∷ ds) (inr h) = let rest = number_of (n + 1) d ds h in (rest.0, inr rest.1)
-
 -- a numbered item is found by its number
 pub find_numbered : {X : Type 0} (n x : ℕ) (d : X) (ds : List X) → IsIn (x, d) (enumerate_from n ds) → find (λ y. y.0 == x) (enumerate_from n ds) ≡ Some (x, d)
 find_numbered n x d ds h = find_by_id (λ y. y.0) (n + length ds) (enumerate_from n ds) (rises_on [] n ds refl) (x, d) h

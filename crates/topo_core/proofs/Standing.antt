@@ -351,7 +351,7 @@ module _ (rows : Rows) (crossings : has_good_crossings rows ≡ true) (rotations
 abbrev pub is_of_rows : Rows → Dart → Bool
 is_of_rows rows d = is_some (edge_row rows d.edge) && nat_lt d.seg (segment_count (edge_at rows d.edge))
 
-some_or_none : {X : Type 0} (o : Option X) → ((x : X) × (o ≡ Some x)) ⊎ (o ≡ None)
+pub some_or_none : {X : Type 0} (o : Option X) → ((x : X) × (o ≡ Some x)) ⊎ (o ≡ None)
 some_or_none None = inr refl
 some_or_none (Some x) = inl (x, refl)
 

@@ -28,24 +28,19 @@ use Rattle.topo_core.proofs.Growing.{in_append, map_same}
 use Rattle.topo_core.proofs.Members.{in_left, in_map, in_range, in_right, range_below}
 use Rattle.topo_core.proofs.Numbering.{distinct_system, not_same}
 use Rattle.topo_core.proofs.Points.{at_point_in, has_image, image_of_dart, next_of_image, point_of, turn_at_point}
-use Rattle.topo_core.proofs.RoundPoints.{distinct_exchanged, has_exchanged, IsTakenOut, next_of_four, next_of_taken, next_rotated, next_without, point_distinct, taken_out}
+use Rattle.topo_core.proofs.RoundPoints.{distinct_exchanged, has_exchanged, IsTakenOut, next_of_four, next_of_taken, next_rotated, next_without, taken_out}
 use Rattle.topo_core.proofs.RouteDarts.{has_item}
 use Rattle.topo_core.proofs.ShownPlaces.{in_counted, lifted_ahead, lifted_behind, lifted_edge, on_path_of}
 use Rattle.topo_core.proofs.ShownRows.{in_images}
-use Rattle.topo_core.proofs.Standing.{good_crossing, good_rotation, system_test}
+use Rattle.topo_core.proofs.Standing.{good_crossing, good_rotation, system_test, end_dart_edge}
 use Rattle.topo_core.proofs.SystemDarts.{edge_at_row, eqb_self, path_facts, row_id, row_in, some_of}
 use Rattle.topo_core.proofs.Turning.{distinct_right, IsDistinct, next_around}
 use Rattle.topo_core.proofs.WithoutPlaces.{ahead_there, aheads_apart, behind_there, behinds_apart, between_of, dart_runs, edge_dart, edge_meets, edge_of_dart, edge_place, gone_apart, left_edge, left_end, lifted_apart, lifted_there, now, on_a_segment, on_one_segment, one_of, other_edge}
 use Rattle.topo_core.proofs.WithoutRows.{filter_passes, IsRotated, without_crossings, without_rotated, without_vertices}
+use Rattle.topo_core.proofs.Bypassing.{point_distinct}
+use Rattle.topo_core.proofs.ShownPoints.{image_of_clockwise}
 
 -- ---- Lists of images
-
-image_of_clockwise : (g : Dart → Dart) (sign : Sign) (a b c d : Dart) → clockwise sign (g a) (g b) (g c) (g d) ≡ map g (clockwise sign a b c d)
-image_of_clockwise g LeftToRight a b c d = refl
-image_of_clockwise g RightToLeft a b c d = refl
-
-end_edge : (rows : Rows) (w c : ℕ) → (end_dart rows w c).edge ≡ c
-end_edge rows w c = elim ((edge_at rows c).a == w) as (λ (t : Bool). (cond {A = Dart} t (forward c 0) (back c (length (edge_at rows c).crossings))).edge ≡ c) [ true ↦ refl | false ↦ refl ]
 
 -- ---- In a picture without an edge
 
@@ -188,7 +183,7 @@ module _ (rows : Rows) (e : ℕ) (good : IsWellFormed rows) (known : is_some (ed
           let fewer : IsDistinct kept = subst IsDistinct (sym without_it) (less_distinct h_front h_back x distinct) in
           let apart : same_dart (lift d) x ≡ false = not_same (lift d) x (λ same.
           (left_edge rows e good known d.edge (edge_of_dart after is_good d (at_point_there (around_vertex after w) point_after d h))).apart
-          (sym (lifted_edge after rows d) ∙ ap (λ (y : Dart). y.edge) same ∙ end_edge rows w e)) in
+          (sym (lifted_edge after rows d) ∙ ap (λ (y : Dart). y.edge) same ∙ end_dart_edge rows w e)) in
           let in_parts : has_dart (h_front ++ h_back) (lift d) ≡ true = ap (λ ds. has_dart ds (lift d)) (sym without_it) ∙ kept_has d h in
           let d_there : has_dart (around_vertex rows w) (lift d) ≡ true = ap (λ ds. has_dart ds (lift d)) parts ∙ has_exchanged h_front (x ∷ h_back) (lift d)
           ∙ or_right (same_dart (lift d) x) (has_dart (h_back ++ h_front) (lift d)) (has_exchanged h_back h_front (lift d) ∙ in_parts) in
@@ -201,7 +196,7 @@ module _ (rows : Rows) (e : ℕ) (good : IsWellFormed rows) (known : is_some (ed
             | inl same ↦ inl (d_next ∙ same ∙ now_next)
             | inr between ↦
                 let by_edge = d_next ∙ between.0 in
-                inr (ap (λ (y : Dart). y.edge) by_edge ∙ end_edge rows w e, ap (turn (system rows)) by_edge ∙ x_next ∙ between.1 ∙ now_next)
+                inr (ap (λ (y : Dart). y.edge) by_edge ∙ end_dart_edge rows w e, ap (turn (system rows)) by_edge ∙ x_next ∙ between.1 ∙ now_next)
           ]
       | inr same ↦
           let all : kept ≡ around_vertex rows w = ap (map (end_dart rows w)) same in

@@ -12,6 +12,7 @@ use Rattle.topo_core.specs.Picture.{ahead, darts, edge_row, index_of, system}
 use Rattle.topo_core.specs.Pictures.{forward}
 use Rattle.topo_core.specs.Systems.{Connected, has_dart}
 use Rattle.topo_core.proofs.WithoutRows.{has_id_in, in_has_id}
+use Rattle.topo_core.proofs.RouteDarts.{item_at}
 use Rattle.topo_perm.specs.RenumberedEdits.{IsAlive}
 use Rattle.topo_perm.specs.Runs.{IsRun, Turning}
 use Rattle.topo_perm.proofs.DeletionNumbers.{smooths_of, unchords_of}
@@ -24,7 +25,7 @@ use Rattle.topo_changes.proofs.InsertedNumbers.{number_less}
 use Rattle.topo_embedded.specs.Deleting.{ArePathsLeft, AreAheads}
 use Rattle.topo_embedded.specs.Halves.{Drawn, ShowsRows, half_at, half_in}
 use Rattle.topo_embedded.proofs.Numbers.{half_of_number}
-use Rattle.topo_embedded.proofs.Without.{listed_at, without_shows}
+use Rattle.topo_embedded.proofs.Without.{without_shows}
 
 first_place : (h : ℕ → ℕ) (n a : ℕ) → IsIn a (first_of h n) → (i : ℕ) × (i < n) × (a ≡ h i)
 first_place h zero a inside = absurd inside
@@ -61,7 +62,7 @@ module _ (p : Drawn) (good : IsWellFormed p.rows) (r : Rotation) (s : ShowsRows 
           } in
           let (i, less, same) = first_place middle last (index_of p.rows d) (path_mids_all p.rows good e row known connected zero_genus (index_of p.rows d) alive (c, x, is, refl)) in
           let half : get_or hs i 0 ≡ half_in p d = are.each i less ∙ ap nu (sym same) ∙ half_of_number p good d here in
-          has_id_in (half_in p d) hs (subst (λ (k : ℕ). IsIn k hs) half (listed_at (get_or hs i 0) hs i (slice_get-get_or hs i 0 (omega (arith, are.as_many, less)))));
+          has_id_in (half_in p d) hs (subst (λ (k : ℕ). IsIn k hs) half (item_at (get_or hs i 0) hs i (slice_get-get_or hs i 0 (omega (arith, are.as_many, less)))));
       others = λ h test.
           let (i, less, got) = in_place h hs (in_has_id h hs test) in
           let li : i < last = omega (arith, less, are.as_many) in

@@ -1,5 +1,5 @@
 -- Each dart has a half of its own, and where a half lies on the path of its edge.
-use Rattle.std.proofs.Common.{◌≡◌, ◌≢◌, ◌<◌, ◌≤◌, ap, arith, length, refl, subst, sym, suc, true, zero, ℕ, ◌∙◌}
+use Rattle.std.proofs.Common.{◌≡◌, ◌<◌, ◌≤◌, ap, arith, length, refl, subst, sym, suc, true, zero, ℕ, ◌∙◌}
 use Rattle.std.specs.Prelude.{slice_index_or}
 use Rattle.topo_core.specs.declared.darts.Dart.{Dart}
 use Rattle.topo_core.specs.declared.darts.Way.{Way}
@@ -41,14 +41,6 @@ by_way-reversed h Back = twin-twin h
 -- the half of the twin is the twin of the half
 pub twin_in_path : (p : Drawn) (d : Dart) → twin (half_in p d) ≡ half_in p (dart_twin d)
 twin_in_path p d = by_way-reversed (slice_index_or (path_of p d.edge) d.seg 0) d.way
-
--- a half that is not at a place of a path, either way
-pub not_here : (x half : ℕ) → x ≢ half → x ≢ twin half → (w : Way) → by_way x w ≡ half → ⊥
-not_here x half here back Forward is = here is
-not_here x half here back Back is = back (sym (twin-twin x) ∙ ap twin is)
-
-pub back_here : (x half : ℕ) → x ≡ twin half → by_way x Back ≡ half
-back_here x half is = ap twin is ∙ twin-twin half
 
 -- ---- Halves of darts
 

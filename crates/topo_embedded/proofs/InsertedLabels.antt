@@ -72,9 +72,6 @@ module _ (r r' : Rotation) (x label : ℕ) (grows : Grows r r' x) (adds : AddsLa
         subst (HaveLabel r' row.id) (sym (got_map (put_halves (j ∷ js)) (put_none (j ∷ js)) paths k))
         (path_labels row.id (put_halves js (slice_index_or paths k [])) (subst (HaveLabel r row.id) (got_map (put_halves js) (put_none js) paths k) (a k row got)))
 
-  pub chord_labels : (edges : List EdgeRow) (paths : List (List ℕ)) → HaveLabels r edges paths → HaveLabels r' edges paths
-  chord_labels edges paths a k row got = labels_kept row.id (slice_index_or paths k []) (a k row got)
-
 -- ---- In the end
 
 labelled_path : (r : Rotation) (id : ℕ) (path : List ℕ) → HaveLabel r id path → (i : ℕ) (w : Way) → i < length path → edge_of r (by_way (slice_index_or path i 0) w) ≡ id

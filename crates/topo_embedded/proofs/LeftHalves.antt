@@ -3,7 +3,7 @@ use Rattle.std.proofs.Common.{◌≡◌, ◌+◌, ◌<◌, ◌≤◌, ap, arith,
 use Rattle.std.specs.Prelude.{◌-◌}
 use Rattle.std.proofs.lemmas.Bool.{cases_Bool, ne_eqb}
 use Rattle.topo_core.specs.Items.{has_id, IsIn, occurrences}
-use Rattle.topo_core.proofs.GonePaths.{item_place, left_of}
+use Rattle.topo_core.proofs.GonePaths.{item_place, left_of, left_taken, left_kept}
 use Rattle.topo_core.proofs.WovenPaths.{first_part, place_of}
 use Rattle.topo_embedded.specs.Deleting.{spared}
 
@@ -17,12 +17,6 @@ spared_kept goes h hs e = ap (λ (b : Bool). cond (not b) (h ∷ spared goes hs)
 pub spared_first : (goes : ℕ → Bool) (hs : List ℕ) → goes (get_or hs 0 0) ≡ false → get_or (spared goes hs) 0 0 ≡ get_or hs 0 0
 spared_first goes [] stays = refl
 spared_first goes (h ∷ hs) stays = ap (λ (l : List ℕ). get_or l 0 0) (spared_kept goes h hs stays)
-
-left_taken : (gone : List ℕ) (x : ℕ) (path : List ℕ) → has_id gone x ≡ true → left_of gone (x ∷ path) ≡ left_of gone path
-left_taken gone x path e = ap (λ (b : Bool). cond (not b) (x ∷ left_of gone path) (left_of gone path)) e
-
-left_kept : (gone : List ℕ) (x : ℕ) (path : List ℕ) → has_id gone x ≡ false → left_of gone (x ∷ path) ≡ x ∷ left_of gone path
-left_kept gone x path e = ap (λ (b : Bool). cond (not b) (x ∷ left_of gone path) (left_of gone path)) e
 
 -- behind each crossing lies a half, which goes with the crossing
 pub record GoTogether (goes : ℕ → Bool) (gone path hs : List ℕ) : Type 0 where

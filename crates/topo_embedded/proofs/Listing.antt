@@ -10,19 +10,6 @@ use Rattle.topo_frozen.proofs.Begins.{back_get, begins_at}
 use Rattle.topo_frozen.proofs.Rounds.{got_within}
 use Rattle.topo_embedded.specs.Making.{ArePathsOf, IsPathOf}
 
--- one item more
-pub path_more : (halves path more : List ℕ) (begin i x : ℕ) → IsPathOf halves begin i path → x ≡ slice_index halves (begin + 2 * i) → more ≡ path ++ x ∷ [] → IsPathOf halves begin (i + 1) more
-path_more halves path more begin i x p x_is is = record {
-  as_many = ap length is ∙ length-append path (x ∷ []) ∙ omega (arith, p.as_many);
-  each = λ j lj. ap (λ xs. slice_index xs j) is ∙ elim (cases_lt j i) [
-    | inl less ↦ get_or_append_left path (x ∷ []) 0 j (omega (arith, p.as_many)) ∙ p.each j less
-    | inr last ↦
-        let here : j ≡ length path = omega (arith, p.as_many) in
-        let at : i ≡ j = omega (arith, lj, last) in
-        ap (slice_index (path ++ x ∷ [])) here ∙ get_or_at path x [] 0 (length path) refl ∙ x_is ∙ ap (λ k. slice_index halves (begin + 2 * k)) at
-  ];
-}
-
 pub paths_more : (edges : List EdgeRow) (begins halves : List ℕ) (paths more : List (List ℕ)) (k : ℕ) (row : EdgeRow) (path : List ℕ) → ArePathsOf edges begins halves k paths → slice_get edges k ≡ Some row
     → IsPathOf halves (slice_index begins k) (segment_count row) path → more ≡ paths ++ path ∷ [] → ArePathsOf edges begins halves (k + 1) more
 paths_more edges begins halves paths more k row path p at is_path is = record {

@@ -21,6 +21,7 @@ use Rattle.topo_core.proofs.Numbering.{index_forward, index_twin, twin_in}
 use Rattle.topo_core.proofs.SystemDarts.{edge_at_row, some_of}
 use Rattle.topo_core.proofs.WithoutPlaces.{dart_of_segment, edge_of_dart, segment_of_dart}
 use Rattle.topo_core.proofs.WithoutRows.{has_id_in, in_has_id}
+use Rattle.topo_core.proofs.RouteDarts.{item_at}
 use Rattle.topo_perm.specs.Runs.{IsStep}
 use Rattle.topo_perm.specs.Runs.Edit.{Unchord}
 use Rattle.topo_perm.proofs.Walks.{twin-cases}
@@ -34,7 +35,6 @@ use Rattle.topo_embedded.specs.Opening.{IsOpenTo, IsSetOut, leads_in, mid_at}
 use Rattle.topo_embedded.proofs.Apart.{halves_apart}
 use Rattle.topo_embedded.proofs.Numbers.{StandsAt, half_of_number, stands_at}
 use Rattle.topo_embedded.proofs.Uncrossed.{not_true}
-use Rattle.topo_embedded.proofs.Without.{listed_at}
 
 -- ---- The midpoint, as it is read
 
@@ -58,7 +58,7 @@ module _ (p : Drawn) (good : IsWellFormed p.rows) (r : Rotation) (s : ShowsRows 
   on_list c seg h =
       let inside = segment_of_dart p.rows good (forward c seg) h in
       let many = path_many c (edge_of_dart p.rows good (forward c seg) h) in
-      has_id_in (half_in p (forward c seg)) (path_of p c) (listed_at (half_in p (forward c seg)) (path_of p c) seg (slice_get-get_or (path_of p c) seg 0 (omega (arith, inside, many))))
+      has_id_in (half_in p (forward c seg)) (path_of p c) (item_at (half_in p (forward c seg)) (path_of p c) seg (slice_get-get_or (path_of p c) seg 0 (omega (arith, inside, many))))
 
   off_list : (c seg : ℕ) → has_dart (darts p.rows) (back c seg) ≡ true → has_id (path_of p c) (half_in p (back c seg)) ≡ false
   off_list c seg h = not_true (has_id (path_of p c) (half_in p (back c seg))) (λ test.

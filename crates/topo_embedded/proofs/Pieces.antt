@@ -1,6 +1,6 @@
 -- One segment of an edge that a route crosses or not: the halves that are along it then.
-use Rattle.std.proofs.Common.{◌≡◌, ◌≢◌, ◌+◌, ◌⊎◌, ap, append-nil, Bool, cond, false, inl, inr, List, [], ◌∷◌, ◌++◌, refl, subst, sym, true, ℕ, ◌∙◌}
-use Rattle.std.specs.Prelude.{◌&&◌, ◌==◌, filter, flat_map, map}
+use Rattle.std.proofs.Common.{◌≡◌, ◌≢◌, ◌+◌, ◌⊎◌, ap, append-nil, Bool, false, inl, inr, List, [], ◌∷◌, ◌++◌, refl, subst, sym, true, ℕ, ◌∙◌}
+use Rattle.std.specs.Prelude.{◌&&◌, ◌==◌, flat_map}
 use Rattle.std.specs.List.{AllByRecursion, enumerate_from}
 use Rattle.std.proofs.lemmas.Bool.{and_from, cases_Bool, cond-false, cond-true, eq-eqb, eqb-true, false≢true, ne_eqb}
 use Rattle.std.proofs.lemmas.Grind.{flat_map-append}
@@ -20,6 +20,7 @@ use Rattle.topo_core.proofs.Counting.{eqb_symm}
 use Rattle.topo_core.proofs.DartLaws.{twin-twin as twin_twin_dart}
 use Rattle.topo_core.proofs.SimpleRoutes.{same_or_twins}
 use Rattle.topo_core.proofs.SystemDarts.{eqb_self}
+use Rattle.topo_core.proofs.ShownPlaces.{ids_on, skipped, taken}
 use Rattle.topo_perm.proofs.Bends.{Bend}
 use Rattle.topo_perm.proofs.Faces.{twin-other, twin-twin}
 use Rattle.topo_perm.proofs.PassageNumbers.{bent_number}
@@ -73,16 +74,6 @@ abbrev pub AreAt : ℕ → Dart → Bend → ℕ → List Dart → List Bend →
 AreAt x d j n [] js = ⊥
 AreAt x d j n (c ∷ ds) [] = ⊥
 AreAt x d j n (c ∷ ds) (k ∷ js) = ((x ≡ n) × (d ≡ c) × (j ≡ k)) ⊎ AreAt x d j (n + 1) ds js
-
--- the numbers of the darts on a segment
-abbrev pub ids_on : Dart → List (ℕ × Dart) → List ℕ
-ids_on d xs = map (λ x. x.0) (filter (λ x. same_segment x.1 d) xs)
-
-skipped : (d : Dart) (x : ℕ × Dart) (xs : List (ℕ × Dart)) → same_segment x.1 d ≡ false → ids_on d (x ∷ xs) ≡ ids_on d xs
-skipped d x xs e = ap (λ (t : Bool). map {A = ℕ × Dart} (λ x. x.0) (cond t (x ∷ filter (λ x. same_segment x.1 d) xs) (filter (λ x. same_segment x.1 d) xs))) e
-
-taken : (d : Dart) (x : ℕ × Dart) (xs : List (ℕ × Dart)) → same_segment x.1 d ≡ true → ids_on d (x ∷ xs) ≡ x.0 ∷ ids_on d xs
-taken d x xs e = ap (λ (t : Bool). map {A = ℕ × Dart} (λ x. x.0) (cond t (x ∷ filter (λ x. same_segment x.1 d) xs) (filter (λ x. same_segment x.1 d) xs))) e
 
 module _ (p : Drawn) (good : IsWellFormed p.rows) (r : Rotation) (s : ShowsRows p r) where
   abbrev Is : Dart → Type 0

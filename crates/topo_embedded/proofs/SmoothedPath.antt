@@ -21,6 +21,8 @@ use Rattle.topo_core.proofs.ShownRows.{row_found}
 use Rattle.topo_core.proofs.SystemDarts.{row_id, some_of}
 use Rattle.topo_core.proofs.WithoutPlaces.{ahead_there, dart_of_segment, other_edge, OtherEdge}
 use Rattle.topo_core.proofs.WithoutRows.{has_id_in, without_rows}
+use Rattle.topo_core.proofs.RouteDarts.{item_at}
+use Rattle.topo_core.proofs.UndoneInsertions.{filter_whole}
 use Rattle.topo_perm.specs.Runs.{IsRun, IsStep}
 use Rattle.topo_perm.specs.Runs.Edit.{Smooth}
 use Rattle.topo_perm.proofs.DeletionNumbers.{IsSmoothable, smooths_of, unchords_of}
@@ -32,7 +34,7 @@ use Rattle.topo_frozen.proofs.Finding.{edges_rise, placed_here}
 use Rattle.topo_changes.proofs.DeletedMids.{first_of, in_place, mid_is}
 use Rattle.topo_changes.proofs.DeletedStages.{smoothable_along}
 use Rattle.topo_changes.proofs.Deleting.{rest_is}
-use Rattle.topo_changes.proofs.Leaving.{filter_alike, filter_all, filter_twice}
+use Rattle.topo_changes.proofs.Leaving.{filter_alike, filter_twice}
 use Rattle.topo_embedded.specs.Deleting.{ArePathsLeft, spared}
 use Rattle.topo_embedded.specs.Halves.{Drawn, ShowsRows, half_at, path_of}
 use Rattle.topo_embedded.specs.Opening.{IsOpened, IsOpenTo, IsSetOut, IsSmoothedTo, mid_at, mids_of, without_half}
@@ -41,7 +43,6 @@ use Rattle.topo_embedded.proofs.LeftHalves.{spared_first}
 use Rattle.topo_embedded.proofs.Numbers.{found_place, half_of_number}
 use Rattle.topo_embedded.proofs.OpenedPath.{many as path_length, path_many}
 use Rattle.topo_embedded.proofs.Uncrossed.{uncrossed as uncrossed_path}
-use Rattle.topo_embedded.proofs.Without.{listed_at}
 
 -- ---- Lists that halves go from
 
@@ -76,7 +77,7 @@ pub mid_read : (path : List ℕ) (i half : ℕ) → i < length path - 1 → half
 mid_read path i half li read = read ∙ sym (get_or-take (length path - 1) path i 0 li)
 
 spared_none : (xs : List ℕ) → spared (has_id []) xs ≡ xs
-spared_none xs = filter_all (λ h. not (has_id [] h)) xs (λ h inside. refl)
+spared_none xs = filter_whole (λ h. not (has_id [] h)) xs (λ h inside. refl)
 
 module _ (mids : List ℕ) (i h : ℕ) (inside : i < length mids) (is : h ≡ get_or mids i 0) where
   -- with h taken out
@@ -218,7 +219,7 @@ module _ (rows : Rows) (others : List (List ℕ)) (e : ℕ) (mids : List ℕ) (o
         ap (λ (c : ℕ). slice_index_or (path_of (record { rows = rows; paths = paths }) c) 0 0) label_now
         ∙ ap (λ (hs : List ℕ). slice_index_or hs 0 0) (st.lists on.other on.there on.apart)
         ∙ spared_first (has_id (take i mids)) (path_of p on.other) (taken_none i mids (slice_index_or (path_of p on.other) 0 0) stays) in
-        let listed : has_id mids half ≡ true = has_id_in half mids (listed_at half mids i (slice_get-get_or mids i 0 li ∙ ap Some (sym is))) in
+        let listed : has_id mids half ≡ true = has_id_in half mids (item_at half mids i (slice_get-get_or mids i 0 li ∙ ap Some (sym is))) in
         false≢true (sym stays ∙ ap (has_id mids) (sym first ∙ same) ∙ listed)
 
     module _ (after : Rotation) (edit : IsSmooth (turn now) (turn after) half_limit half) (shrinks : Shrinks now after half) (labels : KeepsLabels (is_live after) (edge_of now) (edge_of after)) (list : List (List ℕ)) (list_is : list ≡ without_half rows (edge_of now half) half paths) where
@@ -311,8 +312,8 @@ module _ (rows : Rows) (others : List (List ℕ)) (e : ℕ) (mids : List ℕ) (o
         let old_at : slice_get rows.edges was.place ≡ Some old = slice_get-get_or rows.edges was.place left was.within in
         let is : left ≡ uncrossed old = sym (get_or_from_slice_get (map uncrossed (remove rows.edges at)) k left left got_here) ∙ get_or-map uncrossed (remove rows.edges at) k left left less ∙ ap uncrossed (was.row left) in
         let same_id : left.id ≡ old.id = ap (λ (row : EdgeRow). row.id) is in
-        let apart : left.id ≢ e = id_apart left (listed_at left (without rows e).edges k got) in
-        let there : is_some (edge_row rows left.id) ≡ true = ap (λ (c : ℕ). is_some (edge_row rows c)) same_id ∙ ap is_some (row_found rows good.paths old (listed_at old rows.edges was.place old_at)) in
+        let apart : left.id ≢ e = id_apart left (item_at left (without rows e).edges k got) in
+        let there : is_some (edge_row rows left.id) ≡ true = ap (λ (c : ℕ). is_some (edge_row rows c)) same_id ∙ ap is_some (row_found rows good.paths old (item_at old rows.edges was.place old_at)) in
         let first : was.place ≡ position_or_len (λ row. row.id == left.id) rows.edges = (placed_here (λ (row : EdgeRow). row.id) rows.edges left.id (edges_rise rows rows.edges good.paths refl) was.place old old_at (sym same_id)).first in
         was.list ∙ ap (λ (n : ℕ). slice_index_or paths n []) first ∙ st.lists left.id there apart ∙ ap (λ (hs : List ℕ). spared (has_id hs) (path_of p left.id)) (take_all (length mids) mids (omega arith)) where
           id_apart : (left : EdgeRow) → IsIn left (without rows e).edges → left.id ≢ e

@@ -21,7 +21,8 @@ use Rattle.topo_core.proofs.Numbering.{twin_in}
 use Rattle.topo_perm.specs.Runs.{IsRun}
 use Rattle.topo_perm.proofs.Bends.{Bend, splits_of}
 use Rattle.topo_perm.proofs.Links.{all_map}
-use Rattle.topo_perm.proofs.RunNumbers.{IsAdding, kept_alive}
+use Rattle.topo_perm.proofs.RunNumbers.{kept_alive}
+use Rattle.topo_perm.proofs.PassageNumbers.{splits_add}
 use Rattle.topo_map.specs.Rotation.{AddsLabel, Grows, IsEmbedding, Rotation, edge_of, half_limit, is_live, turn, turning_of}
 use Rattle.topo_map.proofs.EditSteps.{live_half, split_step}
 use Rattle.topo_frozen.proofs.Rounds.{got_within}
@@ -43,10 +44,6 @@ pub same_many : (cs was : List Crossed) → crossed_darts cs ≡ crossed_darts w
 same_many cs was same = sym (length-map cs (λ c. c.dart)) ∙ ap (λ (ds : List Dart). length ds) same ∙ length-map was (λ c. c.dart)
 
 -- ---- Runs of splits
-
-splits_add : (js : List Bend) → AllByRecursion IsAdding (splits_of js)
-splits_add [] = tt
-splits_add (j ∷ js) = (tt, splits_add js)
 
 -- what was live is
 pub alive_still : (before now : Rotation) (js : List Bend) (h : ℕ) → IsEmbedding before → IsRun half_limit (turning_of before) (splits_of js) (turning_of now) → is_live before h ≡ true → is_live now h ≡ true

@@ -17,18 +17,13 @@ use Rattle.topo_core.proofs.ShownPlaces.{at_its_place, lifted_forward}
 use Rattle.topo_core.proofs.SystemDarts.{edge_at_row}
 use Rattle.topo_core.proofs.WithoutPlaces.{ahead_there, crossing_of, dart_of_segment, edge_once, left_edge, LeftEdge, other_edge, OtherEdge, segment_of_dart}
 use Rattle.topo_core.proofs.WovenPaths.{first_part, place_of}
+use Rattle.topo_core.proofs.Lengthening.{same_tests}
 use Rattle.topo_map.specs.Rotation.{Rotation}
 use Rattle.topo_embedded.specs.Deleting.{ArePathsLeft, AreAheads, IsAhead, spared}
 use Rattle.topo_embedded.specs.Halves.{Drawn, ShowsRows, half_in, path_of}
 use Rattle.topo_embedded.proofs.Apart.{halves_apart}
 use Rattle.topo_embedded.proofs.LeftHalves.{IsUncrossed, uncrossed_halves, uncrossed_length}
 use Rattle.topo_embedded.proofs.Numbers.{StandsAt, stands_at}
-
--- one where the other is
-both_tests : (a b : Bool) → (a ≡ true → b ≡ true) → (b ≡ true → a ≡ true) → a ≡ b
-both_tests true b f g = sym (f refl)
-both_tests false true f g = g refl
-both_tests false false f g = refl
 
 pub not_true : (b : Bool) → (b ≡ true → ⊥) → b ≡ false
 not_true true wrong = absurd (wrong refl)
@@ -76,7 +71,7 @@ module _ (p : Drawn) (good : IsWellFormed p.rows) (r : Rotation) (s : ShowsRows 
     uncrossed = record {
       as_many = many;
       first = not_true (goes (half_in p (forward c 0))) (λ test. (let (i, place, less, test) = goes_behind 0 (omega arith) test in absurd (omega (arith, place))));
-      each = λ i li. both_tests (goes (half_in p (forward c (i + 1)))) (has_id gone (get_or path i 0))
+      each = λ i li. same_tests (goes (half_in p (forward c (i + 1)))) (has_id gone (get_or path i 0))
           (λ test. (let (j, place, less, is_gone) = goes_behind (i + 1) (omega (arith, li)) test in let same : j ≡ i = omega (arith, place) in ap (λ k. has_id gone (get_or path k 0)) (sym same) ∙ is_gone))
           (λ is_gone.
           let n : ℕ = get_or path i 0 in

@@ -1,5 +1,5 @@
 -- The embedding without an edge shows the rows without it.
-use Rattle.std.proofs.Common.{◌≡◌, ◌<◌, ◌%◌, ap, inl, inr, length, List, [], ◌∷◌, suc, zero, subst, sym, true, ℕ, ◌∙◌, Bool}
+use Rattle.std.proofs.Common.{◌≡◌, ◌<◌, ◌%◌, ap, length, List, [], subst, sym, true, ℕ, ◌∙◌, Bool}
 use Rattle.std.specs.Prelude.{is_some, Option, slice_get, Some, unwrap_or}
 use Rattle.topo_core.specs.declared.darts.Dart.{Dart}
 use Rattle.topo_core.specs.declared.darts.Way.{Way}
@@ -10,7 +10,6 @@ use Rattle.topo_core.specs.Changes.{without}
 use Rattle.topo_core.specs.Cycles.{map_of}
 use Rattle.topo_core.specs.Darts.{dart_twin}
 use Rattle.topo_core.specs.Insertions.{lifted}
-use Rattle.topo_core.specs.Items.{IsIn}
 use Rattle.topo_core.specs.Lawful.{IsWellFormed}
 use Rattle.topo_core.specs.Picture.{darts, edge_row, index_of, segment_count, turn_images}
 use Rattle.topo_core.specs.Pictures.{back, forward}
@@ -22,6 +21,7 @@ use Rattle.topo_core.proofs.ShownRows.{row_found}
 use Rattle.topo_core.proofs.SystemDarts.{edge_at_row, get_there}
 use Rattle.topo_core.proofs.WithoutForm.{without_well_formed}
 use Rattle.topo_core.proofs.WithoutPlaces.{edge_of_dart, lifted_there}
+use Rattle.topo_core.proofs.RouteDarts.{item_at}
 use Rattle.topo_perm.proofs.DeletionNumbers.{IsSmoothedUnder}
 use Rattle.topo_map.specs.Rotation.{KeepsLabels, Rotation, edge_of, half_limit, is_live, turn, turning_of}
 use Rattle.topo_embedded.specs.Deleting.{ArePathsLeft, AreAheads, spared}
@@ -29,12 +29,6 @@ use Rattle.topo_embedded.specs.Halves.{Drawn, ShowsRows, half_at, half_in, path_
 use Rattle.topo_embedded.proofs.Made.{agreeing_numbers}
 use Rattle.topo_embedded.proofs.Numbers.{half_of_number, twin_half}
 use Rattle.topo_embedded.proofs.Uncrossed.{half_after, left_many}
-
--- what stands at a place is an item
-pub listed_at : {X : Type 0} (x : X) (xs : List X) (i : ℕ) → slice_get xs i ≡ Some x → IsIn x xs
-listed_at x [] i h = cc
-listed_at x (y ∷ xs) zero h = inl (let same : x ≡ y = cc in same)
-listed_at x (y ∷ xs) (suc i) h = inr (listed_at x xs i h)
 
 -- what is seen of rows well formed is so without the edge
 pub without_formed : (p : Drawn) (rows after : Rows) (paths : List (List ℕ)) (e : ℕ) → (let q : Drawn = record { rows = rows; paths = paths } in q ≡ p) → IsWellFormed rows → is_some (edge_row p.rows e) ≡ true → after ≡ without rows e → IsWellFormed after
@@ -123,5 +117,5 @@ module _ (p : Drawn) (good : IsWellFormed p.rows) (r : Rotation) (s : ShowsRows 
     } where
       row_many : (k : ℕ) (row : EdgeRow) → slice_get after.edges k ≡ Some row → length (spared goes (path_of p row.id)) ≡ segment_count row
       row_many k row got =
-          let found : edge_row after row.id ≡ Some row = row_found after good_after.paths row (listed_at row after.edges k got) in
+          let found : edge_row after row.id ≡ Some row = row_found after good_after.paths row (item_at row after.edges k got) in
           left_many p good r s e there goes are row.id (ap is_some found) ∙ ap segment_count (edge_at_row after row.id row found)

@@ -22,11 +22,6 @@ stopped found next (BadShape path) h = first_fault found next _ h
 stopped found next BadVersion h = first_fault found next _ h
 stopped found next (BadNumber path) h = first_fault found next _ h
 
--- the chain gives what is given after its first step
-pub past : {A B : Type 0} (found : Read A) (next : A → Read B) (a : A) (e : ScriptFault) → found ≡ Ok a → IsFirstFault (next a) e → IsFirstFault (and_then found next) e
-unfolding and_then
-past found next a e is h = rw is h
-
 pub gives_past : {A B : Type 0} (found : Read A) (next : A → Read B) (a : A) (r : Read B) → found ≡ Ok a → Gives r (next a) → Gives r (and_then found next)
 unfolding and_then
 gives_past found next a r is h = rw is h

@@ -15,11 +15,11 @@ use Rattle.topo_core.proofs.DartLaws.{same_dart_self, same_dart_true}
 use Rattle.topo_core.proofs.Members.{in_left, in_map, in_range, or_second}
 use Rattle.topo_core.proofs.Numbering.{distinct_system}
 use Rattle.topo_core.proofs.Points.{turn_at_point}
-use Rattle.topo_core.proofs.RoundPoints.{point_distinct}
 use Rattle.topo_core.proofs.Turning.{distinct_tail, head_not_later, IsDistinct, next_around}
 use Rattle.topo_core.proofs.WithoutRows.{in_has_id}
+use Rattle.topo_core.proofs.RouteDarts.{has_item}
+use Rattle.topo_core.proofs.Bypassing.{point_distinct}
 use Rattle.topo_frozen.specs.Placed.{entry_after}
-use Rattle.topo_frozen.proofs.Linking.{in_has}
 
 -- ---- Round a list
 
@@ -61,6 +61,6 @@ module _ (rows : Rows) (good : IsWellFormed rows) where
   turn_at_vertex v e inside h =
       let there : IsIn (around_vertex rows v) (system rows) = in_left (around_vertex rows v) (map (around_vertex rows) (vertices rows)) (map (around_crossing rows) rows.crossings)
       (in_map (around_vertex rows) v (vertices rows) (in_range 0 (length rows.rotations) v (omega arith) (omega arith))) in
-      let has : (xs : List ℕ) → has_id xs e ≡ true → has_dart (map (end_dart rows v) xs) (end_dart rows v e) ≡ true = λ xs k. in_has rows good (end_dart rows v e) (map (end_dart rows v) xs) (in_map (end_dart rows v) e xs (in_has_id e xs k)) in
+      let has : (xs : List ℕ) → has_id xs e ≡ true → has_dart (map (end_dart rows v) xs) (end_dart rows v e) ≡ true = λ xs k. has_item (end_dart rows v e) (map (end_dart rows v) xs) (in_map (end_dart rows v) e xs (in_has_id e xs k)) in
       turn_at_point (system rows) distinct (around_vertex rows v) (end_dart rows v e) there (has (rotation rows v) h)
       ∙ next_of_entry (end_dart rows v) (rotation rows v) e (point_distinct (system rows) (around_vertex rows v) distinct there) h has

@@ -57,14 +57,6 @@ pub record IsLabelledBelow (f : ℕ → ℕ) (n s : ℕ) (l : ℕ → ℕ) : Typ
   pub own : (a : ℕ) → a < n → l a ≢ n → SameCycle f (l a) a
   pub same : (a b : ℕ) → a < n → b < n → SameCycle f a b → l a ≡ l b
 
-pub none_yet : (f : ℕ → ℕ) (n : ℕ) (l : ℕ → ℕ) → ((a : ℕ) → a < n → l a ≡ n) → IsLabelledBelow f n 0 l
-none_yet f n l blank = record {
-  given = λ a la. absurd (let z : ⊥ = omega arith in z);
-  within = λ a la ne. absurd (ne (blank a la));
-  own = λ a la ne. absurd (ne (blank a la));
-  same = λ a b la lb s. blank a la ∙ sym (blank b lb);
-}
-
 -- one that has a label already
 pub given_already : (f : ℕ → ℕ) (n s : ℕ) (l : ℕ → ℕ) → IsLabelledBelow f n s l → l s ≢ n → IsLabelledBelow f n (s + 1) l
 given_already f n s l p ne = record {

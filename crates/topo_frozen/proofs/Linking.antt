@@ -18,6 +18,7 @@ use Rattle.topo_core.proofs.Members.{in_left, in_right, or_second}
 use Rattle.topo_core.proofs.Numbering.{has_at, image_of, images_length, index_apart, index_of_get}
 use Rattle.topo_core.proofs.Standing.{listed_test, stands_once, system_test}
 use Rattle.topo_core.proofs.SystemDarts.{get_there}
+use Rattle.topo_core.proofs.RouteDarts.{has_item}
 use Rattle.topo_frozen.specs.Flats.{crossing_round, links, links_to, vertex_round, written}
 use Rattle.topo_frozen.proofs.Written.{length_written, times, times_joined, written_append, written_once}
 
@@ -94,14 +95,6 @@ module _ (rows : Rows) (good : IsWellFormed rows) where
     ]
   ]
 
-  pub in_has : (d : Dart) (ds : List Dart) → IsIn d ds → has_dart ds d ≡ true
-  in_has d [] h = absurd h
-  in_has d (c ∷ ds) (inl e) = ap (λ b. b || has_dart ds d) (ap (same_dart d) (sym e) ∙ same_dart_self d)
-  in_has d (c ∷ ds) (inr h) = elim (cases_Bool (same_dart d c)) [
-    | inl e ↦ ap (λ b. b || has_dart ds d) e
-    | inr e ↦ ap (λ b. b || has_dart ds d) e ∙ in_has d ds h
-  ]
-
   -- the place of each dart is written once
   once : (d : Dart) → has_dart (darts rows) d ≡ true → times (ix d) (links_of ix (system rows)) ≡ 1
   once d d_in =
@@ -110,7 +103,7 @@ module _ (rows : Rows) (good : IsWellFormed rows) where
       (λ around h. times_links (ix d) (slice_index_or (map ix around) 0 0) (map ix around) ∙ sum_of_map (λ y. one (y == ix d)) ix around)
       ∙ sym (sum_joined (λ c. one (ix c == ix d)) (λ around. around) (system rows))
       ∙ sum_same (λ c. one (ix c == ix d)) (λ c. one (same_dart d c)) (darts_in (system rows))
-      (λ c h. same_number d d_in c (sym (system_test rows good.paths good.crossings good.rotations c) ∙ in_has c (darts_in (system rows)) h))
+      (λ c h. same_number d d_in c (sym (system_test rows good.paths good.crossings good.rotations c) ∙ has_item c (darts_in (system rows)) h))
       ∙ stands_once rows good.paths good.crossings good.rotations d
       ∙ ap one (sym (listed_test rows good.paths d) ∙ d_in)
 

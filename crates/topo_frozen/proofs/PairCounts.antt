@@ -8,6 +8,7 @@ use Rattle.topo_core.specs.declared.rows.CrossRow.{CrossRow}
 use Rattle.topo_core.specs.declared.rows.EdgeRow.{EdgeRow}
 use Rattle.topo_core.specs.Items.{IsIn, occurrences, rises_below}
 use Rattle.topo_core.proofs.Counting.{eqb_less, eqb_more, one, sum_found, sum_if, sum_joined, sum_of_map, sum_same}
+use Rattle.topo_core.proofs.Standing.{one_of_both}
 use Rattle.topo_frozen.specs.Pairs.{crossing_pairs, end_pairs, pair, path_pairs, rotation_pairs}
 
 -- ---- Pairs are the same just when their parts are
@@ -32,10 +33,6 @@ pair_same e x f y h k = elim (cases_Bool (eqb (pair e x) (pair f y))) [
   ]
 ]
 
-one_of : (s t : Bool) → one (s && t) ≡ cond {A = ℕ} s (one t) 0
-one_of true t = refl
-one_of false t = refl
-
 one_of_swapped : (s t : Bool) → one (s && t) ≡ cond {A = ℕ} t (one s) 0
 one_of_swapped true true = refl
 one_of_swapped true false = refl
@@ -48,7 +45,7 @@ one_of_swapped false false = refl
 edge_count : (g e x : ℕ) (xs : List ℕ) → x < 4294967296 → ((y : ℕ) → IsIn y xs → y < 4294967296) → occurrences (pair e x) (map (pair g) xs) ≡ cond {A = ℕ} (g == e) (occurrences x xs) 0
 edge_count g e x xs h below =
     sum_of_map (λ k. one (k == pair e x)) (pair g) xs
-    ∙ sum_same (λ z. one (pair g z == pair e x)) (λ z. cond {A = ℕ} (g == e) (one (z == x)) 0) xs (λ z k. ap one (pair_same g z e x (below z k) h) ∙ one_of (g == e) (z == x))
+    ∙ sum_same (λ z. one (pair g z == pair e x)) (λ z. cond {A = ℕ} (g == e) (one (z == x)) 0) xs (λ z k. ap one (pair_same g z e x (below z k) h) ∙ one_of_both (g == e) (z == x))
     ∙ sum_if (g == e) (λ z. one (z == x)) xs
 
 -- in the pairs of the paths
@@ -83,8 +80,8 @@ pub end_count : (limit : ℕ) (edges : List EdgeRow) → rises_below limit (map 
 end_count limit edges rises e v h below =
     sum_joined (λ k. one (k == pair e v)) (λ row. pair row.id row.a ∷ pair row.id row.b ∷ []) edges
     ∙ sum_same (λ row. occurrences (pair e v) (pair row.id row.a ∷ pair row.id row.b ∷ [])) (λ row. cond {A = ℕ} (row.id == e) (one (row.a == v) + one (row.b == v)) 0) edges (λ row k.
-    let first : one (pair row.id row.a == pair e v) ≡ cond {A = ℕ} (row.id == e) (one (row.a == v)) 0 = ap one (pair_same row.id row.a e v (below row k).0 h) ∙ one_of (row.id == e) (row.a == v) in
-    let second : one (pair row.id row.b == pair e v) ≡ cond {A = ℕ} (row.id == e) (one (row.b == v)) 0 = ap one (pair_same row.id row.b e v (below row k).1 h) ∙ one_of (row.id == e) (row.b == v) in
+    let first : one (pair row.id row.a == pair e v) ≡ cond {A = ℕ} (row.id == e) (one (row.a == v)) 0 = ap one (pair_same row.id row.a e v (below row k).0 h) ∙ one_of_both (row.id == e) (row.a == v) in
+    let second : one (pair row.id row.b == pair e v) ≡ cond {A = ℕ} (row.id == e) (one (row.b == v)) 0 = ap one (pair_same row.id row.b e v (below row k).1 h) ∙ one_of_both (row.id == e) (row.b == v) in
     let both = two (row.id == e) (one (row.a == v)) (one (row.b == v)) in omega arith)
     ∙ sum_found (λ row. row.id) (λ row. one (row.a == v) + one (row.b == v)) limit e edges rises
 

@@ -1,5 +1,5 @@
 -- The pairs as they stand are those that should stand just when the tests of the rows hold.
-use Rattle.std.proofs.Common.{◌≡◌, ◌⊎◌, ◌&&◌, ◌||◌, ◌+◌, ◌*◌, ◌/◌, ◌%◌, ◌<◌, ◌≤◌, ap, arith, Bool, cond, eqb, false, inl, inr, length, List, None, not, refl, Some, subst, suc, sym, true, zero, ℕ, [], ◌∙◌, ◌∷◌}
+use Rattle.std.proofs.Common.{◌≡◌, ◌&&◌, ◌||◌, ◌+◌, ◌*◌, ◌/◌, ◌%◌, ◌<◌, ◌≤◌, ap, arith, Bool, cond, eqb, false, inl, inr, length, List, None, not, refl, Some, subst, suc, sym, true, zero, ℕ, [], ◌∙◌, ◌∷◌}
 use Rattle.std.specs.Bool.{IsTrue}
 use Rattle.std.specs.Prelude.{find, if◌then◌else◌, is_some, map, nat_lt, Option, option_map, slice_index_or, unwrap_or, ◌==◌, ◌↔◌}
 use Rattle.std.specs.List.{list_all, list_any}
@@ -15,17 +15,15 @@ use Rattle.topo_core.specs.Lawful.{has_good_crossings, has_good_path, has_good_p
 use Rattle.topo_core.specs.Picture.{cross_row, edge_row, rotation, vertices}
 use Rattle.topo_core.proofs.Counting.{eqb_symm, ids_above, one}
 use Rattle.topo_core.proofs.Members.{found, in_map, in_range, left_true, range_below, right_true, test_of_each}
-use Rattle.topo_core.proofs.Standing.{good_crossing, GoodRotation, good_rotation}
+use Rattle.topo_core.proofs.Standing.{good_crossing, GoodRotation, good_rotation, some_or_none}
 use Rattle.topo_core.proofs.SystemDarts.{crossing_there, path_facts, row_id, row_in, some_of}
+use Rattle.topo_core.proofs.ShownPlaces.{in_counted}
+use Rattle.topo_core.proofs.WovenPaths.{counted_in}
+use Rattle.topo_core.proofs.Growing.{below_limit, all_from}
 use Rattle.topo_frozen.specs.Pairs.{begins_with_least, crossing_pairs, end_pairs, is_path_over, pair, path_pairs, rotation_pairs}
 use Rattle.topo_frozen.proofs.PairCounts.{crossing_count, end_count, path_count, rotation_count}
-use Rattle.topo_frozen.proofs.Sorting.{counted_in, ids_below, in_counted}
 
 -- ---- Tests of all items
-
-pub all_from : {X : Type 0} (p : X → Bool) (xs : List X) → ((x : X) → IsIn x xs → p x ≡ true) → list_all p xs ≡ true
-all_from p [] each = refl
-all_from p (x ∷ xs) each = ap (λ b. b && list_all p xs) (each x (inl refl)) ∙ all_from p xs (λ y h. each y (inr h))
 
 -- where ids rise, an item is found by its id
 pub find_item : {X : Type 0} (id : X → ℕ) (limit : ℕ) (x : X) (xs : List X) → rises_below limit (map id xs) ≡ true → IsIn x xs → find (λ y. id y == id x) xs ≡ Some x
@@ -36,10 +34,6 @@ find_item id limit x (y ∷ xs) rises (inr h) =
     ∙ find_item id limit x xs (right_true _ (rises_below limit (map id xs)) rises) h where
       lower : (m n : ℕ) → m < n → eqb m n ≡ false
       lower m n h = grind (arith, nat_tests)
-
-some_or_none : {X : Type 0} (o : Option X) → ((x : X) × (o ≡ Some x)) ⊎ (o ≡ None)
-some_or_none None = inr refl
-some_or_none (Some x) = inl (x, refl)
 
 -- every number is a pair
 abbrev high : ℕ → ℕ
@@ -74,7 +68,7 @@ module _ (rows : Rows) (paths : has_good_paths rows ≡ true) (small : rows.next
   edges_rise = left_true _ (list_all (has_good_path rows) rows.edges) paths
 
   id_small : (x : CrossRow) → IsIn x rows.crossings → x.id < 4294967296
-  id_small x h = let less = ids_below rows.next_crossing (map (λ x. x.id) rows.crossings) rises x.id (in_map (λ x. x.id) x rows.crossings h) in omega arith
+  id_small x h = let less = below_limit rows.next_crossing (map (λ x. x.id) rows.crossings) rises x.id (in_map (λ x. x.id) x rows.crossings h) in omega arith
 
   there : (row : EdgeRow) → IsIn row rows.edges → (y : ℕ) → IsIn y row.crossings → (x : CrossRow) × (cross_row rows y ≡ Some x)
   there row h y k = some_of (cross_row rows y) (crossing_there rows paths row h y k)
@@ -172,7 +166,7 @@ module _ (rows : Rows) (paths : has_good_paths rows ≡ true) (small : rows.next
 
       none_stands : (row : EdgeRow) → IsIn row rows.edges → (x : ℕ) → cross_row rows x ≡ None → occurrences x row.crossings ≡ 0
       none_stands row h x absent = elim (cases_lt 0 (occurrences x row.crossings)) [
-        | inl some ↦ absurd (false≢true (sym (ap is_some absent) ∙ crossing_there rows paths row h x (counted_in x row.crossings some)))
+        | inl some ↦ absurd (false≢true (sym (ap is_some absent) ∙ crossing_there rows paths row h x (in_counted x row.crossings some)))
         | inr none ↦ omega arith
       ]
 
@@ -266,7 +260,7 @@ module _ (rows : Rows) (paths : has_good_paths rows ≡ true) (small : length ro
             let zero_want : occurrences (pair e v) (end_pairs rows.edges) ≡ 0 = want e v (omega arith) ∙ ap (λ (o : Option EdgeRow). unwrap_or (option_map (λ row. one (row.a == v) + one (row.b == v)) o) 0) none in
             let here = stand e v (omega arith) in
             let same = agree (pair e v) in
-            let some = in_counted e (rotation rows v) k in omega arith)
+            let some = counted_in e (rotation rows v) k in omega arith)
       ]) in
       let begins : begins_with_least (rotation rows v) ≡ true = place_of_all begins_with_least rows.rotations [] v least inside in
       ap (λ b. b && list_all (λ e. is_some (edge_row rows e)) (rotation rows v) && begins_with_least (rotation rows v)) counted
@@ -298,7 +292,7 @@ module _ (rows : Rows) (paths : has_good_paths rows ≡ true) (small : length ro
 
       absent : GoodRotation rows v → edge_row rows e ≡ None → occurrences e (rotation rows v) ≡ 0
       absent says none = elim (cases_lt 0 (occurrences e (rotation rows v))) [
-        | inl some ↦ absurd (false≢true (sym (ap is_some none) ∙ says.known e (counted_in e (rotation rows v) some)))
+        | inl some ↦ absurd (false≢true (sym (ap is_some none) ∙ says.known e (in_counted e (rotation rows v) some)))
         | inr zero_here ↦ omega arith
       ]
 

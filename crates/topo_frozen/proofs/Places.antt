@@ -2,7 +2,7 @@
 use Rattle.std.proofs.Common.{get_or, ◌≡◌, ◌≢◌, ◌+◌, ◌-◌, ◌*◌, ◌/◌, ◌%◌, ◌<◌, ◌≤◌, ap, arith, inl, inr, length, List, refl, Some, suc, sym, zero, ℕ, [], ◌∙◌, ◌∷◌}
 use Rattle.std.specs.Prelude.{replicate, slice_get, slice_index, sum_by}
 use Rattle.std.proofs.lemmas.Bool.{cases_lt}
-use Rattle.std.proofs.lemmas.List.{get_or-append-add, get_or_append_left, get_or-replicate, length-append, length-replicate}
+use Rattle.std.proofs.lemmas.List.{get_or-append-add, get_or_append_left, get_or-replicate, length-replicate}
 use Rattle.std.proofs.lemmas.List.Sums.{sum_by-cons}
 use Rattle.std.proofs.lemmas.Option.{slice_get-get_or}
 use Rattle.topo_core.specs.declared.darts.Way.TheVariants.{Forward, Back}
@@ -27,11 +27,6 @@ pub record OnEdge (k n : ℕ) (edges : List EdgeRow) (i : ℕ) : Type 0 where
   pub inside : step < 2 * segment_count row
   pub number : i ≡ 2 * before + step
   pub begin : slice_index (begins_from n edges) place ≡ n + 2 * before
-
--- one place for each segment
-pub places_length : (k : ℕ) (edges : List EdgeRow) → length (places_from k edges) ≡ sum_by segment_count edges
-places_length k [] = refl
-places_length k (row ∷ rest) = let total = sum_by-cons segment_count row rest in let more = places_length (k + 1) rest in omega (arith, length-append (replicate (segment_count row) k) (places_from (k + 1) rest), length-replicate (segment_count row) k)
 
 pub on_edge : (k n : ℕ) (edges : List EdgeRow) (i : ℕ) → i < 2 * sum_by segment_count edges → OnEdge k n edges i
 on_edge k n [] i h = absurd (omega arith)

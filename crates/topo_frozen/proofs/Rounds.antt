@@ -25,11 +25,12 @@ use Rattle.topo_core.proofs.Members.{found, in_joined, in_map, in_range, in_righ
 use Rattle.topo_core.proofs.Numbering.{place_less}
 use Rattle.topo_core.proofs.Standing.{good_crossing, good_rotation, system_test}
 use Rattle.topo_core.proofs.SystemDarts.{at_vertex_in, crossing_there, edge_at_row, row_id, row_in, some_of}
+use Rattle.topo_core.proofs.RouteDarts.{has_item}
+use Rattle.topo_core.proofs.Growing.{all_from}
 use Rattle.topo_frozen.specs.Flats.{AreAhead, begins_from, crossing_place, crossing_round, links, links_to, note_place, notes_from, round_ahead, vertex_round, written}
 use Rattle.topo_frozen.proofs.Begins.{found_at, number_back, number_forward}
-use Rattle.topo_frozen.proofs.Linking.{in_has}
 use Rattle.topo_frozen.proofs.Noting.{note_in, place_among, times_notes}
-use Rattle.topo_frozen.proofs.PairTests.{all_from, named}
+use Rattle.topo_frozen.proofs.PairTests.{named}
 use Rattle.topo_frozen.proofs.Sorting.{place_is, rises_strictly}
 use Rattle.topo_frozen.proofs.Written.{length_written, times, written_append, written_once}
 
@@ -179,9 +180,6 @@ module _ (rows : Rows) (good : IsWellFormed rows) where
 
   -- so the numbers ahead are those that are noted
   module _ (xs : List ℕ) (room : length xs ≡ 2 * length rows.crossings) where
-    noted : List ℕ
-    noted = written xs (notes_from rows.crossings 0 rows.edges)
-
     at_side : (q : ℕ) (c : CrossRow) (e : ℕ) → slice_get rows.crossings q ≡ Some c → OnPath e c.id → (key : ℕ) → note_place rows.crossings e c.id ≡ key → key < 2 * length rows.crossings → times key (notes_from rows.crossings 0 rows.edges) ≡ 1
         → slice_index (written xs (notes_from rows.crossings 0 rows.edges)) key ≡ index_of rows (ahead rows e c.id)
     at_side q c e at p key is below once =
@@ -255,7 +253,7 @@ module _ (rows : Rows) (good : IsWellFormed rows) where
 
   -- each number of a round is that of a dart
   number_within : (d : Dart) → IsIn d (darts_in (system rows)) → index_of rows d < length (darts rows)
-  number_within d h = place_less (darts rows) d (sym (system_test rows good.paths good.crossings good.rotations d) ∙ in_has rows good d (darts_in (system rows)) h)
+  number_within d h = place_less (darts rows) d (sym (system_test rows good.paths good.crossings good.rotations d) ∙ has_item d (darts_in (system rows)) h)
 
   each_within : (ds : List Dart) → ((d : Dart) → IsIn d ds → index_of rows d < length (darts rows)) → (k : ℕ) → k < length (map (index_of rows) ds) → slice_index (map (index_of rows) ds) k < length (darts rows)
   each_within [] each k h = absurd (omega arith)

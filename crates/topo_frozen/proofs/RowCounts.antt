@@ -1,8 +1,7 @@
 -- How many darts there are round points, and how many crossings on paths.
 use Rattle.std.proofs.Common.{false, true, ◌≡◌, ◌&&◌, ◌+◌, ◌*◌, ◌<◌, ◌≤◌, ap, arith, Bool, cond, inl, inr, length, List, refl, suc, zero, ℕ, [], ◌∙◌, ◌∷◌}
-use Rattle.std.specs.Prelude.{map, nat_le, slice_index_or, sum_by, ◌==◌}
+use Rattle.std.specs.Prelude.{map, slice_index_or, sum_by, ◌==◌}
 use Rattle.std.specs.List.{list_all}
-use Rattle.std.proofs.lemmas.Bool.Decides.{nat_tests}
 use Rattle.std.proofs.lemmas.Bool.{cases_Bool, eq-eqb, eqb-true}
 use Rattle.std.proofs.lemmas.List.{length-append, length-map}
 use Rattle.std.proofs.lemmas.List.Sums.{sum_by-cons}
@@ -14,6 +13,7 @@ use Rattle.topo_core.specs.Lawful.{is_good_crossing, IsWellFormed}
 use Rattle.topo_core.specs.Picture.{rotation, segment_count}
 use Rattle.topo_core.proofs.Counting.{one}
 use Rattle.topo_core.proofs.Members.{left_true}
+use Rattle.topo_core.proofs.Growing.{le_test}
 use Rattle.topo_frozen.specs.Pairs.{crossing_pairs, end_pairs, path_pairs, rotation_pairs}
 use Rattle.topo_frozen.specs.Shown.{IsPicture}
 use Rattle.topo_frozen.proofs.PairTests.{agree_from_rotations, same_from_good, two_pairs_each}
@@ -99,9 +99,6 @@ two_each rows good small =
 
 -- ---- Small pictures
 
-test_of_le : (m n : ℕ) → m ≤ n → nat_le m n ≡ true
-test_of_le m n h = grind (arith, nat_tests)
-
 all_three : (a b c : Bool) → a ≡ true → b ≡ true → c ≡ true → (a && b && c) ≡ true
 all_three true true true e f g = refl
 all_three false b c e f g = cc
@@ -115,5 +112,5 @@ picture_small limits rows is =
     let most = limits.crossings_in_range in
     let few = is.crossings in
     is_small limits rows
-    (all_three _ _ _ (test_of_le (length rows.rotations) limits.vertices is.vertices) (test_of_le rows.next_edge limits.edges is.edges) (test_of_le rows.next_crossing limits.crossings is.crossings))
+    (all_three _ _ _ (le_test (length rows.rotations) limits.vertices is.vertices) (le_test rows.next_edge limits.edges is.edges) (le_test rows.next_crossing limits.crossings is.crossings))
     good.paths good.crossings (two_each rows good (omega arith))

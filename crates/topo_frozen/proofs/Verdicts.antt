@@ -76,13 +76,6 @@ is_small limits rows fit paths crossings two =
     let segments = segments_by_pairs rows.edges in
     record { segments = omega arith; vertices = omega arith; crossings = omega arith }
 
--- what fits has 32-bit vertices
-pub few_vertices : (limits : Limits) (rows : Rows) → fits limits rows ≡ true → length rows.rotations < 4294967296
-few_vertices limits rows fit =
-    let parts = three (nat_le (length rows.rotations) limits.vertices) (nat_le rows.next_edge limits.edges) (nat_le rows.next_crossing limits.crossings) fit in
-    let v = le_of (length rows.rotations) limits.vertices parts.0 in
-    let v_most = limits.vertices_in_range in omega arith
-
 -- ---- Euler's formula
 
 pub faces_at_most : (images : List ℕ) → faces_of images ≤ length images

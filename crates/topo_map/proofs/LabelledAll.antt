@@ -27,22 +27,6 @@ pub record IsPartly (live : ℕ → Bool) (f l : ℕ → ℕ) (k bound : ℕ) : 
 pub record ArePartly (s : Slab Segment) (l : ℕ → ℕ) (k : ℕ) (unused : Option ℕ) : Type 0 where
   pub known : (bound : ℕ) → unused ≡ Some bound → IsPartly (holds s) (face_next (next_in s)) l k bound
 
-some-apart : (a b : ℕ) → Some a ≡ Some b → a ≡ b
-some-apart a b e = cc
-
-pub none_yet : (s : Slab Segment) → AreBlank s → ArePartly s (face_in s) 0 (Some 1)
-none_yet s blank = record {
-  known = λ bound e.
-      let one : 1 ≡ bound = some-apart 1 bound e in
-      record {
-        some = omega arith;
-        below = λ a t. (let z : face_in s a ≡ 0 = blank a t in omega arith);
-        same_face = λ a b t u ne d. absurd (ne (blank a t));
-        same_label = λ a b t u m. blank a t ∙ sym (blank b u);
-        given = λ a l h. absurd (let z : ⊥ = omega arith in z);
-      };
-}
-
 -- one that has a label already
 pub given_already : (s : Slab Segment) (l : ℕ → ℕ) (k y : ℕ) (unused : Option ℕ) → ArePartly s l k unused → y ≡ k → (holds s y ≡ true → l y ≢ 0) → ArePartly s l (k + 1) unused
 given_already s l k y unused p ey ne = record {

@@ -10,19 +10,20 @@ use Rattle.topo_perm.proofs.Faces.{twin-twin, twin-other}
 use Rattle.topo_perm.proofs.Splitting.{without-self, without-elsewhere}
 use Rattle.topo_perm.proofs.EditCounts.{put-elsewhere}
 use Rattle.topo_perm.proofs.SlabEdits.{segments_grow}
+use Rattle.topo_perm.proofs.Bypassing.{twin-half}
 use Rattle.topo_map.specs.Rotation.{half_limit, AddsLabel, CountsFewer, CountsMore, IsOneFace, IsWhole, KeepsLabels, Grows, PartsFaces, Shrinks}
 use Rattle.topo_map.specs.Segments.{put, without, holds, next_in, before_in, nexts, label_in, limit_of, room_of, view_of, IsKept, IsTurned, IsInserted, IsRemoved}
 use Rattle.topo_map.specs.declared.segments.Segment.{Segment}
 use Rattle.topo_map.proofs.Slots.{live_at}
 use Rattle.topo_map.proofs.Kept.{free_turn, live_next}
-use Rattle.topo_map.proofs.Stored.{limit-is, twin-key, true_false}
+use Rattle.topo_map.proofs.Stored.{limit-is, true_false}
 use Rattle.topo_map.proofs.Allowed.{AreDarts, IsDrawn, hang_allowed, chord_allowed, chord_drawn, unchord_allowed, unchord_made, split_allowed, smooth_allowed}
 use Rattle.topo_map.proofs.Counted.{More, Fewer, hang_more, chord_more, split_more, unchord_fewer, smooth_fewer}
 
 -- ---- A sound slab
 
 pub same_twin : (s : Slab Segment) (a : ℕ) → holds s (twin a) ≡ holds s a
-same_twin s a = live_at nexts s (twin a) ∙ ap (λ (k : ℕ). is_some (get s k)) (twin-key a) ∙ sym (live_at nexts s a)
+same_twin s a = live_at nexts s (twin a) ∙ ap (λ (k : ℕ). is_some (get s k)) (twin-half a) ∙ sym (live_at nexts s a)
 
 pub live_twin : (s : Slab Segment) (a t : ℕ) → t ≡ twin a → holds s a ≡ true → holds s t ≡ true
 live_twin s a t e h = ap (holds s) e ∙ same_twin s a ∙ h

@@ -1,5 +1,5 @@
 -- Segments that are stored by themselves, and those that are taken out.
-use Rattle.std.proofs.Common.{◌≡◌, ◌≢◌, ℕ, ◌+◌, ◌-◌, ◌*◌, ◌/◌, ◌%◌, ◌<◌, ◌≤◌, ◌==◌, Bool, true, false, cond, ◌⊎◌, inl, inr, refl, sym, ◌∙◌, ap, subst, arith, Option, Some, None, is_some, length, nat_le, min}
+use Rattle.std.proofs.Common.{◌≡◌, ◌≢◌, ℕ, ◌+◌, ◌-◌, ◌*◌, ◌/◌, ◌%◌, ◌<◌, ◌≤◌, ◌==◌, Bool, true, false, cond, inl, inr, refl, sym, ◌∙◌, ap, subst, arith, Option, Some, None, is_some, length, nat_le, min}
 use Rattle.std.proofs.lemmas.Bool.{cases_Bool, cases_eq, cond-true, cond-false, eq-eqb, ne_eqb, leb-true}
 use Rattle.std.specs.Option.{option_map}
 use Rattle.slab.specs.Slab.{Slab, get, slab_len, with_value, Updates}
@@ -7,6 +7,7 @@ use Rattle.topo_core.specs.Rotations.{twin}
 use Rattle.topo_perm.specs.Joins.{AddsSegment}
 use Rattle.topo_perm.proofs.Walks.{twin-cases}
 use Rattle.topo_core.specs.declared.darts.Way.TheVariants.{Forward, Back}
+use Rattle.topo_perm.proofs.Bypassing.{half-same, twin-half}
 use Rattle.topo_map.specs.Halves.{half_number}
 use Rattle.topo_map.specs.Rotation.{AddsLabel, KeepsLabels, Slot, turned, turn_in, half_limit}
 use Rattle.topo_map.specs.Segments.{shown, holds, next_in, before_in, nexts, befores, label_in, face_in, limit_of, room_of, isolated_segment, AddsFaces, AreInverse, IsKept, IsInserted, IsRemoved}
@@ -75,28 +76,13 @@ below_limit s a k all h =
 
 -- ---- The two halves at a key
 
-pub twin-key : (a : ℕ) → twin a / 2 ≡ a / 2
-twin-key a = elim (twin-cases a) [
-  | inl w ↦ let e : twin a ≡ a + 1 = w.1 in let d : a % 2 ≡ 0 = w.0 in omega arith
-  | inr w ↦ let e : twin a ≡ a - 1 = w.1 in let d : a % 2 ≢ 0 = w.0 in omega arith
-]
-
-one_of_two : (a x : ℕ) → a / 2 ≡ x / 2 → (a ≡ x) ⊎ (a ≡ twin x)
-one_of_two a x e = elim (cases_eq a x) [
-  | inl same ↦ inl same
-  | inr ne ↦ inr (elim (twin-cases x) [
-    | inl w ↦ let d : twin x ≡ x + 1 = w.1 in let z : x % 2 ≡ 0 = w.0 in omega arith
-    | inr w ↦ let d : twin x ≡ x - 1 = w.1 in let z : x % 2 ≢ 0 = w.0 in omega arith
-  ])
-]
-
 adds : (live live' : ℕ → Bool) (n key x : ℕ) → x / 2 ≡ key → ((a : ℕ) → a / 2 ≡ key → live a ≡ false) → ((a : ℕ) → a / 2 ≡ key → live' a ≡ true) → ((a : ℕ) → a / 2 ≢ key → live' a ≡ live a) → AddsSegment live live' n x
 adds live live' n key x e none some others = record {
   new = none x e;
-  new_twin = none (twin x) (twin-key x ∙ e);
+  new_twin = none (twin x) (twin-half x ∙ e);
   here = some x e;
-  here_twin = some (twin x) (twin-key x ∙ e);
-  others = λ a la nx nt. others a (λ w. elim (one_of_two a x (w ∙ sym e)) [ inl p ↦ nx p | inr p ↦ nt p ]);
+  here_twin = some (twin x) (twin-half x ∙ e);
+  others = λ a la nx nt. others a (λ w. elim (half-same a x (w ∙ sym e)) [ inl p ↦ nx p | inr p ↦ nt p ]);
 }
 
 -- ---- A slot that changes
@@ -169,7 +155,7 @@ label_stored s new key edge left right x i ex =
     let kx : x / 2 ≡ key = omega arith in
     record {
       here = label-there new key (isolated_segment key edge left right) x kx i.updates.changed;
-      here_twin = label-there new key (isolated_segment key edge left right) (twin x) (twin-key x ∙ kx) i.updates.changed;
+      here_twin = label-there new key (isolated_segment key edge left right) (twin x) (twin-half x ∙ kx) i.updates.changed;
       others = λ a h. label-else s new key (Some (isolated_segment key edge left right)) i.updates a (λ e. true_false (sym h ∙ live-was s key None i.free a e));
     }
 
@@ -195,7 +181,7 @@ pub record IsGoneAt (s new : Slab Segment) (key : ℕ) (seg : Segment) : Type 0 
 
 pub removed : (s new : Slab Segment) (key x : ℕ) (seg : Segment) → IsKept s → next_in s x ≡ x → next_in s (twin x) ≡ twin x → IsGoneAt s new key seg → x / 2 ≡ key → IsRemoved s new x
 removed s new key x seg k alone twin_alone i kx =
-    let fixed : (a : ℕ) → a / 2 ≡ key → next_in s a ≡ a = λ a e. elim (one_of_two a x (e ∙ sym kx)) [
+    let fixed : (a : ℕ) → a / 2 ≡ key → next_in s a ≡ a = λ a e. elim (half-same a x (e ∙ sym kx)) [
       | inl p ↦ ap (next_in s) p ∙ alone ∙ sym p
       | inr p ↦ ap (next_in s) p ∙ twin_alone ∙ sym p
     ] in

@@ -17,7 +17,7 @@ use Rattle.topo_perm.proofs.FacesKept.{split_keeps_faces, split_sides, smooth_ke
 use Rattle.topo_perm.proofs.Connecting.{split_connects}
 use Rattle.topo_perm.proofs.SlabEdits.{split_keeps_slab, split_live_faces}
 use Rattle.topo_perm.proofs.Possible.{smooth_is_possible}
-use Rattle.topo_perm.proofs.Links.{all_map, with_segment, with_other, with_old, adds_segment}
+use Rattle.topo_perm.proofs.Links.{all_map, with_segment, with_other, with_old, adds_segment, apart_twin}
 
 -- ---- A system under other numbers
 
@@ -305,13 +305,6 @@ beyond_apart b n m name k l even i o j = record {
   not_twin = λ w. i.new (twin l.dart) (twin-within m l.dart even j.there) (j.other_end ∙ sym w);
 }
 
-twin_apart : (n a y : ℕ) → n % 2 ≡ 0 → IsApart n a y → IsApart n (twin a) y
-twin_apart n a y even p = record {
-  within = twin-within n a even p.within;
-  not_self = λ e. p.not_twin (sym (twin-twin a) ∙ ap twin e);
-  not_twin = λ e. p.not_self (twin-apart a y e);
-}
-
 -- what the first step leaves as it was
 step_alone : (b c : ℕ → ℕ) (n : ℕ) (f : ℕ → ℕ) (m : ℕ) (name : ℕ → ℕ) (k : Bend) → IsStep b c n f m name k → (y : ℕ) → y < n → b y ≡ y → ((d : ℕ) → d < m → name d ≢ y) → c y ≡ y
 step_alone b c n f m name k s y ly e u =
@@ -354,7 +347,7 @@ bend_adds : (live : ℕ → Bool) (b c : ℕ → ℕ) (n : ℕ) (f : ℕ → ℕ
 bend_adds live b c n f m name k ks s o h r =
     let here : IsWithin n ks k.beyond = all_both (AreOnOthers m k) (IsBend b n m name) (λ l. IsApart n k.beyond l.beyond)
     (λ l u v. beyond_apart b n m name k l s.named.turn_even s.bend u v) ks o (all_bends b n m name ks h) in
-    let here_twin : IsWithin n ks (twin k.beyond) = all_map (λ l. IsApart n k.beyond l.beyond) (λ l. IsApart n (twin k.beyond) l.beyond) (λ l u. twin_apart n k.beyond l.beyond s.named.even u) ks here in
+    let here_twin : IsWithin n ks (twin k.beyond) = all_map (λ l. IsApart n k.beyond l.beyond) (λ l. IsApart n (twin k.beyond) l.beyond) (λ l u. apart_twin n k.beyond l.beyond s.named.even u) ks here in
     adds_segment (with_bends live ks) n k.beyond (dead_bends live n ks k.beyond r.0.0 here) (dead_bends live n ks (twin k.beyond) r.0.1 here_twin)
 
 -- the bent slab with one bend more

@@ -69,10 +69,10 @@ unbypassed_joined f g o n i a b h x w la j = (kept_joined g o (λ v. (v < n) × 
 
 -- ---- The segment of h is not crossed
 
-twin-half : (a : ℕ) → twin a / 2 ≡ a / 2
+pub twin-half : (a : ℕ) → twin a / 2 ≡ a / 2
 twin-half a = omega (arith, twin-cases a)
 
-half-same : (a h : ℕ) → a / 2 ≡ h / 2 → (a ≡ h) ⊎ (a ≡ twin h)
+pub half-same : (a h : ℕ) → a / 2 ≡ h / 2 → (a ≡ h) ⊎ (a ≡ twin h)
 half-same a h e = elim (cases_eq a h) [ inl same ↦ inl same | inr ne ↦ inr (omega (arith, twin-cases h)) ]
 
 pub crossed_not : (h a : ℕ) → a / 2 ≡ h / 2 → partly (all_but h) a ≡ a

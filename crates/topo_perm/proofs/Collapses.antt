@@ -1,17 +1,18 @@
 -- A system whose segments are drawn with points of degree two on them: it has the faces and the connections of the system itself.
-use Rattle.std.proofs.Common.{◌≡◌, ℕ, zero, suc, ◌%◌, ◌<◌, Bool, true, false, List, [], ◌∷◌, ◌⊎◌, inl, inr, refl, sym, ◌∙◌, ap, subst}
+use Rattle.std.proofs.Common.{◌≡◌, ℕ, zero, suc, ◌%◌, ◌<◌, Bool, true, false, List, [], ◌∷◌, ◌⊎◌, inl, inr, sym, ◌∙◌, ap, subst}
 use Rattle.std.proofs.lemmas.Bool.{cases_Bool, false≢true}
 use Rattle.topo_core.specs.Cycles.{IsPermutation, SameCycle, after, cycle_count, is_met}
 use Rattle.topo_core.specs.Rotations.{Joined, Move, along, face_next, twin}
 use Rattle.topo_core.specs.Rotations.Move.{Turn, Cross}
-use Rattle.topo_core.proofs.Orbits.{SameCycle-is_met, SameCycle-refl, SameCycle-step, SameCycle-sym, SameCycle-trans, is_met-SameCycle}
+use Rattle.topo_core.proofs.Orbits.{SameCycle-is_met, SameCycle-refl, SameCycle-step, SameCycle-trans, is_met-SameCycle}
+use Rattle.topo_core.proofs.Lengthening.{same_tests}
 use Rattle.topo_perm.specs.Joins.{IsConnectedAmong}
 use Rattle.topo_perm.specs.Live.{IsSlab, live_cycle_count}
-use Rattle.topo_perm.specs.Renumbering.{IsEquivalence}
 use Rattle.topo_perm.proofs.Cuts.{Joined-back}
 use Rattle.topo_perm.proofs.Live.{live_class_count-carries}
 use Rattle.topo_perm.proofs.Faces.{twin-twin}
 use Rattle.topo_perm.proofs.Walks.{Joined-crossed, Joined-refl, Joined-trans, Joined-turned, face_next-permutation, twin-within}
+use Rattle.topo_perm.proofs.Exchange.{is_met-equivalence}
 
 -- the live darts of t are those of f under their names, and darts at points of degree two on the segments of f. `onto` gives each the dart of f that it is part of
 pub record Collapses (t : ℕ → ℕ) (n : ℕ) (live : ℕ → Bool) (f : ℕ → ℕ) (m : ℕ) (name onto : ℕ → ℕ) : Type 0 where
@@ -98,18 +99,6 @@ module _ (t : ℕ → ℕ) (n : ℕ) (live : ℕ → Bool) (f : ℕ → ℕ) (m 
   up : (a b : ℕ) → a < m → SameCycle (face_next f) a b → SameCycle (face_next t) (name a) (name b)
   up a b la s = subst (λ (w : ℕ). SameCycle (face_next t) (name a) (name w)) s.leads (up_steps s.steps a la).0
 
-  same_tests : (a b : Bool) → (a ≡ true → b ≡ true) → (b ≡ true → a ≡ true) → a ≡ b
-  same_tests true b to from = sym (to refl)
-  same_tests false true to from = from refl
-  same_tests false false to from = refl
-
-  met_equivalence : (h : ℕ → ℕ) (k : ℕ) → IsPermutation h k → IsEquivalence (is_met h k) k
-  met_equivalence h k p = record {
-    reflexive = λ a la. SameCycle-is_met h k p a a la (SameCycle-refl h a);
-    symmetric = λ a b la lb w. SameCycle-is_met h k p b a lb (SameCycle-sym h k p a b la (is_met-SameCycle h k a b w));
-    transitive = λ a b d la lb ld v w. SameCycle-is_met h k p a d la (SameCycle-trans h a b d (is_met-SameCycle h k a b v) (is_met-SameCycle h k b d w));
-  }
-
   -- a face with a live dart has live ones only
   dead_steps : (k y : ℕ) → y < n → live y ≡ false → (live (after (face_next t) k y) ≡ false) × (after (face_next t) k y < n)
   dead_steps zero y ly h = (h, ly)
@@ -121,7 +110,7 @@ module _ (t : ℕ → ℕ) (n : ℕ) (live : ℕ → Bool) (f : ℕ → ℕ) (m 
       (ap live (c.slab.free (twin z) lt dt) ∙ dt, faces_t.within z l)
 
   pub collapsed_faces : cycle_count (face_next f) m ≡ live_cycle_count live (face_next t) n
-  collapsed_faces = live_class_count-carries name (is_met (face_next f) m) m live (is_met (face_next t) n) n (met_equivalence (face_next f) m faces_f) (met_equivalence (face_next t) n faces_t) (record {
+  collapsed_faces = live_class_count-carries name (is_met (face_next f) m) m live (is_met (face_next t) n) n (is_met-equivalence (face_next f) m faces_f) (is_met-equivalence (face_next t) n faces_t) (record {
     within = c.within;
     alive = c.alive;
     same = λ a b la lb. same_tests (is_met (face_next t) n (name a) (name b)) (is_met (face_next f) m a b)

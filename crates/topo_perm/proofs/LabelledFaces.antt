@@ -7,7 +7,7 @@ use Rattle.topo_core.specs.Rotations.{twin, face_next}
 use Rattle.topo_core.proofs.Orbits.{SameCycle-refl, SameCycle-trans, SameCycle-sym, SameCycle-step, SameCycle-is_met, is_met-SameCycle}
 use Rattle.topo_perm.specs.Edits.{IsAllowedChord, IsAllowedUnchord, IsAllowedSplit, IsAllowedSmooth, IsApart}
 use Rattle.topo_perm.specs.FaceLabels.{AddsBelow, AreJoinedLabels, AreKept, ArePartLabels, ChordLabels, HangLabels, LabelsFaces, SmoothLabels, SplitLabels, UnchordLabels}
-use Rattle.topo_perm.proofs.EditCounts.{hung}
+use Rattle.topo_perm.proofs.EditCounts.{hung, smoothed}
 use Rattle.topo_perm.proofs.Faces.{twin-twin, twin-apart, twin-other}
 use Rattle.topo_perm.proofs.FacesKept.{chord_keeps_faces, chord_sides, hang_keeps_faces, hang_sides, smooth_keeps_faces, split_keeps_faces, split_sides, unchord_keeps_faces, unhung_faces}
 use Rattle.topo_perm.proofs.Points.{HasBefore, before_of}
@@ -96,18 +96,6 @@ smoothed_back f g n h x k = record {
   edit = subst (λ (v : ℕ). IsSplit f g n v x) (sym (ap twin k.edit.point_there ∙ twin-twin h)) k.edit;
 }
 
--- and a smooth by a split
-split_back : (f g : ℕ → ℕ) (n x : ℕ) → IsAllowedSmooth f g n x → IsAllowedSplit g f n (twin (f x)) x
-split_back f g n x k = record {
-  turns = record { before = k.turns.after; after = k.turns.before; even = k.turns.even; within = k.turns.within };
-  segment = record {
-    within = twin-within n (f x) k.turns.even (k.turns.before.within x k.turns.within);
-    not_self = λ e. k.not_loop (sym (twin-twin (f x)) ∙ ap twin e);
-    not_twin = λ e. k.not_alone (twin-apart (f x) x e);
-  };
-  edit = k.edit;
-}
-
 pub split_labels : SplitLabels
 split_labels live live' f g l l' n h x adds th tt' k labels kept here there =
     let sides = split_sides f g n h x k in
@@ -123,7 +111,7 @@ smooth_labels live live' f g l l' n x takes k labels kept =
     let was : (a : ℕ) → live' a ≡ true → live a ≡ true = λ a t. (let p = away live' live n x a takes t in takes.adds.others a p.within p.not_self p.not_twin ∙ t) in
     record {
       same_face = λ a b t s e. smooth_keeps_faces f g n x a b k (away live' live n x a takes t) (away live' live n x b takes s) (labels.same_face a b (was a t) (was b s) (sym (kept a t) ∙ e ∙ kept b s));
-      same_label = λ a b t s e. kept a t ∙ labels.same_label a b (was a t) (was b s) (split_keeps_faces g f n (twin (f x)) x a b (split_back f g n x k) (away live' live n x a takes t) e) ∙ sym (kept b s);
+      same_label = λ a b t s e. kept a t ∙ labels.same_label a b (was a t) (was b s) (split_keeps_faces g f n (twin (f x)) x a b (smoothed f g n x k) (away live' live n x a takes t) e) ∙ sym (kept b s);
     }
 
 -- ---- Chord

@@ -40,7 +40,7 @@ AreBendsAt h (k ∷ ks) (j ∷ js) = (h k.beyond ≡ j.beyond) × (h (twin k.bey
 
 -- ---- Bends and links as edits
 
-splits_add : (ks : List Bend) → AllByRecursion IsAdding (splits_of ks)
+pub splits_add : (ks : List Bend) → AllByRecursion IsAdding (splits_of ks)
 splits_add [] = tt
 splits_add (k ∷ ks) = (tt, splits_add ks)
 

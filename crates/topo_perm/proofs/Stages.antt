@@ -14,7 +14,7 @@ use Rattle.topo_perm.proofs.Faces.{twin-twin}
 use Rattle.topo_perm.proofs.Connecting.{unchord_connects}
 use Rattle.topo_perm.proofs.SlabEdits.{segments_grow, unchord_keeps_slab, unchord_live_faces, unchord_live_points}
 use Rattle.topo_perm.proofs.Slabs.{live_genus_zero_law, live_segments_law}
-use Rattle.topo_perm.proofs.Bypassing.{crossed_else, crossed_not, halves, taken_out_joined, taken_out_parts}
+use Rattle.topo_perm.proofs.Bypassing.{crossed_else, crossed_not, taken_out_joined, taken_out_parts, twin-half}
 use Rattle.topo_perm.proofs.Passing.{whole_count}
 
 -- the darts but those of the first i segments
@@ -125,9 +125,6 @@ parted t n h count o i li s one a b ea eb at_a at_b =
     (live_genus_zero_law (left_after h i) (t i) n (h i) s.slab s.connected (o.there i li) (segment_left t n h count o i li).0 s.formula) one ea eb at_a at_b
 
 -- ---- Segments put back
-
-twin-half : (h : ℕ) → twin h / 2 ≡ h / 2
-twin-half h = elim (halves h) [ inl w ↦ omega (arith, w.0, w.1) | inr w ↦ omega (arith, w.0, w.1) ]
 
 -- not to cross a segment is to cross fewer
 crossed_more : (f : ℕ → ℕ) (h a b : ℕ) → JoinedWithout f h a b → Joined f twin a b

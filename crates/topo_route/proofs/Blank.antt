@@ -56,13 +56,6 @@ resized most (suc n) m [] small k = filled most m k
 resized most (suc n) m (x ∷ xs) small zero = small 0
 resized most (suc n) m (x ∷ xs) small (suc k) = resized most n m xs (λ j. small (suc j)) k
 
-pub rewritten : (most : ℕ) (xs : List ℕ) (place x : ℕ) → AreAtMost most xs → x ≤ most → AreAtMost most (set xs place x)
-rewritten most [] place x small less k = none_above most k
-rewritten most (y ∷ xs) zero x small less zero = less
-rewritten most (y ∷ xs) zero x small less (suc k) = small (suc k)
-rewritten most (y ∷ xs) (suc place) x small less zero = small 0
-rewritten most (y ∷ xs) (suc place) x small less (suc k) = rewritten most xs place x (λ j. small (suc j)) less k
-
 -- what is read is no more than the greatest number
 reads_within : (now round number : ℕ) → number ≤ unreached → read_in now round number ≤ unreached
 reads_within now round number small = elim (cases_eq round now) [

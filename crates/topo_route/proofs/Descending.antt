@@ -1,5 +1,5 @@
 -- Down the heights across the first tight darts.
-use Rattle.std.proofs.Common.{◌≡◌, ◌≢◌, ℕ, zero, suc, ◌+◌, ◌<◌, ◌≤◌, ◌||◌, ◌==◌, Bool, true, false, List, [], ◌∷◌, ◌++◌, length, Some, inl, inr, refl, sym, ap, subst, ◌∙◌, arith, append_assoc}
+use Rattle.std.proofs.Common.{◌≡◌, ◌≢◌, ℕ, zero, suc, ◌+◌, ◌<◌, ◌≤◌, ◌==◌, Bool, true, false, List, [], ◌∷◌, ◌++◌, length, Some, inl, inr, refl, sym, ap, subst, ◌∙◌, arith, append_assoc}
 use Rattle.std.specs.Prelude.{IfSome, IsSomeAnd, None, Option, map, min, slice_get, slice_index}
 use Rattle.std.specs.List.{list_any, range_with_len}
 use Rattle.std.proofs.lemmas.List.Folds.{list_any-append}
@@ -28,6 +28,7 @@ use Rattle.topo_route.proofs.Names.{dart_of_name, dart_of_twin, face_of_names, h
 use Rattle.topo_route.proofs.Numbers.{corner_below, face_stays, number_below}
 use Rattle.topo_core.proofs.NumberOrder.{not_later, number_order, order_number}
 use Rattle.topo_route.proofs.Rounds.{round_home}
+use Rattle.topo_route.proofs.Settled.{either_false}
 
 -- a tight dart lies in the face of `at`
 pub record HasTight (price : Pricing) (g : Named) (heights : List ℕ) (at : ℕ) : Type 0 where
@@ -112,9 +113,6 @@ module _ (price : Pricing) (g : Named) (lawful : Lawful g.rows) (has : IsNamed g
 
   module _ (promise : KeepsPromise price) (from at dart next : ℕ) (crossed : List Dart) (x : Dart) (far : Descends price g heights from crossed at) (first : IsFirstTight price g heights at dart)
       (is : dart_named g dart ≡ x) (lands : next ≡ twin_name g dart) (below : height (dart_named g from) < bound) where
-    x_in : has_dart (darts g.rows) x ≡ true
-    x_in = subst (λ d. has_dart (darts g.rows) d ≡ true) is first.name.there
-
     face : SameFace (system g.rows) (dart_named g at) x
     face = subst (SameFace (system g.rows) (dart_named g at)) is first.face
 
@@ -327,14 +325,10 @@ module _ (price : Pricing) (g : Named) (heights : List ℕ) (at : ℕ) where
 
 -- ---- A lawful picture with a vertex has darts
 
-or_false : (a b : Bool) → (a || b) ≡ false → (a ≡ false) × (b ≡ false)
-or_false true b e = cc
-or_false false b e = (refl, e)
-
 none_bare : (f : ℕ → List Dart) (a m k : ℕ) → a ≤ k → k < a + m → list_any (λ around. length around == 0) (map f (range_with_len a m)) ≡ false → (length (f k) == 0) ≡ false
 none_bare f a zero k low high none = absurd (omega arith)
 none_bare f a (suc m) k low high none =
-    let both = or_false (length (f a) == 0) (list_any (λ around. length around == 0) (map f (range_with_len (a + 1) m))) none in
+    let both = either_false (length (f a) == 0) (list_any (λ around. length around == 0) (map f (range_with_len (a + 1) m))) none in
     elim (cases_eq k a) [
       | inl e ↦ ap (λ j. length (f j) == 0) e ∙ both.0
       | inr ne ↦ none_bare f (a + 1) m k (omega arith) (omega arith) both.1
@@ -349,7 +343,7 @@ has_darts rows lawful u there =
     let points = map (around_vertex rows) (vertices rows) in
     let crossings = map (around_crossing rows) rows.crossings in
     let bare : List Dart → Bool = λ around. length around == 0 in
-    let both = or_false (list_any bare points) (list_any bare crossings) (sym (list_any-append bare points crossings) ∙ lawful.embedding.connected.no_bare_point) in
+    let both = either_false (list_any bare points) (list_any bare crossings) (sym (list_any-append bare points crossings) ∙ lawful.embedding.connected.no_bare_point) in
     let some = none_bare (around_vertex rows) 0 (length rows.rotations) u (omega arith) (omega arith) both.0 in
     let (c, at) = first_item (around_vertex rows u) some in
     let below = number_below rows lawful c (corner_below rows lawful u 0 c at) in omega arith

@@ -1,6 +1,6 @@
 -- Darts and their numbers, in one place: what the laws of topo_core say, over a total map from numbers to darts.
-use Rattle.std.proofs.Common.{◌≡◌, ◌≢◌, ℕ, zero, suc, ◌<◌, ◌+◌, ◌-◌, ◌%◌, ◌/◌, ◌==◌, true, List, [], ◌∷◌, length, Some, inl, inr, refl, sym, ap, subst, ◌∙◌, arith}
-use Rattle.std.specs.Prelude.{slice_get, slice_index_or, ◌⊎◌, Option, None, MatchOption, option_map}
+use Rattle.std.proofs.Common.{◌≡◌, ◌≢◌, ℕ, zero, suc, ◌<◌, ◌+◌, ◌-◌, ◌%◌, ◌==◌, true, List, [], ◌∷◌, length, Some, inl, inr, sym, ap, subst, ◌∙◌, arith}
+use Rattle.std.specs.Prelude.{slice_get, slice_index_or, ◌⊎◌}
 use Rattle.std.proofs.lemmas.Bool.{cases_Bool, cond-true, cond-false, eqb-true, eqb-false}
 use Rattle.topo_core.specs.declared.darts.Dart.{Dart}
 use Rattle.topo_core.specs.declared.rows.Rows.{Rows}
@@ -35,9 +35,6 @@ twin_twin a = omega (arith, twin_cases a, twin_cases (twin a))
 -- the twin is another dart, of the same segment
 pub twin_other : (a : ℕ) → twin a ≢ a
 twin_other a e = omega (arith, twin_cases a)
-
-pub twin_half : (a : ℕ) → twin a / 2 ≡ a / 2
-twin_half a = omega (arith, twin_cases a)
 
 module _ (rows : Rows) (lawful : Lawful rows) where
   abbrev good : IsWellFormed rows
@@ -105,16 +102,3 @@ module _ (rows : Rows) (lawful : Lawful rows) where
 
   pub corner_below : (v p : ℕ) (c : Dart) → corner rows v p ≡ Some c → has_dart (darts rows) c ≡ true
   corner_below v p c at = corner_in rows good v p c at
-
-  -- the number of the dart that names a corner
-  pub corner_number : (v p : ℕ) (result : Option ℕ) → result ≡ option_map (index_of rows) (corner rows v p)
-      → MatchOption result (corner rows v p ≡ None) (λ c. (c < length (darts rows)) × (corner rows v p ≡ Some (dart_of rows c)))
-  corner_number v p result e = subst (λ r. MatchOption r (corner rows v p ≡ None) (λ c. (c < length (darts rows)) × (corner rows v p ≡ Some (dart_of rows c)))) (sym e) (by_corner (corner rows v p) refl) where
-    by_corner : (o : Option Dart) → corner rows v p ≡ o → MatchOption (option_map (index_of rows) (corner rows v p)) (corner rows v p ≡ None) (λ c. (c < length (darts rows)) × (corner rows v p ≡ Some (dart_of rows c)))
-    by_corner (Some c) at =
-        let c_in = corner_below v p c at in
-        let P : Option Dart → Type 0 = λ o. MatchOption (option_map (index_of rows) o) (corner rows v p ≡ None) (λ c. (c < length (darts rows)) × (corner rows v p ≡ Some (dart_of rows c))) in
-        subst P (sym at) (number_below c c_in, at ∙ ap (λ x. Some x) (sym (dart_of_number c c_in)))
-    by_corner None at =
-        let P : Option Dart → Type 0 = λ o. MatchOption (option_map (index_of rows) o) (corner rows v p ≡ None) (λ c. (c < length (darts rows)) × (corner rows v p ≡ Some (dart_of rows c))) in
-        subst P (sym at) at

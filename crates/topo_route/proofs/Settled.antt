@@ -1,6 +1,6 @@
 -- How heights spread, on names of darts.
 use Rattle.std.proofs.Common.{◌≡◌, ◌≢◌, ℕ, ◌+◌, ◌*◌, ◌^◌, ◌<◌, ◌≤◌, ◌||◌, ◌==◌, Bool, true, false, cond, List, [], length, Some, inl, inr, refl, sym, ap, subst, ◌∙◌, arith, get_or-set_same, get_or-set_other}
-use Rattle.std.specs.Prelude.{◌⊎◌, slice_index, sum_by}
+use Rattle.std.specs.Prelude.{slice_index, sum_by}
 use Rattle.std.proofs.Math.ListN.{set}
 use Rattle.std.proofs.lemmas.Bool.{cases_eq, cases_lt, eqb-true, eq-eqb, ne_eqb, false≢true}
 use Rattle.std.proofs.lemmas.List.{length-set}
@@ -8,6 +8,7 @@ use Rattle.std.proofs.lemmas.List.Sums.{sum_by-set}
 use Rattle.topo_core.specs.declared.darts.Dart.{Dart}
 use Rattle.topo_core.specs.Picture.{corner}
 use Rattle.topo_core.specs.Routes.{Pricing, Reaches, unreached}
+use Rattle.topo_core.proofs.NumberOrder.{either}
 use Rattle.topo_route.specs.Names.{IsName, IsNamed, Named, dart_named, height_of, next_name, twin_name}
 use Rattle.topo_route.specs.Plans.{IsZeroAt}
 use Rattle.topo_route.proofs.Names.{height_named, name_below}
@@ -23,13 +24,9 @@ counts_reached h ne = ap (λ (b : Bool). cond {A = ℕ} b 0 1) (ne_eqb h unreach
 counts_unreached : (h : ℕ) → h ≡ unreached → counts h ≡ 0
 counts_unreached h e = ap (λ (b : Bool). cond {A = ℕ} b 0 1) (eq-eqb h unreached e)
 
-either_false : (a b : Bool) → (a || b) ≡ false → (a ≡ false) × (b ≡ false)
+pub either_false : (a b : Bool) → (a || b) ≡ false → (a ≡ false) × (b ≡ false)
 either_false true b e = cc
 either_false false b e = (refl, e)
-
-either_true : (a b : Bool) → (a || b) ≡ true → (a ≡ true) ⊎ (b ≡ true)
-either_true true b e = inl refl
-either_true false b e = inr e
 
 -- ---- Items
 
@@ -132,7 +129,7 @@ module _ (price : Pricing) (g : Named) (v : ℕ) (heights : List ℕ) (has : IsN
         let apart : k ≢ t = λ e. false≢true (sym both.0 ∙ eq-eqb (item_of t x) item (sym (own e))) in
         let same = lowered_other heights t x inside k apart in
         lowered_settled bound k apart (spreads.others k l ne (omega arith) (ap (λ h. is_waiting waiting (item_of k h)) (sym same) ∙ both.1));
-    reached_waits = λ item waits. elim (either_true (item_of t x == item) (is_waiting waiting item) (sym (added item) ∙ waits)) [
+    reached_waits = λ item waits. elim (either (item_of t x == item) (is_waiting waiting item) (sym (added item) ∙ waits)) [
       | inl here ↦
           let is : t ≡ dart_of_item item = sym (dart_of_own t x short) ∙ ap dart_of_item (eqb-true (item_of t x) item here) in (
             subst (IsName g) is there,

@@ -1,10 +1,8 @@
 -- A route that crosses nothing costs nothing, and the first of them is the first of the least.
-use Rattle.std.proofs.Common.{◌≡◌, ◌≢◌, ℕ, ◌+◌, ◌<◌, ◌≤◌, List, [], ◌∷◌, Some, inl, inr, refl, sym, ap, subst, ◌∙◌, arith}
+use Rattle.std.proofs.Common.{◌≡◌, ◌≢◌, ℕ, ◌<◌, ◌≤◌, List, [], ◌∷◌, Some, inl, inr, refl, sym, ap, subst, ◌∙◌, arith}
 use Rattle.std.specs.Ordering.{nat_cmp, ordering_then}
 use Rattle.std.specs.Cmp.Lexicographic.{slice_cmp}
-use Rattle.std.specs.declared.cmp.Ordering.{Ordering}
-use Rattle.std.specs.declared.cmp.Ordering.TheVariants.{Less, Equal, Greater}
-use Rattle.std.proofs.lemmas.Bool.Decides.{nat_tests}
+use Rattle.std.specs.declared.cmp.Ordering.TheVariants.{Equal, Greater}
 use Rattle.std.proofs.lemmas.Bool.{cases_eq, cases_lt}
 use Rattle.topo_core.specs.declared.darts.Dart.{Dart}
 use Rattle.topo_core.specs.declared.routes.Route.{Route}
@@ -14,18 +12,11 @@ use Rattle.topo_core.specs.Picture.{corner, system}
 use Rattle.topo_core.specs.Routes.{Costs, Crosses, IsFirst, IsPricedRoute, KeepsPromise, Pricing, route_cmp}
 use Rattle.topo_core.specs.Systems.{SameFace}
 use Rattle.topo_core.proofs.DartOrder.{nat_cmp_self}
+use Rattle.topo_core.proofs.Certificates.{start_before, not_above}
 use Rattle.topo_route.specs.Direct.{IsFirstDirect}
 
 one_dart : (o p : Dart) → Some o ≡ Some p → o ≡ p
 one_dart o p e = cc
-
-before : (p q : ℕ) (rest : Ordering) → p < q → ordering_then (nat_cmp p q) rest ≢ Greater
-before p q rest h e =
-    let less : nat_cmp p q ≡ Less = grind (arith, nat_tests) in
-    let now : ordering_then Less rest ≡ Greater = sym (ap (λ o. ordering_then o rest) less) ∙ e in cc
-
-not_above : (m n : ℕ) → m ≤ n → nat_cmp m n ≢ Greater
-not_above m n h e = grind (arith, nat_tests)
 
 by_ends : (r s : Route) → r.start ≡ s.start → r.crossed ≡ [] → s.crossed ≡ [] → r.end ≤ s.end → route_cmp r s ≢ Greater
 by_ends r s starts mine theirs ends e =
@@ -69,7 +60,7 @@ module _ (price : Pricing) (promise : KeepsPromise price) (rows : Rows) (u v : �
                     let same : it.route.from ≡ direct.from = one_dart it.route.from direct.from (sym it.route.starts ∙ ap (corner rows u) (sym starts) ∙ direct.starts) in
                     let late : (other.end < r.end → ⊥) = λ less. direct.end.first other.end it.route.to less it.route.ends (subst (λ c. SameFace (system rows) c it.route.to) same walk) in
                     by_ends r other starts direct.uncrossed theirs (omega (arith, late))
-                | inr apart ↦ before r.start other.start (ordering_then (slice_cmp dart_cmp r.crossed other.crossed) (nat_cmp r.end other.end)) (omega arith)
+                | inr apart ↦ start_before r.start other.start (ordering_then (slice_cmp dart_cmp r.crossed other.crossed) (nat_cmp r.end other.end)) (omega arith)
               ]
             ];
       }

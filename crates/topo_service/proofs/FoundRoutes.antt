@@ -1,23 +1,16 @@
 -- A route that was found on the version that is published is the first on the picture of now.
-use Rattle.std.proofs.Common.{◌≡◌, ℕ, List, [], ◌∷◌, Option, Some, sym, subst, ◌∙◌}
+use Rattle.std.proofs.Common.{◌≡◌, ℕ, List, [], Option, Some, sym, subst}
 use Rattle.topo_core.specs.declared.rows.Rows.{Rows}
 use Rattle.topo_core.specs.declared.limits.Limits.{Limits}
 use Rattle.topo_core.specs.declared.calls.Entry.{Entry}
 use Rattle.topo_core.specs.Routes.{IsFirst, Pricing}
 use Rattle.topo_core.specs.History.{IsVersion, Replays, versions}
-use Rattle.topo_core.proofs.Determined.{one_step}
 use Rattle.topo_frozen.specs.Shown.{Shown}
 use Rattle.topo_price.specs.Prices.{Asking, prices_of}
 use Rattle.topo_versions.specs.Names.{prices_named}
+use Rattle.topo_book.proofs.ReplicaLaws.{one_replay}
 use Rattle.topo_service.specs.Found.{FoundState, IsFoundRoute}
 use Rattle.topo_service.proofs.Versions.{is_version}
-
--- a list of entries has one replay
-one_replay : (price : Pricing) (limits : Limits) (entries : List Entry) (p q r : Rows) → Replays price limits p entries q → Replays price limits p entries r → q ≡ r
-one_replay price limits [] p q r way other = way ∙ sym other
-one_replay price limits (entry ∷ entries) p q r way other =
-    let same = one_step price limits p entry.call entry.reply entry.reply way.0 other.0 way.1 other.1 in
-    one_replay price limits entries way.0 q r way.2 (subst (λ (s : Rows). Replays price limits s entries r) (sym same.1) other.2)
 
 -- accepted entries lead to one picture
 one_version : (price : Pricing) (limits : Limits) (start q r : Rows) (entries : List Entry) → IsVersion price limits start entries q → IsVersion price limits start entries r → q ≡ r

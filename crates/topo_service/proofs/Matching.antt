@@ -1,5 +1,5 @@
 -- Receipts and the entries of their caller.
-use Rattle.std.proofs.Common.{◌≡◌, ℕ, zero, suc, ◌+◌, ◌<◌, ◌≤◌, ◌==◌, Bool, true, false, List, [], ◌∷◌, ◌++◌, length, take, drop, get_or, map, inl, inr, Option, Some, None, refl, ap, sym, ◌∙◌, subst, arith, append_assoc, length-append}
+use Rattle.std.proofs.Common.{◌≡◌, ℕ, zero, suc, ◌+◌, ◌<◌, ◌≤◌, ◌==◌, Bool, true, false, List, [], ◌∷◌, ◌++◌, length, take, drop, get_or, map, inl, inr, Option, Some, None, refl, ap, sym, ◌∙◌, subst, arith, append_assoc}
 use Rattle.std.specs.Prelude.{slice_get, option_map}
 use Rattle.std.proofs.lemmas.List.{append-nil, take_more, map-append, length-take-le}
 use Rattle.std.proofs.lemmas.List.Elements.{filter-append}
@@ -21,11 +21,6 @@ at_first (y ∷ xs) ys (suc k) x there = at_first xs ys k x there
 at_seam : {A : Type 0} (xs : List A) (y : A) (ys : List A) → slice_get (xs ++ y ∷ ys) (length xs) ≡ Some y
 at_seam [] y ys = refl
 at_seam (x ∷ xs) y ys = at_seam xs y ys
-
-pub item_at : {A : Type 0} (xs : List A) (k : ℕ) → k < length xs → (x : A) × (slice_get xs k ≡ Some x)
-item_at [] k lt = absurd (omega (arith, lt))
-item_at (x ∷ xs) zero lt = (x, refl)
-item_at (x ∷ xs) (suc k) lt = item_at xs k (omega (arith, lt))
 
 pub in_at : {A : Type 0} (xs : List A) (k : ℕ) (d : A) → k < length xs → IsIn (get_or xs k d) xs
 in_at [] k d lt = absurd (omega (arith, lt))
@@ -125,7 +120,3 @@ differs_at_end n rs history k r lt there h = record {
       let both : Some r ≡ None = sym (agreed history n k r agrees) ∙ past in
       cc;
 }
-
--- no receipt is left
-pub first_at_end : (n : ℕ) (rs : List Receipt) (history : List Entry) (k : ℕ) → take k rs ≡ rs → AreFound history n rs k → AreFirst history n rs
-first_at_end n rs history k all h = subst (AreFirst history n) all h.first

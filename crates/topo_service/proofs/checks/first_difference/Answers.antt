@@ -1,8 +1,9 @@
-use Rattle.std.proofs.Common.{◌≡◌, ◌+◌, List, take, drop, get_or, ◌∷◌, [], ◌++◌, sym, subst, ap, ◌∙◌, suc}
+use Rattle.std.proofs.Common.{◌≡◌, ◌+◌, List, take, drop, ◌∷◌, [], ◌++◌, sym, subst, ap, ◌∙◌, suc}
 use Rattle.std.proofs.lemmas.List.{take_more, take_all}
 use Rattle.topo_core.specs.declared.calls.Entry.{Entry}
+use Rattle.topo_core.proofs.SystemDarts.{get_there}
 use Rattle.topo_service.specs.Receipts.{AreFound, Differs}
-use Rattle.topo_service.proofs.Matching.{differs_at_end, first_at_end, item_at, parted}
+use Rattle.topo_service.proofs.Matching.{differs_at_end, parted}
 use Rattle.topo_service.proofs.checks.first_difference.Goals as goal
 
 pub loop-entry-preserved : goal.loop-entry-preserved
@@ -27,5 +28,5 @@ returns-then-k-receipts-clause-some c =
     let k = c.loop-entry.k in
     let rs = c.args.receipts.now in
     let all = take_all c.loop-entry.entry-index es c.loop-entry-test.false in
-    let r = item_at rs k c.if-k-receipts.true in
+    let r = get_there rs k c.if-k-receipts.true in
     differs_at_end c.args.number rs es k r.0 c.if-k-receipts.true r.1 (subst (λ (l : List Entry). AreFound l c.args.number rs k) all c.loop-entry.invariant)
