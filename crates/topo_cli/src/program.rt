@@ -104,7 +104,7 @@ fn read_verb<'a, S: AsStr>(alloc: Global, words: &'a [S]) -> Result<Verb, Unread
     }
 }
 
-/// Carries out a command. A fault is told on `err`.
+/// Carries out a command. A fault is written on `err`.
 fn carry_out<R: Threads + Wait + Sync, I: Read, O: Write, E: Write>(
     rt: &R,
     alloc: Global,
@@ -137,7 +137,7 @@ fn turn_down<E: Write>(unread: &Unread, err: &mut E) -> Outcome
     }
 }
 
-/// Tells a fault, and ends with its status.
+/// Writes a fault, and ends with its status.
 fn end_by<E: Write>(fault: &RunFault, err: &mut E) -> Outcome
     ensures status { result.status ≡ status_of fault.now }
     ensures line { IsTrue result.is_told → Appends (E.contents err.old) (E.contents err.new) (fault_line fault.now) }

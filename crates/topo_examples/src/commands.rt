@@ -175,7 +175,7 @@ fn check_rows(alloc: Global, rows: &Rows) -> Result<Vec<u8>, AllocError> {
     check(alloc, text.as_bytes())
 }
 
-/// What is told of a form that was only read.
+/// The line for a form that was only read.
 fn read<T: Drop>(alloc: Global, read: Result<T, ScriptFault>) -> Result<Vec<u8>, AllocError> {
     match read {
         Ok(_) => line_of(String::from_str(alloc, "read")?),

@@ -1,4 +1,4 @@
-//! What a field of a row stands for: a file's bytes or its own, and a text with parts of it changed.
+//! The bytes that a field of a row means: a file's or its own, and a text with parts of it changed.
 
 use anyhow::{Context, Result, bail};
 use std::alloc::Global;
@@ -15,7 +15,7 @@ pub(crate) fn bytes_of<R: Files + AllocGlobal>(rt: &R, field: &str) -> Result<Ve
     Ok(line.into_bytes())
 }
 
-/// A text with each second of some parts in place of the one before it, where that stands first.
+/// A text with each second of some parts in place of the one before it, where that occurs first.
 pub(crate) fn changed(alloc: Global, bytes: Vec<u8>, changes: &[&str]) -> Result<Vec<u8>> {
     if changes.is_empty() {
         return Ok(bytes);

@@ -41,7 +41,7 @@ pub enum Key {
 }
 
 impl Key {
-    /// The key as it stands in a text.
+    /// The key as it is in a text.
     pub fn name(self) -> &'static str
         ensures { result.now ≡ key_name self }
     {

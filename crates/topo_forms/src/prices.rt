@@ -24,7 +24,7 @@ fn read_some_price(alloc: Global, path: Path, value: &Value) -> Result<Option<u3
     Ok(Some(price))
 }
 
-/// A number, or null where the version lets it be.
+/// A number, or null where the version has that.
 #[tactic(auto, unfolding(crate::specs::Scripts::price_form))]
 fn read_price(
     alloc: Global,

@@ -66,7 +66,7 @@ fn check_object(path: Path, value: &Value) -> Result<(), ScriptFault>
     }
 }
 
-/// Whether a version lets a price be null.
+/// Whether a price may be null in this version.
 #[tactic(auto, unfolding(crate::specs::Scripts::nulls_of))]
 fn nulls_of(version: u32) -> Result<bool, ScriptFault>
     ensures { result ≡ nulls_of version }
@@ -78,7 +78,7 @@ fn nulls_of(version: u32) -> Result<bool, ScriptFault>
     }
 }
 
-/// Whether the version of a script or a report lets a price be null.
+/// Whether a price may be null in the version of a script or a report.
 fn read_nulls(alloc: Global, value: &Value) -> Result<bool, ScriptFault>
     ensures { Gives result (nulls_in (view value.now)) }
 {

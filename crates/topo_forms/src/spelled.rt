@@ -47,7 +47,7 @@ pub fn whole_number(text: &str) -> Option<u64>
     Numeral::scan(bytes).to_u64()
 }
 
-/// Whether a minus stands first.
+/// Whether the first byte is a minus.
 fn has_minus(bytes: &[u8]) -> bool
     ensures { result ≡ (slice_index bytes.now 0 == minus) }
 {

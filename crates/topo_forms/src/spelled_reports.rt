@@ -63,7 +63,7 @@ fn has_null(prices: &[Option<u32>]) -> bool
     prices.iter().any(|price| price.is_none())
 }
 
-/// Whether a version lets a price be null.
+/// Whether a price may be null in this version.
 #[tactic(auto, unfolding(crate::specs::Scripts::nulls_of))]
 fn nulls_of(version: u32) -> Option<bool>
     ensures { IfSome result (λ nulls. nulls_of version ≡ Ok nulls) }

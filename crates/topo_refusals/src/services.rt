@@ -106,7 +106,7 @@ fn use_and_close<
     close(rt, service, passes, told)
 }
 
-/// Closes a service with its passes. What is printed then is printed only where the story was told.
+/// Closes a service with its passes. Prints only where the calls before were printed too.
 fn close<F: Asks + Drop, K: Naming<F>, R: Wait + Print + Eprint + AllocGlobal>(
     rt: &R,
     service: Service<F, K>,
@@ -119,7 +119,7 @@ fn close<F: Asks + Drop, K: Naming<F>, R: Wait + Print + Eprint + AllocGlobal>(
     finished
 }
 
-/// Gives the passes out, and tells the story.
+/// Gives the passes out, and makes the calls.
 fn use_passes<
     F: Asks + Drop + Send + Sync,
     K: Naming<F> + Send + Sync,

@@ -55,7 +55,7 @@ fn build<R: Eprint + AllocGlobal>(rt: &R) -> Result<(Embedding, Vec<Half>), Allo
     }
 }
 
-/// Room for more segments, of which no half is told.
+/// Makes room for more segments, and prints nothing of their halves.
 fn reserve<R: Print + Eprint + AllocGlobal>(
     rt: &R,
     embedding: &mut Embedding,

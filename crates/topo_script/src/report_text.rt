@@ -203,7 +203,7 @@ impl Written for Entry {
     }
 }
 
-/// Writes what stands before prices, and then the prices without the ones at their end.
+/// Writes the text before the prices, and then the prices without the ones at their end.
 fn write_prices(
     out: &mut String,
     before: &str,
@@ -216,7 +216,7 @@ fn write_prices(
     write_list(out, &prices[..kept_len(prices)])
 }
 
-/// Writes what stands before the version, and then the version that a report with these prices has.
+/// Writes the text before the version, and then the version that a report with these prices has.
 fn write_version(
     out: &mut String,
     before: &str,

@@ -57,14 +57,14 @@ pub fn write_list<T: Written>(out: &mut String, items: &[T]) -> Result<(), Alloc
     out.push_str("]")
 }
 
-/// What stands before the item at place `i` of an array.
+/// The separator before the item at place `i` of an array: none before the first.
 fn comma(i: usize) -> &'static str
     ensures { result.now ≡ comma_if (not (i == 0)) }
 {
     if i == 0 { "" } else { "," }
 }
 
-/// Writes what stands before an item, and then the item.
+/// Writes the text before an item, and then the item.
 pub fn write_after<T: Written>(out: &mut String, before: &str, item: &T) -> Result<(), AllocError>
     ensures { OnOk result (string_bytes out.new ≡ string_bytes out.old ++ (before.now ++ compact_text (T.value item.now))) }
 {

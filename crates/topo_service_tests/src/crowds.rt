@@ -76,7 +76,7 @@ const FOUR: Workers = Workers {
     accepted: 8,
 };
 
-/// What is told of four with these lists.
+/// The text of a run of four workers with these lists.
 fn told_of_four<R: Threads + Wait + Abort + AllocGlobal + Sync>(
     rt: &R,
     lists: &[Vec<Command>],
@@ -319,7 +319,7 @@ const SIXTEEN: Workers = Workers {
     accepted: 1_000,
 };
 
-/// What is told of sixteen who are watched.
+/// The text of a run of sixteen workers who are watched.
 fn told_of_sixteen<R: Threads + Wait + Abort + AllocGlobal + Sync>(
     rt: &R,
     watch: &Watch,

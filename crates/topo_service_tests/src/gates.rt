@@ -19,7 +19,8 @@ use topo_versions::Naming;
 /// How often a gate looks for a flag before the run is late.
 const LOOKS: u64 = 100_000_000;
 
-/// Worker 0 waits, in its first call, until worker 1 has made its own; bounded looks stand for waiting.
+/// Worker 0 waits, in its first call, until worker 1 has made its own. It looks a bounded number of times and
+/// does not block.
 #[derive(Drop)]
 struct Turn {
     begun: AtomicBool,
@@ -113,7 +114,7 @@ fn lists_of(alloc: Global, commands: &[Command]) -> Result<Vec<Vec<Command>>, Al
     Ok(lists)
 }
 
-/// What is told of two workers with these lists, one of whom waits for the other.
+/// The text of a run of two workers with these lists, one of whom waits for the other.
 fn told_in_turn<R: Threads + Wait + Abort + AllocGlobal + Sync>(
     rt: &R,
     lists: &[Vec<Command>],
@@ -159,7 +160,7 @@ fn workers_run_at_one_time(rt: HostRuntime) -> Result<(), Fail> {
 }
 
 /// Worker 0 plans, and its search waits at the first price that it asks for until worker 1 has changed the
-/// picture; worker 1 waits for that search. Bounded looks stand for waiting.
+/// picture; worker 1 waits for that search. Both look a bounded number of times and do not block.
 #[derive(Drop)]
 struct Between {
     planning: AtomicBool,
@@ -237,7 +238,7 @@ impl Story for PlanAndDelete<'_> {
     }
 }
 
-/// What is told of two workers with these lists, one of whom plans while the other changes the picture.
+/// The text of a run of two workers with these lists, one of whom plans while the other changes the picture.
 fn told_between<R: Threads + Wait + Abort + AllocGlobal + Sync>(
     rt: &R,
     lists: &[Vec<Command>],

@@ -29,7 +29,7 @@ pub(crate) trait Story {
     fn seats(&self) -> usize;
 
     /// Uses the service by its passes, of which there are fewer than asked for where the service gave no
-    /// more, and says what it saw. It is told how the workers' lists ended. The passes that it leaves are
+    /// more, and says what it saw. It gets how the workers' lists ended. The passes that it leaves are
     /// those that the service is closed with.
     fn tell<F: Asks + Drop, K: Naming<F>, R: Wait>(
         &self,
@@ -51,7 +51,7 @@ impl Gate for Still {
     fn after(&self, _worker: usize, _index: usize) {}
 }
 
-/// What the passes do before the story is told.
+/// What the passes do before the story begins.
 #[derive(Drop)]
 pub(crate) enum Work<'a, T> {
     /// Each carries out the list at its place, with the gate's calls round each command. Where there is no
@@ -61,7 +61,7 @@ pub(crate) enum Work<'a, T> {
     Crowd(&'a Watch),
 }
 
-/// What was told is what is due.
+/// The text is the one that is due.
 pub(crate) fn is_told(rt: &impl Abort, told: &str, due: &str) {
     assert_eq!(rt; told, due);
 }
@@ -77,7 +77,7 @@ pub(crate) fn run_at<S: Story, R: Threads + Wait + Sync>(
     run_work_at(rt, alloc, table, start, Work::Lists(&[], &Still), story)
 }
 
-/// The same, where the passes have work to do before the story is told.
+/// The same, where the passes have work to do before the story begins.
 pub(crate) fn run_work_at<S: Story, T: Gate, R: Threads + Wait + Sync>(
     rt: &R,
     alloc: Global,
@@ -110,7 +110,7 @@ pub(crate) fn run<F: Asks + Drop + Send + Sync, S: Story, R: Threads + Wait + Sy
     run_work(rt, alloc, ask, start, Work::Lists(&[], &Still), story)
 }
 
-/// The same, where the passes have work to do before the story is told.
+/// The same, where the passes have work to do before the story begins.
 pub(crate) fn run_work<F: Asks + Drop + Send + Sync, S: Story, T: Gate, R: Threads + Wait + Sync>(
     rt: &R,
     alloc: Global,
@@ -173,7 +173,7 @@ fn tell_and_close<
     both(alloc, told, end)
 }
 
-/// What the story told, and how the service ended.
+/// The text of the story, and how the service ended.
 fn both(
     alloc: Global,
     told: Result<String, Fail>,
@@ -193,7 +193,7 @@ fn close<F: Asks + Drop, K: Naming<F>, R: Wait>(
     ending(alloc, service.close(rt, passes))
 }
 
-/// Gives out the passes that the story asks for, lets the workers do their work, and tells the story.
+/// Gives out the passes that the story asks for, lets the workers do their work, and then plays the story.
 fn tell<
     F: Asks + Drop + Send + Sync,
     K: Naming<F> + Send + Sync,

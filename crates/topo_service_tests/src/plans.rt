@@ -197,7 +197,7 @@ fn told_of<R: Threads + Wait + Abort + AllocGlobal + Sync>(
     told
 }
 
-/// What is told of an insertion with such a plan is what is due.
+/// The text of an insertion with such a plan is the one that is due.
 fn is_told_of<R: Threads + Wait + Abort + AllocGlobal + Sync>(
     rt: &R,
     crossed: Dart,
@@ -253,7 +253,7 @@ fn an_invented_plan_changes_no_answer(rt: HostRuntime) -> Result<(), Fail> {
     is_told_of_all(&rt, due.as_str())
 }
 
-/// What is told of a late insertion by a plan is what is due.
+/// The text of a late insertion by a plan is the one that is due.
 fn is_told_late<R: Threads + Wait + Abort + AllocGlobal + Sync>(
     rt: &R,
     due: &str,

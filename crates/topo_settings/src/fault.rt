@@ -40,7 +40,7 @@ pub enum RunFault {
 }
 
 impl RunFault {
-    /// The number that stands before the name of the fault.
+    /// The number that is written before the name of the fault.
     pub fn number(&self) -> u32
         ensures { result ≡ fault_number self.now }
     {

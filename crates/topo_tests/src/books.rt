@@ -123,7 +123,7 @@ fn is_told(rt: &impl Abort, told: &str, wanted: &str) {
     assert!(rt; told == wanted, "{told}");
 }
 
-/// The book's history and its sizes are as they are to be told.
+/// The book's history and its sizes have these texts.
 fn tells<F: Asks>(
     rt: &impl Abort,
     alloc: Global,
@@ -135,7 +135,7 @@ fn tells<F: Asks>(
     Ok(())
 }
 
-/// The calls of a book, and what is then told of it.
+/// The calls of a book, and its texts then.
 fn enters_calls<F: Asks>(
     rt: &impl Abort,
     alloc: Global,
@@ -187,7 +187,7 @@ fn enter<F: Asks>(alloc: Global, book: &mut Book<F>, caller: u32) -> Result<Stri
     told
 }
 
-/// A growth of this caller is made ready and entered, as it is to be told.
+/// A growth of this caller is made ready and entered, with this text.
 fn enters<F: Asks>(
     rt: &impl Abort,
     alloc: Global,
@@ -200,11 +200,11 @@ fn enters<F: Asks>(
     Ok(())
 }
 
-/// A growth and what it is told as.
+/// A growth and its text.
 const GROWTH: &str =
     "Entry { caller: 5, call: Grow { u: 0, position: 0, kind: 0 }, reply: Grown { vertex: VertexId(2), edge: EdgeId(1) } } true after 0";
 
-/// A refusal and what it is told as.
+/// A refusal and its text.
 const REFUSAL: &str =
     "Entry { caller: 6, call: Grow { u: 0, position: 0, kind: 0 }, reply: Refused(Full) } false after 1";
 

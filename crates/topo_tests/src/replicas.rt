@@ -51,13 +51,13 @@ fn hold_next(alloc: Global, held: &mut Vec<Held>, next: &Next) -> Result<String,
     format!(in alloc; "{:?}", next.entry().reply)
 }
 
-/// Makes a call ready, and lets that go.
+/// Makes a call ready, and drops that.
 fn let_go<F: Asks>(alloc: Global, book: &mut Book<F>, call: Call) -> Result<(), AllocError> {
     drop(book.prepare(alloc, 0, call)?);
     Ok(())
 }
 
-/// Makes a call ready, lets that go, makes it ready again and enters it. Its version is held. The answer is
+/// Makes a call ready, drops that, makes it ready again and enters it. Its version is held. The answer is
 /// the reply as text.
 fn enter<F: Asks>(
     alloc: Global,
@@ -153,7 +153,7 @@ fn call_of(alloc: Global, numbers: &mut Numbers, picture: &Picture) -> Result<Ca
 }
 
 /// The versions that are held are as they were. Where they are more than so many, the one held longest is
-/// let go.
+/// dropped.
 fn keep_most(
     rt: &impl Abort,
     alloc: Global,
@@ -169,7 +169,7 @@ fn keep_most(
 }
 
 /// Makes a call of both books that the generator makes, every fifth in place. The versions that are held stay
-/// as they were. Where they are more than so many, the one held longest is let go.
+/// as they were. Where they are more than so many, the one held longest is dropped.
 fn go_on<F: Asks>(
     rt: &impl Abort,
     alloc: Global,
@@ -193,7 +193,7 @@ fn go_on<F: Asks>(
     keep_most(rt, alloc, held, most, call)
 }
 
-/// A book has the history that is told by a text.
+/// A book has the history of a text.
 fn has_history<F: Asks>(
     rt: &impl Abort,
     alloc: Global,

@@ -575,7 +575,7 @@ fn plans_fail_the_first_test(rt: HostRuntime) -> Result<(), Fail> {
     Ok(told?)
 }
 
-/// The check of the least plan, with the height at a place raised by 1, tells an uneven face.
+/// The check of the least plan, with the height at a place raised by 1, finds an uneven face.
 fn is_uneven(
     rt: &impl Abort,
     alloc: Global,
