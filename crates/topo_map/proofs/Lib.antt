@@ -3,7 +3,6 @@ pub mod Maps
 pub mod Slots
 pub mod Kept
 pub mod Stored
-pub mod Allowed
 pub mod Counted
 pub mod Steps
 pub mod Rounds

@@ -9,6 +9,7 @@ use Rattle.topo_perm.specs.Joins.{AddsSegment}
 use Rattle.topo_perm.proofs.Faces.{twin-twin, twin-other}
 use Rattle.topo_perm.proofs.Splitting.{without-self, without-elsewhere}
 use Rattle.topo_perm.proofs.EditCounts.{put-elsewhere}
+use Rattle.topo_perm.proofs.Allowed.{AreDarts, IsDrawn, hang_allowed, chord_allowed, chord_drawn, unchord_allowed, unchord_made, split_allowed, smooth_allowed}
 use Rattle.topo_perm.proofs.SlabEdits.{segments_grow}
 use Rattle.topo_perm.proofs.Bypassing.{twin-half}
 use Rattle.topo_map.specs.Rotation.{half_limit, AddsLabel, CountsFewer, CountsMore, IsOneFace, IsWhole, KeepsLabels, Grows, PartsFaces, Shrinks}
@@ -17,7 +18,6 @@ use Rattle.topo_map.specs.declared.segments.Segment.{Segment}
 use Rattle.topo_map.proofs.Slots.{live_at}
 use Rattle.topo_map.proofs.Kept.{free_turn, live_next}
 use Rattle.topo_map.proofs.Stored.{limit-is, true_false}
-use Rattle.topo_map.proofs.Allowed.{AreDarts, IsDrawn, hang_allowed, chord_allowed, chord_drawn, unchord_allowed, unchord_made, split_allowed, smooth_allowed}
 use Rattle.topo_map.proofs.Counted.{More, Fewer, hang_more, chord_more, split_more, unchord_fewer, smooth_fewer}
 
 -- ---- A sound slab

@@ -22,6 +22,7 @@ pub mod Slabs
 pub mod SlabEdits
 pub mod FacesKept
 pub mod LabelledFaces
+pub mod Allowed
 pub mod Possible
 pub mod Links
 pub mod Bends

@@ -1,151 +1,34 @@
 -- Each edit can be made where its conditions hold: a turn after it.
-use Rattle.std.proofs.Common.{◌≡◌, ◌≢◌, ℕ, ◌<◌, refl, sym, ◌∙◌, ap, subst}
-use Rattle.topo_core.specs.Cycles.{IsPermutation}
+use Rattle.std.proofs.Common.{ℕ, ◌<◌, subst}
 use Rattle.topo_core.specs.Rotations.{twin, face_next}
-use Rattle.topo_perm.specs.Edits.{IsPutBefore, IsSmoothing, HangIsPossible, ChordIsPossible, UnchordIsPossible, SplitIsPossible, SmoothIsPossible}
+use Rattle.topo_perm.specs.Edits.{IsApart, HangIsPossible, ChordIsPossible, UnchordIsPossible, SplitIsPossible, SmoothIsPossible}
 use Rattle.topo_core.proofs.Orbits.{after-within}
-use Rattle.topo_perm.proofs.Walks.{twin-within, face_next-permutation}
-use Rattle.topo_perm.proofs.Faces.{twin-twin, twin-apart, twin-other}
-use Rattle.topo_perm.proofs.Splitting.{without, without-self, without-onward, without-elsewhere, without-bypass, bypassed-permutation}
-use Rattle.topo_perm.proofs.EditCounts.{put, put-self, put-led, put-elsewhere, put-is, put_permutation, put_before, far_apart, smoothing_permutation, smoothing_smooth}
+use Rattle.topo_perm.proofs.Walks.{face_next-permutation}
+use Rattle.topo_perm.proofs.Splitting.{without}
+use Rattle.topo_perm.proofs.EditCounts.{put, far_apart}
+use Rattle.topo_perm.proofs.Allowed.{hang_allowed, chord_drawn, chord_allowed, unchord_allowed, split_allowed, smooth_allowed}
 
 pub hang_is_possible : HangIsPossible
-hang_is_possible f n c x h even lx room k =
-    let w : IsPutBefore f (put f x c) n x c = put-is f n x c room.this k.not_self in
-    record {
-      turn = put f x c;
-      edit = record {
-        turns = record { before = h; after = put_permutation f (put f x c) n x c h lx k.within k.not_self w; even = even; within = lx };
-        corner = k;
-        edit = record { room = room; start = put_before f (put f x c) n x c h lx k.within k.not_self w };
-      };
-    }
+hang_is_possible f n c x h even lx room k = record { turn = put f x c; edit = hang_allowed f n c x (record { permutation = h; even = even }) lx room k }
 
 pub chord_is_possible : ChordIsPossible
 chord_is_possible f n c d x h even lx room k one =
-    let lt : twin x < n = twin-within n x even lx in
-    let ld : d < n = subst (λ v. v < n) one.leads (after-within (face_next f) n (face_next-permutation f n h even) one.steps c k.within) in
-    let far : d ≢ twin x = (far_apart f n c d x h even k room one).1 in
-    let half : ℕ → ℕ = put f x c in
-    let g : ℕ → ℕ = put half (twin x) d in
-    let w : IsPutBefore f half n x c = put-is f n x c room.this k.not_self in
-    let hh : IsPermutation half n = put_permutation f half n x c h lx k.within k.not_self w in
-    let alone : half (twin x) ≡ twin x = put-elsewhere f x c (twin x) (twin-other x) (λ e. k.not_twin (sym e ∙ room.other)) ∙ room.other in
-    let v : IsPutBefore half g n (twin x) d = put-is half n (twin x) d alone far in
-    record {
-      turn = g;
-      edit = record {
-        turns = record { before = h; after = put_permutation half g n (twin x) d hh lt ld far v; even = even; within = lx };
-        corner = k;
-        one_face = one;
-        edit = record {
-          room = room;
-          half = half;
-          start = put_before f half n x c h lx k.within k.not_self w;
-          end = put_before half g n (twin x) d hh lt ld far v;
-        };
-      };
-    }
+    let far = far_apart f n c d x h even k room one in
+    let m : IsApart n d x = record {
+      within = subst (λ v. v < n) one.leads (after-within (face_next f) n (face_next-permutation f n h even) one.steps c k.within);
+      not_self = far.0;
+      not_twin = far.1;
+    } in
+    let g : ℕ → ℕ = put (put f x c) (twin x) d in
+    record { turn = g; edit = chord_allowed f g n c d x (chord_drawn f n c d x (record { permutation = h; even = even }) lx room k m) one }
 
 pub unchord_is_possible : UnchordIsPossible
-unchord_is_possible f n h hf even lh two not_alone =
-    let half : ℕ → ℕ = without f h in
-    let hh : IsPermutation half n = bypassed-permutation f half n h hf lh (without-bypass f n h) in
-    record {
-      turn = without half (twin h);
-      edit = record {
-        turns = record { before = hf; after = bypassed-permutation half (without half (twin h)) n (twin h) hh (twin-within n h even lh) (without-bypass half n (twin h)); even = even; within = lh };
-        two_faces = two;
-        not_alone = not_alone;
-        edit = record { half = half; first = without-bypass f n h; second = without-bypass half n (twin h) };
-      };
-    }
+unchord_is_possible f n h hf even lh two not_alone = record { turn = without (without f h) (twin h); edit = unchord_allowed f n h (record { permutation = hf; even = even }) lh two not_alone }
 
 pub split_is_possible : SplitIsPossible
 split_is_possible f n h x hf even lx room s =
-    let t : ℕ = twin h in
-    let y : ℕ = twin x in
-    let lt : t < n = twin-within n h even s.within in
-    let ly : y < n = twin-within n x even lx in
-    let tx : t ≢ x = λ w. s.not_twin (sym (twin-twin h) ∙ ap twin w) in
-    let ty : t ≢ y = λ w. s.not_self (twin-apart h x w) in
-    let yx : y ≢ x = twin-other x in
-    let f1 : ℕ → ℕ = put f y t in
-    let h1 : IsPermutation f1 n = put_permutation f f1 n y t hf ly lt ty (put-is f n y t room.other ty) in
-    let f2 : ℕ → ℕ = without f1 t in
-    let h2 : IsPermutation f2 n = bypassed-permutation f1 f2 n t h1 lt (without-bypass f1 n t) in
-    let f2t : f2 t ≡ t = without-self f1 t t refl in
-    let f1x : f1 x ≡ x = put-elsewhere f y t x (λ w. yx (sym w)) (λ w. tx (sym w ∙ room.this)) ∙ room.this in
-    let f2x : f2 x ≡ x = without-elsewhere f1 t x (λ w. tx (sym w)) (λ w. tx (sym w ∙ f1x)) ∙ f1x in
-    let f2y : f2 y ≡ f1 t = without-onward f1 t y (λ w. ty (sym w)) (put-self f y t y refl) in
-    let g : ℕ → ℕ = put f2 x t in
-    record {
-      turn = g;
-      edit = record {
-        turns = record { before = hf; after = put_permutation f2 g n x t h2 lx lt tx (put-is f2 n x t f2x tx); even = even; within = lx };
-        segment = s;
-        edit = record {
-          isolated = room;
-          point_there = put-self f2 x t x refl;
-          point_back = put-led f2 x t t tx f2t;
-          leads_on = λ more.
-              let at : f2 y ≡ f t = f2y ∙ put-elsewhere f y t t ty more in
-              put-elsewhere f2 x t y yx (λ w. more (sym at ∙ w)) ∙ at;
-          leads_itself = λ alone.
-              let at : f2 y ≡ y = f2y ∙ put-led f y t t ty alone in
-              put-elsewhere f2 x t y yx (λ w. ty (sym w ∙ at)) ∙ at;
-          led_to = λ a la nt met.
-              let nx : a ≢ x = λ w. tx (sym met ∙ ap f w ∙ room.this) in
-              let ny : a ≢ y = λ w. ty (sym met ∙ ap f w ∙ room.other) in
-              let at1 : f1 a ≡ y = put-led f y t a ny met in
-              let at2 : f2 a ≡ y = without-elsewhere f1 t a nt (λ w. ty (sym w ∙ at1)) ∙ at1 in
-              put-elsewhere f2 x t a nx (λ w. ty (sym w ∙ at2)) ∙ at2;
-          elsewhere = λ a la nx ny nt ne.
-              let at1 : f1 a ≡ f a = put-elsewhere f y t a ny ne in
-              let at2 : f2 a ≡ f a = without-elsewhere f1 t a nt (λ w. ne (sym at1 ∙ w)) ∙ at1 in
-              put-elsewhere f2 x t a nx (λ w. ne (sym at2 ∙ w)) ∙ at2;
-        };
-      };
-    }
+    record { turn = put (without (put f (twin x) (twin h)) (twin h)) x (twin h); edit = split_allowed f n h x (record { permutation = hf; even = even }) lx room s }
 
 pub smooth_is_possible : SmoothIsPossible
 smooth_is_possible f n x hf even lx back na nl =
-    let t : ℕ = f x in
-    let y : ℕ = twin x in
-    let lt : t < n = hf.within x lx in
-    let ly : y < n = twin-within n x even lx in
-    let yx : y ≢ x = twin-other x in
-    let ty : t ≢ y = nl in
-    let f1 : ℕ → ℕ = without f x in
-    let f2 : ℕ → ℕ = put f1 t y in
-    let g : ℕ → ℕ = without f2 y in
-    let to_x : (a : ℕ) → a < n → f a ≡ x → a ≡ t = λ a la w. hf.apart a t la lt (w ∙ sym back) in
-    let f1x : f1 x ≡ x = without-self f x x refl in
-    let f2x : f2 x ≡ x = put-elsewhere f1 t y x (λ v. na (sym v)) (λ v. yx (sym v ∙ f1x)) ∙ f1x in
-    let f1y : f1 y ≡ f y = without-elsewhere f x y yx (λ w. ty (sym (to_x y ly w))) in
-    let gt : g t ≡ f2 y = without-onward f2 y t ty (put-self f1 t y t refl) in
-    let e : IsSmoothing f g n x = record {
-      point_back = back;
-      isolated = record { this = without-elsewhere f2 y x (λ v. yx (sym v)) (λ v. yx (sym v ∙ f2x)) ∙ f2x; other = without-self f2 y y refl };
-      leads_on = λ more. gt ∙ put-elsewhere f1 t y y (λ v. ty (sym v)) (λ v. more (sym f1y ∙ v)) ∙ f1y;
-      leads_itself = λ alone. gt ∙ put-led f1 t y y (λ v. ty (sym v)) (f1y ∙ alone);
-      led_to = λ a la ny met.
-          let nx : a ≢ x = λ v. ty (sym (ap f v) ∙ met) in
-          let nt : a ≢ t = λ v. yx (sym met ∙ ap f v ∙ back) in
-          let at1 : f1 a ≡ y = without-elsewhere f x a nx (λ v. yx (sym met ∙ v)) ∙ met in
-          let at2 : f2 a ≡ t = put-led f1 t y a nt at1 in
-          without-elsewhere f2 y a ny (λ v. ty (sym at2 ∙ v)) ∙ at2;
-      elsewhere = λ a la nx ny nt ne.
-          let at1 : f1 a ≡ f a = without-elsewhere f x a nx (λ v. nt (to_x a la v)) in
-          let at2 : f2 a ≡ f a = put-elsewhere f1 t y a nt (λ v. ne (sym at1 ∙ v)) ∙ at1 in
-          without-elsewhere f2 y a ny (λ v. ne (sym at2 ∙ v)) ∙ at2;
-    } in
-    record {
-      turn = g;
-      edit = record {
-        turns = record { before = hf; after = smoothing_permutation f g n x hf even lx na nl e; even = even; within = lx };
-        not_alone = na;
-        not_loop = nl;
-        edit = smoothing_smooth f g n x hf even lx na nl e;
-      };
-    }
+    record { turn = without (put (without f x) (f x) (twin x)) (twin x); edit = smooth_allowed f n x (record { permutation = hf; even = even }) lx back na nl }

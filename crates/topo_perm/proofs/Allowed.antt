@@ -6,9 +6,8 @@ use Rattle.topo_core.specs.Edits.{IsChord, IsIsolated, IsUnchord}
 use Rattle.topo_perm.specs.Edits.{AreTurns, IsApart, IsAllowedHang, IsAllowedChord, IsAllowedUnchord, IsAllowedSplit, IsAllowedSmooth, IsPutBefore, IsSmoothing}
 use Rattle.topo_perm.proofs.Walks.{twin-within}
 use Rattle.topo_perm.proofs.Faces.{twin-twin, twin-apart, twin-other}
-use Rattle.topo_perm.proofs.Splitting.{without-self, without-onward, without-elsewhere, without-bypass, bypassed-permutation}
-use Rattle.topo_perm.proofs.EditCounts.{put-self, put-led, put-elsewhere, put-is, put_permutation, put_before, smoothing_permutation, smoothing_smooth}
-use Rattle.topo_map.specs.Segments.{put, without}
+use Rattle.topo_perm.proofs.Splitting.{without, without-self, without-onward, without-elsewhere, without-bypass, bypassed-permutation}
+use Rattle.topo_perm.proofs.EditCounts.{put, put-self, put-led, put-elsewhere, put-is, put_permutation, put_before, smoothing_permutation, smoothing_smooth}
 
 -- f turns the darts below n, which are those of n / 2 segments
 pub record AreDarts (f : ℕ → ℕ) (n : ℕ) : Type 0 where
