@@ -32,8 +32,6 @@ numbered_step f n xs i d inside =
     ∙ map-append f (enumerate_from n (take i xs)) ((n + length (take i xs), get_or xs i d) ∷ [])
     ∙ ap (λ m. map f (enumerate_from n (take i xs)) ++ f (n + m, get_or xs i d) ∷ []) (length-take-le i xs (omega arith))
 
--- ---- Filters
-
 -- ---- The crossings of darts on a segment
 
 -- those of one dart more

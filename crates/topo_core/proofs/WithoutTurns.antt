@@ -40,8 +40,6 @@ use Rattle.topo_core.proofs.WithoutRows.{filter_passes, IsRotated, without_cross
 use Rattle.topo_core.proofs.Bypassing.{point_distinct}
 use Rattle.topo_core.proofs.ShownPoints.{image_of_clockwise}
 
--- ---- Lists of images
-
 -- ---- In a picture without an edge
 
 module _ (rows : Rows) (e : ℕ) (good : IsWellFormed rows) (known : is_some (edge_row rows e) ≡ true) where
