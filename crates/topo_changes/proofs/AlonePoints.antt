@@ -7,13 +7,13 @@ use Rattle.topo_core.specs.declared.darts.Dart.{Dart}
 use Rattle.topo_core.specs.declared.rows.EdgeRow.{EdgeRow}
 use Rattle.topo_core.specs.declared.rows.Rows.{Rows}
 use Rattle.topo_core.specs.Darts.{same_dart}
-use Rattle.topo_core.specs.Items.{IsIn, occurrences}
+use Rattle.topo_core.specs.Items.{occurrences}
 use Rattle.topo_core.specs.Lawful.{IsWellFormed}
-use Rattle.topo_core.specs.Picture.{around_crossing, around_vertex, edge_row, end_dart, rotation, system, vertices}
+use Rattle.topo_core.specs.Picture.{around_vertex, edge_row, end_dart, rotation, system}
 use Rattle.topo_core.specs.Systems.{follower, has_dart, turn}
 use Rattle.topo_core.proofs.Counting.{one}
 use Rattle.topo_core.proofs.DartLaws.{same_dart_self, same_dart_true}
-use Rattle.topo_core.proofs.Members.{in_left, in_map, in_range, or_second}
+use Rattle.topo_core.proofs.Members.{in_map, or_second}
 use Rattle.topo_core.proofs.NewDarts.{or_right_false}
 use Rattle.topo_core.proofs.Numbering.{distinct_system}
 use Rattle.topo_core.proofs.Points.{turn_at_point}
@@ -21,7 +21,7 @@ use Rattle.topo_core.proofs.RoundPoints.{next_of_first}
 use Rattle.topo_core.proofs.RouteDarts.{has_item}
 use Rattle.topo_core.proofs.ShownPlaces.{in_counted}
 use Rattle.topo_core.proofs.Standing.{end_dart_edge, good_rotation}
-use Rattle.topo_core.proofs.SystemDarts.{path_facts, row_id, row_in}
+use Rattle.topo_core.proofs.SystemDarts.{path_facts, row_id, row_in, vertex_in, vertex_point}
 use Rattle.topo_core.proofs.Turning.{distinct_tail, head_not_later, IsDistinct, next_around}
 use Rattle.topo_core.proofs.Bypassing.{point_distinct}
 
@@ -60,17 +60,12 @@ one_image g edges e [] h = cc
 one_image g edges e (f ∷ []) h = let same : g f ≡ g e = cc in ap (λ y. y ∷ []) (sym (edges f) ∙ ap (λ d. d.edge) same ∙ edges e)
 one_image g edges e (f ∷ k ∷ es) h = cc
 
--- the darts round a vertex are a point of the system
-vertex_point : (rows : Rows) (v : ℕ) → v < length rows.rotations → IsIn (around_vertex rows v) (system rows)
-vertex_point rows v inside = in_left (around_vertex rows v) (map (around_vertex rows) (vertices rows)) (map (around_crossing rows) rows.crossings)
-    (in_map (around_vertex rows) v (vertices rows) (in_range 0 (length rows.rotations) v (omega arith) (omega arith)))
-
 -- an edge whose dart turns to itself is the vertex's only one
 pub only_edge : (rows : Rows) → IsWellFormed rows → (v e : ℕ) → v < length rows.rotations → has_dart (around_vertex rows v) (end_dart rows v e) ≡ true
     → turn (system rows) (end_dart rows v e) ≡ end_dart rows v e → rotation rows v ≡ e ∷ []
 only_edge rows good v e inside there turns =
     let distinct = distinct_system rows good.paths good.crossings good.rotations in
-    let point = vertex_point rows v inside in
+    let point = vertex_point rows v (vertex_in rows v inside) in
     let next : next_around (around_vertex rows v) (end_dart rows v e) ≡ end_dart rows v e = sym (turn_at_point (system rows) distinct (around_vertex rows v) (end_dart rows v e) point there) ∙ turns in
     one_image (end_dart rows v) (end_dart_edge rows v) e (rotation rows v) (alone_list (around_vertex rows v) (end_dart rows v e) (point_distinct (system rows) (around_vertex rows v) distinct point) there next)
 
@@ -79,7 +74,7 @@ pub only_turn : (rows : Rows) → IsWellFormed rows → (v e : ℕ) → v < leng
 only_turn rows good v e inside alone =
     let list : around_vertex rows v ≡ end_dart rows v e ∷ [] = ap (map (end_dart rows v)) alone in
     let there : has_dart (around_vertex rows v) (end_dart rows v e) ≡ true = ap (λ ds. has_dart ds (end_dart rows v e)) list ∙ or_left (same_dart (end_dart rows v e) (end_dart rows v e)) false (same_dart_self (end_dart rows v e)) in
-    turn_at_point (system rows) (distinct_system rows good.paths good.crossings good.rotations) (around_vertex rows v) (end_dart rows v e) (vertex_point rows v inside) there
+    turn_at_point (system rows) (distinct_system rows good.paths good.crossings good.rotations) (around_vertex rows v) (end_dart rows v e) (vertex_point rows v (vertex_in rows v inside)) there
     ∙ ap (λ ds. next_around ds (end_dart rows v e)) list
     ∙ next_of_first (end_dart rows v e) []
 
@@ -90,14 +85,14 @@ end_there rows good e row there v end =
     let facts = path_facts rows good.paths row known in
     let inside : v < length rows.rotations = elim end [ inl at ↦ subst (λ n. n < length rows.rotations) at facts.a_in | inr at ↦ subst (λ n. n < length rows.rotations) at facts.b_in ] in
     let test : (row.a == v || row.b == v) ≡ true = elim end [ inl at ↦ or_left (row.a == v) (row.b == v) (eq-eqb row.a v at) | inr at ↦ or_right (row.a == v) (row.b == v) (eq-eqb row.b v at) ] in
-    let counted = (good_rotation rows good.rotations v (in_range 0 (length rows.rotations) v (omega arith) (omega arith))).counted row known in
+    let counted = (good_rotation rows good.rotations v (vertex_in rows v inside)).counted row known in
     let once : occurrences e (rotation rows v) ≡ 1 = ap (λ n. occurrences n (rotation rows v)) (sym (row_id rows e row there)) ∙ counted ∙ ap one test in
     (inside, has_item (end_dart rows v e) (around_vertex rows v) (in_map (end_dart rows v) e (rotation rows v) (in_counted e (rotation rows v) (omega arith))))
 
 -- a vertex's only edge ends at it
 pub only_ends : (rows : Rows) → IsWellFormed rows → (e v : ℕ) (row : EdgeRow) → edge_row rows e ≡ Some row → v < length rows.rotations → rotation rows v ≡ e ∷ [] → (row.a ≡ v) ⊎ (row.b ≡ v)
 only_ends rows good e v row there inside alone =
-    let counted = (good_rotation rows good.rotations v (in_range 0 (length rows.rotations) v (omega arith) (omega arith))).counted row (row_in rows e row there) in
+    let counted = (good_rotation rows good.rotations v (vertex_in rows v inside)).counted row (row_in rows e row there) in
     let id : row.id ≡ e = row_id rows e row there in
     let step = sum_by-cons (λ y. one (y == row.id)) e [] in
     let here : one (e == row.id) ≡ 1 = ap one (eq-eqb e row.id (sym id)) in

@@ -15,9 +15,9 @@ use Rattle.topo_core.specs.Items.{has_id, IsIn, occurrences}
 use Rattle.topo_core.specs.Lawful.{has_good_path, has_good_rotation, IsWellFormed}
 use Rattle.topo_core.specs.Picture.{cross_row, edge_row, rotation, vertices}
 use Rattle.topo_core.proofs.Counting.{counted_any, one}
-use Rattle.topo_core.proofs.Members.{found, in_range, left_true, right_true, test_of_each}
+use Rattle.topo_core.proofs.Members.{found, left_true, right_true, test_of_each}
 use Rattle.topo_core.proofs.Standing.{good_crossing, good_rotation}
-use Rattle.topo_core.proofs.SystemDarts.{crossing_there, edge_at_row, path_facts, row_id, row_in, some_of}
+use Rattle.topo_core.proofs.SystemDarts.{crossing_there, edge_at_row, path_facts, row_id, row_in, some_of, vertex_in}
 use Rattle.topo_core.proofs.Weaving.{in_filter}
 use Rattle.topo_core.proofs.WithoutRows.{filter_passes, find_passing, has_id_in, in_has_id, left_apart, rises_passing}
 use Rattle.topo_core.proofs.WovenPaths.{counted_in}
@@ -169,7 +169,7 @@ module _ (rows : Rows) (good : IsWellFormed rows) (e : ℕ) where
         let facts = path_facts rows good.paths row row_there in
         ap (λ n. left_by n row.b (left_by n row.a rows.rotations)) (row_id rows e row there)
         ∙ two_set (rotation_without e) row.a row.b rows.rotations [] facts.a_in facts.b_in (λ same. false≢true (sym facts.apart ∙ eq-eqb row.a row.b same)) (λ v inside first second.
-        let here = in_range 0 (length rows.rotations) v (omega arith) (omega arith) in
+        let here = vertex_in rows v inside in
         let counted = (good_rotation rows good.rotations v here).counted row row_there in
         let tests = test_of_each (has_good_rotation rows) v (vertices rows) good.rotations here in
         let none : (row.a == v || row.b == v) ≡ false = neither row.a row.b v (λ k. first (sym k)) (λ k. second (sym k)) in

@@ -15,9 +15,9 @@ use Rattle.topo_core.specs.Picture.{corner, edge_at, edge_row, end_dart, rotatio
 use Rattle.topo_core.specs.Pictures.{back, forward}
 use Rattle.topo_core.specs.Systems.{turn}
 use Rattle.topo_core.proofs.Growing.{crossings_after_growth, found_more, is_put_in, IsGrownTurn, IsPutIn, below_limit, more_vertices, paths_after_growth, rotations_after_growth, turns_after_growth}
-use Rattle.topo_core.proofs.Members.{in_left, in_map, in_range, in_right, left_true}
+use Rattle.topo_core.proofs.Members.{in_left, in_map, in_right, left_true}
 use Rattle.topo_core.proofs.Standing.{good_rotation}
-use Rattle.topo_core.proofs.SystemDarts.{edge_at_row, eqb_self, row_id, row_in, some_of}
+use Rattle.topo_core.proofs.SystemDarts.{edge_at_row, eqb_self, row_id, row_in, some_of, vertex_in}
 use Rattle.topo_core.proofs.WithoutRows.{has_id_in}
 use Rattle.topo_frozen.specs.Placed.{entry_after}
 use Rattle.topo_frozen.proofs.AroundPoints.{turn_at_vertex}
@@ -79,7 +79,7 @@ module _ (rows : Rows) (u p kind : ℕ) (good : IsWellFormed rows) (u_in : u < l
       let before : List ℕ = i.head ∷ i.front in
       let now : rotation grew u ≡ before ++ f ∷ i.back = around_after ∙ i.now in
       let old : (x : ℕ) → IsIn x before → x ≢ f = λ x h e.
-      let less = known_below x ((good_rotation rows good.rotations u (in_range 0 (length rows.rotations) u (omega arith) (omega arith))).known x (subst (IsIn x) (sym i.was) (in_left x before i.back h))) in absurd (omega arith) in
+      let less = known_below x ((good_rotation rows good.rotations u (vertex_in rows u u_in)).known x (subst (IsIn x) (sym i.was) (in_left x before i.back h))) in absurd (omega arith) in
       let read : slice_index around p ≡ slice_index_or i.back 0 i.head = (let both : Some (slice_index around p) ≡ Some (slice_index_or i.back 0 i.head) = sym (slice_get-get_or around p 0 p_in) ∙ i.corner in cc) in
       ap (λ xs. entry_after xs f) now
       ∙ ap (λ k. slice_index_or (before ++ f ∷ i.back) (k + 1) i.head) (place_of_new f before i.back old)

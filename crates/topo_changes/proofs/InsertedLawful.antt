@@ -10,7 +10,6 @@ use Rattle.topo_core.specs.declared.darts.Dart.{Dart}
 use Rattle.topo_core.specs.declared.rows.Rows.{Rows}
 use Rattle.topo_core.specs.declared.routes.Route.{Route}
 use Rattle.topo_core.specs.Cycles.{map_of}
-use Rattle.topo_core.specs.Items.{IsIn}
 use Rattle.topo_core.specs.Systems.{Connected, darts_in, has_dart}
 use Rattle.topo_core.specs.Picture.{around_crossing, around_vertex, corner, darts, face_count, index_of, rotation, segment_count, system, turn_images, vertices}
 use Rattle.topo_core.specs.Lawful.{HasGenusZero, IsWellFormed, Lawful}
@@ -23,10 +22,10 @@ use Rattle.topo_core.proofs.Points.{points_apart}
 use Rattle.topo_core.proofs.Renumbering.{darts_connected, numbers_connected}
 use Rattle.topo_core.proofs.RouteDarts.{corner_in}
 use Rattle.topo_core.proofs.ShownForm.{shown_well_formed}
-use Rattle.topo_core.proofs.Members.{in_range}
 use Rattle.topo_core.proofs.ShownRows.{shown_vertices}
 use Rattle.topo_core.proofs.ShownTurns.{shows_turns}
 use Rattle.topo_core.proofs.SimpleRoutes.{simple_is_insertable}
+use Rattle.topo_core.proofs.SystemDarts.{vertex_in}
 use Rattle.topo_core.proofs.Turning.{IsDistinct, distinct_left}
 use Rattle.topo_perm.proofs.Links.{Link}
 use Rattle.topo_perm.proofs.Passages.{IsPassage}
@@ -68,14 +67,11 @@ shown_not_bare rows u v kind r may h =
 
 -- ---- The corners of two vertices are two darts
 
-vertex_there : (rows : Rows) (w : ℕ) → w < length rows.rotations → IsIn w (vertices rows)
-vertex_there rows w h = in_range 0 (length rows.rotations) w (omega arith) (omega (arith, h))
-
 corners_apart : (rows : Rows) → IsWellFormed rows → (u v i j : ℕ) (c d : Dart) → u < length rows.rotations → v < length rows.rotations → u ≢ v → corner rows u i ≡ Some c → corner rows v j ≡ Some d → c ≢ d
 corners_apart rows good u v i j c d lu lv apart at_u at_v same =
     apart (points_apart (around_vertex rows) (vertices rows)
     (distinct_left (darts_in (map (around_vertex rows) (vertices rows))) (darts_in (map (around_crossing rows) rows.crossings)) (subst IsDistinct (flat_map-append (λ (around : List Dart). around) (map (around_vertex rows) (vertices rows)) (map (around_crossing rows) rows.crossings)) (distinct_system rows good.paths good.crossings good.rotations)))
-    u v c (vertex_there rows u lu) (vertex_there rows v lv) (has_at (around_vertex rows u) i c at_u) (subst (λ (b : Dart). has_dart (around_vertex rows v) b ≡ true) (sym same) (has_at (around_vertex rows v) j d at_v)))
+    u v c (vertex_in rows u lu) (vertex_in rows v lv) (has_at (around_vertex rows u) i c at_u) (subst (λ (b : Dart). has_dart (around_vertex rows v) b ≡ true) (sym same) (has_at (around_vertex rows v) j d at_v)))
 
 -- ---- The counts
 

@@ -12,11 +12,10 @@ use Rattle.topo_core.specs.Systems.{has_dart}
 use Rattle.topo_core.specs.Lawful.{IsWellFormed}
 use Rattle.topo_core.specs.Changes.{new_crossing, shown, with_end}
 use Rattle.topo_core.specs.Insertions.{IsInsertable}
-use Rattle.topo_core.proofs.Members.{in_range}
 use Rattle.topo_core.proofs.ShownForm.{each_of}
 use Rattle.topo_core.proofs.ShownRows.{known_crossing_below, known_edge_below, row_found}
 use Rattle.topo_core.proofs.Standing.{good_rotation, listed_test, of_rows_is_dart}
-use Rattle.topo_core.proofs.SystemDarts.{crossing_there}
+use Rattle.topo_core.proofs.SystemDarts.{crossing_there, vertex_in}
 use Rattle.topo_core.proofs.Growing.{all_from}
 use Rattle.topo_changes.specs.Inserting.{AreOnPaths, crossed_by, paths_below}
 
@@ -29,7 +28,7 @@ module _ (rows : Rows) (good : IsWellFormed rows) where
   -- the edges in a rotation are old
   pub rotation_old : (v : ℕ) → v < length rows.rotations → list_all (λ e. nat_lt e rows.next_edge) (rotation rows v) ≡ true
   rotation_old v inside = all_from (λ e. nat_lt e rows.next_edge) (rotation rows v) (λ e h.
-      lt-ltb e rows.next_edge (known_edge_below rows good.paths e ((good_rotation rows good.rotations v (in_range 0 (length rows.rotations) v (omega arith) (omega arith))).known e h)))
+      lt-ltb e rows.next_edge (known_edge_below rows good.paths e ((good_rotation rows good.rotations v (vertex_in rows v inside)).known e h)))
 
   -- the darts of a route lie on the paths
   pub darts_there : (u v kind : ℕ) (r : Route) → IsInsertable rows u v kind r → AreOnPaths rows.edges r.crossed

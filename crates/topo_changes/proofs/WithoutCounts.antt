@@ -14,11 +14,11 @@ use Rattle.topo_core.specs.Items.{has_id, occurrences, rises_below}
 use Rattle.topo_core.specs.Lawful.{has_good_path, is_good_crossing, IsWellFormed}
 use Rattle.topo_core.specs.Picture.{cross_row, edge_row, rotation}
 use Rattle.topo_core.proofs.Counting.{at_most_one, eqb_more, none_counted_any, one, sum_found, sum_of_map}
-use Rattle.topo_core.proofs.Members.{in_range, left_true}
+use Rattle.topo_core.proofs.Members.{left_true}
 use Rattle.topo_core.proofs.RoundPoints.{taken_out}
 use Rattle.topo_core.proofs.ShownPlaces.{path_once}
 use Rattle.topo_core.proofs.Standing.{good_rotation}
-use Rattle.topo_core.proofs.SystemDarts.{crossing_there, edge_at_row, row_id, row_in, some_of}
+use Rattle.topo_core.proofs.SystemDarts.{crossing_there, edge_at_row, row_id, row_in, some_of, vertex_in}
 use Rattle.topo_core.proofs.WithoutRows.{filter_passes, gone, in_has_id, IsRotated, is_left, occurrences-passing, without_rotated, without_rotation, without_vertices}
 use Rattle.topo_core.proofs.WovenPaths.{counted_in}
 use Rattle.topo_frozen.proofs.RowCounts.{same_length}
@@ -92,7 +92,7 @@ nothing_rotated {before} {after} r h =
 -- an edge stands at most once round a vertex
 at_most_once : (rows : Rows) → IsWellFormed rows → (e v : ℕ) → v < length rows.rotations → occurrences e (rotation rows v) ≤ 1
 at_most_once rows good e v inside =
-    let around = good_rotation rows good.rotations v (in_range 0 (length rows.rotations) v (omega arith) (omega arith)) in
+    let around = good_rotation rows good.rotations v (vertex_in rows v inside) in
     elim (cases_Bool (has_id (rotation rows v) e)) [
       | inl h ↦
           let row = some_of (edge_row rows e) (around.known e (in_has_id e (rotation rows v) h)) in

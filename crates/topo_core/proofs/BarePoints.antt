@@ -18,12 +18,12 @@ use Rattle.topo_core.specs.Picture.{ahead, around_crossing, around_vertex, behin
 use Rattle.topo_core.specs.Systems.{has_dart}
 use Rattle.topo_core.proofs.Counting.{at_most_one, eqb_more, one}
 use Rattle.topo_core.proofs.Growing.{in_append}
-use Rattle.topo_core.proofs.Members.{in_left, in_map, in_range, range_below}
+use Rattle.topo_core.proofs.Members.{in_map, range_below}
 use Rattle.topo_core.proofs.Points.{passing_has}
 use Rattle.topo_core.proofs.RouteDarts.{has_item}
 use Rattle.topo_core.proofs.ShownRows.{in_images}
 use Rattle.topo_core.proofs.Standing.{end_dart_edge, good_crossing, good_rotation}
-use Rattle.topo_core.proofs.SystemDarts.{row_id, row_in, some_of}
+use Rattle.topo_core.proofs.SystemDarts.{row_id, row_in, some_of, vertex_in, vertex_point}
 
 -- ---- Lists
 
@@ -99,10 +99,6 @@ module _ (rows : Rows) (e i : ℕ) where
     | inr apart ↦ one_left stays (around_crossing rows x) (ahead rows x.crossed x.id) (crossed_ahead x) (other_stays (ahead rows x.crossed x.id) apart)
   ]
 
-  vertex_there : (v : ℕ) → v < length rows.rotations → IsIn (around_vertex rows v) (system rows)
-  vertex_there v h = in_left (around_vertex rows v) (map (around_vertex rows) (vertices rows)) (map (around_crossing rows) rows.crossings)
-      (in_map (around_vertex rows) v (vertices rows) (in_range 0 (length rows.rotations) v (omega arith) (omega arith)))
-
   -- the edge is at most once round a vertex
   once_there : has_good_rotations rows ≡ true → (v : ℕ) → IsIn v (vertices rows) → IsIn e (rotation rows v) → occurrences e (rotation rows v) ≤ 1
   once_there rotations v h k =
@@ -138,12 +134,12 @@ module _ (rows : Rows) (e i : ℕ) where
 
   -- a vertex with no edge but e becomes bare with its dart
   vertex_bared : (v : ℕ) → v < length rows.rotations → rotation rows v ≡ e ∷ [] → is_opened e i (end_dart rows v e) ≡ true → list_any (λ around. length around == 0) (opened rows e i) ≡ true
-  vertex_bared v h alone out = any_of (λ around. length around == 0) (filter stays (around_vertex rows v)) (opened rows e i) (in_map (filter stays) (around_vertex rows v) (system rows) (vertex_there v h))
+  vertex_bared v h alone out = any_of (λ around. length around == 0) (filter stays (around_vertex rows v)) (opened rows e i) (in_map (filter stays) (around_vertex rows v) (system rows) (vertex_point rows v (vertex_in rows v h)))
       (ap (λ es. length (filter stays (map (end_dart rows v) es)) == 0) alone ∙ ap (λ t. length (cond (not t) (end_dart rows v e ∷ []) []) == 0) out)
 
   -- a picture without bare points has no empty rotation
   rotation_full : list_any (λ around. length around == 0) (system rows) ≡ false → (v : ℕ) → v < length rows.rotations → rotation rows v ≢ []
-  rotation_full none v h empty = false≢true (sym none ∙ any_of (λ around. length around == 0) (around_vertex rows v) (system rows) (vertex_there v h) (ap (λ es. length (map (end_dart rows v) es) == 0) empty))
+  rotation_full none v h empty = false≢true (sym none ∙ any_of (λ around. length around == 0) (around_vertex rows v) (system rows) (vertex_point rows v (vertex_in rows v h)) (ap (λ es. length (map (end_dart rows v) es) == 0) empty))
 
 -- all of it
 pub bares : (rows : Rows) → has_good_crossings rows ≡ true → has_good_rotations rows ≡ true → (e i : ℕ) → Bares rows e i

@@ -23,10 +23,10 @@ use Rattle.topo_core.specs.Lawful.{has_good_paths, has_good_path, has_good_rotat
 use Rattle.topo_core.specs.Changes.{grown, put_in, with_end}
 use Rattle.topo_core.proofs.Counting.{at_most_one, counted_any, eqb_less, eqb_more, lt_of_test, lt_test, one}
 use Rattle.topo_core.proofs.DartLaws.{same_dart_true}
-use Rattle.topo_core.proofs.Members.{in_left, in_map, in_range, in_right, left_true, range_below, range_from, right_true, test_of_each}
+use Rattle.topo_core.proofs.Members.{in_left, in_map, in_right, left_true, range_below, range_from, right_true, test_of_each}
 use Rattle.topo_core.proofs.NewDarts.{new_system, old_system, reaches_new, stays_connected, turn_of_old, turn_of_twin}
 use Rattle.topo_core.proofs.Standing.{good_crossing, is_of_rows, stands_once, system_test}
-use Rattle.topo_core.proofs.SystemDarts.{edge_at_row, eqb_self, path_facts, row_id, row_in, some_of}
+use Rattle.topo_core.proofs.SystemDarts.{edge_at_row, eqb_self, path_facts, row_id, row_in, some_of, vertex_in}
 
 -- ---- Tests of lists
 
@@ -231,7 +231,7 @@ module _ (rows : Rows) (u p kind : ℕ) (paths : has_good_paths rows ≡ true) (
   row_below row h = below_limit rows.next_edge (map (λ row. row.id) rows.edges) (left_true _ (list_all (has_good_path rows) rows.edges) paths) row.id (in_map (λ row. row.id) row rows.edges h)
 
   old_at : (v : ℕ) → v < length rows.rotations → has_good_rotation rows v ≡ true
-  old_at v inside = test_of_each (has_good_rotation rows) v (vertices rows) rotations (in_range 0 (length rows.rotations) v (omega arith) (omega arith))
+  old_at v inside = test_of_each (has_good_rotation rows) v (vertices rows) rotations (vertex_in rows v inside)
 
   old_counts : (v : ℕ) → v < length rows.rotations → (row : EdgeRow) → IsIn row rows.edges → occurrences row.id (rotation rows v) ≡ cond {A = ℕ} (row.a == v || row.b == v) 1 0
   old_counts v inside row h = eqb-true _ _ (test_of_each (λ row. occurrences row.id (rotation rows v) == (if row.a == v || row.b == v then 1 else 0)) row rows.edges (left_true _ _ (left_true _ _ (old_at v inside))) h)

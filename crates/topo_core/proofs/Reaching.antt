@@ -1,23 +1,23 @@
 -- Where every edge has a price, a walk with a cost leads from any dart's face to any other's.
-use Rattle.std.proofs.Common.{◌≡◌, ◌∙◌, ap, ℕ, ◌+◌, ◌<◌, true, subst, List, [], ◌∷◌, ◌++◌, refl, sym, arith}
-use Rattle.std.specs.Prelude.{◌==◌, length, map, slice_get, Some}
+use Rattle.std.proofs.Common.{◌≡◌, ◌∙◌, ap, ℕ, ◌+◌, ◌<◌, true, subst, List, [], ◌∷◌, ◌++◌, refl, sym}
+use Rattle.std.specs.Prelude.{◌==◌, length, slice_get, Some}
 use Rattle.std.proofs.lemmas.Bool.{false≢true}
 use Rattle.topo_core.specs.declared.darts.Dart.{Dart}
 use Rattle.topo_core.specs.declared.rows.Rows.{Rows}
 use Rattle.topo_core.specs.Darts.{dart_twin}
 use Rattle.topo_core.specs.Items.{IsIn}
 use Rattle.topo_core.specs.Lawful.{IsEmbedding, IsWellFormed}
-use Rattle.topo_core.specs.Picture.{around_crossing, around_vertex, corner, darts, system, vertices}
+use Rattle.topo_core.specs.Picture.{around_vertex, corner, darts, system}
 use Rattle.topo_core.specs.RouteLaws.{IsPriced, RoutesExist}
 use Rattle.topo_core.specs.Rotations.{along, Cross, Move, Turn}
 use Rattle.topo_core.specs.Routes.{Costs, Crosses, Price, Pricing}
 use Rattle.topo_core.specs.Systems.{has_dart, SameFace, System, turn}
 use Rattle.topo_core.proofs.BarePoints.{any_of}
 use Rattle.topo_core.proofs.DartLaws.{twin-twin}
-use Rattle.topo_core.proofs.Members.{in_left, in_map, in_range}
 use Rattle.topo_core.proofs.Numbering.{twin_in, turn_stays}
 use Rattle.topo_core.proofs.RouteDarts.{corner_in}
 use Rattle.topo_core.proofs.Standing.{system_test}
+use Rattle.topo_core.proofs.SystemDarts.{vertex_in, vertex_point}
 
 same_self : (s : System) (d : Dart) → SameFace s d d
 same_self s d = record { steps = 0; leads = refl }
@@ -71,8 +71,7 @@ module _ (price : Pricing) (rows : Rows) (good : IsWellFormed rows) (priced : Is
 has_corner : (rows : Rows) → IsEmbedding rows → (v : ℕ) → v < length rows.rotations → (c : Dart) × (corner rows v 0 ≡ Some c)
 has_corner rows good v below = by_list (around_vertex rows v) refl where
   at_point : IsIn (around_vertex rows v) (system rows)
-  at_point = in_left (around_vertex rows v) (map (around_vertex rows) (vertices rows)) (map (around_crossing rows) rows.crossings)
-      (in_map (around_vertex rows) v (vertices rows) (in_range 0 (length rows.rotations) v (omega arith) (omega arith)))
+  at_point = vertex_point rows v (vertex_in rows v below)
 
   by_list : (around : List Dart) → around_vertex rows v ≡ around → (c : Dart) × (corner rows v 0 ≡ Some c)
   by_list [] e = absurd (false≢true (sym good.connected.no_bare_point ∙ any_of (λ around. length around == 0) (around_vertex rows v) (system rows) at_point (ap (λ around. length around == 0) e)))

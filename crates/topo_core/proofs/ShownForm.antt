@@ -19,10 +19,10 @@ use Rattle.topo_core.specs.Changes.{crossed_row, new_crossing, new_on, numbered,
 use Rattle.topo_core.specs.Insertions.{IsInsertable}
 use Rattle.topo_core.proofs.Counting.{eqb_less, eqb_more, eqb_symm, in_first, lt_test, one, sum_if, sum_nothing, sum_same}
 use Rattle.topo_core.proofs.Growing.{all_from, all_range, first_below, first_put_in, in_put_in, le_test, ne_from, neither, none_counted, occurrences-put_in, rises_push}
-use Rattle.topo_core.proofs.Members.{in_range, left_true, right_true, test_of_each}
+use Rattle.topo_core.proofs.Members.{left_true, right_true, test_of_each}
 use Rattle.topo_core.proofs.ShownRows.{crossing_below, edge_below, in_images, known_crossing_below, known_edge_below, new_id_above, newcomer_row, numbered_in, rises_on, row_found, shown_crossings, shown_new_crossing, shown_new_row, shown_old_crossing_there, shown_old_there, shown_rotation_end, shown_rotation_other, shown_rotation_start, shown_rows, shown_vertices}
 use Rattle.topo_core.proofs.Standing.{good_crossing, good_rotation, one_of_both, listed_test, of_rows_is_dart}
-use Rattle.topo_core.proofs.SystemDarts.{crossing_there, eqb_self}
+use Rattle.topo_core.proofs.SystemDarts.{crossing_there, eqb_self, vertex_in}
 use Rattle.topo_core.proofs.Weaving.{below_never, below_not_counted, in_filter, in_woven, number_counted, number_once, occurrences-woven}
 use Rattle.topo_core.proofs.NumberOrder.{right_holds}
 
@@ -206,7 +206,7 @@ module _ (rows : Rows) (u v kind : ℕ) (r : Route) (good : IsWellFormed rows) (
 
   module _ (w : ℕ) (inside : w < length rows.rotations) where
     vertex : IsIn w (vertices rows)
-    vertex = in_range 0 (length rows.rotations) w (omega arith) (omega arith)
+    vertex = vertex_in rows w inside
 
     least_first : (e : ℕ) → IsIn e (rotation rows w) → nat_le (get_or (rotation rows w) 0 0) e ≡ true
     least_first e h = test_of_each (nat_le (get_or (rotation rows w) 0 0)) e (rotation rows w) (right_true _ _ (test_of_each (has_good_rotation rows) w (vertices rows) good.rotations vertex)) h

@@ -1,5 +1,5 @@
 -- The points of a picture once it shows a new edge along a route: the old ones have their darts, lifted, and those of the new edge.
-use Rattle.std.proofs.Common.{◌≡◌, ◌≢◌, ℕ, ◌<◌, Bool, true, false, cond, List, [], ◌∷◌, ◌++◌, length, not, refl, sym, ap, ap₂, append_assoc, subst, ◌∙◌, arith, inl, inr}
+use Rattle.std.proofs.Common.{◌≡◌, ◌≢◌, ℕ, ◌<◌, Bool, true, false, cond, List, [], ◌∷◌, ◌++◌, length, not, refl, sym, ap, ap₂, append_assoc, subst, ◌∙◌, inl, inr}
 use Rattle.std.specs.Prelude.{◌==◌, Some, filter, is_some, map, option_map, slice_get, slice_index_or}
 use Rattle.std.specs.List.{range_with_len}
 use Rattle.std.proofs.lemmas.List.{map-append}
@@ -24,7 +24,7 @@ use Rattle.topo_core.specs.Pictures.{back, forward}
 use Rattle.topo_core.specs.Systems.{bypassed, darts_in, has_dart}
 use Rattle.topo_core.proofs.Counting.{eqb_less}
 use Rattle.topo_core.proofs.Growing.{is_put_in, map_same}
-use Rattle.topo_core.proofs.Members.{in_left, in_map, in_range, in_right}
+use Rattle.topo_core.proofs.Members.{in_left, in_right}
 use Rattle.topo_core.proofs.Numbering.{distinct_system}
 use Rattle.topo_core.proofs.Points.{at_point_in, distinct_passing, image_points, passing_points}
 use Rattle.topo_core.proofs.RouteDarts.{has_item}
@@ -32,7 +32,7 @@ use Rattle.topo_core.proofs.ShownForm.{each_of}
 use Rattle.topo_core.proofs.ShownPlaces.{lifted_ahead, lifted_behind, lifted_edge, lifted_end, newcomer_end, on_path_of}
 use Rattle.topo_core.proofs.ShownRows.{in_images, known_edge_below, numbered_in, shown_rotation_end, shown_rotation_other, shown_rotation_start, shown_vertices}
 use Rattle.topo_core.proofs.Standing.{good_crossing, good_rotation, listed_test, of_rows_is_dart, system_test}
-use Rattle.topo_core.proofs.SystemDarts.{eqb_self}
+use Rattle.topo_core.proofs.SystemDarts.{crossing_point, eqb_self, vertex_in, vertex_point}
 use Rattle.topo_core.proofs.Turning.{IsDistinct}
 
 -- ---- Lists under a test
@@ -53,9 +53,24 @@ two_pass : (keep : Dart → Bool) (sign : Sign) (a b c d : Dart) → keep a ≡ 
 two_pass keep LeftToRight a b c d a_is b_is c_is d_is = rw (a_is, b_is, c_is, d_is)
 two_pass keep RightToLeft a b c d a_is b_is c_is d_is = rw (a_is, b_is, c_is, d_is)
 
-pub image_of_clockwise : (g : Dart → Dart) (sign : Sign) (a b c d : Dart) → clockwise sign (g a) (g b) (g c) (g d) ≡ map g (clockwise sign a b c d)
+image_of_clockwise : (g : Dart → Dart) (sign : Sign) (a b c d : Dart) → clockwise sign (g a) (g b) (g c) (g d) ≡ map g (clockwise sign a b c d)
 image_of_clockwise g LeftToRight a b c d = refl
 image_of_clockwise g RightToLeft a b c d = refl
+
+-- ---- Round a crossing that two pictures have
+
+-- in the second: the darts of the first, lifted
+pub around_lifted : (p q : Rows) → IsWellFormed p → (x : CrossRow) → IsIn x p.crossings → around_crossing q x ≡ map (lifted p q) (around_crossing p x)
+around_lifted p q good x h =
+    let lift = lifted p q in
+    let facts = good_crossing p good.crossings x h in
+    let on_crossed = on_path_of p good x h x.crossed facts.crossed (or_left (x.crossed == x.crossed) (x.crossed == x.newcomer) (eqb_self x.crossed)) in
+    let on_newcomer = on_path_of p good x h x.newcomer facts.newcomer (or_right (x.newcomer == x.crossed) (x.newcomer == x.newcomer) (eqb_self x.newcomer)) in
+    ap (λ d. clockwise x.sign d (behind q x.crossed x.id) (ahead q x.newcomer x.id) (behind q x.newcomer x.id)) (lifted_ahead p q x.crossed x.id on_crossed)
+    ∙ ap (λ d. clockwise x.sign (lift (ahead p x.crossed x.id)) d (ahead q x.newcomer x.id) (behind q x.newcomer x.id)) (lifted_behind p q x.crossed x.id on_crossed)
+    ∙ ap (λ d. clockwise x.sign (lift (ahead p x.crossed x.id)) (lift (behind p x.crossed x.id)) d (behind q x.newcomer x.id)) (lifted_ahead p q x.newcomer x.id on_newcomer)
+    ∙ ap (λ d. clockwise x.sign (lift (ahead p x.crossed x.id)) (lift (behind p x.crossed x.id)) (lift (ahead p x.newcomer x.id)) d) (lifted_behind p q x.newcomer x.id on_newcomer)
+    ∙ image_of_clockwise lift x.sign (ahead p x.crossed x.id) (behind p x.crossed x.id) (ahead p x.newcomer x.id) (behind p x.newcomer x.id)
 
 -- ---- An end of the new edge
 
@@ -101,30 +116,6 @@ module _ (rows : Rows) (u v kind : ℕ) (r : Route) (good : IsWellFormed rows) (
       let image = in_images lift d around h in
       ap is_kept image.2 ∙ old_is_kept image.0 (at_point_there around at image.0 (has_item image.0 around image.1)))
 
-  -- the points of the rows
-  pub vertex_in : (w : ℕ) → w < length rows.rotations → IsIn w (vertices rows)
-  vertex_in w h = in_range 0 (length rows.rotations) w (omega arith) (omega arith)
-
-  pub vertex_point : (w : ℕ) → IsIn w (vertices rows) → IsIn (around_vertex rows w) (system rows)
-  vertex_point w h = in_left (around_vertex rows w) (map (around_vertex rows) (vertices rows)) (map (around_crossing rows) rows.crossings) (in_map (around_vertex rows) w (vertices rows) h)
-
-  pub crossing_point : (x : CrossRow) → IsIn x rows.crossings → IsIn (around_crossing rows x) (system rows)
-  crossing_point x h = in_right (around_crossing rows x) (map (around_vertex rows) (vertices rows)) (map (around_crossing rows) rows.crossings) (in_map (around_crossing rows) x rows.crossings h)
-
-  -- ---- Round the old crossings
-
-  -- the old darts, lifted
-  pub around_old_crossing : (x : CrossRow) → IsIn x rows.crossings → around_crossing after x ≡ map lift (around_crossing rows x)
-  around_old_crossing x h =
-      let facts = good_crossing rows good.crossings x h in
-      let on_crossed = on_path_of rows good x h x.crossed facts.crossed (or_left (x.crossed == x.crossed) (x.crossed == x.newcomer) (eqb_self x.crossed)) in
-      let on_newcomer = on_path_of rows good x h x.newcomer facts.newcomer (or_right (x.newcomer == x.crossed) (x.newcomer == x.newcomer) (eqb_self x.newcomer)) in
-      ap (λ d. clockwise x.sign d (behind after x.crossed x.id) (ahead after x.newcomer x.id) (behind after x.newcomer x.id)) (lifted_ahead rows after x.crossed x.id on_crossed)
-      ∙ ap (λ d. clockwise x.sign (lift (ahead rows x.crossed x.id)) d (ahead after x.newcomer x.id) (behind after x.newcomer x.id)) (lifted_behind rows after x.crossed x.id on_crossed)
-      ∙ ap (λ d. clockwise x.sign (lift (ahead rows x.crossed x.id)) (lift (behind rows x.crossed x.id)) d (behind after x.newcomer x.id)) (lifted_ahead rows after x.newcomer x.id on_newcomer)
-      ∙ ap (λ d. clockwise x.sign (lift (ahead rows x.crossed x.id)) (lift (behind rows x.crossed x.id)) (lift (ahead rows x.newcomer x.id)) d) (lifted_behind rows after x.newcomer x.id on_newcomer)
-      ∙ image_of_clockwise lift x.sign (ahead rows x.crossed x.id) (behind rows x.crossed x.id) (ahead rows x.newcomer x.id) (behind rows x.newcomer x.id)
-
   -- ---- Round the vertices
 
   lifted_ends : (w : ℕ) (es : List ℕ) → ((e : ℕ) → IsIn e es → is_some (edge_row rows e) ≡ true) → map (end_dart after w) es ≡ map lift (map (end_dart rows w) es)
@@ -168,11 +159,11 @@ module _ (rows : Rows) (u v kind : ℕ) (r : Route) (good : IsWellFormed rows) (
 
   -- round the two ends of the new edge
   pub around_start : IsEndPoint rows after u r.start first_dart
-  around_start = around_end u r.start first_dart (vertex_in u ask.u_there) ask.start (shown_rotation_start rows u v kind r ask.u_there ask.ends_apart)
+  around_start = around_end u r.start first_dart (vertex_in rows u ask.u_there) ask.start (shown_rotation_start rows u v kind r ask.u_there ask.ends_apart)
       (newcomer_end rows u v kind r good ask.once now u ∙ ap (λ (t : Bool). cond {A = Dart} t first_dart last_dart) (eqb_self u))
 
   pub around_finish : IsEndPoint rows after v r.end last_dart
-  around_finish = around_end v r.end last_dart (vertex_in v ask.v_there) ask.end (shown_rotation_end rows u v kind r ask.v_there ask.ends_apart)
+  around_finish = around_end v r.end last_dart (vertex_in rows v ask.v_there) ask.end (shown_rotation_end rows u v kind r ask.v_there ask.ends_apart)
       (newcomer_end rows u v kind r good ask.once now v ∙ ap (λ (t : Bool). cond {A = Dart} t first_dart last_dart) (ne_eqb u v ask.ends_apart))
 
   new_not_kept : (d : Dart) → d.edge ≡ rows.next_edge → is_kept d ≡ false
@@ -183,17 +174,17 @@ module _ (rows : Rows) (u v kind : ℕ) (r : Route) (good : IsWellFormed rows) (
       ap (filter is_kept) point.now
       ∙ all_but_one is_kept (map lift (point.head ∷ point.front)) (map lift point.back) new (new_not_kept new is_new)
       ∙ ap (filter is_kept) (sym (map-append lift (point.head ∷ point.front) point.back) ∙ ap (map lift) (sym point.was))
-      ∙ point_kept (around_vertex rows w) (vertex_point w h)
+      ∙ point_kept (around_vertex rows w) (vertex_point rows w h)
 
   -- without the new edge the darts round a vertex are the old ones, lifted
   vertex_kept : (w : ℕ) → IsIn w (vertices rows) → filter is_kept (around_vertex after w) ≡ map lift (around_vertex rows w)
   vertex_kept w h = elim (cases_Bool (w == u)) [
-    | inl e ↦ subst (λ n. filter is_kept (around_vertex after n) ≡ map lift (around_vertex rows n)) (sym (eqb-true w u e)) (end_kept u r.start first_dart (vertex_in u ask.u_there) refl around_start)
+    | inl e ↦ subst (λ n. filter is_kept (around_vertex after n) ≡ map lift (around_vertex rows n)) (sym (eqb-true w u e)) (end_kept u r.start first_dart (vertex_in rows u ask.u_there) refl around_start)
     | inr not_u ↦ elim (cases_Bool (w == v)) [
-      | inl e ↦ subst (λ n. filter is_kept (around_vertex after n) ≡ map lift (around_vertex rows n)) (sym (eqb-true w v e)) (end_kept v r.end last_dart (vertex_in v ask.v_there) refl around_finish)
+      | inl e ↦ subst (λ n. filter is_kept (around_vertex after n) ≡ map lift (around_vertex rows n)) (sym (eqb-true w v e)) (end_kept v r.end last_dart (vertex_in rows v ask.v_there) refl around_finish)
       | inr not_v ↦
           ap (filter is_kept) (around_other w h (λ e. false≢true (sym not_u ∙ eq-eqb w u e)) (λ e. false≢true (sym not_v ∙ eq-eqb w v e)))
-          ∙ point_kept (around_vertex rows w) (vertex_point w h)
+          ∙ point_kept (around_vertex rows w) (vertex_point rows w h)
     ]
   ]
 
@@ -225,7 +216,7 @@ module _ (rows : Rows) (u v kind : ℕ) (r : Route) (good : IsWellFormed rows) (
       ∙ sym (map-map (map lift) (around_vertex rows) (vertices rows)) in
       let old_kept : map (filter is_kept) (map (around_crossing after) rows.crossings) ≡ map (map lift) (map (around_crossing rows) rows.crossings) =
       map-map (filter is_kept) (around_crossing after) rows.crossings
-      ∙ map_same (λ x. filter is_kept (around_crossing after x)) (λ x. map lift (around_crossing rows x)) rows.crossings (λ x h. ap (filter is_kept) (around_old_crossing x h) ∙ point_kept (around_crossing rows x) (crossing_point x h))
+      ∙ map_same (λ x. filter is_kept (around_crossing after x)) (λ x. map lift (around_crossing rows x)) rows.crossings (λ x h. ap (filter is_kept) (around_lifted rows after good x h) ∙ point_kept (around_crossing rows x) (crossing_point rows x h))
       ∙ sym (map-map (map lift) (around_crossing rows) rows.crossings) in
       let new_kept : map (filter is_kept) (map (around_crossing after) (map (new_crossing rows.next_edge) (numbered rows r))) ≡ map crossed_pair (numbered rows r) =
       ap (map (filter is_kept)) (map-map (around_crossing after) (new_crossing rows.next_edge) (numbered rows r))

@@ -26,9 +26,10 @@ use Rattle.topo_core.proofs.NewDarts.{follower_new, follower_old, has_dart-appen
 use Rattle.topo_core.proofs.Numbering.{distinct_system, not_same}
 use Rattle.topo_core.proofs.Points.{at_point_in, follower_of_image, has_image, has_passing, image_of_dart, images_apart, next_of_image, passing_has, point_of, points_apart, turn_at_point}
 use Rattle.topo_core.proofs.ShownPlaces.{crossed_twins, lifted_edge, newcomer_dart, newcomer_segment, place_on_newcomer, uncrossed_twins}
-use Rattle.topo_core.proofs.ShownPoints.{around_finish, around_old_crossing, around_other, around_start, at_point_there, crossed_pair, crossed_there, crossing_point, darts_without_new, distinct_without_new, is_kept, IsEndPoint, old_edge_below, vertex_in, vertex_point}
+use Rattle.topo_core.proofs.ShownPoints.{around_finish, around_lifted, around_other, around_start, at_point_there, crossed_pair, crossed_there, darts_without_new, distinct_without_new, is_kept, IsEndPoint, old_edge_below}
 use Rattle.topo_core.proofs.ShownRows.{in_images, shown_vertices}
 use Rattle.topo_core.proofs.Standing.{system_test}
+use Rattle.topo_core.proofs.SystemDarts.{crossing_point, vertex_in, vertex_point}
 use Rattle.topo_core.proofs.Turning.{distinct_left, distinct_right, IsDistinct, next_around, not_in_both}
 
 -- ---- Round four darts
@@ -208,11 +209,10 @@ module _ (rows : Rows) (u v kind : ℕ) (r : Route) (good : IsWellFormed rows) (
   -- round an end of the new edge
   module _ (w p : ℕ) (new : Dart) (w_in : IsIn w (vertices rows)) (is_new : new.edge ≡ rows.next_edge) (point : IsEndPoint rows after w p new) where
     list_there : IsIn (around_vertex after w) (system after)
-    list_there = in_left (around_vertex after w) (map (around_vertex after) (vertices after)) (map (around_crossing after) after.crossings)
-        (in_map (around_vertex after) w (vertices after) (subst (λ n. IsIn w (range_with_len 0 n)) (sym (shown_vertices rows u v kind r)) w_in))
+    list_there = vertex_point after w (subst (λ n. IsIn w (range_with_len 0 n)) (sym (shown_vertices rows u v kind r)) w_in)
 
     old_in_list : (c : Dart) → has_dart (point.head ∷ point.front ++ point.back) c ≡ true → has_dart (darts rows) c ≡ true
-    old_in_list c h = at_point_there rows u v kind r good ask now (around_vertex rows w) (vertex_point rows u v kind r good ask now w w_in) c (ap (λ ds. has_dart ds c) point.was ∙ h)
+    old_in_list c h = at_point_there rows u v kind r good ask now (around_vertex rows w) (vertex_point rows w w_in) c (ap (λ ds. has_dart ds c) point.was ∙ h)
 
     not_lifted : (ds : List Dart) → ((c : Dart) → has_dart ds c ≡ true → has_dart (darts rows) c ≡ true) → has_dart (map lift ds) new ≡ false
     not_lifted ds old = elim (cases_Bool (has_dart (map lift ds) new)) [
@@ -248,7 +248,7 @@ module _ (rows : Rows) (u v kind : ℕ) (r : Route) (good : IsWellFormed rows) (
         let there : has_dart whole d ≡ true = ap (λ ds. has_dart ds d) (sym point.was) ∙ h in
         let d_in = old_in_list d there in
         let was : turn (system rows) d ≡ next_around whole d =
-        turn_at_point (system rows) (distinct_system rows good.paths good.crossings good.rotations) (around_vertex rows w) d (vertex_point rows u v kind r good ask now w w_in) h
+        turn_at_point (system rows) (distinct_system rows good.paths good.crossings good.rotations) (around_vertex rows w) d (vertex_point rows w w_in) h
         ∙ ap (λ ds. next_around ds d) point.was in
         let lifted_next : follower (lift point.head) (map lift (point.head ∷ point.front) ++ map lift point.back) (lift d) ≡ lift (turn (system rows) d) =
         ap (λ ds. follower (lift point.head) ds (lift d)) (sym (map-append lift (point.head ∷ point.front) point.back))
@@ -282,18 +282,16 @@ module _ (rows : Rows) (u v kind : ℕ) (r : Route) (good : IsWellFormed rows) (
         | inr at_crossing ↦ let image = in_images (around_crossing rows) point.0 rows.crossings at_crossing in by_crossing image.0 image.1 (ap (λ ds. has_dart ds d) (sym image.2) ∙ point.2)
       ] where
         by_crossing : (x : CrossRow) → IsIn x rows.crossings → has_dart (around_crossing rows x) d ≡ true → FollowsBut after rows.next_edge (lift d) (lift (turn (system rows) d))
-        by_crossing x at k = inl (turn_kept (around_crossing rows x) (around_crossing after x) d (crossing_point rows u v kind r good ask now x at)
-            (in_right (around_crossing after x) (map (around_vertex after) (vertices after)) (map (around_crossing after) after.crossings) (in_map (around_crossing after) x after.crossings (in_left x rows.crossings (map (new_crossing rows.next_edge) (numbered rows r)) at)))
-            (around_old_crossing rows u v kind r good ask now x at) k)
+        by_crossing x at k = inl (turn_kept (around_crossing rows x) (around_crossing after x) d (crossing_point rows x at)
+            (crossing_point after x (in_left x rows.crossings (map (new_crossing rows.next_edge) (numbered rows r)) at)) (around_lifted rows after good x at) k)
 
         by_vertex : (w : ℕ) → IsIn w (vertices rows) → has_dart (around_vertex rows w) d ≡ true → FollowsBut after rows.next_edge (lift d) (lift (turn (system rows) d))
         by_vertex w at k = elim (cases_Bool (w == u)) [
-          | inl e ↦ turn_at_end u r.start (forward rows.next_edge 0) (vertex_in rows u v kind r good ask now u ask.u_there) refl (around_start rows u v kind r good ask now) d (ap (λ n. has_dart (around_vertex rows n) d) (sym (eqb-true w u e)) ∙ k)
+          | inl e ↦ turn_at_end u r.start (forward rows.next_edge 0) (vertex_in rows u ask.u_there) refl (around_start rows u v kind r good ask now) d (ap (λ n. has_dart (around_vertex rows n) d) (sym (eqb-true w u e)) ∙ k)
           | inr not_u ↦ elim (cases_Bool (w == v)) [
-            | inl e ↦ turn_at_end v r.end (back rows.next_edge (length r.crossed)) (vertex_in rows u v kind r good ask now v ask.v_there) refl (around_finish rows u v kind r good ask now) d (ap (λ n. has_dart (around_vertex rows n) d) (sym (eqb-true w v e)) ∙ k)
-            | inr not_v ↦ inl (turn_kept (around_vertex rows w) (around_vertex after w) d (vertex_point rows u v kind r good ask now w at)
-                (in_left (around_vertex after w) (map (around_vertex after) (vertices after)) (map (around_crossing after) after.crossings)
-                (in_map (around_vertex after) w (vertices after) (subst (λ n. IsIn w (range_with_len 0 n)) (sym (shown_vertices rows u v kind r)) at)))
+            | inl e ↦ turn_at_end v r.end (back rows.next_edge (length r.crossed)) (vertex_in rows v ask.v_there) refl (around_finish rows u v kind r good ask now) d (ap (λ n. has_dart (around_vertex rows n) d) (sym (eqb-true w v e)) ∙ k)
+            | inr not_v ↦ inl (turn_kept (around_vertex rows w) (around_vertex after w) d (vertex_point rows w at)
+                (vertex_point after w (subst (λ n. IsIn w (range_with_len 0 n)) (sym (shown_vertices rows u v kind r)) at))
                 (around_other rows u v kind r good ask now w at (λ e. false≢true (sym not_u ∙ eq-eqb w u e)) (λ e. false≢true (sym not_v ∙ eq-eqb w v e))) k)
           ]
         ]
@@ -301,9 +299,8 @@ module _ (rows : Rows) (u v kind : ℕ) (r : Route) (good : IsWellFormed rows) (
   -- ---- Turns round a new crossing
 
   new_point : (x : ℕ) (d : Dart) → IsIn (x, d) (numbered rows r) → IsIn (around_crossing after (new_crossing rows.next_edge (x, d))) (system after)
-  new_point x d at = in_right (around_crossing after (new_crossing rows.next_edge (x, d))) (map (around_vertex after) (vertices after)) (map (around_crossing after) after.crossings)
-      (in_map (around_crossing after) (new_crossing rows.next_edge (x, d)) after.crossings
-      (in_right (new_crossing rows.next_edge (x, d)) rows.crossings (map (new_crossing rows.next_edge) (numbered rows r)) (in_map (new_crossing rows.next_edge) (x, d) (numbered rows r) at)))
+  new_point x d at = crossing_point after (new_crossing rows.next_edge (x, d))
+      (in_right (new_crossing rows.next_edge (x, d)) rows.crossings (map (new_crossing rows.next_edge) (numbered rows r)) (in_map (new_crossing rows.next_edge) (x, d) (numbered rows r) at))
 
   -- round a new crossing: onward, the new edge ahead, backward, the new edge behind
   pub record RoundCrossing (x : ℕ) (d : Dart) : Type 0 where
@@ -381,8 +378,8 @@ module _ (rows : Rows) (u v kind : ℕ) (r : Route) (good : IsWellFormed rows) (
     newcomer_there = newcomer_dart rows u v kind r good ask.once now;
     round_ahead = λ x d at. let round = round_crossing x d at in (round.onward_next, round.ahead_next);
     round_behind = λ x d at. let round = round_crossing x d at in (round.backward_next, round.behind_next);
-    starts = turn_of_corner u r.start (forward rows.next_edge 0) (vertex_in rows u v kind r good ask now u ask.u_there) refl (around_start rows u v kind r good ask now);
-    ends = turn_of_corner v r.end (back rows.next_edge (length r.crossed)) (vertex_in rows u v kind r good ask now v ask.v_there) refl (around_finish rows u v kind r good ask now);
+    starts = turn_of_corner u r.start (forward rows.next_edge 0) (vertex_in rows u ask.u_there) refl (around_start rows u v kind r good ask now);
+    ends = turn_of_corner v r.end (back rows.next_edge (length r.crossed)) (vertex_in rows v ask.v_there) refl (around_finish rows u v kind r good ask now);
     no_others = one_of;
   }
 

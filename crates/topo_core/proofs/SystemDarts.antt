@@ -5,13 +5,14 @@ use Rattle.std.specs.List.{list_all}
 use Rattle.std.proofs.lemmas.Bool.Decides.{nat_tests}
 use Rattle.std.proofs.lemmas.Bool.{eqb-true}
 use Rattle.topo_core.specs.declared.darts.Dart.{Dart}
+use Rattle.topo_core.specs.declared.rows.CrossRow.{CrossRow}
 use Rattle.topo_core.specs.declared.rows.Rows.{Rows}
 use Rattle.topo_core.specs.declared.rows.EdgeRow.{EdgeRow}
 use Rattle.topo_core.specs.Picture.{edge_row, edge_at, cross_row, vertices, around_vertex, around_crossing, system}
 use Rattle.topo_core.specs.Items.{IsIn, rises_below}
 use Rattle.topo_core.specs.Systems.{darts_in}
 use Rattle.topo_core.specs.Lawful.{has_good_paths, has_good_path}
-use Rattle.topo_core.proofs.Members.{found, in_joined, in_left, in_map, in_range, right_true, test_of_each}
+use Rattle.topo_core.proofs.Members.{found, in_joined, in_left, in_map, in_range, in_right, right_true, test_of_each}
 
 -- ---- What the tests say of one row
 
@@ -43,14 +44,23 @@ path_facts rows good row h =
     let facts = path_facts_of_tests row.a row.b (length rows.rotations) (nat_lt row.kind 64) (list_all (λ x. is_some (cross_row rows x)) row.crossings) each in
     record { a_in = facts.0; b_in = facts.1; apart = facts.2 }
 
--- ---- Darts that start at a vertex
+-- ---- The points of the system
 
--- what stands round a vertex is in the system
+-- a number below the count of vertices is a vertex
+pub vertex_in : (rows : Rows) (v : ℕ) → v < length rows.rotations → IsIn v (vertices rows)
+vertex_in rows v inside = in_range 0 (length rows.rotations) v (omega arith) (omega arith)
+
+-- the darts round a vertex are a point
+pub vertex_point : (rows : Rows) (v : ℕ) → IsIn v (vertices rows) → IsIn (around_vertex rows v) (system rows)
+vertex_point rows v there = in_left (around_vertex rows v) (map (around_vertex rows) (vertices rows)) (map (around_crossing rows) rows.crossings) (in_map (around_vertex rows) v (vertices rows) there)
+
+-- and so are those round a crossing
+pub crossing_point : (rows : Rows) (x : CrossRow) → IsIn x rows.crossings → IsIn (around_crossing rows x) (system rows)
+crossing_point rows x there = in_right (around_crossing rows x) (map (around_vertex rows) (vertices rows)) (map (around_crossing rows) rows.crossings) (in_map (around_crossing rows) x rows.crossings there)
+
+-- a dart round a vertex is in the system
 pub at_vertex_in : (rows : Rows) (v : ℕ) (d : Dart) → v < length rows.rotations → IsIn d (around_vertex rows v) → IsIn d (darts_in (system rows))
-at_vertex_in rows v d inside h =
-    in_joined d (around_vertex rows v) (system rows) h
-    (in_left (around_vertex rows v) (map (around_vertex rows) (vertices rows)) (map (around_crossing rows) rows.crossings)
-    (in_map (around_vertex rows) v (vertices rows) (in_range 0 (length rows.rotations) v (omega arith) (omega arith))))
+at_vertex_in rows v d inside h = in_joined d (around_vertex rows v) (system rows) h (vertex_point rows v (vertex_in rows v inside))
 
 -- a number is equal to itself
 pub eqb_self : (n : ℕ) → eqb n n ≡ true

@@ -18,10 +18,10 @@ use Rattle.topo_core.specs.Changes.{crossed_row, from_least, new_crossing, new_o
 use Rattle.topo_core.specs.Insertions.{IsInsertable}
 use Rattle.topo_core.proofs.Counting.{eqb_less, path_place_here}
 use Rattle.topo_core.proofs.Growing.{ne_from}
-use Rattle.topo_core.proofs.Members.{in_left, in_map, in_range, in_right, right_true, test_of_each}
+use Rattle.topo_core.proofs.Members.{in_left, in_map, in_right, right_true, test_of_each}
 use Rattle.topo_core.proofs.ShownRows.{crossing_below, edge_below, in_images, known_crossing_below, known_edge_below, new_id_above, newcomer_row, shown_new_edge, shown_rotation_end, shown_rotation_other, shown_rotation_start, shown_vertices}
 use Rattle.topo_core.proofs.Standing.{good_rotation}
-use Rattle.topo_core.proofs.SystemDarts.{crossing_there, eqb_self}
+use Rattle.topo_core.proofs.SystemDarts.{crossing_there, eqb_self, vertex_in}
 use Rattle.topo_core.proofs.Weaving.{in_filter}
 use Rattle.topo_core.proofs.WithoutRows.{has_id_in, in_has_id, least_below, least_in, without_rotation, without_vertices}
 
@@ -156,7 +156,7 @@ module _ (rows : Rows) (u v kind : ℕ) (r : Route) (good : IsWellFormed rows) (
 
   module _ (w : ℕ) (inside : w < length rows.rotations) where
     vertex : IsIn w (vertices rows)
-    vertex = in_range 0 (length rows.rotations) w (omega arith) (omega arith)
+    vertex = vertex_in rows w inside
 
     entry_below : (g : ℕ) → IsIn g (rotation rows w) → g < rows.next_edge
     entry_below g h = known_edge_below rows good.paths g ((good_rotation rows good.rotations w vertex).known g h)

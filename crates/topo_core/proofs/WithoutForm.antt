@@ -12,9 +12,9 @@ use Rattle.topo_core.specs.Picture.{cross_row, edge_row, rotation}
 use Rattle.topo_core.specs.Lawful.{has_good_crossings, has_good_path, has_good_paths, has_good_rotation, has_good_rotations, is_good_crossing, IsWellFormed}
 use Rattle.topo_core.specs.Changes.{uncrossed_row, without}
 use Rattle.topo_core.proofs.Growing.{all_from, all_range, le_test}
-use Rattle.topo_core.proofs.Members.{in_range, left_true, right_true, test_of_each}
+use Rattle.topo_core.proofs.Members.{left_true, right_true, test_of_each}
 use Rattle.topo_core.proofs.Standing.{good_crossing, good_rotation}
-use Rattle.topo_core.proofs.SystemDarts.{crossing_there}
+use Rattle.topo_core.proofs.SystemDarts.{crossing_there, vertex_in}
 use Rattle.topo_core.proofs.Weaving.{in_filter}
 use Rattle.topo_core.proofs.WithoutRows.{filter_passes, from_least_first, gone, in_rotated, is_left, is_uncrossed, left_apart, occurrences-passing, rises_passing, without_counted, without_crossing, without_crossings, without_edge_there, without_entry, without_rotated, without_rotation, without_rows, without_vertices}
 
@@ -67,7 +67,7 @@ module _ (rows : Rows) (e : ℕ) (good : IsWellFormed rows) (known : is_some (ed
 
   each_good : (v : ℕ) → v < length rows.rotations → has_good_rotation after v ≡ true
   each_good v inside =
-      let before = good_rotation rows good.rotations v (in_range 0 (length rows.rotations) v (omega arith) (omega arith)) in
+      let before = good_rotation rows good.rotations v (vertex_in rows v inside) in
       and_from _ _ (and_from _ _
       (all_from (λ row. occurrences row.id (rotation after v) == (if row.a == v || row.b == v then 1 else 0)) after.edges (λ row h.
       let old = without_rows rows e row h in

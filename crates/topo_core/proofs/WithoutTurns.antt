@@ -25,20 +25,20 @@ use Rattle.topo_core.specs.Systems.{darts_in, has_dart, turn}
 use Rattle.topo_core.proofs.Counting.{at_most_one, one}
 use Rattle.topo_core.proofs.DartLaws.{same_dart_self, same_dart_true}
 use Rattle.topo_core.proofs.Growing.{in_append, map_same}
-use Rattle.topo_core.proofs.Members.{in_left, in_map, in_range, in_right, range_below}
+use Rattle.topo_core.proofs.Members.{range_below}
 use Rattle.topo_core.proofs.Numbering.{distinct_system, not_same}
 use Rattle.topo_core.proofs.Points.{at_point_in, has_image, image_of_dart, next_of_image, point_of, turn_at_point}
 use Rattle.topo_core.proofs.RoundPoints.{distinct_exchanged, has_exchanged, IsTakenOut, next_of_four, next_of_taken, next_rotated, next_without, taken_out}
 use Rattle.topo_core.proofs.RouteDarts.{has_item}
-use Rattle.topo_core.proofs.ShownPlaces.{in_counted, lifted_ahead, lifted_behind, lifted_edge, on_path_of}
+use Rattle.topo_core.proofs.ShownPlaces.{in_counted, lifted_edge}
 use Rattle.topo_core.proofs.ShownRows.{in_images}
-use Rattle.topo_core.proofs.Standing.{good_crossing, good_rotation, system_test, end_dart_edge}
-use Rattle.topo_core.proofs.SystemDarts.{edge_at_row, eqb_self, path_facts, row_id, row_in, some_of}
+use Rattle.topo_core.proofs.Standing.{good_rotation, system_test, end_dart_edge}
+use Rattle.topo_core.proofs.SystemDarts.{crossing_point, edge_at_row, eqb_self, path_facts, row_id, row_in, some_of, vertex_in, vertex_point}
 use Rattle.topo_core.proofs.Turning.{distinct_right, IsDistinct, next_around}
 use Rattle.topo_core.proofs.WithoutPlaces.{ahead_there, aheads_apart, behind_there, behinds_apart, between_of, dart_runs, edge_dart, edge_meets, edge_of_dart, edge_place, gone_apart, left_edge, left_end, lifted_apart, lifted_there, now, on_a_segment, on_one_segment, one_of, other_edge}
 use Rattle.topo_core.proofs.WithoutRows.{filter_passes, IsRotated, without_crossings, without_rotated, without_vertices}
 use Rattle.topo_core.proofs.Bypassing.{point_distinct}
-use Rattle.topo_core.proofs.ShownPoints.{image_of_clockwise}
+use Rattle.topo_core.proofs.ShownPoints.{around_lifted}
 
 -- ---- In a picture without an edge
 
@@ -79,42 +79,27 @@ module _ (rows : Rows) (e : ℕ) (good : IsWellFormed rows) (known : is_some (ed
 
   -- ---- Round the crossings that are left
 
-  around_left : (x : CrossRow) → IsIn x after.crossings → around_crossing rows x ≡ map lift (around_crossing after x)
-  around_left x h =
-      let facts = good_crossing after is_good.crossings x h in
-      let on_crossed = on_path_of after is_good x h x.crossed facts.crossed (or_left (x.crossed == x.crossed) (x.crossed == x.newcomer) (eqb_self x.crossed)) in
-      let on_newcomer = on_path_of after is_good x h x.newcomer facts.newcomer (or_right (x.newcomer == x.crossed) (x.newcomer == x.newcomer) (eqb_self x.newcomer)) in
-      ap (λ d. clockwise x.sign d (behind rows x.crossed x.id) (ahead rows x.newcomer x.id) (behind rows x.newcomer x.id)) (lifted_ahead after rows x.crossed x.id on_crossed)
-      ∙ ap (λ d. clockwise x.sign (lift (ahead after x.crossed x.id)) d (ahead rows x.newcomer x.id) (behind rows x.newcomer x.id)) (lifted_behind after rows x.crossed x.id on_crossed)
-      ∙ ap (λ d. clockwise x.sign (lift (ahead after x.crossed x.id)) (lift (behind after x.crossed x.id)) d (behind rows x.newcomer x.id)) (lifted_ahead after rows x.newcomer x.id on_newcomer)
-      ∙ ap (λ d. clockwise x.sign (lift (ahead after x.crossed x.id)) (lift (behind after x.crossed x.id)) (lift (ahead after x.newcomer x.id)) d) (lifted_behind after rows x.newcomer x.id on_newcomer)
-      ∙ image_of_clockwise lift x.sign (ahead after x.crossed x.id) (behind after x.crossed x.id) (ahead after x.newcomer x.id) (behind after x.newcomer x.id)
-
-  crossing_point : (x : CrossRow) → IsIn x rows.crossings → IsIn (around_crossing rows x) (system rows)
-  crossing_point x h = in_right (around_crossing rows x) (map (around_vertex rows) (vertices rows)) (map (around_crossing rows) rows.crossings) (in_map (around_crossing rows) x rows.crossings h)
-
   turns_at_left : (x : CrossRow) (d : Dart) → IsIn x after.crossings → has_dart (around_crossing after x) d ≡ true → turn (system rows) (lift d) ≡ lift (turn (system after) d)
   turns_at_left x d h k =
-      let same = around_left x h in
-      let at = in_right (around_crossing after x) (map (around_vertex after) (vertices after)) (map (around_crossing after) after.crossings) (in_map (around_crossing after) x after.crossings h) in
-      turn_before (around_crossing rows x) (lift d) (crossing_point x (without_crossings rows e x h).0) (ap (λ ds. has_dart ds (lift d)) same ∙ has_image lift (around_crossing after x) d k)
+      let same = around_lifted after rows is_good x h in
+      turn_before (around_crossing rows x) (lift d) (crossing_point rows x (without_crossings rows e x h).0) (ap (λ ds. has_dart ds (lift d)) same ∙ has_image lift (around_crossing after x) d k)
       ∙ ap (λ ds. next_around ds (lift d)) same
-      ∙ next_lifted (around_crossing after x) d at k
+      ∙ next_lifted (around_crossing after x) d (crossing_point after x h) k
 
   -- ---- Round the vertices
 
   module _ (w : ℕ) (inside : w < length rows.rotations) where
     w_in : IsIn w (vertices rows)
-    w_in = in_range 0 (length rows.rotations) w (omega arith) (omega arith)
+    w_in = vertex_in rows w inside
 
     w_left : IsIn w (vertices after)
     w_left = subst (λ n. IsIn w (range_with_len 0 n)) (sym (without_vertices rows e)) w_in
 
     point_before : IsIn (around_vertex rows w) (system rows)
-    point_before = in_left (around_vertex rows w) (map (around_vertex rows) (vertices rows)) (map (around_crossing rows) rows.crossings) (in_map (around_vertex rows) w (vertices rows) w_in)
+    point_before = vertex_point rows w w_in
 
     point_after : IsIn (around_vertex after w) (system after)
-    point_after = in_left (around_vertex after w) (map (around_vertex after) (vertices after)) (map (around_crossing after) after.crossings) (in_map (around_vertex after) w (vertices after) w_left)
+    point_after = vertex_point after w w_left
 
     -- the darts of the edges that are left, as they stood before
     abbrev kept : List Dart
@@ -260,8 +245,8 @@ module _ (rows : Rows) (e : ℕ) (good : IsWellFormed rows) (known : is_some (ed
 
   point_of_crossing : (x : CrossRow) → IsIn x rows.crossings → IsPoint (around_crossing rows x)
   point_of_crossing x h = record {
-    turned_by = λ d k. turn_before (around_crossing rows x) d (crossing_point x h) k;
-    distinct = point_distinct (system rows) (around_crossing rows x) distinct_before (crossing_point x h);
+    turned_by = λ d k. turn_before (around_crossing rows x) d (crossing_point rows x h) k;
+    distinct = point_distinct (system rows) (around_crossing rows x) distinct_before (crossing_point rows x h);
   }
 
   four_turns : (a b c d : Dart) → IsPoint (a ∷ b ∷ c ∷ d ∷ []) → (turn (system rows) a ≡ b) × (turn (system rows) b ≡ c) × (turn (system rows) c ≡ d) × (turn (system rows) d ≡ a)

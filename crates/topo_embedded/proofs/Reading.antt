@@ -14,9 +14,8 @@ use Rattle.topo_core.specs.declared.rows.Rows.{Rows}
 use Rattle.topo_core.specs.Lawful.{IsWellFormed}
 use Rattle.topo_core.specs.Picture.{darts, edge_at, edge_row, end_dart, rotation, segment_count}
 use Rattle.topo_core.specs.Systems.{has_dart}
-use Rattle.topo_core.proofs.Members.{in_range}
 use Rattle.topo_core.proofs.Standing.{good_rotation}
-use Rattle.topo_core.proofs.SystemDarts.{edge_at_row, in_at, row_id}
+use Rattle.topo_core.proofs.SystemDarts.{edge_at_row, in_at, row_id, vertex_in}
 use Rattle.topo_map.specs.Rotation.{Rotation}
 use Rattle.topo_frozen.specs.Ids.{IsPlaceOf}
 use Rattle.topo_frozen.proofs.Lookups.{dart_there}
@@ -67,7 +66,7 @@ end_is rows v e place row at = ap (λ (r : EdgeRow). end_by e r (r.a == v)) (edg
 -- the edges round a vertex are there
 pub entry_known : (rows : Rows) → IsWellFormed rows → (v p e : ℕ) (around : List ℕ) → v < length rows.rotations → around ≡ rotation rows v → p < length around → e ≡ slice_index around p → is_some (edge_row rows e) ≡ true
 entry_known rows good v p e around inside is below at =
-    let known = (good_rotation rows good.rotations v (in_range 0 (length rows.rotations) v (omega arith) (omega arith))).known in
+    let known = (good_rotation rows good.rotations v (vertex_in rows v inside)).known in
     known e (in_at e (rotation rows v) p (ap (λ (xs : List ℕ). slice_get xs p) (sym is) ∙ slice_get-get_or around p 0 below ∙ ap Some (sym at)))
 
 -- the edges round a vertex, as they are read

@@ -9,16 +9,17 @@ use Rattle.topo_core.specs.declared.rows.Rows.{Rows}
 use Rattle.topo_core.specs.Darts.{same_dart}
 use Rattle.topo_core.specs.Items.{has_id, IsIn}
 use Rattle.topo_core.specs.Lawful.{IsWellFormed}
-use Rattle.topo_core.specs.Picture.{around_crossing, around_vertex, end_dart, rotation, system, vertices}
+use Rattle.topo_core.specs.Picture.{around_vertex, end_dart, rotation, system}
 use Rattle.topo_core.specs.Systems.{darts_in, follower, has_dart, turn}
 use Rattle.topo_core.proofs.DartLaws.{same_dart_self, same_dart_true}
-use Rattle.topo_core.proofs.Members.{in_left, in_map, in_range, or_second}
+use Rattle.topo_core.proofs.Members.{in_map, or_second}
 use Rattle.topo_core.proofs.Numbering.{distinct_system}
 use Rattle.topo_core.proofs.Points.{turn_at_point}
 use Rattle.topo_core.proofs.Turning.{distinct_tail, head_not_later, IsDistinct, next_around}
 use Rattle.topo_core.proofs.WithoutRows.{in_has_id}
 use Rattle.topo_core.proofs.RouteDarts.{has_item}
 use Rattle.topo_core.proofs.Bypassing.{point_distinct}
+use Rattle.topo_core.proofs.SystemDarts.{vertex_in, vertex_point}
 use Rattle.topo_frozen.specs.Placed.{entry_after}
 
 -- ---- Round a list
@@ -59,8 +60,7 @@ module _ (rows : Rows) (good : IsWellFormed rows) where
 
   pub turn_at_vertex : (v e : ℕ) → v < length rows.rotations → has_id (rotation rows v) e ≡ true → turn (system rows) (end_dart rows v e) ≡ end_dart rows v (entry_after (rotation rows v) e)
   turn_at_vertex v e inside h =
-      let there : IsIn (around_vertex rows v) (system rows) = in_left (around_vertex rows v) (map (around_vertex rows) (vertices rows)) (map (around_crossing rows) rows.crossings)
-      (in_map (around_vertex rows) v (vertices rows) (in_range 0 (length rows.rotations) v (omega arith) (omega arith))) in
+      let there : IsIn (around_vertex rows v) (system rows) = vertex_point rows v (vertex_in rows v inside) in
       let has : (xs : List ℕ) → has_id xs e ≡ true → has_dart (map (end_dart rows v) xs) (end_dart rows v e) ≡ true = λ xs k. has_item (end_dart rows v e) (map (end_dart rows v) xs) (in_map (end_dart rows v) e xs (in_has_id e xs k)) in
       turn_at_point (system rows) distinct (around_vertex rows v) (end_dart rows v e) there (has (rotation rows v) h)
       ∙ next_of_entry (end_dart rows v) (rotation rows v) e (point_distinct (system rows) (around_vertex rows v) distinct there) h has

@@ -14,9 +14,9 @@ use Rattle.topo_core.specs.Items.{IsIn, occurrences, rises_below}
 use Rattle.topo_core.specs.Lawful.{has_good_crossings, has_good_path, has_good_paths, has_good_rotation, has_good_rotations, is_good_crossing}
 use Rattle.topo_core.specs.Picture.{cross_row, edge_row, rotation, vertices}
 use Rattle.topo_core.proofs.Counting.{eqb_symm, ids_above, one}
-use Rattle.topo_core.proofs.Members.{found, in_map, in_range, left_true, range_below, right_true, test_of_each}
+use Rattle.topo_core.proofs.Members.{found, in_map, left_true, range_below, right_true, test_of_each}
 use Rattle.topo_core.proofs.Standing.{good_crossing, GoodRotation, good_rotation, some_or_none}
-use Rattle.topo_core.proofs.SystemDarts.{crossing_there, path_facts, row_id, row_in, some_of}
+use Rattle.topo_core.proofs.SystemDarts.{crossing_there, path_facts, row_id, row_in, some_of, vertex_in}
 use Rattle.topo_core.proofs.ShownPlaces.{in_counted}
 use Rattle.topo_core.proofs.WovenPaths.{counted_in}
 use Rattle.topo_core.proofs.Growing.{below_limit, all_from}
@@ -271,7 +271,7 @@ module _ (rows : Rows) (paths : has_good_paths rows ≡ true) (small : length ro
     by_vertex : (e v : ℕ) → occurrences e (rotation rows v) ≡ unwrap_or (option_map (λ row. one (row.a == v) + one (row.b == v)) (edge_row rows e)) 0
     by_vertex e v = elim (cases_lt v (length rows.rotations)) [
       | inl inside ↦
-          let says = good_rotation rows good v (in_range 0 (length rows.rotations) v (omega arith) (omega arith)) in
+          let says = good_rotation rows good v (vertex_in rows v inside) in
           elim (some_or_none (edge_row rows e)) [
             | inl (row, at) ↦ ap (λ n. occurrences n (rotation rows v)) (sym (row_id rows e row at)) ∙ says.counted row (row_in rows e row at) ∙ sym (wanted row (row_in rows e row at) e v at)
             | inr none ↦ absent says none ∙ sym (ap (λ (o : Option EdgeRow). unwrap_or (option_map (λ row. one (row.a == v) + one (row.b == v)) o) 0) none)
@@ -307,6 +307,6 @@ module _ (rows : Rows) (paths : has_good_paths rows ≡ true) (small : length ro
 pub rotations_refused : (rows : Rows) → list_all begins_with_least rows.rotations ≡ false → false ≡ has_good_rotations rows
 rotations_refused rows fails = elim (cases_Bool (has_good_rotations rows)) [
   | inl good ↦ absurd (false≢true (sym fails ∙ all_by_place begins_with_least rows.rotations [] (λ v h.
-      right_true _ _ (test_of_each (has_good_rotation rows) v (vertices rows) good (in_range 0 (length rows.rotations) v (omega arith) (omega arith))))))
+      right_true _ _ (test_of_each (has_good_rotation rows) v (vertices rows) good (vertex_in rows v h)))))
   | inr bad ↦ sym bad
 ]

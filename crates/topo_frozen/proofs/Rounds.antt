@@ -18,13 +18,13 @@ use Rattle.topo_core.specs.declared.rows.EdgeRow.{EdgeRow}
 use Rattle.topo_core.specs.declared.rows.Rows.{Rows}
 use Rattle.topo_core.specs.Items.{IsIn, occurrences, rises_below}
 use Rattle.topo_core.specs.Lawful.{has_good_path, is_good_crossing, IsWellFormed}
-use Rattle.topo_core.specs.Picture.{ahead, around_crossing, around_vertex, behind, clockwise, cross_row, darts, edge_row, end_dart, index_of, place_on, rotation, system, vertices}
+use Rattle.topo_core.specs.Picture.{ahead, around_crossing, around_vertex, behind, clockwise, cross_row, darts, edge_row, end_dart, index_of, place_on, rotation, system}
 use Rattle.topo_core.specs.Systems.{darts_in}
 use Rattle.topo_core.proofs.Counting.{one, sum_found, sum_if, sum_same}
-use Rattle.topo_core.proofs.Members.{found, in_joined, in_map, in_range, in_right, left_true}
+use Rattle.topo_core.proofs.Members.{found, in_joined, left_true}
 use Rattle.topo_core.proofs.Numbering.{place_less}
 use Rattle.topo_core.proofs.Standing.{good_crossing, good_rotation, system_test}
-use Rattle.topo_core.proofs.SystemDarts.{at_vertex_in, crossing_there, edge_at_row, row_id, row_in, some_of}
+use Rattle.topo_core.proofs.SystemDarts.{at_vertex_in, crossing_point, crossing_there, edge_at_row, row_id, row_in, some_of, vertex_in}
 use Rattle.topo_core.proofs.RouteDarts.{has_item}
 use Rattle.topo_core.proofs.Growing.{all_from}
 use Rattle.topo_frozen.specs.Flats.{AreAhead, begins_from, crossing_place, crossing_round, links, links_to, note_place, notes_from, round_ahead, vertex_round, written}
@@ -268,7 +268,7 @@ module _ (rows : Rows) (good : IsWellFormed rows) where
   -- the edges in a vertex's list are there
   pub edge_known : (v : ℕ) → v < length rows.rotations → (around : List ℕ) → around ≡ rotation rows v → (i : ℕ) → i < length around → is_some (edge_row rows (slice_index around i)) ≡ true
   edge_known v h around is i below =
-      (good_rotation rows good.rotations v (in_range 0 (length rows.rotations) v (omega arith) (omega arith))).known (slice_index around i)
+      (good_rotation rows good.rotations v (vertex_in rows v h)).known (slice_index around i)
       (subst (IsIn (slice_index around i)) is (at_in around i below)) where
         at_in : (xs : List ℕ) (i : ℕ) → i < length xs → IsIn (slice_index xs i) xs
         at_in [] i h = absurd (omega arith)
@@ -287,7 +287,7 @@ module _ (rows : Rows) (good : IsWellFormed rows) where
 
   at_crossing : (d : Dart) (c : CrossRow) → IsIn c rows.crossings → IsIn d (around_crossing rows c) → index_of rows d < length (darts rows)
   at_crossing d c h i = number_within d (in_joined d (around_crossing rows c) (system rows) i
-      (in_right (around_crossing rows c) (map (around_vertex rows) (vertices rows)) (map (around_crossing rows) rows.crossings) (in_map (around_crossing rows) c rows.crossings h)))
+      (crossing_point rows c h))
 
   crossed_in : (s : Sign) (a b m n : Dart) → IsIn a (clockwise s a b m n)
   crossed_in LeftToRight a b m n = inl refl
