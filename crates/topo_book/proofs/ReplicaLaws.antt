@@ -78,7 +78,7 @@ module _ (price : Pricing) (start : Shown) (history : List Entry) where
   all_longer entry = All-weaker (λ (r : Replica). IsReplica price start history r.entries (arc_value r.picture)) (λ (r : Replica). IsReplica price start (history ++ entry ∷ []) r.entries (arc_value r.picture))
       (λ r. longer entry r.entries (arc_value r.picture))
 
-  -- the list after one more is kept, and perhaps the first let go
+  -- the list after one more is kept, and perhaps the first is dropped
   pub all_kept : (b : Bool) (replicas : List Replica) (replica : Replica) → AreReplicas price start history replicas → IsReplica price start history replica.entries (arc_value replica.picture)
       → AreReplicas price start history ((if b then replicas else drop 1 replicas) ++ replica ∷ [])
   all_kept b replicas replica all is = All-push P (if b then replicas else drop 1 replicas) replica (some b) is where
@@ -96,7 +96,7 @@ module _ (price : Pricing) (start : Shown) (history : List Entry) where
 -- ---- Books with the replicas that they keep
 
 module _ {price : Pricing} {start : Shown} {history : List Entry} {picture : Shown} {kept : List Replica} (book : IsBookWith price start history picture kept) where
-  -- when some of the replicas are let go
+  -- when some of the replicas are dropped
   pub book_left : (left : List Replica) → All (Contains kept) left → IsBookWith price start history picture left
   book_left left among = record { book = book.book; replicas = all_left price start history kept left book.replicas among }
 

@@ -9,6 +9,6 @@ pub enum Hint<'a> {
     Nothing,
     /// A plan that nothing is known of: its route is taken where the plan passes the check.
     Plan(&'a Plan),
-    /// The first route on the picture as it stands: it is taken as it is.
+    /// The first route on the picture of now: it is taken as it is.
     First(&'a PricedRoute),
 }

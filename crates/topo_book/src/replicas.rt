@@ -1,4 +1,4 @@
-//! Replicas: pictures that stand after earlier entries of a history, kept to be carried on. A picture
+//! Replicas: pictures after earlier entries of a history, kept to be carried on. A picture
 //! that readers held becomes one when another takes its place, and is free once none of them holds it.
 
 ghost use Rattle.std.specs.Prelude.{◌≡◌, ◌<◌, ◌++◌, [], ◌∷◌, All, Contains, IfOk, IfSome, drop, if◌then◌else◌, length, nat_lt};
@@ -11,7 +11,7 @@ use topo_picture::Picture;
 /// So many replicas are kept at most.
 const MOST: usize = 20;
 
-/// A picture with the number of entries of a history after which it stands.
+/// A picture with the number of entries of a history that lead to it.
 #[derive(Drop)]
 pub(crate) struct Replica {
     pub picture: Arc<Picture>,

@@ -1,4 +1,4 @@
--- What the tests of rows say of one row, and what stands round a vertex.
+-- What the tests of rows say of one row, and the points of the system.
 use Rattle.std.proofs.Common.{◌≡◌, ℕ, zero, suc, ◌<◌, Bool, true, false, not, ◌&&◌, List, [], ◌∷◌, length, Some, None, eqb, refl, sym, ap, arith, inl, inr}
 use Rattle.std.specs.Prelude.{◌==◌, nat_lt, Option, map, slice_get, is_some, unwrap_or}
 use Rattle.std.specs.List.{list_all}
@@ -79,13 +79,13 @@ pub some_of : {X : Type 0} (o : Option X) → is_some o ≡ true → (x : X) × 
 some_of None h = cc
 some_of (Some x) h = (x, refl)
 
--- what stands at a place is an item
+-- the entry at a place is an item
 pub in_at : (x : ℕ) (xs : List ℕ) (i : ℕ) → slice_get xs i ≡ Some x → IsIn x xs
 in_at x [] i e = cc
 in_at x (y ∷ xs) zero e = let same : y ≡ x = cc in inl (sym same)
 in_at x (y ∷ xs) (suc i) e = inr (in_at x xs i e)
 
--- what stands at a place of a list
+-- each place of a list has an entry
 pub get_there : {X : Type 0} (xs : List X) (i : ℕ) → i < length xs → (x : X) × (slice_get xs i ≡ Some x)
 get_there [] i h = absurd (omega arith)
 get_there (x ∷ xs) zero h = (x, refl)

@@ -66,7 +66,7 @@ call_of (Plain call) = call
 call_of (Planned u v kind) = Insert u v kind
 
 -- A run of the lists from the start: the history leads to the picture by steps, the calls of caller c are the commands of
--- list c in order, and no other caller stands in it.
+-- list c in order, and the history has no other caller.
 pub record IsRun (price : Pricing) (limits : Limits) (start : Rows) (lists : List (List Command)) (history : List Entry) (picture : Rows) : Type 0 where
   pub replayed : Replays price limits start history picture
   pub calls : (c : ℕ) → c < length lists → map (λ entry. entry.call) (entries_of c history) ≡ map call_of (slice_index_or lists c [])

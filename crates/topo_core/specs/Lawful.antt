@@ -16,7 +16,7 @@ has_good_path rows row = nat_lt row.a (length rows.rotations) && nat_lt row.b (l
 abbrev pub has_good_paths : Rows → Bool
 has_good_paths rows = rises_below rows.next_edge (map (λ row. row.id) rows.edges) && list_all (has_good_path rows) rows.edges
 
--- a crossing is of two edges that are there, and stands once in each of their paths and in no other
+-- a crossing is of two edges that are there, and is once in each of their paths and in no other
 abbrev pub is_good_crossing : Rows → CrossRow → Bool
 is_good_crossing rows x = not (x.crossed == x.newcomer) && is_some (edge_row rows x.crossed) && is_some (edge_row rows x.newcomer)
     && list_all (λ row. occurrences x.id row.crossings == (if row.id == x.crossed || row.id == x.newcomer then 1 else 0)) rows.edges

@@ -29,13 +29,13 @@ GrowthKeepsGenus = (rows : Rows) → IsWellFormed rows → HasGenusZero rows →
 
 -- ---- Darts and turns
 
--- d stands once round the points and once in the list of the darts if it is a dart of an edge, and else in neither
+-- d is once round the points and once in the list of the darts if it is a dart of an edge, and else in neither
 pub record StandsOnce (rows : Rows) (d : Dart) : Type 0 where
   pub round_points : count_by (same_dart d) (darts_in (system rows)) ≡ cond {A = ℕ} (has_dart (darts rows) d) 1 0
   pub listed : count_by (same_dart d) (darts rows) ≡ cond {A = ℕ} (has_dart (darts rows) d) 1 0
   pub of_an_edge : IsDart rows d ↔ (has_dart (darts rows) d ≡ true)
 
--- round the points of well-formed rows stands each dart of their edges once, and nothing else
+-- the points of well-formed rows have each dart of their edges once, and nothing else
 abbrev pub DartsStandOnce : Type 0
 DartsStandOnce = (rows : Rows) → IsWellFormed rows → (d : Dart) → StandsOnce rows d
 

@@ -114,8 +114,8 @@ abbrev pub IsHeight : Pricing → Rows → ℕ → Dart → ℕ → Type 0
 IsHeight price rows v d h = (Reaches price rows v d h × ((n : ℕ) → Reaches price rows v d n → h ≤ n))
     ⊎ ((h ≡ unreached) × ((n : ℕ) → Reaches price rows v d n → ⊥))
 
--- a certificate: heights that are equal along each face, 0 at the corners of v, and such that no dart with a price stands
--- higher than that price above its twin. So no route costs less than the height of the corner where it starts
+-- a certificate: heights that are equal along each face, 0 at the corners of v, and such that no dart with a price is
+-- higher than its twin by more than that price. So no route costs less than the height of the corner where it starts
 pub record IsCertificate (price : Pricing) (rows : Rows) (v : ℕ) (height : Dart → ℕ) : Type 0 where
   pub even : (d : Dart) → has_dart (darts rows) d ≡ true → height (face_step (system rows) d) ≡ height d
   pub gentle : (d : Dart) (p : ℕ) → has_dart (darts rows) d ≡ true → Price price rows d p → height d ≤ p + height (dart_twin d)

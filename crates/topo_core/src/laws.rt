@@ -20,7 +20,7 @@ pub fn growth_keeps_genus()
     ensures { GrowthKeepsGenus }
 {}
 
-/// Round the points of well-formed rows stands each dart of their edges once, and nothing else.
+/// The points of well-formed rows have each dart of their edges once, and nothing else.
 pub fn darts_stand_once()
     ensures { DartsStandOnce }
 {}

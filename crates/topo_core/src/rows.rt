@@ -82,7 +82,7 @@ impl Rows {
         self.edges.iter().find(|row| row.id == id)
     }
 
-    /// How many edge ends stand at a vertex, and 0 where it is none.
+    /// How many edge ends a vertex has, and 0 where it is none.
     pub fn degree(&self, v: u32) -> usize
         ensures { result ≡ length (rotation self.now v) }
     {

@@ -50,7 +50,7 @@ walked_all turns old new start k at h l same w = record {
 
 -- ---- All walks
 
--- the numbers below s have labels; n stands where there is none; a label is a number on the cycle, and a cycle has one
+-- the numbers below s have labels; the entry is n where there is none; a label is a number on the cycle, and a cycle has one
 pub record IsLabelledBelow (f : ℕ → ℕ) (n s : ℕ) (l : ℕ → ℕ) : Type 0 where
   pub given : (a : ℕ) → a < s → l a ≢ n
   pub within : (a : ℕ) → a < n → l a ≢ n → l a < n

@@ -16,7 +16,7 @@ path_pairs edges = flat_map (λ row. map (pair row.id) row.crossings) edges
 abbrev pub crossing_pairs : List CrossRow → List ℕ
 crossing_pairs crossings = flat_map (λ x. pair x.crossed x.id ∷ pair x.newcomer x.id ∷ []) crossings
 
--- each edge with each vertex in whose list it stands, as the lists from that of vertex v on have them
+-- each edge with each vertex whose list has it, as the lists from that of vertex v on have them
 abbrev pub rotation_pairs : ℕ → List (List ℕ) → List ℕ
 rotation_pairs v [] = []
 rotation_pairs v (around ∷ rest) = map (λ e. pair e v) around ++ rotation_pairs (v + 1) rest

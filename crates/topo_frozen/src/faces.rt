@@ -25,7 +25,8 @@ fn label_face(turns: &[u32], labels: &mut [u32], start: u32)
     }
 }
 
-/// Labels each face by the first of its darts. The count of all darts stands where there is no label yet.
+/// Labels each face by the first of its darts. Where there is no label yet, the entry is the count of
+/// all darts.
 fn label_faces(turns: &[u32], labels: &mut [u32])
     requires permutation { IsPermutationList turns.now }
     requires even { length turns.now % 2 ≡ 0 }

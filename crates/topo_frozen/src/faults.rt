@@ -150,7 +150,7 @@ fn paths_agree(
     Ok(agree(&mut stand, &mut due, hints, Member::Crossing))
 }
 
-/// Whether the crossings are good, where the paths are. If they are, a path entry stands for each
+/// Whether the crossings are good, where the paths are. If they are, there is a path entry for each
 /// end of an edge at a crossing, so there are two for each crossing.
 pub(crate) fn are_crossings_good(
     alloc: Global,

@@ -11,7 +11,7 @@ const SPARSE: usize = 16;
 const FEW: usize = 16;
 
 /// Places that are tried before anything is searched for: for the ids of edges and of crossings the
-/// places of their rows. They are speed alone. A place is taken only once what stands there is seen to
+/// places of their rows. They are speed alone. A place is taken only once what is there is seen to
 /// be what was looked for, so no answer depends on them, and nothing is claimed of them.
 #[derive(Drop)]
 pub struct Hints {

@@ -20,10 +20,10 @@ pub enum LoadFault {
     /// kind is above 63, or a path names a crossing that is not there.
     BadPath,
     /// Crossing ids do not rise or are not below the next, the two edges are equal or not there, or a
-    /// crossing does not stand once in each of their paths and in no other.
+    /// crossing is not once in each of their paths and in no other.
     BadCrossing,
-    /// An end does not stand once in its vertex's list, something else stands there, or the list does
-    /// not begin with its least id.
+    /// An edge is not once in the list of each of its ends, a list has something else, or it does not
+    /// begin with its least id.
     BadRotation,
     /// A point has no dart, or two darts are not joined.
     NotConnected,
@@ -37,7 +37,7 @@ impl LoadFault {
     ghost use Rattle.std.specs.Prelude.{◌≡◌};
     ghost use Rattle.topo_frozen.specs.FaultTexts.{fault_name, fault_number};
 
-    /// The number that stands before the name of the fault.
+    /// The number that is written before the name of the fault.
     pub fn number(&self) -> u32
         ensures { result ≡ fault_number self.now }
     {

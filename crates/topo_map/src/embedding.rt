@@ -22,7 +22,7 @@ use std::marker::Model;
 pub struct Embedding {
     segments: Slab<Segment>,
     // The label that the next new face gets. None where there were more faces than
-    // labels: then labels tell nothing.
+    // labels: then labels mean nothing.
     unused: Option<u32>,
 }
 

@@ -97,8 +97,8 @@ fn part_label(segments: &mut Slab<Segment>, a: Half, b: Half, label: u32)
     }
 }
 
-/// `x`, a point by itself, comes to stand before `c`, and the faces of both are labelled as they lie
-/// then. Answers what is unused then.
+/// Puts `x`, a point by itself, before `c`, and labels the faces of both as they lie then. Answers
+/// what is unused then.
 pub(crate) fn attach(
     segments: &mut Slab<Segment>,
     unused: Option<u32>,

@@ -152,7 +152,7 @@ pub(crate) fn link(segments: &mut Slab<Segment>, from: Half, to: Half)
     set_previous(segments, to, from);
 }
 
-/// `x`, a point by itself, comes to stand before `c`.
+/// Puts `x`, a point by itself, before `c`.
 pub(crate) fn put_before(segments: &mut Slab<Segment>, x: Half, c: Half)
     requires kept { IsKept segments.old }
     requires live { holds segments.old x ≡ true }
@@ -181,7 +181,7 @@ pub(crate) fn take_out(segments: &mut Slab<Segment>, x: Half)
 }
 
 /// A new segment on an edge, with each half a point by itself, and these labels of the faces on the left of the
-/// half that is answered and of its twin. The slab tells the key only as it stores, so the segment is
+/// half that is answered and of its twin. The slab gives the key only as it stores, so the segment is
 /// written a second time.
 pub(crate) fn insert_isolated(
     segments: &mut Slab<Segment>,

@@ -23,11 +23,11 @@ IsPriceOf price facts answer = MatchOption answer ((n : ℕ) → price facts n �
 
 -- ---- Tables of prices by kind
 
--- an entry that may stand in a table: none, or from 1 to 1000
+-- an entry that a table may have: none, or from 1 to 1000
 abbrev pub is_good : Option ℕ → Bool
 is_good None = true
 is_good (Some n) = nat_le 1 n && nat_le n 1000
 
--- the least kind with an entry that may not stand in a table
+-- the least kind with an entry that no table may have
 abbrev pub first_bad : List (Option ℕ) → Option ℕ
 first_bad entries = position (λ entry. not (is_good entry)) entries

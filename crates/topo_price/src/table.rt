@@ -19,7 +19,7 @@ pub enum PriceFault {
 impl PriceFault {
     ghost use Rattle.topo_price.specs.FaultTexts.{fault_name, fault_number};
 
-    /// The number that stands before the name of the fault.
+    /// The number that is written before the name of the fault.
     pub fn number(&self) -> u32
         ensures { result ≡ fault_number self.now }
     {
@@ -54,7 +54,7 @@ impl fmt::Display for PriceFault {
 
 impl Error for PriceFault {}
 
-/// Whether an entry may stand in a table.
+/// Whether a table may have this entry.
 fn is_good_price(entry: Option<u32>) -> bool
     ensures { result ≡ is_good entry }
 {
@@ -64,7 +64,7 @@ fn is_good_price(entry: Option<u32>) -> bool
     }
 }
 
-/// The least kind with an entry that may not stand in a table.
+/// The least kind with an entry that no table may have.
 fn first_bad_kind(prices: &[Option<u32>]) -> Option<usize>
     ensures { result ≡ first_bad prices.now }
 {

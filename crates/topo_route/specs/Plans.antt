@@ -67,7 +67,7 @@ HasOneEach rows heights = length heights ≡ length (darts rows)
 abbrev pub IsEven : Rows → List ℕ → Type 0
 IsEven rows heights = (d : Dart) → has_dart (darts rows) d ≡ true → height_in rows heights (face_step (system rows) d) ≡ height_in rows heights d
 
--- no dart with a price stands higher than its price above its twin
+-- no dart with a price is higher than its twin by more than that price
 abbrev pub IsGentle : Pricing → Rows → List ℕ → Type 0
 IsGentle price rows heights = (d : Dart) (p : ℕ) → has_dart (darts rows) d ≡ true → Price price rows d p → height_in rows heights d ≤ p + height_in rows heights (dart_twin d)
 

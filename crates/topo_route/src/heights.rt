@@ -24,7 +24,7 @@ pub(crate) fn is_even<D: Dual>(dual: &D, heights: &[u64]) -> bool
     true
 }
 
-/// Whether no dart with a price stands higher than that price above its twin.
+/// Whether no dart with a price is higher than its twin by more than that price.
 pub(crate) fn is_gentle<D: Dual, F: Asks>(dual: &D, tariff: &Tariff<F>, heights: &[u64]) -> bool
     requires { HasOneEach (D.shows dual.now) heights.now }
     ensures gentle { IsTrue result ↔ IsGentle (prices_of (F.answers tariff.now)) (D.shows dual.now) heights.now }

@@ -44,7 +44,7 @@ impl PlanFault {
     ghost use Rattle.std.specs.Prelude.{◌≡◌};
     ghost use Rattle.topo_route.specs.FaultTexts.{fault_name, fault_number};
 
-    /// The number that stands before the name of the fault.
+    /// The number that is written before the name of the fault.
     pub fn number(&self) -> u32
         ensures { result ≡ fault_number self.now }
     {

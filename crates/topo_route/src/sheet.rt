@@ -8,8 +8,8 @@ use std::marker::Model;
 
 /// A list of numbers, each the greatest until another is written. Contracts see the list. A number
 /// counts in the round in which it was written and in no other, so a new round blanks the whole list,
-/// and a search that is given a sheet takes no time for what it does not reach. The rounds stand by
-/// themselves: where nothing is written that is seen on four bytes.
+/// and a search that is given a sheet takes no time for what it does not reach. The rounds have
+/// a list of their own: where nothing is written that is seen on four bytes.
 #[derive(Drop)]
 pub(crate) struct Sheet {
     numbers: Vec<u64>,

@@ -173,7 +173,7 @@ fn spread_up_to<W: Walked, F: Asks>(
     Ok(())
 }
 
-/// Gives the corners of the target height 0, and lets them wait.
+/// Gives the corners of the target height 0, and puts them among the items that wait.
 fn start_at<W: Walked, F: Asks>(
     graph: &Graph<W, F>,
     heights: &mut Sheet,

@@ -56,7 +56,7 @@ impl Waiting {
         })
     }
 
-    /// Lets none wait any more.
+    /// Takes all items out.
     pub(crate) fn clear(&mut self)
         ensures { self.new ≡ [] }
     {
@@ -65,7 +65,7 @@ impl Waiting {
         self.first = 0;
     }
 
-    /// Lets an item of this height wait.
+    /// Adds an item of this height.
     pub(crate) fn push(&mut self, height: u64, item: u64) -> Result<(), AllocError>
         ensures waits { IfOk result (λ _. (k : ℕ) → is_waiting self.new k ≡ (item == k || is_waiting self.old k)) }
         ensures len { IfOk result (λ _. length self.new ≡ length self.old + 1) }

@@ -34,8 +34,8 @@ HasNumber n (pass ∷ passes) = (pass.number ≡ n) ⊎ HasNumber n passes
 abbrev pub receipt_count : List PassState → ℕ
 receipt_count passes = sum_by (λ pass. length pass.receipts) passes
 
--- the receipts of the passes are the whole history: each pass has one for each entry of its caller, in order, and no other
--- caller stands in it
+-- the receipts of the passes are the whole history: each pass has one for each entry of its caller, in order, and the
+-- history has no other caller
 pub record AreWhole (history : List Entry) (passes : List PassState) : Type 0 where
   pub own : All (λ pass. receipts_due pass.number history ≡ pass.receipts) passes
   pub callers : (entry : Entry) → IsIn entry history → HasNumber entry.caller passes

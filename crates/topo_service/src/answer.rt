@@ -5,7 +5,7 @@ ghost use Rattle.std.specs.Prelude.{◌≡◌};
 use std::alloc::{AllocError, Global};
 use topo_core::calls::Reply;
 
-/// A reply as the caller is told it, and as its receipt keeps it.
+/// A reply as the caller gets it, and as its receipt keeps it.
 #[derive(Drop)]
 pub struct Answer {
     pub told: Reply,

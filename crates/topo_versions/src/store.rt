@@ -37,7 +37,7 @@ pub fn new_store<F: Asks + Drop, K: Naming<F>>(
     StoreWriter::<F, K>::new(alloc, Side::of(first), Side::blank(), readers)
 }
 
-// Takes the version of now, where the store still stands and a further share of it is left.
+// Takes the version of now, where the store is still there and a further share of it is left.
 fn look<F: Asks + Drop, K: Naming<F>>(
     reader: StoreReader<F, K>,
 ) -> (StoreReader<F, K>, Option<Version<F, K>>) {
