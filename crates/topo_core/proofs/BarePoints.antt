@@ -110,11 +110,7 @@ module _ (rows : Rows) (e i : ℕ) where
   -- a vertex with another edge has a dart left
   vertex_kept : has_good_rotations rows ≡ true → (v : ℕ) → IsIn v (vertices rows) → rotation rows v ≢ [] → (rotation rows v ≡ e ∷ [] → is_opened e i (end_dart rows v e) ≡ false)
       → (length (filter stays (around_vertex rows v)) == 0) ≡ false
-  vertex_kept rotations v h some kept = elim (alone_or_other e (rotation rows v) some (once_there rotations v h)) [
-    | inl alone ↦ one_left stays (around_vertex rows v) (end_dart rows v e) (in_map (end_dart rows v) e (rotation rows v) (subst (IsIn e) (sym alone) (inl refl))) (ap not (kept alone))
-    | inr (f, there, apart) ↦ one_left stays (around_vertex rows v) (end_dart rows v f) (in_map (end_dart rows v) f (rotation rows v) there)
-        (other_stays (end_dart rows v f) (ap (λ n. eqb n e) (end_dart_edge rows v f) ∙ apart))
-  ]
+  vertex_kept rotations v h some kept = grind (arith, alone_or_other, once_there, one_left, in_map, other_stays, end_dart_edge)
 
   points_kept : has_good_crossings rows ≡ true → has_good_rotations rows ≡ true → ((v : ℕ) → v < length rows.rotations → rotation rows v ≢ [])
       → ((v : ℕ) → v < length rows.rotations → rotation rows v ≡ e ∷ [] → is_opened e i (end_dart rows v e) ≡ false)
@@ -125,8 +121,7 @@ module _ (rows : Rows) (e i : ℕ) where
         | inl here ↦
             let image = in_images (around_vertex rows) point.0 (vertices rows) here in
             let below = range_below image.0 0 (length rows.rotations) image.1 in
-            let inside : image.0 < length rows.rotations = omega arith in
-            ap (λ ds. length (filter stays ds) == 0) image.2 ∙ vertex_kept rotations image.0 image.1 (some image.0 inside) (kept image.0 inside)
+            grind (arith, vertex_kept)
         | inr here ↦
             let image = in_images (around_crossing rows) point.0 rows.crossings here in
             ap (λ ds. length (filter stays ds) == 0) image.2 ∙ crossing_kept crossings image.0 image.1

@@ -1,5 +1,5 @@
 -- Taking one dart out of a system: what led to it leads on to what followed it, and all else turns as before.
-use Rattle.std.proofs.Common.{◌≡◌, ◌||◌, ap, ap₂, Bool, cond, false, inl, inr, List, not, refl, subst, sym, true, [], ◌++◌, ◌∙◌, ◌∷◌}
+use Rattle.std.proofs.Common.{arith, ◌≡◌, ◌||◌, ap, ap₂, Bool, cond, false, inl, inr, List, not, refl, subst, sym, true, [], ◌++◌, ◌∙◌, ◌∷◌}
 use Rattle.std.specs.Prelude.{filter, ◌⊎◌}
 use Rattle.std.proofs.lemmas.Bool.{cases_Bool, false≢true, or_cases}
 use Rattle.topo_core.specs.declared.darts.Dart.{Dart}
@@ -73,10 +73,7 @@ LeadsOn before after y d = (after d ≡ before d) ⊎ ((before d ≡ y) × (afte
 follower_first : (first other d : Dart) (ds : List Dart) → has_dart ds d ≡ true
     → (follower first ds d ≡ follower other ds d) ⊎ ((follower first ds d ≡ first) × (follower other ds d ≡ other))
 follower_first first other d [] h = cc
-follower_first first other d (c ∷ []) h = elim (cases_Bool (same_dart d c)) [
-  | inl e ↦ inr (ap (λ (b : Bool). cond b first first) e, ap (λ (b : Bool). cond b other other) e)
-  | inr e ↦ absurd (false≢true (or_second (same_dart d c) false e h))
-]
+follower_first first other d (c ∷ []) h = grind (arith, cases_Bool, false≢true, or_second)
 follower_first first other d (c ∷ b ∷ ds) h = elim (cases_Bool (same_dart d c)) [
   | inl e ↦ inl (ap (λ (t : Bool). cond t b (follower first (b ∷ ds) d)) e ∙ sym (ap (λ (t : Bool). cond t b (follower other (b ∷ ds) d)) e))
   | inr e ↦
@@ -109,10 +106,7 @@ leads_on_around : (y d : Dart) (around : List Dart) → IsDistinct around → sa
     → LeadsOn (next_around around) (next_around (filter (kept_by y) around)) y d
 leads_on_around y d around distinct other y_in d_in =
     let p = parted y around distinct y_in in
-    let kept : has_dart (filter (kept_by y) around) d ≡ true = passing_has (kept_by y) around d (ap not (same_symm d y other)) d_in in
-    let parts = leads_on_parts y d p.front p.back p.not_in_front other (ap (λ ds. has_dart ds d) (sym p.without) ∙ kept) in
-    subst (λ ds. LeadsOn (next_around ds) (next_around (filter (kept_by y) around)) y d) (sym p.whole)
-    (subst (λ ds. LeadsOn (next_around (p.front ++ y ∷ p.back)) (next_around ds) y d) (sym p.without) parts)
+    grind (arith, passing_has, same_symm, leads_on_parts, next_around)
 
 -- ---- In a system
 
@@ -158,13 +152,7 @@ leads_on s distinct y d other h =
     let kept : has_dart (filter (kept_by y) around) d ≡ true = passing_has (kept_by y) around d (ap not (same_symm d y other)) point.2 in
     let now : turn (bypassed (same_dart y) s) d ≡ next_around (filter (kept_by y) around) d =
     turn_at_point (bypassed (same_dart y) s) (bypassed_distinct s distinct (same_dart y)) (filter (kept_by y) around) d (in_map (filter (kept_by y)) around s point.1) kept in
-    elim (cases_Bool (has_dart around y)) [
-      | inl there ↦ elim (leads_on_around y d around (point_distinct s around distinct point.1) other there point.2) [
-        | inl same ↦ inl (now ∙ same ∙ sym was)
-        | inr between ↦ inr (was ∙ between.0, now ∙ between.1 ∙ sym (turn_at_point s distinct around y point.1 there))
-      ]
-      | inr absent ↦ inl (now ∙ ap (λ ds. next_around ds d) (filter_absent y around absent) ∙ sym was)
-    ]
+    grind (arith, cases_Bool, leads_on_around, point_distinct, turn_at_point, next_around, filter_absent)
 
 -- ---- One test after the other
 
@@ -173,17 +161,9 @@ either_gone gone y [] = refl
 either_gone gone y (c ∷ ds) = by_tests (gone c) (same_dart y c) refl refl (either_gone gone y ds) where
   by_tests : (t u : Bool) → gone c ≡ t → same_dart y c ≡ u → filter (λ d. not (gone d || same_dart y d)) ds ≡ filter (kept_by y) (filter (λ d. not (gone d)) ds)
       → filter (λ d. not (gone d || same_dart y d)) (c ∷ ds) ≡ filter (kept_by y) (filter (λ d. not (gone d)) (c ∷ ds))
-  by_tests true u e k rest =
-      filter_out (λ d. not (gone d || same_dart y d)) c ds (ap (λ t. not (t || same_dart y c)) e) ∙ rest
-      ∙ sym (ap (filter (kept_by y)) (filter_out (λ d. not (gone d)) c ds (ap not e)))
-  by_tests false true e k rest =
-      filter_out (λ d. not (gone d || same_dart y d)) c ds (ap (λ t. not (t || same_dart y c)) e ∙ ap not k) ∙ rest
-      ∙ sym (filter_out (kept_by y) c (filter (λ d. not (gone d)) ds) (ap not k))
-      ∙ sym (ap (filter (kept_by y)) (filter_in (λ d. not (gone d)) c ds (ap not e)))
-  by_tests false false e k rest =
-      filter_in (λ d. not (gone d || same_dart y d)) c ds (ap (λ t. not (t || same_dart y c)) e ∙ ap not k) ∙ ap (λ cs. c ∷ cs) rest
-      ∙ sym (filter_in (kept_by y) c (filter (λ d. not (gone d)) ds) (ap not k))
-      ∙ sym (ap (filter (kept_by y)) (filter_in (λ d. not (gone d)) c ds (ap not e)))
+  by_tests true u e k rest = cc
+  by_tests false true e k rest = cc
+  by_tests false false e k rest = cc
 
 -- y taken out after others
 pub bypassed_one_more : (gone : Dart → Bool) (y : Dart) (s : System) → bypassed (λ d. gone d || same_dart y d) s ≡ bypassed (same_dart y) (bypassed gone s)

@@ -40,9 +40,7 @@ not_below : (m n : ℕ) → (n < m → ⊥) → m ≤ n
 not_below m n h = omega arith
 
 pub start_before : (p q : ℕ) (rest : Ordering) → p < q → ordering_then (nat_cmp p q) rest ≢ Greater
-start_before p q rest h e =
-    let less : nat_cmp p q ≡ Less = grind (arith, nat_tests) in
-    let now : ordering_then Less rest ≡ Greater = sym (ap (λ o. ordering_then o rest) less) ∙ e in cc
+start_before p q rest h e = grind (arith, nat_tests)
 
 -- ---- Heights that certify
 
@@ -75,8 +73,7 @@ module _ (price : Pricing) (rows : Rows) (s : System) (ds : List Dart) (height :
       let there = face_in c x h walk.0 in
       let climb = gentle x cost.0 there cost.2 in
       let rest = height_bounds xs (dart_twin x) d cost.1 (twins x there) walk.1 cost.3 zero_there in
-      let total = cost.4 in
-      omega arith
+      grind (arith, cost)
 
   -- what holds of the first dart of a walk that costs just the height of the face where it starts
   record Descends (c x : Dart) (xs : List Dart) (m : ℕ) : Type 0 where
@@ -104,8 +101,7 @@ module _ (price : Pricing) (rows : Rows) (s : System) (ds : List Dart) (height :
   compare_walks positive [] (y ∷ ys) c d e n h walk cost down walk' cost' down' same known is first = inl refl
   compare_walks positive (x ∷ xs) [] c d e n h walk cost down walk' cost' down' same known is first =
       let one = positive x cost.0 cost.2 in
-      let total = cost.4 in
-      absurd (omega arith)
+      grind (arith, cost)
   compare_walks positive (x ∷ xs) (y ∷ ys) c d e n h walk cost down walk' cost' down' same known is first =
       let mine = descends x xs c d n h walk cost down same in
       let other = descends y ys c e n h walk' cost' down' same in
@@ -149,18 +145,12 @@ module _ (price : Pricing) (rows : Rows) (u v : ℕ) (height : Dart → ℕ) (kn
 
   -- no route costs less than the height of the corner where it starts
   pub route_bound : (r : Route) (n : ℕ) (c : Dart) → IsPricedRoute price rows u v r n → corner rows u r.start ≡ Some c → height c ≤ n
-  route_bound r n c priced starts =
-      let bound = walk_bound r n priced.route priced.cost in
-      let same = same_some (corner rows u r.start) priced.route.from c priced.route.starts starts in
-      subst (λ d. height d ≤ n) same bound
+  route_bound r n c priced starts = grind (arith, walk_bound, same_some)
 
   module _ (positive : (d : Dart) (p : ℕ) → Price price rows d p → 1 ≤ p) (r : Route) (n : ℕ) (by_heights : IsFirstByHeights price rows u v height r n) where
     -- a route of cost n starts at height n
     start_height : (other : Route) → (priced : IsPricedRoute price rows u v other n) → height priced.route.from ≡ n
-    start_height other priced =
-        let above = walk_bound other n priced.route priced.cost in
-        let below = by_heights.least_height other.start priced.route.from priced.route.starts in
-        omega arith
+    start_height other priced = grind (arith, walk_bound)
 
     not_earlier : (other : Route) → IsPricedRoute price rows u v other n → r.start ≤ other.start
     not_earlier other priced = not_below r.start other.start (λ before. by_heights.first_start other.start priced.route.from before priced.route.starts (start_height other priced))
@@ -192,16 +182,8 @@ module _ (price : Pricing) (rows : Rows) (u v : ℕ) (height : Dart → ℕ) (kn
           (subst (λ xs. SameFace (system rows) (arrival mine.from xs) priced.route.to) (sym lists) (arrives (system rows) other.crossed mine.from priced.route.to other_walk)))
 
       by_walks : (slice_cmp dart_cmp r.crossed other.crossed ≡ Less) ⊎ (r.crossed ≡ other.crossed) → route_cmp r other ≢ Greater
-      by_walks (inl less) e =
-          let now : ordering_then Equal (ordering_then Less (nat_cmp r.end other.end)) ≡ Greater =
-          sym (ap (λ o. ordering_then o (ordering_then Less (nat_cmp r.end other.end))) equal_starts)
-          ∙ sym (ap (λ o. ordering_then (nat_cmp r.start other.start) (ordering_then o (nat_cmp r.end other.end))) less) ∙ e in cc
-      by_walks (inr lists) e =
-          let equal_walks : slice_cmp dart_cmp r.crossed other.crossed ≡ Equal = subst (λ ys. slice_cmp dart_cmp r.crossed ys ≡ Equal) lists (same_lists r.crossed) in
-          let now : ordering_then Equal (ordering_then Equal (nat_cmp r.end other.end)) ≡ Greater =
-          sym (ap (λ o. ordering_then o (ordering_then Equal (nat_cmp r.end other.end))) equal_starts)
-          ∙ sym (ap (λ o. ordering_then (nat_cmp r.start other.start) (ordering_then o (nat_cmp r.end other.end))) equal_walks) ∙ e in
-          not_above r.end other.end (ends_first lists) now
+      by_walks (inl less) e = grind (arith, equal_starts)
+      by_walks (inr lists) e = grind (arith, same_lists, equal_starts, not_above, ends_first)
 
     -- a route that is first by its heights is first
     pub first_by_heights : IsFirst price rows u v r n
@@ -228,8 +210,7 @@ length-le-cost price rows positive [] n cost = omega arith
 length-le-cost price rows positive (d ∷ ds) n cost =
     let one = positive d cost.0 cost.2 in
     let rest = length-le-cost price rows positive ds cost.1 cost.3 in
-    let total = cost.4 in
-    omega arith
+    grind (arith, cost)
 
 -- where an edge has one price, a walk has one cost
 pub one_cost : (price : Pricing) (rows : Rows) → ((d : Dart) (p q : ℕ) → Price price rows d p → Price price rows d q → p ≡ q) → (ds : List Dart) (m n : ℕ) → Costs price rows ds m → Costs price rows ds n → m ≡ n
@@ -237,9 +218,7 @@ one_cost price rows same [] m n a b = a ∙ sym b
 one_cost price rows same (d ∷ ds) m n a b =
     let first = same d a.0 b.0 a.2 b.2 in
     let rest = one_cost price rows same ds a.1 b.1 a.3 b.3 in
-    let left = a.4 in
-    let right = b.4 in
-    omega arith
+    cc
 
 -- ---- Facts
 

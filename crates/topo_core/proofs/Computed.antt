@@ -238,13 +238,7 @@ module _ (rows : Rows) (u v : ℕ) (plan : Planned) where
 
   -- the heights of a plan that passes are a certificate
   pub certificate_by_tests : Passes → IsCertificate (by_kind plan.prices) rows v height
-  certificate_by_tests passes = record {
-    even = λ d known. eq_from_test _ _ (for_each (λ d. height (face_step (system rows) d) == height d) (darts rows) passes.even d known);
-    gentle = λ d p known price. subst (λ q. height d ≤ q + height (dart_twin d)) (sym (price_is plan.prices rows d p price))
-        (le_from_test _ _ (or_first (has_price plan.prices rows d) _ (price_has plan.prices rows d p price)
-        (for_each (λ d. not (has_price plan.prices rows d) || nat_le (height d) (price_at plan.prices rows d + height (dart_twin d))) (darts rows) passes.gentle d known)));
-    target = λ p c at. eq_from_test _ _ (at_place (λ c. height c == 0) (around_vertex rows v) passes.target p c at);
-  }
+  certificate_by_tests passes = grind (arith, eq_from_test, for_each, price_is, le_from_test, or_first, price_has, at_place)
 
   -- a plan that passes has the first of the least routes
   pub first_by_tests : Passes → IsFirst (by_kind plan.prices) rows u v planned_route cost

@@ -52,8 +52,7 @@ sum_same f g [] same = refl
 sum_same f g (x ∷ xs) same =
     let here = same x (inl refl) in
     let rest = sum_same f g xs (λ y h. same y (inr h)) in
-    let left = sum_by-cons f x xs in
-    let right = sum_by-cons g x xs in omega arith
+    grind (arith, sum_by-cons)
 
 -- a sum of nothing
 pub sum_nothing : {X : Type 0} (f : X → ℕ) (xs : List X) → ((x : X) → IsIn x xs → f x ≡ 0) → sum_by f xs ≡ 0
@@ -113,15 +112,8 @@ sum_found id g limit k (x ∷ xs) rises = by_test (sum_found id g limit k xs (ri
 
   by_test : sum_by (λ x. cond {A = ℕ} (id x == k) (g x) 0) xs ≡ unwrap_or (option_map g (find (λ x. id x == k) xs)) 0 → (t : Bool) → (id x == k) ≡ t
       → sum_by (λ x. cond {A = ℕ} (id x == k) (g x) 0) (x ∷ xs) ≡ unwrap_or (option_map g (cond (id x == k) (Some x) (find (λ x. id x == k) xs))) 0
-  by_test rest_found true e =
-      let here : cond {A = ℕ} (id x == k) (g x) 0 ≡ g x = ap (λ (t : Bool). cond {A = ℕ} t (g x) 0) e in
-      let rest = no_other (eqb-true (id x) k e) in
-      let all : sum_by (λ x. cond {A = ℕ} (id x == k) (g x) 0) (x ∷ xs) ≡ g x = omega (arith, step) in
-      all ∙ sym (ap (λ (t : Bool). unwrap_or (option_map g (cond t (Some x) (find (λ x. id x == k) xs))) 0) e)
-  by_test rest false e =
-      let here : cond {A = ℕ} (id x == k) (g x) 0 ≡ 0 = ap (λ (t : Bool). cond {A = ℕ} t (g x) 0) e in
-      let all : sum_by (λ x. cond {A = ℕ} (id x == k) (g x) 0) (x ∷ xs) ≡ unwrap_or (option_map g (find (λ x. id x == k) xs)) 0 = omega (arith, step) in
-      all ∙ sym (ap (λ (t : Bool). unwrap_or (option_map g (cond t (Some x) (find (λ x. id x == k) xs))) 0) e)
+  by_test rest_found true e = grind (arith, no_other, eqb-true, step)
+  by_test rest false e = cc
 
 -- no number of a range above k is k
 not_in_range : (k a n : ℕ) → k < a → sum_by (λ v. one (k == v)) (range_with_len a n) ≡ 0
@@ -142,13 +134,8 @@ once_in_range k a (suc n) low high = by_test (λ more. once_in_range k (a + 1) n
   step = sum_by-cons (λ v. one (k == v)) a (range_with_len (a + 1) n)
 
   by_test : (a + 1 ≤ k → sum_by (λ v. one (k == v)) (range_with_len (a + 1) n) ≡ 1) → (t : Bool) → (k == a) ≡ t → sum_by (λ v. one (k == v)) (range_with_len a (suc n)) ≡ 1
-  by_test later true e =
-      let here : one (k == a) ≡ 1 = ap one e in
-      let same = eqb-true k a e in
-      let rest = not_in_range k (a + 1) n (omega arith) in omega (arith, step)
-  by_test later false e =
-      let here : one (k == a) ≡ 0 = ap one e in
-      let rest = later (past k a e low) in omega (arith, step)
+  by_test later true e = grind (arith, eqb-true, not_in_range, step)
+  by_test later false e = grind (arith, past, step)
 
 past_range : (k a n : ℕ) → a + n ≤ k → sum_by (λ v. one (k == v)) (range_with_len a n) ≡ 0
 past_range k a zero high = refl
@@ -159,10 +146,7 @@ past_range k a (suc n) high =
 
 -- how often k stands in the range of the first n numbers
 pub in_first : (k n : ℕ) → sum_by (λ v. one (k == v)) (range_with_len 0 n) ≡ one (nat_lt k n)
-in_first k n = elim (cases_Bool (nat_lt k n)) [
-  | inl e ↦ once_in_range k 0 n (omega arith) (let h = lt_of_test k n e in omega arith) ∙ sym (ap one e)
-  | inr e ↦ past_range k 0 n (let h = le_of_test k n e in omega arith) ∙ sym (ap one e)
-]
+in_first k n = grind (arith, cases_Bool, once_in_range, lt_of_test, past_range, le_of_test)
 
 -- ---- Places in a list of numbers
 
@@ -185,18 +169,7 @@ place_test [] i z x at once = cc
 place_test (y ∷ path) zero z x at once =
     let same : y ≡ z = cc in
     let step = sum_by-cons (λ y. one (y == x)) y path in
-    elim (cases_Bool (y == x)) [
-      | inl e ↦
-          let e_is = eqb-true y x e in
-          let at_place : eqb 0 (position_or_len (λ y. y == x) (y ∷ path)) ≡ true = eq-eqb 0 _ (sym (path_place_here x y path e)) in
-          let here = weigh_yes _ (occurrences x (y ∷ path)) at_place in
-          let counted : one (y == x) ≡ 1 = ap one e in
-          let wanted : one (x == z) ≡ 1 = ap one (eq-eqb x z (sym e_is ∙ same)) in omega arith
-      | inr e ↦
-          let off : eqb 0 (position_or_len (λ y. y == x) (y ∷ path)) ≡ false = eqb_less 0 _ (let p = path_place_later x y path e in omega arith) in
-          let here = weigh_no _ (occurrences x (y ∷ path)) off in
-          let wanted : one (x == z) ≡ 0 = ap one (sym (ap (λ v. eqb x v) same) ∙ eqb_symm x y ∙ e) in omega arith
-    ]
+    grind (arith, cases_Bool, eqb-true, eq-eqb, path_place_here, weigh_yes, eqb_less, path_place_later, weigh_no, eqb_symm)
 place_test (y ∷ path) (suc i) z x at once =
     let step = sum_by-cons (λ y. one (y == x)) y path in
     elim (cases_Bool (y == x)) [

@@ -35,16 +35,8 @@ nat_cmp_self n = grind (arith, nat_tests)
 
 -- darts that the order holds equal are equal
 pub dart_cmp_equal : (c d : Dart) → dart_cmp c d ≡ Equal → c ≡ d
-dart_cmp_equal c d e =
-    let outer = then_equal (nat_cmp c.edge d.edge) (ordering_then (nat_cmp c.seg d.seg) (way_cmp c.way d.way)) e in
-    let inner = then_equal (nat_cmp c.seg d.seg) (way_cmp c.way d.way) outer.1 in
-    let edges = nat_cmp_equal c.edge d.edge outer.0 in
-    let segs = nat_cmp_equal c.seg d.seg inner.0 in
-    let ways = way_cmp_equal c.way d.way inner.1 in
-    λ i. record { edge = edges i; seg = segs i; way = ways i }
+dart_cmp_equal c d e = grind (arith, then_equal, nat_cmp_equal, way_cmp_equal)
 
 -- a dart compares equal to itself
 pub dart_cmp_self : (d : Dart) → dart_cmp d d ≡ Equal
-dart_cmp_self d =
-    ap (λ o. ordering_then o (ordering_then (nat_cmp d.seg d.seg) (way_cmp d.way d.way))) (nat_cmp_self d.edge)
-    ∙ ap (λ o. ordering_then o (way_cmp d.way d.way)) (nat_cmp_self d.seg) ∙ way_cmp_self d.way
+dart_cmp_self d = grind (arith, nat_cmp_self, way_cmp_self)

@@ -57,10 +57,7 @@ module _ (price : Pricing) (limits : Limits) (p : Rows) where
       → IsRefused price limits p (Insert u v kind) why → ⊥
   not_refused u v kind made n why admitted first room (inl early) = some_apart _ why admitted early
   not_refused u v kind made n why admitted first room (inr (inl late)) = late.2 made n first.is_least.priced
-  not_refused u v kind made n why admitted first room (inr (inr late)) =
-      let same : length made.crossed ≡ length late.2.route.crossed = ap (λ (r : Route). length r.crossed) (one_first price p u v made late.2.route n late.2.cost first late.2.first) in
-      let more = late.2.too_many in
-      omega arith
+  not_refused u v kind made n why admitted first room (inr (inr late)) = grind (arith, one_first)
 
   refused_once : (u v kind : ℕ) (why other : Refusal) → IsRefused price limits p (Insert u v kind) why → IsRefused price limits p (Insert u v kind) other → why ≡ other
   refused_once u v kind why other (inl early) (inl early') = same_some _ why other early early'
@@ -78,10 +75,7 @@ module _ (price : Pricing) (limits : Limits) (p : Rows) where
 
   inserts_once : (u v kind : ℕ) (reply other : Reply) (q r : Rows) → Step price limits p (Insert u v kind) reply q → Step price limits p (Insert u v kind) other r
       → IsSame reply other q r
-  inserts_once u v kind (Put made) (Put other) q r step step' =
-      let routes = one_first price p u v made.route other.route made.price other.price step.1 step'.1 in
-      let costs = one_least price p u v made.route other.route made.price other.price step.1 step'.1 in
-      (ap Put (one_insertion made other (step.3 ∙ sym step'.3) routes costs), step.4 ∙ ap (shown p u v kind) routes ∙ sym step'.4)
+  inserts_once u v kind (Put made) (Put other) q r step step' = grind (arith, one_first, one_least, one_insertion)
   inserts_once u v kind (Put made) (Refused why) q r step step' = absurd (not_refused u v kind made.route made.price why step.0 step.1 step.2 step'.0)
   inserts_once u v kind (Refused why) (Put made) q r step step' = absurd (not_refused u v kind made.route made.price why step'.0 step'.1 step'.2 step.0)
   inserts_once u v kind (Refused why) (Refused other) q r step step' = (ap Refused (refused_once u v kind why other step.0 step'.0), step.1 ∙ sym step'.1)

@@ -27,36 +27,12 @@ one_before x (suc j) path front first previous = let before = previous j refl in
 
 -- the whole path, parted at the crossings that are gone from segment s of what is left
 pub gone_parts : (gone path : List ℕ) (s : ℕ) → s ≤ length (left_of gone path) → IsParted (gone_on gone path s) s (left_of gone path) path
-gone_parts gone [] zero h = record {
-  front = [];
-  back = [];
-  parts = refl;
-  first = λ e. refl;
-  last = λ e. refl;
-  previous = λ i e. absurd (omega arith);
-  next = λ less. absurd (omega arith);
-}
+gone_parts gone [] zero h = grind arith
 gone_parts gone [] (suc s) h = absurd (omega arith)
 gone_parts gone (x ∷ path) zero h = by_test (has_id gone x) (gone_parts gone path 0 (omega arith)) where
   by_test : (b : Bool) → IsParted (gone_on gone path 0) 0 (left_of gone path) path → IsParted (cond b (x ∷ gone_on gone path 0) []) 0 (cond (not b) (x ∷ left_of gone path) (left_of gone path)) (x ∷ path)
-  by_test true rest = record {
-    front = [];
-    back = rest.back;
-    parts = ap (λ list. x ∷ list) (rest.parts ∙ ap (λ f. f ++ (gone_on gone path 0 ++ rest.back)) (rest.first refl));
-    first = λ e. refl;
-    last = rest.last;
-    previous = λ i e. absurd (omega arith);
-    next = rest.next;
-  }
-  by_test false rest = record {
-    front = [];
-    back = x ∷ path;
-    parts = refl;
-    first = λ e. refl;
-    last = λ e. absurd (omega arith);
-    previous = λ i e. absurd (omega arith);
-    next = λ less. (path, refl);
-  }
+  by_test true rest = grind arith
+  by_test false rest = grind arith
 gone_parts gone (x ∷ path) (suc s) h = by_test (has_id gone x) h (gone_parts gone path (suc s)) (gone_parts gone path s) where
   by_test : (b : Bool) → suc s ≤ length (cond (not b) (x ∷ left_of gone path) (left_of gone path))
       → (suc s ≤ length (left_of gone path) → IsParted (gone_on gone path (suc s)) (suc s) (left_of gone path) path)
@@ -135,9 +111,7 @@ gone_from gone (x ∷ path) s n h = elim (cases_Bool (has_id gone x)) [
 -- what stood on the path and is gone is gone from one of its segments
 pub gone_segment : (gone path : List ℕ) (n : ℕ) → IsIn n path → has_id gone n ≡ true → (s : ℕ) × (s ≤ length (left_of gone path)) × IsIn n (gone_on gone path s)
 gone_segment gone [] n h is_gone = absurd h
-gone_segment gone (x ∷ path) n (inl same) is_gone =
-    let e = ap (has_id gone) (sym same) ∙ is_gone in
-    (0, omega arith, subst (IsIn n) (sym (taken_first gone x path e)) (inl same))
+gone_segment gone (x ∷ path) n (inl same) is_gone = grind (arith, taken_first)
 gone_segment gone (x ∷ path) n (inr h) is_gone =
     let rest = gone_segment gone path n h is_gone in
     elim (cases_Bool (has_id gone x)) [
@@ -209,10 +183,7 @@ places_apart path x y h k e = sym (at_its_place x path h).1 ∙ ap (λ i. get_or
 
 module _ (path whole : List ℕ) (once : (y : ℕ) → IsIn y path → occurrences y path ≤ 1) (old : (y : ℕ) → IsIn y path → IsIn y whole) where
   previous_place : (i : ℕ) → first_part path whole (suc i) ≡ place_of whole (get_or path i 0) + 1
-  previous_place i =
-      let same : suc i - 1 ≡ i = omega arith in
-      ap (λ (t : Bool). cond t 0 (place_of whole (get_or path (suc i - 1) 0) + 1)) (eqb_more (suc i) 0 (omega arith))
-      ∙ ap (λ k. place_of whole (get_or path k 0) + 1) same
+  previous_place i = grind (arith, place_of, eqb_more)
 
   next_place : (i : ℕ) → i < length path → last_part path whole i ≡ place_of whole (get_or path i 0)
   next_place i h = ap (λ (t : Bool). cond t (length whole) (place_of whole (get_or path i 0))) (eqb_less i (length path) h)
@@ -230,50 +201,20 @@ module _ (path whole : List ℕ) (once : (y : ℕ) → IsIn y path → occurrenc
   firsts_apart zero zero h k e = refl
   firsts_apart zero (suc j) h k e = absurd (let there = previous_place j in let none : first_part path whole 0 ≡ 0 = refl in omega arith)
   firsts_apart (suc i) zero h k e = absurd (let there = previous_place i in let none : first_part path whole 0 ≡ 0 = refl in omega arith)
-  firsts_apart (suc i) (suc j) h k e =
-      let here = previous_place i in
-      let there = previous_place j in
-      ap suc (items_apart i j (omega arith) (omega arith) (omega arith))
+  firsts_apart (suc i) (suc j) h k e = grind (arith, previous_place, items_apart)
 
   -- and so are those that end at one place
   pub lasts_apart : (s t : ℕ) → s ≤ length path → t ≤ length path → last_part path whole s ≡ last_part path whole t → s ≡ t
-  lasts_apart s t h k e = elim (cases_Bool (nat_lt s (length path))) [
-    | inl s_in ↦
-        let s_less = lt_of_test s (length path) s_in in
-        let here = next_place s s_less in
-        let s_place = (at_its_place (get_or path s 0) whole (old (get_or path s 0) (item_in path s s_less))).0 in
-        elim (cases_Bool (nat_lt t (length path))) [
-          | inl t_in ↦ let t_less = lt_of_test t (length path) t_in in let there = next_place t t_less in items_apart s t s_less t_less (omega arith)
-          | inr t_out ↦ absurd (let high = le_of_test t (length path) t_out in let there = end_place t (omega arith) in omega arith)
-        ]
-    | inr s_out ↦
-        let s_high = le_of_test s (length path) s_out in
-        let here = end_place s (omega arith) in
-        elim (cases_Bool (nat_lt t (length path))) [
-          | inl t_in ↦ absurd (
-              let t_less = lt_of_test t (length path) t_in in
-              let there = next_place t t_less in
-              let t_place = (at_its_place (get_or path t 0) whole (old (get_or path t 0) (item_in path t t_less))).0 in omega arith)
-          | inr t_out ↦ let high = le_of_test t (length path) t_out in omega arith
-        ]
-  ]
+  lasts_apart s t h k e = grind (arith, cases_Bool, lt_of_test, next_place, at_its_place, item_in, items_apart, le_of_test, end_place)
 
   -- a segment begins on the path or at its start
   pub first_inside : (s : ℕ) → s ≤ length path → first_part path whole s ≤ length whole
   first_inside zero h = let none : first_part path whole 0 ≡ 0 = refl in omega arith
-  first_inside (suc i) h =
-      let at = previous_place i in
-      let place = (at_its_place (get_or path i 0) whole (old (get_or path i 0) (item_in path i (omega arith)))).0 in omega arith
+  first_inside (suc i) h = grind (arith, previous_place, at_its_place, item_in)
 
   -- and ends on it or at its end
   pub last_inside : (s : ℕ) → s ≤ length path → last_part path whole s ≤ length whole
-  last_inside s h = elim (cases_Bool (nat_lt s (length path))) [
-    | inl s_in ↦
-        let less = lt_of_test s (length path) s_in in
-        let at = next_place s less in
-        let place = (at_its_place (get_or path s 0) whole (old (get_or path s 0) (item_in path s less))).0 in omega arith
-    | inr s_out ↦ let high = le_of_test s (length path) s_out in let at = end_place s (omega arith) in omega arith
-  ]
+  last_inside s h = grind (arith, cases_Bool, lt_of_test, next_place, at_its_place, item_in, le_of_test, end_place)
 
   module _ (n : ℕ) (there : IsIn n whole) (missing : IsIn n path → ⊥) where
     -- no segment begins at a crossing that is not on the path
@@ -286,17 +227,7 @@ module _ (path whole : List ℕ) (once : (y : ℕ) → IsIn y path → occurrenc
 
     -- and none ends there
     pub last_not_gone : (s : ℕ) → s ≤ length path → last_part path whole s ≡ place_of whole n → ⊥
-    last_not_gone s h e = elim (cases_Bool (nat_lt s (length path))) [
-      | inl s_in ↦
-          let less = lt_of_test s (length path) s_in in
-          let at = next_place s less in
-          let inside = item_in path s less in
-          missing (subst (λ y. IsIn y path) (places_apart whole (get_or path s 0) n (old (get_or path s 0) inside) there (omega arith)) inside)
-      | inr s_out ↦ absurd (
-          let high = le_of_test s (length path) s_out in
-          let at = end_place s (omega arith) in
-          let less = (at_its_place n whole there).0 in omega arith)
-    ]
+    last_not_gone s h e = grind (arith, cases_Bool, lt_of_test, next_place, item_in, places_apart, le_of_test, end_place, at_its_place)
 
 -- ---- Where a segment runs
 

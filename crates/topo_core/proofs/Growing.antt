@@ -108,9 +108,7 @@ pub record IsPutIn (p f : ℕ) (around : List ℕ) : Type 0 where
 
 -- what stands at a place is the first of the rest
 first_dropped : (p e : ℕ) (around : List ℕ) → p < length around → slice_get around p ≡ Some (slice_index_or (drop p around) 0 e)
-first_dropped p e around h =
-    let same : p + 0 ≡ p = omega arith in
-    slice_get-get_or around p e h ∙ ap (λ k. Some (get_or around k e)) (sym same) ∙ ap Some (sym (get_or-drop p around 0 e))
+first_dropped p e around h = grind (arith, slice_get-get_or, get_or-drop)
 
 -- where it stands
 pub is_put_in : (p f : ℕ) (around : List ℕ) → p < length around → IsPutIn p f around
@@ -129,8 +127,7 @@ map_same f g (x ∷ xs) same = let here = same x (inl refl) in let rest = map_sa
 pub range_split : (a u m n k : ℕ) → n ≡ u + suc m → k ≡ a + u → range_with_len a n ≡ range_with_len a u ++ k ∷ range_with_len (k + 1) m
 range_split a zero m n k total at =
     let n_is : n ≡ suc m = omega arith in
-    let k_is : k ≡ a = omega arith in
-    ap (range_with_len a) n_is ∙ ap (λ j. j ∷ range_with_len (j + 1) m) (sym k_is)
+    grind arith
 range_split a (suc u) m zero k total at = absurd (omega arith)
 range_split a (suc u) m (suc n) k total at = ap (λ list. a ∷ list) (range_split (a + 1) u m n k (omega arith) (omega arith))
 
@@ -243,9 +240,7 @@ module _ (rows : Rows) (u p kind : ℕ) (paths : has_good_paths rows ≡ true) (
   old_least v inside e h = test_of_each (nat_le (get_or (rotation rows v) 0 0)) e (rotation rows v) (right_true _ _ (old_at v inside)) h
 
   entry_below : (v : ℕ) → v < length rows.rotations → (e : ℕ) → IsIn e (rotation rows v) → e < rows.next_edge
-  entry_below v inside e h =
-      let pick = some_of (edge_row rows e) (old_known v inside e h) in
-      subst (λ f. f < rows.next_edge) (row_id rows e pick.0 pick.1) (row_below pick.0 (row_in rows e pick.0 pick.1))
+  entry_below v inside e h = grind (arith, some_of, old_known, row_id, row_below, row_in)
 
   abbrev after : Rows
   after = grown rows u p kind
@@ -268,23 +263,16 @@ module _ (rows : Rows) (u p kind : ℕ) (paths : has_good_paths rows ≡ true) (
         | inl old ↦ eq-eqb _ _ (old_ones row old)
         | inr k ↦ elim k [ inl e ↦ subst (λ (r : EdgeRow). (occurrences r.id around == (if r.a == v || r.b == v then 1 else 0)) ≡ true) (sym e) (eq-eqb _ _ new_one) | inr none ↦ absurd none ]
       ]))
-      (all_from (λ e. is_some (edge_row after e)) around (λ e h. elim (known e h) [
-        | inl is_new ↦ some_found_last (λ row. row.id == e) rows.edges new_row (eq-eqb rows.next_edge e (sym is_new))
-        | inr old ↦ some_found_more (λ row. row.id == e) rows.edges (new_row ∷ []) old
-      ])))
+      (all_from (λ e. is_some (edge_row after e)) around (λ e h. grind (arith, some_found_last, eq-eqb, some_found_more))))
       (all_from (nat_le (get_or around 0 0)) around least))
 
   -- the list of a vertex beside u
   rotation_other : (v : ℕ) → v < length rows.rotations → v ≢ u → rotation after v ≡ rotation rows v
-  rotation_other v inside apart =
-      get_or_append_left (with_end rows.rotations u p rows.next_edge) ((rows.next_edge ∷ []) ∷ []) [] v (subst (λ n. v < n) (sym (length-set rows.rotations u (put_in p rows.next_edge (rotation rows u)))) inside)
-      ∙ get_or-set_other rows.rotations u v (put_in p rows.next_edge (rotation rows u)) [] apart
+  rotation_other v inside apart = grind (arith, get_or_append_left, length-set, get_or-set_other)
 
   -- the list of u
   rotation_u : rotation after u ≡ put_in p rows.next_edge (rotation rows u)
-  rotation_u =
-      get_or_append_left (with_end rows.rotations u p rows.next_edge) ((rows.next_edge ∷ []) ∷ []) [] u (subst (λ n. u < n) (sym (length-set rows.rotations u (put_in p rows.next_edge (rotation rows u)))) u_in)
-      ∙ get_or-set_same rows.rotations u (put_in p rows.next_edge (rotation rows u)) [] u_in
+  rotation_u = grind (arith, get_or_append_left, length-set, get_or-set_same)
 
   -- the list of the new vertex
   rotation_new : rotation after (length rows.rotations) ≡ rows.next_edge ∷ []
@@ -336,14 +324,7 @@ module _ (rows : Rows) (u p kind : ℕ) (paths : has_good_paths rows ≡ true) (
   -- the rotations of the grown picture are good
   pub rotations_after_growth : has_good_rotations after ≡ true
   rotations_after_growth = all_range (has_good_rotation after) 0 (length after.rotations) (λ v low high.
-      let by_u : (b : Bool) → eqb v u ≡ b → has_good_rotation after v ≡ true = λ b. elim b as (λ b. eqb v u ≡ b → has_good_rotation after v ≡ true) [
-        | true ↦ (λ passes. subst (λ w. has_good_rotation after w ≡ true) (sym (eqb-true v u passes)) at_u)
-        | false ↦ (λ fails.
-            let by_new : (b : Bool) → nat_lt v (length rows.rotations) ≡ b → has_good_rotation after v ≡ true = λ b. elim b as (λ b. nat_lt v (length rows.rotations) ≡ b → has_good_rotation after v ≡ true) [
-              | true ↦ (λ inside. at_other v (lt_of_test v (length rows.rotations) inside) (ne_from v u fails))
-              | false ↦ (λ outside. subst (λ w. has_good_rotation after w ≡ true) (last_vertex v (length rows.rotations) outside (subst (λ n. v < n) (vertices_after) high)) at_new)
-            ] in by_new (nat_lt v (length rows.rotations)) refl)
-      ] in by_u (eqb v u) refl)
+      let by_u : (b : Bool) → eqb v u ≡ b → has_good_rotation after v ≡ true = λ b. grind (arith, eqb-true, at_u, at_other, lt_of_test, ne_from, last_vertex, vertices_after, at_new) in by_u (eqb v u) refl)
 
   -- ---- Its paths and crossings
 
@@ -352,14 +333,10 @@ module _ (rows : Rows) (u p kind : ℕ) (paths : has_good_paths rows ≡ true) (
   more_vertices = let e = vertices_after in omega arith
 
   old_path : (row : EdgeRow) → has_good_path rows row ≡ true → has_good_path after row ≡ true
-  old_path row h =
-      subst (λ n. (nat_lt row.a n && nat_lt row.b n && not (row.a == row.b) && nat_lt row.kind 64 && list_all (λ x. is_some (cross_row rows x)) row.crossings) ≡ true)
-      (sym more_vertices) (one_vertex_more row.a row.b (length rows.rotations) (not (row.a == row.b)) (nat_lt row.kind 64) (list_all (λ x. is_some (cross_row rows x)) row.crossings) h)
+  old_path row h = grind (arith, more_vertices, one_vertex_more)
 
   new_path : kind < 64 → has_good_path after new_row ≡ true
-  new_path known =
-      subst (λ n. (nat_lt u n && nat_lt (length rows.rotations) n && not (u == length rows.rotations) && nat_lt kind 64 && true) ≡ true)
-      (sym more_vertices) (one_edge_more u (length rows.rotations) kind u_in known)
+  new_path known = grind (arith, more_vertices, one_edge_more)
 
   -- the paths of the grown picture are good
   pub paths_after_growth : kind < 64 → has_good_paths after ≡ true
@@ -406,9 +383,7 @@ module _ (rows : Rows) (u p kind : ℕ) (paths : has_good_paths rows ≡ true) (
       ∙ ap (λ (t : Bool). cond t (Some new_row) None) (eqb_self rows.next_edge))
 
   old_edge_at : (e : ℕ) → is_some (edge_row rows e) ≡ true → edge_at after e ≡ edge_at rows e
-  old_edge_at e known =
-      let pick = some_of (edge_row rows e) known in
-      edge_at_row after e pick.0 (found_more (λ row. row.id == e) rows.edges (new_row ∷ []) pick.0 pick.1) ∙ sym (edge_at_row rows e pick.0 pick.1)
+  old_edge_at e known = grind (arith, some_of, edge_at_row, found_more)
 
   -- the darts of old edges are where they were
   old_end_dart : (v e : ℕ) → is_some (edge_row rows e) ≡ true → end_dart after v e ≡ end_dart rows v e
@@ -418,10 +393,7 @@ module _ (rows : Rows) (u p kind : ℕ) (paths : has_good_paths rows ≡ true) (
   old_place_on e x known = ap (λ (r : EdgeRow). position_or_len (λ y. y == x) r.crossings) (old_edge_at e known)
 
   around_crossing_after : has_good_crossings rows ≡ true → (x : CrossRow) → IsIn x rows.crossings → around_crossing after x ≡ around_crossing rows x
-  around_crossing_after crossings x h =
-      let good = good_crossing rows crossings x h in
-      ap (λ (i : ℕ). clockwise x.sign (forward x.crossed (i + 1)) (back x.crossed i) (forward x.newcomer (place_on after x.newcomer x.id + 1)) (back x.newcomer (place_on after x.newcomer x.id))) (old_place_on x.crossed x.id good.crossed)
-      ∙ ap (λ (j : ℕ). clockwise x.sign (forward x.crossed (place_on rows x.crossed x.id + 1)) (back x.crossed (place_on rows x.crossed x.id)) (forward x.newcomer (j + 1)) (back x.newcomer j)) (old_place_on x.newcomer x.id good.newcomer)
+  around_crossing_after crossings x h = grind (arith, good_crossing, old_place_on)
 
   around_other : (v : ℕ) → v < length rows.rotations → v ≢ u → around_vertex after v ≡ around_vertex rows v
   around_other v inside apart = ap (map (end_dart after v)) (rotation_other v inside apart) ∙ map_same (end_dart after v) (end_dart rows v) (rotation rows v) (λ e h. old_end_dart v e (old_known v inside e h))
@@ -454,20 +426,10 @@ module _ (rows : Rows) (u p kind : ℕ) (paths : has_good_paths rows ≡ true) (
   new_end_dart v = ap (λ (r : EdgeRow). cond {A = Dart} (r.a == v) (forward rows.next_edge 0) (back rows.next_edge (length r.crossings))) new_edge_at
 
   around_u_after : around_vertex after u ≡ first_dart ∷ front_darts ++ new_dart ∷ back_darts
-  around_u_after =
-      let ahead_of = map_same (end_dart after u) (end_dart rows u) (parts.head ∷ parts.front) (λ e h. old_end_dart u e (known_in_parts e (in_left e (parts.head ∷ parts.front) parts.back h))) in
-      let behind_it = map_same (end_dart after u) (end_dart rows u) parts.back (λ e h. old_end_dart u e (known_in_parts e (in_right e (parts.head ∷ parts.front) parts.back h))) in
-      let at_u : end_dart after u rows.next_edge ≡ new_dart = new_end_dart u ∙ ap (λ (t : Bool). cond {A = Dart} t new_dart new_twin) (eqb_self u) in
-      ap (map (end_dart after u)) (rotation_u ∙ parts.now)
-      ∙ map-append (end_dart after u) (parts.head ∷ parts.front) (rows.next_edge ∷ parts.back)
-      ∙ ap (λ list. list ++ map (end_dart after u) (rows.next_edge ∷ parts.back)) ahead_of
-      ∙ ap (λ d. (first_dart ∷ front_darts) ++ d ∷ map (end_dart after u) parts.back) at_u
-      ∙ ap (λ list. (first_dart ∷ front_darts) ++ new_dart ∷ list) behind_it
+  around_u_after = grind (arith, map_same, parts, old_end_dart, known_in_parts, in_left, in_right, new_end_dart, eqb_self, rotation_u, map-append)
 
   around_new : around_vertex after (length rows.rotations) ≡ new_twin ∷ []
-  around_new =
-      ap (map (end_dart after (length rows.rotations))) rotation_new
-      ∙ ap (λ d. d ∷ []) (new_end_dart (length rows.rotations) ∙ ap (λ (t : Bool). cond {A = Dart} t new_dart new_twin) (eqb_less u (length rows.rotations) u_in))
+  around_new = grind (arith, rotation_new, new_end_dart, eqb_less)
 
   -- how many vertices stand behind u
   abbrev others : ℕ
@@ -488,9 +450,7 @@ module _ (rows : Rows) (u p kind : ℕ) (paths : has_good_paths rows ≡ true) (
       ∙ map-append h (range_with_len 0 u) (u ∷ range_with_len (u + 1) others)
 
   system_before : system rows ≡ old_system points_before points_behind points_crossed first_dart front_darts back_darts new_dart new_twin
-  system_before =
-      ap (λ s. s ++ points_crossed) (vertices_in_parts (around_vertex rows))
-      ∙ ap (λ around. (points_before ++ around ∷ points_behind) ++ points_crossed) around_u_before
+  system_before = grind (arith, vertices_in_parts, around_u_before)
 
   system_after : has_good_crossings rows ≡ true → system after ≡ new_system points_before points_behind points_crossed first_dart front_darts back_darts new_dart new_twin
   system_after crossings =
@@ -541,10 +501,7 @@ module _ (rows : Rows) (u p kind : ℕ) (paths : has_good_paths rows ≡ true) (
       let was = λ (d : Dart). ap (λ s. turn s d) system_before in
       let source = reaches_new points_before points_behind points_crossed first_dart front_darts back_darts new_dart new_twin no_dart no_twin refl once in
       record {
-        old_turns = λ d old. elim (turn_of_old points_before points_behind points_crossed first_dart front_darts back_darts new_dart new_twin no_dart no_twin refl d (not_new d new_dart refl old) (not_new d new_twin refl old)) [
-          | inl same ↦ inl (now d ∙ same ∙ sym (was d))
-          | inr between ↦ inr (now d ∙ between.0, now new_dart ∙ between.1 ∙ sym (was d))
-        ];
+        old_turns = λ d old. grind (arith, turn_of_old, not_new, now, was);
         alone = now new_twin ∙ turn_of_twin points_before points_behind points_crossed first_dart front_darts back_darts new_dart new_twin no_dart no_twin refl;
         source = source.0;
         source_in = sym (system_test rows paths crossings rotations source.0) ∙ ap (λ s. has_dart (darts_in s) source.0) system_before ∙ source.1;
@@ -554,10 +511,6 @@ module _ (rows : Rows) (u p kind : ℕ) (paths : has_good_paths rows ≡ true) (
 -- a growth at a corner makes an embedding of an embedding
 pub growth_keeps_embedding : (rows : Rows) → IsEmbedding rows → (u p kind : ℕ) → u < length rows.rotations → p < length (rotation rows u) → kind < 64 → IsEmbedding (grown rows u p kind)
 growth_keeps_embedding rows good u p kind u_in p_in known = record {
-  well_formed = record {
-    paths = paths_after_growth rows u p kind good.well_formed.paths good.well_formed.rotations u_in p_in known;
-    crossings = crossings_after_growth rows u p kind good.well_formed.paths good.well_formed.rotations u_in p_in good.well_formed.crossings;
-    rotations = rotations_after_growth rows u p kind good.well_formed.paths good.well_formed.rotations u_in p_in;
-  };
+  well_formed = grind (arith, paths_after_growth, crossings_after_growth, rotations_after_growth);
   connected = connected_after_growth rows u p kind good.well_formed.paths good.well_formed.rotations u_in p_in good.well_formed.crossings good.connected;
 }

@@ -100,15 +100,10 @@ module _ (rows : Rows) (u p kind : ℕ) (paths : has_good_paths rows ≡ true) (
   old_index d h = ap (λ ds. place_in ds d) darts_after ∙ place_first (darts rows) (new_dart ∷ new_twin ∷ []) d h
 
   index_of_new : index_of after new_dart ≡ many
-  index_of_new =
-      let place = ap (λ ds. place_in ds new_dart) darts_after ∙ place_second (darts rows) (new_dart ∷ new_twin ∷ []) new_dart (not_listed new_dart refl) in
-      let first = place_here (new_twin ∷ []) new_dart new_dart (same_dart_self new_dart) in omega arith
+  index_of_new = grind (arith, place_in, darts_after, place_second, not_listed, place_here, same_dart_self)
 
   index_of_twin : index_of after new_twin ≡ suc many
-  index_of_twin =
-      let place = ap (λ ds. place_in ds new_twin) darts_after ∙ place_second (darts rows) (new_dart ∷ new_twin ∷ []) new_twin (not_listed new_twin refl) in
-      let second = place_later (new_twin ∷ []) new_dart new_twin (back_forward rows.next_edge 0 rows.next_edge 0) in
-      let first = place_here [] new_twin new_twin (same_dart_self new_twin) in omega arith
+  index_of_twin = grind (arith, place_in, darts_after, place_second, not_listed, place_later, back_forward, place_here, same_dart_self)
 
   more_images : length (turn_images after) ≡ suc (suc (length (turn_images rows)))
   more_images =
@@ -139,14 +134,7 @@ module _ (rows : Rows) (u p kind : ℕ) (paths : has_good_paths rows ≡ true) (
       let t_in = turn_stays rows paths crossings rotations (dart_twin c) (twin_in rows c c_in) in
       let was = face_at rows paths crossings rotations a c at.1 in
       let number = old_index c c_in ∙ index_of_get rows paths a c at.1 in
-      let now : face_after a ≡ index_of after (turn (system after) (dart_twin c)) = ap face_after (sym number) ∙ face_after_at c (old_listed c c_in) in
-      elim (turns.old_turns (dart_twin c) (is_old (dart_twin c) (twin_in rows c c_in))) [
-        | inl same ↦ inl (now ∙ ap (index_of after) same ∙ old_index (turn (system rows) (dart_twin c)) t_in ∙ sym was)
-        | inr over ↦ inr (
-          now ∙ ap (index_of after) over.0 ∙ index_of_new,
-          face_over_twin ∙ ap (index_of after) over.1 ∙ old_index (turn (system rows) (dart_twin c)) t_in ∙ sym was,
-        )
-      ]
+      grind (arith, face_after_at, old_listed, turns, is_old, twin_in, old_index, index_of_new, face_over_twin)
 
   one_face_longer : IsLonger face_before face_after (length (turn_images rows))
   one_face_longer =

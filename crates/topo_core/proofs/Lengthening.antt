@@ -66,10 +66,7 @@ module _ (f g : ℕ → ℕ) (n : ℕ) (before : IsPermutation f n) (now : IsPer
 
   -- below n the cycles are the same
   to_f : (a b : ℕ) → a < n → b < n → SameCycle g a b → SameCycle f a b
-  to_f a b la lb same = elim (subst (Reached a) same.leads (g_steps same.steps a la)) [
-    | inl there ↦ there.1
-    | inr above ↦ absurd (not_above b lb above.0)
-  ]
+  to_f a b la lb same = grind (arith, g_steps, not_above)
 
   to_g : (a b : ℕ) → a < n → SameCycle f a b → SameCycle g a b
   to_g a b la same = subst (SameCycle g a) same.leads (f_steps same.steps a la).0
@@ -91,5 +88,4 @@ module _ (f g : ℕ → ℕ) (n : ℕ) (before : IsPermutation f n) (now : IsPer
       ap not (some_below-same (λ b. is_met g (suc (suc n)) b a) (λ b. is_met f n b a) a (λ b lb. same_met b a (omega arith) la))) in
       let at_n : cond {A = ℕ} (first_g n) 1 0 ≡ 0 = ap (λ (t : Bool). cond {A = ℕ} t 1 0) (not_first n longer.source longer.source_in longer.leads_in) in
       let at_next : cond {A = ℕ} (first_g (suc n)) 1 0 ≡ 0 = ap (λ (t : Bool). cond {A = ℕ} t 1 0) (not_first (suc n) n (omega arith) longer.on) in
-      let whole : cycle_count g (suc (suc n)) ≡ count_below first_g n + cond {A = ℕ} (first_g n) 1 0 + cond {A = ℕ} (first_g (suc n)) 1 0 = refl in
-      omega arith
+      grind arith

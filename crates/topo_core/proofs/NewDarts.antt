@@ -54,9 +54,7 @@ turn_outside (around ∷ s) d h =
 pub turn_first : (s t : System) (d : Dart) → stands_in s d ≡ true → turn (s ++ t) d ≡ turn s d
 turn_first [] t d h = cc
 turn_first (around ∷ s) t d h = elim (cases_Bool (has_dart around d)) [
-  | inl e ↦
-      ap (λ (b : Bool). cond b (follower (slice_index_or around 0 d) around d) (turn (s ++ t) d)) e
-      ∙ sym (ap (λ (b : Bool). cond b (follower (slice_index_or around 0 d) around d) (turn s d)) e)
+  | inl e ↦ cc
   | inr e ↦
       let rest = turn_first s t d (sym (ap (λ b. b || stands_in s d) e) ∙ sym (has_dart-append around (darts_in s) d) ∙ h) in
       ap (λ (y : Dart). cond (has_dart around d) (follower (slice_index_or around 0 d) around d) y) rest
@@ -91,16 +89,7 @@ follower_new first x (y ∷ xs) ys h =
 pub follower_old : (first x d : Dart) (xs ys : List Dart) → same_dart d x ≡ false → has_dart xs x ≡ false
     → (follower first (xs ++ x ∷ ys) d ≡ follower first (xs ++ ys) d) ⊎ ((follower first (xs ++ x ∷ ys) d ≡ x) × (slice_index_or ys 0 first ≡ follower first (xs ++ ys) d))
 follower_old first x d [] ys other new = inl (ap (λ (b : Bool). cond b (slice_index_or ys 0 first) (follower first ys d)) other)
-follower_old first x d (y ∷ []) ys other new = elim (cases_Bool (same_dart d y)) [
-  | inl e ↦ inr (
-    ap (λ (b : Bool). cond b x (follower first (x ∷ ys) d)) e,
-    sym (ap (λ (b : Bool). cond b (slice_index_or ys 0 first) (follower first ys d)) e),
-  )
-  | inr e ↦ inl (
-      ap (λ (b : Bool). cond b x (follower first (x ∷ ys) d)) e
-      ∙ ap (λ (b : Bool). cond b (slice_index_or ys 0 first) (follower first ys d)) other
-      ∙ sym (ap (λ (b : Bool). cond b (slice_index_or ys 0 first) (follower first ys d)) e))
-]
+follower_old first x d (y ∷ []) ys other new = grind (arith, cases_Bool)
 follower_old first x d (y ∷ w ∷ xs) ys other new = elim (cases_Bool (same_dart d y)) [
   | inl e ↦ inl (
       ap (λ (b : Bool). cond b w (follower first (w ∷ xs ++ x ∷ ys) d)) e
@@ -142,16 +131,7 @@ any_bare-append (around ∷ s) t = ap (λ b. length around == 0 || b) (any_bare-
 
 -- no point is bare after one of them has another list that is not empty, and one dart has a point of its own
 no_bare : (before after crossings : System) (around changed : List Dart) (y : Dart) → (length changed == 0) ≡ false → any_bare ((before ++ around ∷ after) ++ crossings) ≡ false → any_bare ((before ++ changed ∷ after) ++ (y ∷ []) ∷ crossings) ≡ false
-no_bare before after crossings around changed y full none =
-    let parts = sym (any_bare-append (before ++ around ∷ after) crossings ∙ ap (λ b. b || any_bare crossings) (any_bare-append before (around ∷ after))) ∙ none in
-    let first = or_left_false (any_bare before || (length around == 0 || any_bare after)) (any_bare crossings) parts in
-    let behind = or_right_false (length around == 0) (any_bare after) (or_right_false (any_bare before) (length around == 0 || any_bare after) first) in
-    any_bare-append (before ++ changed ∷ after) ((y ∷ []) ∷ crossings)
-    ∙ ap (λ b. b || any_bare crossings) (any_bare-append before (changed ∷ after))
-    ∙ ap (λ b. (b || (length changed == 0 || any_bare after)) || any_bare crossings) (or_left_false (any_bare before) _ first)
-    ∙ ap (λ b. (b || any_bare after) || any_bare crossings) full
-    ∙ ap (λ b. b || any_bare crossings) behind
-    ∙ or_right_false (any_bare before || (length around == 0 || any_bare after)) (any_bare crossings) parts
+no_bare before after crossings around changed y full none = grind (arith, any_bare-append, or_left_false, or_right_false)
 
 -- ---- One dart more in a system
 
@@ -164,15 +144,10 @@ module _ (before after crossings : System) (z : Dart) (zs ys : List Dart) (x y :
   new_system = (before ++ (z ∷ zs ++ x ∷ ys) ∷ after) ++ (y ∷ []) ∷ crossings
 
   stands_old : (d : Dart) → stands_in old_system d ≡ ((stands_in before d || (has_dart (z ∷ zs ++ ys) d || stands_in after d)) || stands_in crossings d)
-  stands_old d =
-      stands_in-append (before ++ (z ∷ zs ++ ys) ∷ after) crossings d
-      ∙ ap (λ b. b || stands_in crossings d) (stands_in-append before ((z ∷ zs ++ ys) ∷ after) d ∙ ap (λ b. stands_in before d || b) (has_dart-append (z ∷ zs ++ ys) (darts_in after) d))
+  stands_old d = grind (arith, stands_in-append, has_dart-append)
 
   stands_new : (d : Dart) → stands_in new_system d ≡ ((stands_in before d || (has_dart (z ∷ zs ++ x ∷ ys) d || stands_in after d)) || (has_dart (y ∷ []) d || stands_in crossings d))
-  stands_new d =
-      stands_in-append (before ++ (z ∷ zs ++ x ∷ ys) ∷ after) ((y ∷ []) ∷ crossings) d
-      ∙ ap (λ b. b || stands_in ((y ∷ []) ∷ crossings) d) (stands_in-append before ((z ∷ zs ++ x ∷ ys) ∷ after) d ∙ ap (λ b. stands_in before d || b) (has_dart-append (z ∷ zs ++ x ∷ ys) (darts_in after) d))
-      ∙ ap (λ b. (stands_in before d || (has_dart (z ∷ zs ++ x ∷ ys) d || stands_in after d)) || b) (has_dart-append (y ∷ []) (darts_in crossings) d)
+  stands_new d = grind (arith, stands_in-append, has_dart-append)
 
   same_list : (d : Dart) → same_dart d x ≡ false → has_dart (z ∷ zs ++ x ∷ ys) d ≡ has_dart (z ∷ zs ++ ys) d
   same_list d other = has_dart-append (z ∷ zs) (x ∷ ys) d ∙ ap (λ b. has_dart (z ∷ zs) d || (b || has_dart ys d)) other ∙ sym (has_dart-append (z ∷ zs) ys d)
@@ -203,10 +178,7 @@ module _ (before after crossings : System) (z : Dart) (zs ys : List Dart) (x y :
 
   -- the point of y changes the turn of no other dart
   turn_beside : (s : System) (d : Dart) → same_dart d y ≡ false → turn (s ++ (y ∷ []) ∷ crossings) d ≡ turn (s ++ crossings) d
-  turn_beside s d other = elim (cases_Bool (stands_in s d)) [
-    | inl e ↦ turn_first s ((y ∷ []) ∷ crossings) d e ∙ sym (turn_first s crossings d e)
-    | inr e ↦ turn_second s ((y ∷ []) ∷ crossings) d e ∙ turn_past (y ∷ []) crossings d (ap (λ b. b || false) other) ∙ sym (turn_second s crossings d e)
-  ]
+  turn_beside s d other = grind (arith, cases_Bool, turn_first, turn_second, turn_past)
 
   -- at the darts before the point of x, that point and those behind it
   old_in_parts : (d : Dart) → turn old_system d ≡ turn (before ++ (z ∷ zs ++ ys) ∷ (after ++ crossings)) d
@@ -242,11 +214,7 @@ module _ (before after crossings : System) (z : Dart) (zs ys : List Dart) (x y :
 
     -- the new dart turns to what stands behind it
     turn_of_new : turn new_system x ≡ slice_index_or ys 0 z
-    turn_of_new =
-        new_in_parts x twins_apart
-        ∙ turn_second before ((z ∷ zs ++ x ∷ ys) ∷ (after ++ crossings)) x x_not_before
-        ∙ turn_at (z ∷ zs ++ x ∷ ys) (after ++ crossings) x in_new_list
-        ∙ follower_new z x (z ∷ zs) ys x_not_around
+    turn_of_new = grind (arith, new_in_parts, twins_apart, turn_second, x_not_before, turn_at, in_new_list, follower_new, x_not_around)
 
     -- an old turn is a new turn, or two of them by way of x
     pub turn_of_old : (d : Dart) → same_dart d x ≡ false → same_dart d y ≡ false
@@ -272,17 +240,7 @@ module _ (before after crossings : System) (z : Dart) (zs ys : List Dart) (x y :
 
     -- y turns to itself
     pub turn_of_twin : turn new_system y ≡ y
-    turn_of_twin =
-        let in_parts = sym (stands_old y) ∙ new_y in
-        let points = or_left_false (stands_in before y || (has_dart (z ∷ zs ++ ys) y || stands_in after y)) (stands_in crossings y) in_parts in
-        let not_x : same_dart y x ≡ false = elim (cases_Bool (same_dart y x)) [ inl e ↦ absurd (twin_apart x (twins ∙ same_dart_true y x e)) | inr e ↦ e ] in
-        let not_in_points : stands_in Q y ≡ false =
-        stands_in-append before ((z ∷ zs ++ x ∷ ys) ∷ after) y
-        ∙ ap (λ b. stands_in before y || b) (has_dart-append (z ∷ zs ++ x ∷ ys) (darts_in after) y ∙ ap (λ b. b || stands_in after y) (same_list y not_x))
-        ∙ points in
-        turn_second Q ((y ∷ []) ∷ crossings) y not_in_points
-        ∙ turn_at (y ∷ []) crossings y (or_left (same_dart y y) false (same_dart_self y))
-        ∙ ap (λ (b : Bool). cond b y y) (same_dart_self y)
+    turn_of_twin = grind (arith, stands_old, or_left_false, twin_apart, same_dart_true, stands_in-append, has_dart-append, same_list, turn_second, turn_at, or_left, same_dart_self)
 
     -- so what an old turn leads to is joined by new turns
     old_turn_joined : (d : Dart) → Joined (turn new_system) dart_twin d (turn old_system d)
@@ -320,10 +278,7 @@ module _ (before after crossings : System) (z : Dart) (zs ys : List Dart) (x y :
           let in_list : has_dart (z ∷ zs ++ ys) d ≡ true = has_dart-append (z ∷ zs) ys d ∙ or_left (has_dart (z ∷ zs) d) (has_dart ys d) last.1 in
           let in_new : has_dart (z ∷ zs ++ x ∷ ys) d ≡ true = has_dart-append (z ∷ zs) (x ∷ ys) d ∙ or_left (has_dart (z ∷ zs) d) (has_dart (x ∷ ys) d) last.1 in
           let old = in_old d in_list in
-          let not_y : same_dart d y ≡ false = elim (cases_Bool (same_dart d y)) [
-            | inl e ↦ absurd (false≢true (sym new_y ∙ ap (stands_in old_system) (sym (same_dart_true d y e)) ∙ old))
-            | inr e ↦ e
-          ] in
+          let not_y : same_dart d y ≡ false = grind (arith, cases_Bool, false≢true, same_dart_true) in
           let not_before : stands_in before d ≡ false = elim (cases_Bool (stands_in before d)) [
             | inl e ↦ absurd (
                 let all = count_old d in
@@ -331,14 +286,7 @@ module _ (before after crossings : System) (z : Dart) (zs ys : List Dart) (x y :
                 let here = any_counted (same_dart d) (z ∷ zs) last.1 in
                 let there = any_counted (same_dart d) (darts_in before) e in omega arith)
             | inr e ↦ e
-          ] in (
-            d,
-            old,
-            new_in_parts d not_y
-                ∙ turn_second before ((z ∷ zs ++ x ∷ ys) ∷ (after ++ crossings)) d not_before
-                ∙ turn_at (z ∷ zs ++ x ∷ ys) (after ++ crossings) d in_new
-                ∙ last.2,
-          )
+          ] in grind (arith, new_in_parts, turn_second, turn_at)
 
     module _ (once : (d : Dart) → count_by (same_dart d) (darts_in old_system) ≤ 1) (connected : Connected old_system) where
       head_or : (first : Dart) (cs : List Dart) → (slice_index_or cs 0 first ≡ first) ⊎ (has_dart cs (slice_index_or cs 0 first) ≡ true)
@@ -347,10 +295,7 @@ module _ (before after crossings : System) (z : Dart) (zs ys : List Dart) (x y :
 
       -- and the new one turns to an old dart
       next_is_old : stands_in old_system (slice_index_or ys 0 z) ≡ true
-      next_is_old = elim (head_or z ys) [
-        | inl first ↦ ap (stands_in old_system) first ∙ in_old z (ap (λ b. b || has_dart (zs ++ ys) z) (same_dart_self z))
-        | inr behind ↦ in_old (slice_index_or ys 0 z) (has_dart-append (z ∷ zs) ys (slice_index_or ys 0 z) ∙ or_right (has_dart (z ∷ zs) (slice_index_or ys 0 z)) (has_dart ys (slice_index_or ys 0 z)) behind)
-      ]
+      next_is_old = grind (arith, head_or, in_old, has_dart-append, or_right)
 
       x_leads : Joined (turn new_system) dart_twin x (slice_index_or ys 0 z)
       x_leads = subst (Joined (turn new_system) dart_twin x) turn_of_new (joined_move (turn new_system) dart_twin Turn x)
@@ -371,10 +316,7 @@ module _ (before after crossings : System) (z : Dart) (zs ys : List Dart) (x y :
       leads_to_old : (c : Dart) → stands_in new_system c ≡ true → LeadsToOld c
       leads_to_old c h = elim (new_or_old c h) [
         | inl old ↦ (c, old, joined_self (turn new_system) dart_twin c)
-        | inr k ↦ elim k [
-          | inl is_x ↦ subst LeadsToOld (sym is_x) (slice_index_or ys 0 z, next_is_old, x_leads)
-          | inr is_y ↦ subst LeadsToOld (sym is_y) (slice_index_or ys 0 z, next_is_old, joined_through (turn new_system) dart_twin y x (slice_index_or ys 0 z) y_leads x_leads)
-        ]
+        | inr k ↦ grind (arith, next_is_old, x_leads, joined_through, y_leads)
       ]
 
       led_from_old : (c : Dart) → stands_in new_system c ≡ true → LedFromOld c

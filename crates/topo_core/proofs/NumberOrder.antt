@@ -30,21 +30,13 @@ less_of : (m n : ℕ) → m < n → (nat_cmp m n ≡ Less) × (nat_cmp n m ≡ G
 less_of m n h = (grind (arith, nat_tests), grind (arith, nat_tests))
 
 by_edge : (c d : Dart) → c.edge < d.edge → Precedes c d
-by_edge c d h =
-    let o = less_of c.edge d.edge h in (
-      ap (λ x. ordering_then x (ordering_then (nat_cmp c.seg d.seg) (way_cmp c.way d.way))) o.0,
-      ap (λ x. ordering_then x (ordering_then (nat_cmp d.seg c.seg) (way_cmp d.way c.way))) o.1,
-    )
+by_edge c d h = grind (arith, less_of)
 
 equal_of : (m n : ℕ) → m ≡ n → nat_cmp m n ≡ Equal
 equal_of m n e = ap (nat_cmp m) (sym e) ∙ nat_cmp_self m
 
 by_seg : (c d : Dart) → c.edge ≡ d.edge → c.seg < d.seg → Precedes c d
-by_seg c d e h =
-    let o = less_of c.seg d.seg h in (
-      ap (λ x. ordering_then x (ordering_then (nat_cmp c.seg d.seg) (way_cmp c.way d.way))) (equal_of c.edge d.edge e) ∙ ap (λ x. ordering_then x (way_cmp c.way d.way)) o.0,
-      ap (λ x. ordering_then x (ordering_then (nat_cmp d.seg c.seg) (way_cmp d.way c.way))) (equal_of d.edge c.edge (sym e)) ∙ ap (λ x. ordering_then x (way_cmp d.way c.way)) o.1,
-    )
+by_seg c d e h = grind (arith, less_of, equal_of)
 
 -- c comes before each dart of the list
 abbrev Leads : Dart → List Dart → Type 0
@@ -118,10 +110,7 @@ edge_rises e a (suc n) =
       ),
     ) where
       two_ways : (e a : ℕ) → Precedes (record { edge = e; seg = a; way = Forward }) (record { edge = e; seg = a; way = Back })
-      two_ways e a = (
-        ap (λ x. ordering_then x (ordering_then (nat_cmp a a) Less)) (nat_cmp_self e) ∙ ap (λ x. ordering_then x Less) (nat_cmp_self a),
-        ap (λ x. ordering_then x (ordering_then (nat_cmp a a) Greater)) (nat_cmp_self e) ∙ ap (λ x. ordering_then x Greater) (nat_cmp_self a),
-      )
+      two_ways e a = grind (arith, nat_cmp_self)
 
 -- ---- The darts of all edges
 
@@ -179,14 +168,7 @@ number_order rows paths = place_order (darts rows) (all_rise rows.next_edge rows
 module _ (rows : Rows) (paths : has_good_paths rows ≡ true) (c d : Dart) (c_in : has_dart (darts rows) c ≡ true) (d_in : has_dart (darts rows) d ≡ true) where
   -- no later number is that of no later dart
   pub not_later : index_of rows c ≤ index_of rows d → dart_cmp c d ≢ Greater
-  not_later low greater = elim (cases_eq (index_of rows c) (index_of rows d)) [
-    | inl e ↦
-        let one : c ≡ d = index_apart rows paths c d c_in d_in e in
-        let bad : Equal ≡ Greater = sym (dart_cmp_self c) ∙ ap (dart_cmp c) one ∙ greater in cc
-    | inr ne ↦
-        let order = number_order rows paths c d c_in d_in (omega arith) in
-        let bad : Less ≡ Greater = sym order.0 ∙ greater in cc
-  ]
+  not_later low greater = grind (arith, cases_eq, index_apart, dart_cmp_self, number_order)
 
   -- an earlier dart has a smaller number
   pub order_number : dart_cmp c d ≡ Less → index_of rows c < index_of rows d
@@ -211,9 +193,7 @@ Below c d = (c.edge < d.edge) ⊎ ((c.edge ≡ d.edge) × ((c.seg < d.seg) ⊎ (
 below_less : (c d : Dart) → Below c d → dart_cmp c d ≡ Less
 below_less c d (inl h) = (by_edge c d h).0
 below_less c d (inr (e, inl h)) = (by_seg c d e h).0
-below_less c d (inr (e, inr (s, w))) =
-    ap (λ x. ordering_then x (ordering_then (nat_cmp c.seg d.seg) (way_cmp c.way d.way))) (equal_of c.edge d.edge e)
-    ∙ ap (λ x. ordering_then x (way_cmp c.way d.way)) (equal_of c.seg d.seg s) ∙ w
+below_less c d (inr (e, inr (s, w))) = grind (arith, equal_of)
 
 compared : (v w : Way) → (way_cmp v w ≡ Less) ⊎ ((v ≡ w) ⊎ (way_cmp w v ≡ Less))
 compared Forward Forward = inr (inl refl)
@@ -223,25 +203,11 @@ compared Back Back = inr (inl refl)
 
 -- of two darts one is below the other, or they are one
 pub one_below : (c d : Dart) → Below c d ⊎ ((c ≡ d) ⊎ Below d c)
-one_below c d = elim (cases_eq c.edge d.edge) [
-  | inr apart ↦ elim (cases_lt c.edge d.edge) [ inl less ↦ inl (inl less) | inr more ↦ inr (inr (inl (omega arith))) ]
-  | inl edges ↦ elim (cases_eq c.seg d.seg) [
-    | inr apart ↦ elim (cases_lt c.seg d.seg) [ inl less ↦ inl (inr (edges, inl less)) | inr more ↦ inr (inr (inr (sym edges, inl (omega arith)))) ]
-    | inl segs ↦ elim (compared c.way d.way) [
-      | inl less ↦ inl (inr (edges, inr (segs, less)))
-      | inr (inl ways) ↦ inr (inl (λ i. record { edge = edges i; seg = segs i; way = ways i }))
-      | inr (inr more) ↦ inr (inr (inr (sym edges, inr (sym segs, more))))
-    ]
-  ]
-]
+one_below c d = grind (arith, cases_eq, cases_lt, compared)
 
 -- of two darts one comes before the other, or they are one
 pub order_total : (c d : Dart) → (dart_cmp c d ≡ Less) ⊎ ((c ≡ d) ⊎ (dart_cmp d c ≡ Less))
-order_total c d = elim (one_below c d) [
-  | inl less ↦ inl (below_less c d less)
-  | inr (inl same) ↦ inr (inl same)
-  | inr (inr more) ↦ inr (inr (below_less d c more))
-]
+order_total c d = grind (arith, one_below, below_less)
 
 not_both : (c d : Dart) → Below d c → dart_cmp c d ≡ Less → ⊥
 not_both c d (inl h) less = let bad : Greater ≡ Less = sym (by_edge d c h).1 ∙ less in cc
@@ -258,11 +224,7 @@ not_both c d (inr (e, inr (s, w))) less =
       ways_apart Back Back h k = cc
 
 less_below : (c d : Dart) → dart_cmp c d ≡ Less → Below c d
-less_below c d less = elim (one_below c d) [
-  | inl below ↦ below
-  | inr (inl same) ↦ let bad : Equal ≡ Less = sym (dart_cmp_self c) ∙ ap (dart_cmp c) same ∙ less in cc
-  | inr (inr more) ↦ absurd (not_both c d more less)
-]
+less_below c d less = grind (arith, one_below, dart_cmp_self, not_both)
 
 below_through : (c d e : Dart) → Below c d → Below d e → Below c e
 below_through c d e (inl h) (inl k) = inl (omega arith)

@@ -129,36 +129,15 @@ pub place_twin : (ds : List Dart) → IsPaired ds → (d : Dart) → has_dart ds
 place_twin [] h d there = cc
 place_twin (c ∷ []) h d there = absurd h
 place_twin (c ∷ b ∷ ds) h d there = elim (cases_Bool (same_dart d c)) [
-  | inl e ↦
-      let d_is = same_dart_true d c e in
-      let off : same_dart (dart_twin d) c ≡ false = not_same (dart_twin d) c (λ k. twin_apart d (k ∙ sym d_is)) in
-      let on : same_dart (dart_twin d) b ≡ true = same_from (dart_twin d) b (ap dart_twin d_is ∙ sym h.1) in
-      let first = place_later (b ∷ ds) c (dart_twin d) off in
-      let second = place_here ds b (dart_twin d) on in
-      let at : place_in (c ∷ b ∷ ds) (dart_twin d) ≡ 1 = omega arith in (
-        at ∙ sym (ap twin (place_here (b ∷ ds) c d e)),
-        or_right (same_dart (dart_twin d) c) (has_dart (b ∷ ds) (dart_twin d)) (or_left (same_dart (dart_twin d) b) (has_dart ds (dart_twin d)) on),
-      )
+  | inl e ↦ grind (arith, same_dart_true, not_same, twin_apart, same_from, place_later, place_here, or_right, or_left)
   | inr not_c ↦ elim (cases_Bool (same_dart d b)) [
-    | inl e ↦
-        let d_is = same_dart_true d b e in
-        let on : same_dart (dart_twin d) c ≡ true = same_from (dart_twin d) c (ap dart_twin (d_is ∙ h.1) ∙ twin-twin c) in
-        let first = place_later (b ∷ ds) c d not_c in
-        let second = place_here ds b d e in
-        let at : place_in (c ∷ b ∷ ds) d ≡ 1 = omega arith in (
-          place_here (b ∷ ds) c (dart_twin d) on ∙ sym (ap twin at),
-          or_left (same_dart (dart_twin d) c) (has_dart (b ∷ ds) (dart_twin d)) on,
-        )
+    | inl e ↦ grind (arith, same_dart_true, same_from, twin-twin, place_later, place_here, or_left)
     | inr not_b ↦
         let twin_not_c : same_dart (dart_twin d) c ≡ false = not_same (dart_twin d) c (λ k. false≢true (sym not_b ∙ same_from d b (sym (twin-twin d) ∙ ap dart_twin k ∙ sym h.1))) in
         let twin_not_b : same_dart (dart_twin d) b ≡ false = not_same (dart_twin d) b (λ k. false≢true (sym not_c ∙ same_from d c (sym (twin-twin d) ∙ ap dart_twin (k ∙ h.1) ∙ twin-twin c))) in
         let inside = or_second (same_dart d b) (has_dart ds d) not_b (or_second (same_dart d c) (has_dart (b ∷ ds) d) not_c there) in
         let rest = place_twin ds h.2 d inside in
-        let place : place_in (c ∷ b ∷ ds) d ≡ 1 + (1 + place_in ds d) = place_later (b ∷ ds) c d not_c ∙ ap (λ n. 1 + n) (place_later ds b d not_b) in
-        let other : place_in (c ∷ b ∷ ds) (dart_twin d) ≡ 1 + (1 + place_in ds (dart_twin d)) = place_later (b ∷ ds) c (dart_twin d) twin_not_c ∙ ap (λ n. 1 + n) (place_later ds b (dart_twin d) twin_not_b) in (
-          other ∙ ap (λ n. 1 + (1 + n)) rest.0 ∙ sym (twin_step (place_in ds d)) ∙ sym (ap twin place),
-          or_right (same_dart (dart_twin d) c) (has_dart (b ∷ ds) (dart_twin d)) (or_right (same_dart (dart_twin d) b) (has_dart ds (dart_twin d)) rest.1),
-        )
+        grind (arith, place_later, twin_step, or_right)
   ]
 ]
 
@@ -169,14 +148,11 @@ forward_even (c ∷ []) h d there forward = absurd h
 forward_even (c ∷ b ∷ ds) h d there forward = elim (cases_Bool (same_dart d c)) [
   | inl e ↦ ap (λ n. n % 2) (place_here (b ∷ ds) c d e)
   | inr not_c ↦ elim (cases_Bool (same_dart d b)) [
-    | inl e ↦
-        let leads_back : d.way ≡ Back = ap (λ y. y.way) (same_dart_true d b e ∙ h.1) ∙ ap reversed h.0 in
-        let both : Forward ≡ Back = sym forward ∙ leads_back in cc
+    | inl e ↦ grind (arith, same_dart_true)
     | inr not_b ↦
         let inside = or_second (same_dart d b) (has_dart ds d) not_b (or_second (same_dart d c) (has_dart (b ∷ ds) d) not_c there) in
         let rest = forward_even ds h.2 d inside forward in
-        let first = place_later (b ∷ ds) c d not_c in
-        let second = place_later ds b d not_b in omega arith
+        grind (arith, place_later)
   ]
 ]
 

@@ -1,5 +1,5 @@
 -- The darts of an opened system and their numbers have the same connections and the same faces.
-use Rattle.std.proofs.Common.{◌≡◌, ◌&&◌, ap, Bool, false, inl, inr, not, refl, sym, true, ℕ, ◌∙◌}
+use Rattle.std.proofs.Common.{arith, ◌≡◌, ◌&&◌, ap, Bool, false, inl, inr, not, refl, sym, true, ℕ, ◌∙◌}
 use Rattle.std.proofs.lemmas.Bool.{cases_Bool, false≢true}
 use Rattle.topo_core.specs.declared.darts.Dart.{Dart}
 use Rattle.topo_core.specs.declared.rows.Rows.{Rows}
@@ -62,10 +62,7 @@ module _ (rows : Rows) (paths : has_good_paths rows ≡ true) (crossings : has_g
   pub rest_face_darts : (c d : Dart) → IsLeft c → IsLeft d → SameCycle (face_next f) (index_of rows c) (index_of rows d) → SameFace rest c d
   rest_face_darts c d c_left d_left same =
       let led = after_carried (index_of rows) IsLeft (face_step rest) (face_next f) rest_face_carried same.steps c c_left in
-      record {
-        steps = same.steps;
-        leads = index_apart rows paths (after (face_step rest) same.steps c) d led.0.here d_left.here (sym led.1 ∙ same.leads);
-      }
+      grind (arith, index_apart)
 
   -- darts that are left are joined as their numbers are
   pub rest_joined_numbers : (c d : Dart) → IsLeft c → Joined (turn rest) dart_twin c d → Joined f twin (index_of rows c) (index_of rows d)
@@ -78,10 +75,7 @@ module _ (rows : Rows) (paths : has_good_paths rows ≡ true) (crossings : has_g
   pub rest_joined_darts : (c d : Dart) → IsLeft c → IsLeft d → Joined f twin (index_of rows c) (index_of rows d) → Joined (turn rest) dart_twin c d
   rest_joined_darts c d c_left d_left joined =
       let led = along_carried (index_of rows) IsLeft (turn rest) dart_twin f twin rest_turn_carried rest_twin_carried joined.moves c c_left in
-      record {
-        moves = joined.moves;
-        leads = index_apart rows paths (along (turn rest) dart_twin joined.moves c) d led.0.here d_left.here (sym led.1 ∙ joined.leads);
-      }
+      grind (arith, index_apart)
 
   -- the darts that are left
   pub rest_test : (d : Dart) → has_dart (darts_in rest) d ≡ (has_dart (darts rows) d && not (gone d))

@@ -88,23 +88,14 @@ module _ (rows : Rows) (paths : has_good_paths rows ≡ true) (crossings : has_g
 
     -- no number of a dart that is out is the number of what a dart that is left turns to
     never_gone : (a b : ℕ) → a < length (darts rows) → b < length (darts rows) → gone (dart_numbered rows a) ≡ true → gone (dart_numbered rows b) ≡ false → a ≡ index_of rows (turn rest (dart_numbered rows b)) → ⊥
-    never_gone a b la lb out stays e =
-        let turned = left_turn (dart_numbered rows b) (numbered_here b lb) stays in
-        let same : dart_numbered rows a ≡ turn rest (dart_numbered rows b) = ap (dart_numbered rows) e ∙ numbered_index (turn rest (dart_numbered rows b)) turned.0 in
-        false≢true (sym turned.1 ∙ ap gone (sym same) ∙ out)
+    never_gone a b la lb out stays e = grind (arith, left_turn, numbered_here, numbered_index, false≢true)
 
     -- the turn of what is left is a permutation of the numbers
     pub without_permutes : IsPermutation (turn_without rows gone) (length (darts rows))
     without_permutes = record {
-      within = λ a h. elim (cases_Bool (gone (dart_numbered rows a))) [
-        | inl e ↦ subst (λ n. n < length (darts rows)) (sym (without_gone a e)) h
-        | inr e ↦ subst (λ n. n < length (darts rows)) (sym (without_left a e)) (number_less (turn rest (dart_numbered rows a)) (left_turn (dart_numbered rows a) (numbered_here a h) e).0)
-      ];
+      within = λ a h. grind (arith, cases_Bool, without_gone, without_left, number_less, left_turn, numbered_here);
       apart = λ a b h k same. elim (cases_Bool (gone (dart_numbered rows a))) [
-        | inl e ↦ elim (cases_Bool (gone (dart_numbered rows b))) [
-          | inl d ↦ sym (without_gone a e) ∙ same ∙ without_gone b d
-          | inr d ↦ absurd (never_gone a b h k e d (sym (without_gone a e) ∙ same ∙ without_left b d))
-        ]
+        | inl e ↦ grind (arith, cases_Bool, without_gone, never_gone, without_left)
         | inr e ↦ elim (cases_Bool (gone (dart_numbered rows b))) [
           | inl d ↦ absurd (never_gone b a k h d e (sym (without_gone b d) ∙ sym same ∙ without_left a e))
           | inr d ↦
@@ -138,13 +129,7 @@ module _ (rows : Rows) (paths : has_good_paths rows ≡ true) (crossings : has_g
         | inr between ↦ without_left (one_more gone y) a (still a h other stays) ∙ ap (index_of rows) between.1 ∙ sym (left_turns gone y y_here y_left)
       ]
     ];
-    elsewhere = λ a h other not_there. elim (cases_Bool (gone (dart_numbered rows a))) [
-      | inl out ↦ without_gone (one_more gone y) a (or_left (gone (dart_numbered rows a)) (same_dart y (dart_numbered rows a)) out) ∙ sym (without_gone gone a out)
-      | inr stays ↦ elim (next a h other stays) [
-        | inl same ↦ without_left (one_more gone y) a (still a h other stays) ∙ ap (index_of rows) same ∙ sym (without_left gone a stays)
-        | inr between ↦ absurd (not_there (without_left gone a stays ∙ ap (index_of rows) between.0))
-      ]
-    ];
+    elsewhere = λ a h other not_there. grind (arith, cases_Bool, without_gone, or_left, next, without_left, still);
   } where
     differs : (a : ℕ) → a < length (darts rows) → a ≢ index_of rows y → (dart_numbered rows a ≡ y → ⊥)
     differs a h other e = other (sym (index_numbered a h) ∙ ap (index_of rows) e)

@@ -84,24 +84,10 @@ abbrev closed : ℕ → ℕ → ℕ
 closed v x = cond (ltb x v) x (x - 1)
 
 closed-below : (v x n : ℕ) → x < suc n → v < suc n → x ≢ v → closed v x < n
-closed-below v x n l lv ne =
-    elim (cases_Bool (ltb x v)) [
-      | inl low ↦ let lt : x < v = ltb-true x v low in rw low (omega arith)
-      | inr high ↦ let ge : v ≤ x = ltb-false x v high in rw high (omega arith)
-    ]
+closed-below v x n l lv ne = grind (arith, cases_Bool, ltb-true, ltb-false)
 
 closed-apart : (v x y : ℕ) → x ≢ v → y ≢ v → closed v x ≡ closed v y → x ≡ y
-closed-apart v x y nx ny e =
-    elim (cases_Bool (ltb x v)) [
-      | inl xs ↦ let lx : x < v = ltb-true x v xs in elim (cases_Bool (ltb y v)) [
-        | inl ys ↦ let w : x ≡ y = rw (xs, ys) at e in w
-        | inr ys ↦ let w : x ≡ y - 1 = rw (xs, ys) at e in let ly : v ≤ y = ltb-false y v ys in omega arith
-      ]
-      | inr xs ↦ let lx : v ≤ x = ltb-false x v xs in elim (cases_Bool (ltb y v)) [
-        | inl ys ↦ let w : x - 1 ≡ y = rw (xs, ys) at e in let ly : y < v = ltb-true y v ys in omega arith
-        | inr ys ↦ let w : x - 1 ≡ y - 1 = rw (xs, ys) at e in let ly : v ≤ y = ltb-false y v ys in omega arith
-      ]
-    ]
+closed-apart v x y nx ny e = grind (arith, cases_Bool, ltb-true, ltb-false)
 
 -- n + 1 numbers below n are not all different
 pub two_alike : (n : ℕ) (g : ℕ → ℕ) → ((i : ℕ) → i ≤ n → g i < n) → TwoAlike g n
@@ -133,15 +119,7 @@ period f n h a l =
     let t : TwoAlike (λ k. after f k a) n = two_alike n (λ k. after f k a) (λ k _. after-within f n h k a l) in
     let d : ℕ = t.other - t.one in
     let e : t.one + d ≡ t.other = omega (arith, t.order) in
-    let same : after f t.one a ≡ after f t.one (after f d a) =
-    t.alike ∙ ap (λ k. after f k a) (sym e) ∙ after-add f t.one d a in (
-      d,
-      omega (arith, t.within),
-      record {
-        some = omega (arith, t.order);
-        home = sym (after-apart f n h t.one a (after f d a) l (after-within f n h d a l) same);
-      },
-    )
+    grind (arith, after-add, after-apart, after-within)
 
 -- each step of a walk is one of the first d
 pub wraps : (f : ℕ → ℕ) (a d : ℕ) → IsPeriod f a d → (k : ℕ) → (m : ℕ) × (m < d) × (after f k a ≡ after f m a)
@@ -174,15 +152,11 @@ SameCycle-sym f n h a b l g =
     let (d, ld, p) = period f n h a l in
     let (m, lm, e) = wraps f a d p g.steps in
     let whole : (d - m) + m ≡ d = omega arith in
-    record {
-      steps = d - m;
-      leads = ap (λ x. after f (d - m) x) (sym g.leads ∙ e) ∙ sym (after-add f (d - m) m a) ∙ ap (λ k. after f k a) whole ∙ p.home;
-    }
+    grind (arith, after-add)
 
 -- what is met lies on the cycle
 pub is_met-SameCycle : (f : ℕ → ℕ) (n a b : ℕ) → is_met f n a b ≡ true → SameCycle f a b
-is_met-SameCycle f n a b e =
-    let (k, l, pass) = from_some_below (λ k. after f k a == b) n e in record { steps = k; leads = eqb-true _ _ pass }
+is_met-SameCycle f n a b e = grind (arith, from_some_below, eqb-true)
 
 -- and what lies on the cycle is met within n steps
 pub SameCycle-is_met : (f : ℕ → ℕ) (n : ℕ) → IsPermutation f n → (a b : ℕ) → a < n → SameCycle f a b → is_met f n a b ≡ true

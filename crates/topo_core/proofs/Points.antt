@@ -71,10 +71,7 @@ images_apart g (b ∷ ds) distinct c d c_in d_in e =
     (or_left (same_dart (g z) (g b)) false (ap (λ a. same_dart a (g b)) (sym same ∙ ap g (same_dart_true y b is)) ∙ same_dart_self (g b)))
     (has_image g ds z there) in
     elim (cases_Bool (same_dart c b)) [
-      | inl c_is ↦ elim (cases_Bool (same_dart d b)) [
-        | inl d_is ↦ same_dart_true c b c_is ∙ sym (same_dart_true d b d_is)
-        | inr d_not ↦ absurd (twice c d c_is (or_second (same_dart d b) (has_dart ds d) d_not d_in) e)
-      ]
+      | inl c_is ↦ grind (arith, cases_Bool, same_dart_true, or_second)
       | inr c_not ↦ elim (cases_Bool (same_dart d b)) [
         | inl d_is ↦ absurd (twice d c d_is (or_second (same_dart c b) (has_dart ds c) c_not c_in) (sym e))
         | inr d_not ↦ images_apart g ds (distinct_tail (g b) (map g ds) distinct) c d (or_second (same_dart c b) (has_dart ds c) c_not c_in) (or_second (same_dart d b) (has_dart ds d) d_not d_in) e
@@ -106,19 +103,14 @@ pub has_passing : (keep : Dart → Bool) (ds : List Dart) (d : Dart) → has_dar
 has_passing keep [] d h = cc
 has_passing keep (c ∷ ds) d h = by_test (has_passing keep ds d) (keep c) h where
   by_test : (has_dart (filter keep ds) d ≡ true → has_dart ds d ≡ true) → (t : Bool) → has_dart (cond t (c ∷ filter keep ds) (filter keep ds)) d ≡ true → (same_dart d c || has_dart ds d) ≡ true
-  by_test rest true k = elim (or_cases (same_dart d c) (has_dart (filter keep ds) d) k) [
-    | inl e ↦ or_left (same_dart d c) (has_dart ds d) e
-    | inr e ↦ or_right (same_dart d c) (has_dart ds d) (rest e)
-  ]
+  by_test rest true k = grind (arith, or_cases, or_left, or_right)
   by_test rest false k = or_right (same_dart d c) (has_dart ds d) (rest k)
 
 -- and each that passes is one of them
 pub passing_has : (keep : Dart → Bool) (ds : List Dart) (d : Dart) → keep d ≡ true → has_dart ds d ≡ true → has_dart (filter keep ds) d ≡ true
 passing_has keep [] d passes h = cc
 passing_has keep (c ∷ ds) d passes h = elim (cases_Bool (same_dart d c)) [
-  | inl e ↦
-      ap (λ (t : Bool). has_dart (cond t (c ∷ filter keep ds) (filter keep ds)) d) (ap keep (sym (same_dart_true d c e)) ∙ passes)
-      ∙ or_left (same_dart d c) (has_dart (filter keep ds) d) e
+  | inl e ↦ grind (arith, same_dart_true, or_left)
   | inr e ↦ by_test (keep c) (passing_has keep ds d passes (or_second (same_dart d c) (has_dart ds d) e h))
 ] where
   by_test : (t : Bool) → has_dart (filter keep ds) d ≡ true → has_dart (cond t (c ∷ filter keep ds) (filter keep ds)) d ≡ true
@@ -131,10 +123,7 @@ fewer_pass keep (c ∷ ds) d =
     let rest = fewer_pass keep ds d in
     let all = sum_by-cons (λ y. one (same_dart d y)) c ds in
     let kept = sum_by-cons (λ y. one (same_dart d y)) c (filter keep ds) in
-    elim (cases_Bool (keep c)) [
-      | inl e ↦ subst (λ (t : Bool). count_by (same_dart d) (cond t (c ∷ filter keep ds) (filter keep ds)) ≤ count_by (same_dart d) (c ∷ ds)) (sym e) (omega arith)
-      | inr e ↦ subst (λ (t : Bool). count_by (same_dart d) (cond t (c ∷ filter keep ds) (filter keep ds)) ≤ count_by (same_dart d) (c ∷ ds)) (sym e) (omega arith)
-    ]
+    grind (arith, cases_Bool)
 
 -- no dart stands twice among those that pass
 pub distinct_passing : (keep : Dart → Bool) (ds : List Dart) → IsDistinct ds → IsDistinct (filter keep ds)
@@ -156,8 +145,6 @@ image_points g (around ∷ s) = ap (λ ds. map g around ++ ds) (image_points g s
 pub points_apart : {X : Type 0} (h : X → List Dart) (xs : List X) → IsDistinct (darts_in (map h xs)) → (a b : X) (d : Dart) → IsIn a xs → IsIn b xs → has_dart (h a) d ≡ true → has_dart (h b) d ≡ true → a ≡ b
 points_apart h [] distinct a b d a_in b_in p q = absurd a_in
 points_apart h (x ∷ xs) distinct a b d (inl e) (inl k) p q = e ∙ sym k
-points_apart h (x ∷ xs) distinct a b d (inl e) (inr k) p q =
-    absurd (not_in_both (h x) (darts_in (map h xs)) d distinct (ap (λ y. has_dart (h y) d) (sym e) ∙ p) (at_point_in (map h xs) (h b) d (in_map h b xs k) q))
-points_apart h (x ∷ xs) distinct a b d (inr e) (inl k) p q =
-    absurd (not_in_both (h x) (darts_in (map h xs)) d distinct (ap (λ y. has_dart (h y) d) (sym k) ∙ q) (at_point_in (map h xs) (h a) d (in_map h a xs e) p))
+points_apart h (x ∷ xs) distinct a b d (inl e) (inr k) p q = grind (arith, not_in_both, at_point_in, in_map)
+points_apart h (x ∷ xs) distinct a b d (inr e) (inl k) p q = grind (arith, not_in_both, at_point_in, in_map)
 points_apart h (x ∷ xs) distinct a b d (inr e) (inr k) p q = points_apart h xs (distinct_right (h x) (darts_in (map h xs)) distinct) a b d e k p q

@@ -1,5 +1,5 @@
 -- Where every edge has a price, a walk with a cost leads from any dart's face to any other's.
-use Rattle.std.proofs.Common.{◌≡◌, ◌∙◌, ap, ℕ, ◌+◌, ◌<◌, true, subst, List, [], ◌∷◌, ◌++◌, refl, sym}
+use Rattle.std.proofs.Common.{arith, ◌≡◌, ◌∙◌, ap, ℕ, ◌+◌, ◌<◌, true, subst, List, [], ◌∷◌, ◌++◌, refl, sym}
 use Rattle.std.specs.Prelude.{◌==◌, length, slice_get, Some}
 use Rattle.std.proofs.lemmas.Bool.{false≢true}
 use Rattle.topo_core.specs.declared.darts.Dart.{Dart}
@@ -58,14 +58,10 @@ module _ (price : Pricing) (rows : Rows) (good : IsWellFormed rows) (priced : Is
   walks_along [] a there = record { there = there; crossed = []; cost = 0; walk = same_self (system rows) a; costs = refl }
   walks_along (Turn ∷ ms) a there =
       let w = walks_along ms a there in
-      walks_on a (along (turn (system rows)) dart_twin ms a) (turn (system rows) (along (turn (system rows)) dart_twin ms a)) w
-      (turn_stays rows good.paths good.crossings good.rotations (along (turn (system rows)) dart_twin ms a) w.there)
-      (turn_behind (along (turn (system rows)) dart_twin ms a))
+      grind (arith, walks_on, turn_stays, turn_behind)
   walks_along (Cross ∷ ms) a there =
       let w = walks_along ms a there in
-      walks_on a (along (turn (system rows)) dart_twin ms a) (dart_twin (along (turn (system rows)) dart_twin ms a)) w
-      (twin_in rows (along (turn (system rows)) dart_twin ms a) w.there)
-      (same_self (system rows) (dart_twin (along (turn (system rows)) dart_twin ms a)))
+      grind (arith, walks_on, twin_in, same_self)
 
 -- a vertex of a connected picture has a corner
 has_corner : (rows : Rows) → IsEmbedding rows → (v : ℕ) → v < length rows.rotations → (c : Dart) × (corner rows v 0 ≡ Some c)

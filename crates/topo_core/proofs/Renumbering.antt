@@ -1,5 +1,5 @@
 -- Darts and their numbers have the same connections and the same faces.
-use Rattle.std.proofs.Common.{◌≡◌, ◌<◌, ap, length, List, refl, subst, suc, sym, true, zero, ℕ, [], ◌∙◌, ◌∷◌}
+use Rattle.std.proofs.Common.{arith, ◌≡◌, ◌<◌, ap, length, List, refl, subst, suc, sym, true, zero, ℕ, [], ◌∙◌, ◌∷◌}
 use Rattle.std.specs.Prelude.{slice_get, Some}
 use Rattle.topo_core.specs.declared.darts.Dart.{Dart}
 use Rattle.topo_core.specs.declared.rows.Rows.{Rows}
@@ -22,25 +22,16 @@ pub record Carries {X Y : Type 0} (h : X → Y) (P : X → Type 0) (f : X → X)
 pub after_carried : {X Y : Type 0} (h : X → Y) (P : X → Type 0) (f : X → X) (g : Y → Y) → Carries h P f g → (k : ℕ) (x : X) → P x → P (after f k x) × (after g k (h x) ≡ h (after f k x))
 after_carried h P f g c zero x p = (p, refl)
 after_carried h P f g c (suc k) x p =
-    let rest = after_carried h P f g c k x p in (
-      c.stays (after f k x) rest.0,
-      ap g rest.1 ∙ c.carried (after f k x) rest.0,
-    )
+    let rest = after_carried h P f g c k x p in grind arith
 
 -- moves by two such maps
 pub along_carried : {X Y : Type 0} (h : X → Y) (P : X → Type 0) (f other : X → X) (g twin : Y → Y) → Carries h P f g → Carries h P other twin → (moves : List Move) (x : X) → P x
     → P (along f other moves x) × (along g twin moves (h x) ≡ h (along f other moves x))
 along_carried h P f other g twin c d [] x p = (p, refl)
 along_carried h P f other g twin c d (Turn ∷ moves) x p =
-    let rest = along_carried h P f other g twin c d moves x p in (
-      c.stays (along f other moves x) rest.0,
-      ap g rest.1 ∙ c.carried (along f other moves x) rest.0,
-    )
+    let rest = along_carried h P f other g twin c d moves x p in grind arith
 along_carried h P f other g twin c d (Cross ∷ moves) x p =
-    let rest = along_carried h P f other g twin c d moves x p in (
-      d.stays (along f other moves x) rest.0,
-      ap twin rest.1 ∙ d.carried (along f other moves x) rest.0,
-    )
+    let rest = along_carried h P f other g twin c d moves x p in grind arith
 
 module _ (rows : Rows) (paths : has_good_paths rows ≡ true) (crossings : has_good_crossings rows ≡ true) (rotations : has_good_rotations rows ≡ true) where
   abbrev IsHere : Dart → Type 0
@@ -96,10 +87,7 @@ module _ (rows : Rows) (paths : has_good_paths rows ≡ true) (crossings : has_g
   pub joined_darts : (c d : Dart) → IsHere c → IsHere d → Joined (map_of images) twin (index_of rows c) (index_of rows d) → Joined (turn (system rows)) dart_twin c d
   joined_darts c d c_in d_in joined =
       let led = along_carried (index_of rows) IsHere (turn (system rows)) dart_twin (map_of images) twin turn_carried twin_carried joined.moves c c_in in
-      record {
-        moves = joined.moves;
-        leads = index_apart rows paths (along (turn (system rows)) dart_twin joined.moves c) d led.0 d_in (sym led.1 ∙ joined.leads);
-      }
+      grind (arith, index_apart)
 
   -- darts have one face on their left as their numbers do
   pub face_numbers : (c d : Dart) → IsHere c → SameFace (system rows) c d → SameCycle (face_next (map_of images)) (index_of rows c) (index_of rows d)
@@ -112,10 +100,7 @@ module _ (rows : Rows) (paths : has_good_paths rows ≡ true) (crossings : has_g
   pub face_darts : (c d : Dart) → IsHere c → IsHere d → SameCycle (face_next (map_of images)) (index_of rows c) (index_of rows d) → SameFace (system rows) c d
   face_darts c d c_in d_in same =
       let led = after_carried (index_of rows) IsHere (face_step (system rows)) (face_next (map_of images)) face_carried same.steps c c_in in
-      record {
-        steps = same.steps;
-        leads = index_apart rows paths (after (face_step (system rows)) same.steps c) d led.0 d_in (sym led.1 ∙ same.leads);
-      }
+      grind (arith, index_apart)
 
   -- any two darts are joined just when any two numbers are
   pub numbers_connected : ((c d : Dart) → has_dart (darts_in (system rows)) c ≡ true → has_dart (darts_in (system rows)) d ≡ true → Joined (turn (system rows)) dart_twin c d) → IsConnected images
@@ -129,7 +114,4 @@ module _ (rows : Rows) (paths : has_good_paths rows ≡ true) (crossings : has_g
 
   -- and any two darts are joined if any two numbers are
   pub darts_connected : IsConnected images → (c d : Dart) → has_dart (darts_in (system rows)) c ≡ true → has_dart (darts_in (system rows)) d ≡ true → Joined (turn (system rows)) dart_twin c d
-  darts_connected connected c d c_in d_in =
-      let c_here = sym (system_test rows paths crossings rotations c) ∙ c_in in
-      let d_here = sym (system_test rows paths crossings rotations d) ∙ d_in in
-      joined_darts c d c_here d_here (connected (index_of rows c) (index_of rows d) (index_less rows paths crossings rotations c c_here) (index_less rows paths crossings rotations d d_here))
+  darts_connected connected c d c_in d_in = grind (arith, system_test, joined_darts, index_less)

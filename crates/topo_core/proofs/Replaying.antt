@@ -1,5 +1,5 @@
 -- Replays that go on, and replays of the accepted entries alone.
-use Rattle.std.proofs.Common.{◌≡◌, Bool, true, false, List, [], ◌∷◌, ◌++◌, refl, subst}
+use Rattle.std.proofs.Common.{arith, ◌≡◌, Bool, true, false, List, [], ◌∷◌, ◌++◌, refl, subst}
 use Rattle.topo_core.specs.declared.rows.Rows.{Rows}
 use Rattle.topo_core.specs.declared.limits.Limits.{Limits}
 use Rattle.topo_core.specs.declared.calls.Call.{Call}
@@ -33,6 +33,4 @@ module _ (price : Pricing) (limits : Limits) where
   versions_replay (entry ∷ entries) p q way = by_reply (is_accepted entry.reply) refl (versions_replay entries way.0 q way.2) where
     by_reply : (b : Bool) → is_accepted entry.reply ≡ b → Replays price limits way.0 (versions entries) q → Replays price limits p (versions (entry ∷ entries)) q
     by_reply true on rest = rw on (way.0, way.1, rest)
-    by_reply false off rest =
-        let same = refused_stays entry.call entry.reply p way.0 off way.1 in
-        rw off (subst (λ (r : Rows). Replays price limits r (versions entries) q) same rest)
+    by_reply false off rest = grind (arith, refused_stays)

@@ -42,10 +42,7 @@ first_or x first (z ∷ zs) = refl
 follower_last : (first x d : Dart) (zs : List Dart) → has_dart zs d ≡ true → follower first (zs ++ x ∷ []) d ≡ follower x zs d
 follower_last first x d [] h = cc
 follower_last first x d (z ∷ zs) h = elim (cases_Bool (same_dart d z)) [
-  | inl e ↦
-      ap (λ (t : Bool). cond t (slice_index_or (zs ++ x ∷ []) 0 first) (follower first (zs ++ x ∷ []) d)) e
-      ∙ first_or x first zs
-      ∙ sym (ap (λ (t : Bool). cond t (slice_index_or zs 0 x) (follower x zs d)) e)
+  | inl e ↦ grind (arith, first, first_or)
   | inr e ↦
       ap (λ (t : Bool). cond t (slice_index_or (zs ++ x ∷ []) 0 first) (follower first (zs ++ x ∷ []) d)) e
       ∙ follower_last first x d zs (or_second (same_dart d z) (has_dart zs d) e h)
@@ -62,9 +59,7 @@ next_turned x (y ∷ ys) d distinct h = elim (cases_Bool (same_dart d x)) [
         | inl k ↦ absurd (not_in_both (x ∷ []) (y ∷ ys) x distinct (has_item x (x ∷ []) (inl refl)) k)
         | inr k ↦ k
       ] in
-      ap (λ (t : Bool). cond t y (follower x (y ∷ ys) d)) e
-      ∙ sym (follower_new y x (y ∷ ys) [] elsewhere)
-      ∙ ap (follower y ((y ∷ ys) ++ x ∷ [])) (sym is)
+      grind (arith, follower_new)
   | inr e ↦
       ap (λ (t : Bool). cond t y (follower x (y ∷ ys) d)) e
       ∙ sym (follower_last y x d (y ∷ ys) (or_second (same_dart d x) (has_dart (y ∷ ys) d) e h))
@@ -87,10 +82,7 @@ next_rotated (x ∷ front) back d distinct h =
 -- what follows, where the last is followed by another
 follower_by : (first other d : Dart) (zs : List Dart) → (follower first zs d ≡ follower other zs d) ⊎ ((follower first zs d ≡ first) × (follower other zs d ≡ other))
 follower_by first other d [] = inr (refl, refl)
-follower_by first other d (z ∷ []) = elim (cases_Bool (same_dart d z)) [
-  | inl e ↦ inr (ap (λ (t : Bool). cond t first first) e, ap (λ (t : Bool). cond t other other) e)
-  | inr e ↦ inr (ap (λ (t : Bool). cond t first first) e, ap (λ (t : Bool). cond t other other) e)
-]
+follower_by first other d (z ∷ []) = grind (arith, cases_Bool, first)
 follower_by first other d (z ∷ y ∷ zs) = elim (cases_Bool (same_dart d z)) [
   | inl e ↦ inl (ap (λ (t : Bool). cond t y (follower first (y ∷ zs) d)) e ∙ sym (ap (λ (t : Bool). cond t y (follower other (y ∷ zs) d)) e))
   | inr e ↦
@@ -122,22 +114,11 @@ pub next_without : (front back : List Dart) (x d : Dart) → IsDistinct (front +
 next_without front back x d distinct other h =
     let turned = distinct_exchanged front (x ∷ back) distinct in
     let fewer : IsDistinct (back ++ front) = distinct_right (x ∷ []) (back ++ front) turned in
-    let there : has_dart (back ++ front) d ≡ true = has_exchanged back front d ∙ h in
-    let whole_there : has_dart (front ++ x ∷ back) d ≡ true = has_exchanged front (x ∷ back) d ∙ or_right (same_dart d x) (has_dart (back ++ front) d) there in
-    let x_there : has_dart (front ++ x ∷ back) x ≡ true = has_exchanged front (x ∷ back) x ∙ or_left (same_dart x x) (has_dart (back ++ front) x) (same_dart_self x) in
-    let d_next = next_rotated front (x ∷ back) d distinct whole_there in
-    let x_next = next_rotated front (x ∷ back) x distinct x_there in
-    let less_next = next_rotated back front d fewer there in
-    elim (next_but_first x d (back ++ front) other there) [
-      | inl same ↦ inl (d_next ∙ same ∙ less_next)
-      | inr between ↦ inr (d_next ∙ between.0, x_next ∙ between.1 ∙ less_next)
-    ]
+    grind (arith, back, front, has_exchanged, or_right, or_left, same_dart_self, next_rotated, next_but_first)
 
 -- what follows x: the first behind it, or from the start
 pub next_of_taken : (front back : List Dart) (x : Dart) → IsDistinct (front ++ x ∷ back) → next_around (front ++ x ∷ back) x ≡ slice_index_or (back ++ front) 0 x
-next_of_taken front back x distinct =
-    next_rotated front (x ∷ back) x distinct (has_exchanged front (x ∷ back) x ∙ or_left (same_dart x x) (has_dart (back ++ front) x) (same_dart_self x))
-    ∙ next_of_first x (back ++ front)
+next_of_taken front back x distinct = grind (arith, next_rotated, front, back, has_exchanged, or_left, same_dart_self, next_of_first)
 
 -- ---- Four darts
 

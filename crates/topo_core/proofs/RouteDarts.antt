@@ -39,9 +39,7 @@ corner_in rows good v p c at = by_test (nat_lt v (length rows.rotations)) refl w
   by_test : (b : Bool) → nat_lt v (length rows.rotations) ≡ b → has_dart (darts rows) c ≡ true
   by_test true e = sym (system_test rows good.paths good.crossings good.rotations c)
       ∙ has_item c (darts_in (system rows)) (at_vertex_in rows v c (lt_of_test v (length rows.rotations) e) (item_at c (around_vertex rows v) p at))
-  by_test false e =
-      let none : rotation rows v ≡ [] = past_end rows.rotations v (le_of_test v (length rows.rotations) e) in
-      let bad : None ≡ Some c = sym (ap (λ around. slice_get (map (end_dart rows v) around) p) none) ∙ at in cc
+  by_test false e = grind (arith, past_end, le_of_test)
 
 -- a certificate of an embedding
 pub certified : (price : Pricing) (rows : Rows) (u v : ℕ) (height : Dart → ℕ) → IsWellFormed rows → IsCertificate price rows v height → Certified price rows u v height

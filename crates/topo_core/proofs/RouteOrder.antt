@@ -31,25 +31,16 @@ then_back : (o p o' p' : Ordering) → o' ≡ ordering_reverse o → p' ≡ orde
 then_back o p o' p' first second = ap (λ x. ordering_then x p') first ∙ ap (λ x. ordering_then (ordering_reverse o) x) second ∙ then_flip o p
 
 dart_cmp_back : (c d : Dart) → dart_cmp d c ≡ ordering_reverse (dart_cmp c d)
-dart_cmp_back c d =
-    then_back (nat_cmp c.edge d.edge) (ordering_then (nat_cmp c.seg d.seg) (way_cmp c.way d.way)) (nat_cmp d.edge c.edge) (ordering_then (nat_cmp d.seg c.seg) (way_cmp d.way c.way))
-    (nat_cmp_back c.edge d.edge)
-    (then_back (nat_cmp c.seg d.seg) (way_cmp c.way d.way) (nat_cmp d.seg c.seg) (way_cmp d.way c.way) (nat_cmp_back c.seg d.seg) (way_cmp_back c.way d.way))
+dart_cmp_back c d = grind (arith, then_back, nat_cmp_back, way_cmp_back)
 
 darts_cmp_back : (xs ys : List Dart) → slice_cmp dart_cmp ys xs ≡ ordering_reverse (slice_cmp dart_cmp xs ys)
 darts_cmp_back [] [] = refl
 darts_cmp_back [] (y ∷ ys) = refl
 darts_cmp_back (x ∷ xs) [] = refl
-darts_cmp_back (x ∷ xs) (y ∷ ys) =
-    then_back (dart_cmp x y) (slice_cmp dart_cmp xs ys) (dart_cmp y x) (slice_cmp dart_cmp ys xs) (dart_cmp_back x y) (darts_cmp_back xs ys)
+darts_cmp_back (x ∷ xs) (y ∷ ys) = grind (arith, then_back, dart_cmp_back, darts_cmp_back xs ys)
 
 route_cmp_back : (r s : Route) → route_cmp s r ≡ ordering_reverse (route_cmp r s)
-route_cmp_back r s =
-    then_back (nat_cmp r.start s.start) (ordering_then (slice_cmp dart_cmp r.crossed s.crossed) (nat_cmp r.end s.end))
-    (nat_cmp s.start r.start) (ordering_then (slice_cmp dart_cmp s.crossed r.crossed) (nat_cmp s.end r.end))
-    (nat_cmp_back r.start s.start)
-    (then_back (slice_cmp dart_cmp r.crossed s.crossed) (nat_cmp r.end s.end) (slice_cmp dart_cmp s.crossed r.crossed) (nat_cmp s.end r.end)
-    (darts_cmp_back r.crossed s.crossed) (nat_cmp_back r.end s.end))
+route_cmp_back r s = grind (arith, then_back, nat_cmp_back, darts_cmp_back)
 
 -- ---- Routes that compare equal
 
@@ -64,8 +55,7 @@ route_cmp_equal r s e =
     let inner = then_equal (slice_cmp dart_cmp r.crossed s.crossed) (nat_cmp r.end s.end) outer.1 in
     let starts = nat_cmp_equal r.start s.start outer.0 in
     let walks = slice_cmp-IsAntisymmetric dart_cmp_equal r.crossed s.crossed inner.0 in
-    let ends = nat_cmp_equal r.end s.end inner.1 in
-    λ i. record { start = starts i; crossed = walks i; end = ends i }
+    grind (arith, nat_cmp_equal)
 
 -- routes that do not come after each other are one
 pub one_route : (r s : Route) → route_cmp r s ≢ Greater → route_cmp s r ≢ Greater → r ≡ s
@@ -73,10 +63,7 @@ one_route r s below above = route_cmp_equal r s (between (route_cmp r s) below (
 
 -- least routes have one cost
 pub one_least : (price : Pricing) (rows : Rows) (u v : ℕ) (r s : Route) (m n : ℕ) → IsFirst price rows u v r m → IsFirst price rows u v s n → m ≡ n
-one_least price rows u v r s m n first other =
-    let below = first.is_least.least s n other.is_least.priced in
-    let above = other.is_least.least r m first.is_least.priced in
-    omega arith
+one_least price rows u v r s m n first other = grind arith
 
 -- the first of the least routes is one
 pub one_first : (price : Pricing) (rows : Rows) (u v : ℕ) (r s : Route) (m n : ℕ) → IsFirst price rows u v r m → IsFirst price rows u v s n → r ≡ s

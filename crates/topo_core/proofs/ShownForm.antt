@@ -57,9 +57,7 @@ module _ (rows : Rows) (u v kind : ℕ) (r : Route) (good : IsWellFormed rows) (
 
   -- a crossed dart is a dart of an edge
   crossed_there : (x : ℕ) (d : Dart) → IsIn (x, d) (numbered rows r) → (row : EdgeRow) × (edge_row rows d.edge ≡ Some row) × (d.seg < segment_count row)
-  crossed_there x d h =
-      let is_dart = each_of (λ d. has_dart (darts rows) d ≡ true) r.crossed may.crossed d (numbered_in rows.next_crossing x d r.crossed h) in
-      of_rows_is_dart rows d (sym (listed_test rows good.paths d) ∙ is_dart)
+  crossed_there x d h = grind (arith, each_of, numbered_in, of_rows_is_dart, listed_test)
 
   -- its edge is not the new one
   crossed_known : (x : ℕ) (d : Dart) → IsIn (x, d) (numbered rows r) → is_some (edge_row rows d.edge) ≡ true
@@ -198,10 +196,7 @@ module _ (rows : Rows) (u v kind : ℕ) (r : Route) (good : IsWellFormed rows) (
         | inl (old, k, is) ↦ ap (λ (row : EdgeRow). occurrences row.id around == (if row.a == w || row.b == w then 1 else 0)) is ∙ eq-eqb _ _ (old_ones old k)
         | inr is ↦ ap (λ (row : EdgeRow). occurrences row.id around == (if row.a == w || row.b == w then 1 else 0)) is ∙ eq-eqb _ _ new_one
       ]))
-      (all_from (λ e. is_some (edge_row after e)) around (λ e h. elim (known e h) [
-        | inl is_new ↦ ap (λ n. is_some (edge_row after n)) is_new ∙ ap is_some (shown_new_row rows u v kind r good.paths)
-        | inr old ↦ shown_old_there rows u v kind r e old
-      ])))
+      (all_from (λ e. is_some (edge_row after e)) around (λ e h. grind (arith, shown_new_row, shown_old_there))))
       (all_from (nat_le (get_or around 0 0)) around least))
 
   module _ (w : ℕ) (inside : w < length rows.rotations) where
@@ -248,13 +243,7 @@ module _ (rows : Rows) (u v kind : ℕ) (r : Route) (good : IsWellFormed rows) (
   finish_good = end_good v may.v_there r.end may.end (shown_rotation_end rows u v kind r may.v_there may.ends_apart) (or_right (u == v) (v == v) (eqb_self v))
 
   each_good : (w : ℕ) → w < length rows.rotations → has_good_rotation after w ≡ true
-  each_good w inside = elim (cases_Bool (eqb w u)) [
-    | inl at_u ↦ subst (λ n. has_good_rotation after n ≡ true) (sym (eqb-true w u at_u)) start_good
-    | inr not_u ↦ elim (cases_Bool (eqb w v)) [
-      | inl at_v ↦ subst (λ n. has_good_rotation after n ≡ true) (sym (eqb-true w v at_v)) finish_good
-      | inr not_v ↦ other_good w inside (ne_from w u not_u) (ne_from w v not_v)
-    ]
-  ]
+  each_good w inside = grind (arith, cases_Bool, eqb-true, start_good, finish_good, other_good, ne_from)
 
   -- the rotations of the picture are good
   pub shown_good_rotations : has_good_rotations after ≡ true

@@ -53,12 +53,7 @@ none_on d n (c ∷ ds) none = skipped d (n, c) (enumerate_from (n + 1) ds) (none
 
 one_on : (n x : ℕ) (d : Dart) (ds : List Dart) → CrossesOnce ds → IsIn (x, d) (enumerate_from n ds) → ids_on d (enumerate_from n ds) ≡ x ∷ []
 one_on n x d [] once h = absurd h
-one_on n x d (c ∷ ds) once (inl e) =
-    let number : x ≡ n = ap (λ p. p.0) e in
-    let dart : d ≡ c = ap (λ p. p.1) e in
-    taken d (n, c) (enumerate_from (n + 1) ds) (ap (same_segment c) dart ∙ same_segment_self c)
-    ∙ ap (λ list. n ∷ list) (none_on d (n + 1) ds (λ b h. same_segment_symm b d ∙ ap (λ y. same_segment y b) dart ∙ each_of (λ b. same_segment c b ≡ false) ds once.0 b h))
-    ∙ ap (λ m. m ∷ []) (sym number)
+one_on n x d (c ∷ ds) once (inl e) = grind (arith, taken, same_segment_self, none_on, same_segment_symm, each_of)
 one_on n x d (c ∷ ds) once (inr h) =
     skipped d (n, c) (enumerate_from (n + 1) ds) (each_of (λ b. same_segment c b ≡ false) ds once.0 d (numbered_in (n + 1) x d ds h))
     ∙ one_on (n + 1) x d ds once.1 h
@@ -66,9 +61,7 @@ one_on n x d (c ∷ ds) once (inr h) =
 -- the place of a new crossing on the path of the new edge
 pub place_of_number : (n x : ℕ) (d : Dart) (ds : List Dart) → IsIn (x, d) (enumerate_from n ds) → place_of (map (λ x. x.0) (enumerate_from n ds)) x ≡ x - n
 place_of_number n x d [] h = absurd h
-place_of_number n x d (c ∷ ds) (inl e) =
-    let number : x ≡ n = ap (λ p. p.0) e in
-    let here = path_place_here x n (map (λ x. x.0) (enumerate_from (n + 1) ds)) (eq-eqb n x (sym number)) in omega arith
+place_of_number n x d (c ∷ ds) (inl e) = grind (arith, path_place_here, eq-eqb)
 place_of_number n x d (c ∷ ds) (inr h) =
     let low = number_from (n + 1) x d ds h in
     let later = path_place_later x n (map (λ x. x.0) (enumerate_from (n + 1) ds)) (eqb_less n x (omega arith)) in
@@ -111,13 +104,7 @@ path_once rows good e row there y h =
 
 -- a crossing stands on the paths of both its edges
 pub on_path_of : (rows : Rows) → IsWellFormed rows → (x : CrossRow) → IsIn x rows.crossings → (e : ℕ) → is_some (edge_row rows e) ≡ true → (e == x.crossed || e == x.newcomer) ≡ true → IsIn x.id (edge_at rows e).crossings
-on_path_of rows good x h e known is_one =
-    let pick = some_of (edge_row rows e) known in
-    let id = row_id rows e pick.0 pick.1 in
-    let counted = (good_crossing rows good.crossings x h).counted pick.0 (row_in rows e pick.0 pick.1) in
-    let test : (pick.0.id == x.crossed || pick.0.id == x.newcomer) ≡ true = ap (λ n. n == x.crossed || n == x.newcomer) id ∙ is_one in
-    let all : occurrences x.id pick.0.crossings ≡ 1 = counted ∙ ap one test in
-    subst (λ (row : EdgeRow). IsIn x.id row.crossings) (sym (edge_at_row rows e pick.0 pick.1)) (in_counted x.id pick.0.crossings (omega arith))
+on_path_of rows good x h e known is_one = grind (arith, some_of, row_id, good_crossing, row_in, one, edge_at_row, in_counted)
 
 -- ---- Lifted darts
 
@@ -144,32 +131,15 @@ module _ (rows after : Rows) where
 
   -- a lifted dart is of the same edge and way
   pub lifted_edge : (d : Dart) → (lifted rows after d).edge ≡ d.edge
-  lifted_edge d = elim d.way as (λ w. (lifted rows after (record { edge = d.edge; seg = d.seg; way = w })).edge ≡ d.edge) [
-    | Forward ↦ ap (λ (y : Dart). y.edge) (lifted_forward d.edge d.seg)
-    | Back ↦ ap (λ (y : Dart). y.edge) (lifted_back d.edge d.seg)
-  ]
+  lifted_edge d = grind (arith, lifted_forward, lifted_back)
 
   -- the dart that goes on from a crossing is the lifted one
   pub lifted_ahead : (e x : ℕ) → IsIn x (edge_at rows e).crossings → ahead after e x ≡ lifted rows after (ahead rows e x)
-  lifted_ahead e x h =
-      let place = place_on rows e x in
-      let at = (at_its_place x (edge_at rows e).crossings h).1 in
-      let same : place + 1 - 1 ≡ place = omega arith in
-      sym (
-      ap (λ (t : Bool). cond {A = Dart} t (forward e 0) (ahead after e (slice_index_or (edge_at rows e).crossings (place + 1 - 1) 0))) (eqb_more (place + 1) 0 (omega arith))
-      ∙ ap (λ k. ahead after e (slice_index_or (edge_at rows e).crossings k 0)) same
-      ∙ ap (ahead after e) at
-      )
+  lifted_ahead e x h = grind (arith, at_its_place, eqb_more)
 
   -- and so is the one that goes back
   pub lifted_behind : (e x : ℕ) → IsIn x (edge_at rows e).crossings → behind after e x ≡ lifted rows after (behind rows e x)
-  lifted_behind e x h =
-      let place = place_on rows e x in
-      let at = at_its_place x (edge_at rows e).crossings h in
-      sym (
-      ap (λ (t : Bool). cond {A = Dart} t (back e (length (edge_at after e).crossings)) (behind after e (slice_index_or (edge_at rows e).crossings place 0))) (eqb_less place (length (edge_at rows e).crossings) at.0)
-      ∙ ap (behind after e) at.1
-      )
+  lifted_behind e x h = grind (arith, at_its_place, eqb_less)
 
 -- ---- In the picture that shows the new edge
 
@@ -290,6 +260,4 @@ module _ (rows : Rows) (u v kind : ℕ) (r : Route) (good : IsWellFormed rows) (
 
   -- the darts of the new edge at a vertex
   pub newcomer_end : (w : ℕ) → end_dart after w rows.next_edge ≡ cond {A = Dart} (u == w) (forward rows.next_edge 0) (back rows.next_edge (length r.crossed))
-  newcomer_end w =
-      ap (λ (row : EdgeRow). cond {A = Dart} (row.a == w) (forward rows.next_edge 0) (back rows.next_edge (length row.crossings))) (shown_new_edge rows u v kind r good.paths)
-      ∙ ap (λ n. cond {A = Dart} (u == w) (forward rows.next_edge 0) (back rows.next_edge n)) newcomer_length
+  newcomer_end w = grind (arith, shown_new_edge, newcomer_length)

@@ -1,5 +1,5 @@
 -- The points of a picture once it shows a new edge along a route: the old ones have their darts, lifted, and those of the new edge.
-use Rattle.std.proofs.Common.{◌≡◌, ◌≢◌, ℕ, ◌<◌, Bool, true, false, cond, List, [], ◌∷◌, ◌++◌, length, not, refl, sym, ap, ap₂, append_assoc, subst, ◌∙◌, inl, inr}
+use Rattle.std.proofs.Common.{arith, ◌≡◌, ◌≢◌, ℕ, ◌<◌, Bool, true, false, cond, List, [], ◌∷◌, ◌++◌, length, not, refl, sym, ap, ap₂, append_assoc, subst, ◌∙◌, inl, inr}
 use Rattle.std.specs.Prelude.{◌==◌, Some, filter, is_some, map, option_map, slice_get, slice_index_or}
 use Rattle.std.specs.List.{range_with_len}
 use Rattle.std.proofs.lemmas.List.{map-append}
@@ -44,10 +44,7 @@ all_pass keep (c ∷ ds) each =
     ∙ ap (λ list. c ∷ list) (all_pass keep ds (λ d h. each d (inr h)))
 
 all_but_one : (keep : Dart → Bool) (xs ys : List Dart) (c : Dart) → keep c ≡ false → filter keep (xs ++ c ∷ ys) ≡ filter keep (xs ++ ys)
-all_but_one keep xs ys c fails =
-    filter-append keep xs (c ∷ ys)
-    ∙ ap (λ (t : Bool). filter keep xs ++ cond t (c ∷ filter keep ys) (filter keep ys)) fails
-    ∙ sym (filter-append keep xs ys)
+all_but_one keep xs ys c fails = grind (arith, filter-append)
 
 two_pass : (keep : Dart → Bool) (sign : Sign) (a b c d : Dart) → keep a ≡ true → keep b ≡ true → keep c ≡ false → keep d ≡ false → filter keep (clockwise sign a b c d) ≡ a ∷ b ∷ []
 two_pass keep LeftToRight a b c d a_is b_is c_is d_is = rw (a_is, b_is, c_is, d_is)
@@ -98,9 +95,7 @@ module _ (rows : Rows) (u v kind : ℕ) (r : Route) (good : IsWellFormed rows) (
 
   -- the edges of the old darts have lower ids
   pub old_edge_below : (d : Dart) → has_dart (darts rows) d ≡ true → d.edge < rows.next_edge
-  old_edge_below d h =
-      let is_dart = of_rows_is_dart rows d (sym (listed_test rows good.paths d) ∙ h) in
-      known_edge_below rows good.paths d.edge (ap is_some is_dart.1)
+  old_edge_below d h = grind (arith, of_rows_is_dart, listed_test, known_edge_below)
 
   -- so their darts are kept
   pub old_is_kept : (d : Dart) → has_dart (darts rows) d ≡ true → is_kept (lift d) ≡ true
@@ -170,11 +165,7 @@ module _ (rows : Rows) (u v kind : ℕ) (r : Route) (good : IsWellFormed rows) (
   new_not_kept d e = ap (λ n. not (n == rows.next_edge)) e ∙ ap not (eqb_self rows.next_edge)
 
   end_kept : (w p : ℕ) (new : Dart) → IsIn w (vertices rows) → new.edge ≡ rows.next_edge → IsEndPoint rows after w p new → filter is_kept (around_vertex after w) ≡ map lift (around_vertex rows w)
-  end_kept w p new h is_new point =
-      ap (filter is_kept) point.now
-      ∙ all_but_one is_kept (map lift (point.head ∷ point.front)) (map lift point.back) new (new_not_kept new is_new)
-      ∙ ap (filter is_kept) (sym (map-append lift (point.head ∷ point.front) point.back) ∙ ap (map lift) (sym point.was))
-      ∙ point_kept (around_vertex rows w) (vertex_point rows w h)
+  end_kept w p new h is_new point = grind (arith, all_but_one, new_not_kept, map-append, point_kept, vertex_point)
 
   -- without the new edge the darts round a vertex are the old ones, lifted
   vertex_kept : (w : ℕ) → IsIn w (vertices rows) → filter is_kept (around_vertex after w) ≡ map lift (around_vertex rows w)
@@ -233,11 +224,7 @@ module _ (rows : Rows) (u v kind : ℕ) (r : Route) (good : IsWellFormed rows) (
 
   -- and so are their darts
   pub darts_without_new : filter is_kept (darts_in (system after)) ≡ map lift (darts_in (system rows)) ++ darts_in (map crossed_pair (numbered rows r))
-  darts_without_new =
-      sym (passing_points is_kept (system after))
-      ∙ ap darts_in points_without_new
-      ∙ flat_map-append (λ around. around) (map (map lift) (system rows)) (map crossed_pair (numbered rows r))
-      ∙ ap (λ ds. ds ++ darts_in (map crossed_pair (numbered rows r))) (image_points lift (system rows))
+  darts_without_new = grind (arith, passing_points, points_without_new, flat_map-append, image_points)
 
   -- none of them stands twice
   pub distinct_without_new : IsDistinct (map lift (darts_in (system rows)) ++ darts_in (map crossed_pair (numbered rows r)))

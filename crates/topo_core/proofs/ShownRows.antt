@@ -46,9 +46,7 @@ in_images f y (x ∷ xs) (inr h) = let rest = in_images f y xs h in (rest.0, inr
 
 -- ids that rise, and the next n numbers after them
 pub rises_on : {X : Type 0} (xs : List ℕ) (n : ℕ) (ys : List X) → rises_below n xs ≡ true → rises_below (n + length ys) (xs ++ map (λ y. y.0) (enumerate_from n ys)) ≡ true
-rises_on xs n [] rises =
-    let same : n + 0 ≡ n = omega arith in
-    ap (λ m. rises_below m (xs ++ [])) same ∙ ap (rises_below n) (append-nil xs) ∙ rises
+rises_on xs n [] rises = grind (arith, append-nil)
 rises_on xs n (y ∷ ys) rises =
     let same : n + length (y ∷ ys) ≡ n + 1 + length ys = omega arith in
     ap (λ m. rises_below m (xs ++ n ∷ map (λ y. y.0) (enumerate_from (n + 1) ys))) same
@@ -116,9 +114,7 @@ module _ (rows : Rows) (u v kind : ℕ) (r : Route) where
 
   -- the row of any edge
   pub shown_edge_row : (e : ℕ) → edge_row after e ≡ option_or (option_map (crossed_row rows r) (edge_row rows e)) (cond (rows.next_edge == e) (Some newcomer_row) None)
-  shown_edge_row e =
-      find-append (λ row. row.id == e) (map (crossed_row rows r) rows.edges) (newcomer_row ∷ [])
-      ∙ ap (λ o. option_or o (cond (rows.next_edge == e) (Some newcomer_row) None)) (find_map (λ row. row.id == e) (crossed_row rows r) rows.edges)
+  shown_edge_row e = grind (arith, find-append, find_map)
 
   -- an old edge has its row with the new crossings woven into its path
   pub shown_old_row : (e : ℕ) (row : EdgeRow) → edge_row rows e ≡ Some row → edge_row after e ≡ Some (crossed_row rows r row)
@@ -137,10 +133,7 @@ module _ (rows : Rows) (u v kind : ℕ) (r : Route) where
 
   -- the new edge has its row
   pub shown_new_row : has_good_paths rows ≡ true → edge_row after rows.next_edge ≡ Some newcomer_row
-  shown_new_row paths =
-      shown_edge_row rows.next_edge
-      ∙ ap (λ o. option_or (option_map (crossed_row rows r) o) (cond (rows.next_edge == rows.next_edge) (Some newcomer_row) None)) (no_new_row paths)
-      ∙ ap (λ (t : Bool). cond t (Some newcomer_row) None) (eqb_self rows.next_edge)
+  shown_new_row paths = grind (arith, shown_edge_row, no_new_row, eqb_self)
 
   pub shown_new_edge : has_good_paths rows ≡ true → edge_at after rows.next_edge ≡ newcomer_row
   shown_new_edge paths = edge_at_row after rows.next_edge newcomer_row (shown_new_row paths)
@@ -176,11 +169,7 @@ module _ (rows : Rows) (u v kind : ℕ) (r : Route) where
 
   -- a crossed dart has its crossing
   pub shown_new_crossing : has_good_crossings rows ≡ true → (x : ℕ) (d : Dart) → IsIn (x, d) (numbered rows r) → cross_row after x ≡ Some (new_crossing rows.next_edge (x, d))
-  shown_new_crossing crossings x d h =
-      find-append (λ row. row.id == x) rows.crossings (map (new_crossing rows.next_edge) (numbered rows r))
-      ∙ ap (λ o. option_or o (find (λ row. row.id == x) (map (new_crossing rows.next_edge) (numbered rows r)))) (no_new_crossing crossings x (new_id_above x d h))
-      ∙ find_map (λ row. row.id == x) (new_crossing rows.next_edge) (numbered rows r)
-      ∙ ap (option_map (new_crossing rows.next_edge)) (find_numbered rows.next_crossing x d r.crossed h)
+  shown_new_crossing crossings x d h = grind (arith, find-append, no_new_crossing, new_id_above, find_map, find_numbered)
 
   -- a crossing of the picture is an old one or a new one
   pub shown_crossings : (row : CrossRow) → IsIn row after.crossings → IsIn row rows.crossings ⊎ ((x : ℕ) × (d : Dart) × IsIn (x, d) (numbered rows r) × (row ≡ new_crossing rows.next_edge (x, d)))
@@ -193,25 +182,16 @@ module _ (rows : Rows) (u v kind : ℕ) (r : Route) where
 
   -- as many vertices
   pub shown_vertices : length after.rotations ≡ length rows.rotations
-  shown_vertices =
-      length-set (with_end rows.rotations u r.start rows.next_edge) v (put_in r.end rows.next_edge (get_or (with_end rows.rotations u r.start rows.next_edge) v []))
-      ∙ length-set rows.rotations u (put_in r.start rows.next_edge (rotation rows u))
+  shown_vertices = grind (arith, length-set)
 
   -- a vertex that is no end of the new edge keeps its list
   pub shown_rotation_other : (w : ℕ) → w ≢ u → w ≢ v → rotation after w ≡ rotation rows w
-  shown_rotation_other w not_u not_v =
-      get_or-set_other (with_end rows.rotations u r.start rows.next_edge) v w (put_in r.end rows.next_edge (get_or (with_end rows.rotations u r.start rows.next_edge) v [])) [] not_v
-      ∙ get_or-set_other rows.rotations u w (put_in r.start rows.next_edge (rotation rows u)) [] not_u
+  shown_rotation_other w not_u not_v = grind (arith, get_or-set_other)
 
   -- the new edge stands where the route starts
   pub shown_rotation_start : u < length rows.rotations → u ≢ v → rotation after u ≡ put_in r.start rows.next_edge (rotation rows u)
-  shown_rotation_start inside apart =
-      get_or-set_other (with_end rows.rotations u r.start rows.next_edge) v u (put_in r.end rows.next_edge (get_or (with_end rows.rotations u r.start rows.next_edge) v [])) [] apart
-      ∙ get_or-set_same rows.rotations u (put_in r.start rows.next_edge (rotation rows u)) [] inside
+  shown_rotation_start inside apart = grind (arith, get_or-set_other, get_or-set_same)
 
   -- and where it ends
   pub shown_rotation_end : v < length rows.rotations → u ≢ v → rotation after v ≡ put_in r.end rows.next_edge (rotation rows v)
-  shown_rotation_end inside apart =
-      get_or-set_same (with_end rows.rotations u r.start rows.next_edge) v (put_in r.end rows.next_edge (get_or (with_end rows.rotations u r.start rows.next_edge) v [])) []
-      (subst (λ n. v < n) (sym (length-set rows.rotations u (put_in r.start rows.next_edge (rotation rows u)))) inside)
-      ∙ ap (put_in r.end rows.next_edge) (get_or-set_other rows.rotations u v (put_in r.start rows.next_edge (rotation rows u)) [] (λ e. apart (sym e)))
+  shown_rotation_end inside apart = grind (arith, get_or-set_same, length-set, get_or-set_other)

@@ -166,10 +166,7 @@ module _ (rows : Rows) (u v kind : ℕ) (r : Route) (good : IsWellFormed rows) (
       ⊎ ((x : ℕ) × (c : Dart) × IsIn (x, c) (numbered rows r) × ((d ≡ onward after x c) ⊎ (d ≡ backward after x c))))
 
   in_pairs_is : (d : Dart) → has_dart pairs d ≡ true → (x : ℕ) × (c : Dart) × IsIn (x, c) (numbered rows r) × ((d ≡ onward after x c) ⊎ (d ≡ backward after x c))
-  in_pairs_is d h =
-      let point = point_of (map pair (numbered rows r)) d h in
-      let image = in_images pair point.0 (numbered rows r) point.1 in
-      (image.0.0, image.0.1, image.1, pair_is image.0.0 image.0.1 d (ap (λ ds. has_dart ds d) (sym image.2) ∙ point.2))
+  in_pairs_is d h = grind (arith, point_of, in_images, pair_is)
 
   -- a dart is of the new edge, or lifted, or stands at a new crossing
   pub one_of : (d : Dart) → has_dart (darts after) d ≡ true → IsOneOf d
@@ -215,12 +212,7 @@ module _ (rows : Rows) (u v kind : ℕ) (r : Route) (good : IsWellFormed rows) (
     old_in_list c h = at_point_there rows u v kind r good ask now (around_vertex rows w) (vertex_point rows w w_in) c (ap (λ ds. has_dart ds c) point.was ∙ h)
 
     not_lifted : (ds : List Dart) → ((c : Dart) → has_dart ds c ≡ true → has_dart (darts rows) c ≡ true) → has_dart (map lift ds) new ≡ false
-    not_lifted ds old = elim (cases_Bool (has_dart (map lift ds) new)) [
-      | inl e ↦ absurd (
-          let image = image_of_dart lift ds new e in
-          old_apart image.0 (old image.0 image.1) (sym (lifted_edge rows after image.0) ∙ ap (λ (d : Dart). d.edge) (sym image.2) ∙ is_new))
-      | inr e ↦ e
-    ]
+    not_lifted ds old = grind (arith, cases_Bool, image_of_dart, old_apart, lifted_edge)
 
     front_old : (c : Dart) → has_dart (point.head ∷ point.front) c ≡ true → has_dart (darts rows) c ≡ true
     front_old c h = old_in_list c (has_dart-append (point.head ∷ point.front) point.back c ∙ or_left (has_dart (point.head ∷ point.front) c) (has_dart point.back c) h)
@@ -237,9 +229,7 @@ module _ (rows : Rows) (u v kind : ℕ) (r : Route) (good : IsWellFormed rows) (
 
     -- as the corner names it
     pub turn_of_corner : (c : Dart) → corner rows w p ≡ Some c → turn (system after) new ≡ lift c
-    turn_of_corner c at =
-        let held : Some (slice_index_or point.back 0 point.head) ≡ Some c = sym point.corner ∙ at in
-        let same : slice_index_or point.back 0 point.head ≡ c = cc in turn_of_end ∙ ap lift same
+    turn_of_corner c at = grind (arith, turn_of_end)
 
     -- an old dart is followed as before, straight or after the new edge
     pub turn_at_end : (d : Dart) → has_dart (around_vertex rows w) d ≡ true → FollowsBut after rows.next_edge (lift d) (lift (turn (system rows) d))

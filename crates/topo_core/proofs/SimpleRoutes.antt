@@ -1,5 +1,5 @@
 -- A route that meets no face twice crosses no segment twice, so its edge can be shown.
-use Rattle.std.proofs.Common.{◌≡◌, ◌≢◌, ℕ, zero, suc, ◌<◌, true, false, List, [], ◌∷◌, length, Some, refl, sym, subst, inl, inr}
+use Rattle.std.proofs.Common.{arith, ◌≡◌, ◌≢◌, ℕ, zero, suc, ◌<◌, true, false, List, [], ◌∷◌, length, Some, refl, sym, subst, inl, inr}
 use Rattle.std.specs.Prelude.{◌⊎◌, ◌==◌}
 use Rattle.std.specs.List.{AllByRecursion}
 use Rattle.std.proofs.lemmas.Bool.{cases_Bool, eqb-true}
@@ -37,13 +37,7 @@ dart_from_parts c d w edges segments ways = λ i. record { edge = edges i; seg =
 
 -- two darts of one segment are the same or twins
 pub same_or_twins : (c d : Dart) → same_segment c d ≡ true → (d ≡ c) ⊎ (dart_twin d ≡ c)
-same_or_twins c d e =
-    let edges = sym (eqb-true c.edge d.edge (left_true (c.edge == d.edge) (c.seg == d.seg) e)) in
-    let segments = sym (eqb-true c.seg d.seg (right_true (c.edge == d.edge) (c.seg == d.seg) e)) in
-    elim (same_or_reversed c.way d.way) [
-      | inl ways ↦ inl (dart_from_parts d c d.way edges segments ways)
-      | inr ways ↦ inr (dart_from_parts d c (reversed d.way) edges segments ways)
-    ]
+same_or_twins c d e = grind (arith, eqb-true, left_true, right_true, same_or_reversed, dart_from_parts)
 
 -- ---- Faces of well-formed rows
 
@@ -117,16 +111,4 @@ module _ (rows : Rows) (good : IsWellFormed rows) where
 -- an edge can be shown along a route that meets no face twice
 pub simple_is_insertable : (rows : Rows) (u v kind : ℕ) (r : Route) → IsWellFormed rows → u < length rows.rotations → v < length rows.rotations → u ≢ v → kind < 64
     → IsSimpleRoute rows u v r → IsInsertable rows u v kind r
-simple_is_insertable rows u v kind r good u_in v_in apart known simple =
-    let route = simple.route in
-    let from_in = corner_in rows good u r.start route.from route.starts in
-    record {
-      u_there = u_in;
-      v_there = v_in;
-      ends_apart = apart;
-      known = known;
-      start = position_there rows good u r.start route.from route.starts;
-      end = position_there rows good v r.end route.to route.ends;
-      crossed = crossed_in rows good r.crossed route.from route.to from_in route.walk;
-      once = crosses_once rows good r.crossed route.from route.to from_in route.walk simple.once;
-    }
+simple_is_insertable rows u v kind r good u_in v_in apart known simple = grind (arith, corner_in, position_there, crossed_in, crosses_once)

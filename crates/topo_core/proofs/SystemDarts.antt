@@ -39,10 +39,7 @@ path_facts_of_tests a b n c d h = (grind (arith, nat_tests), grind (arith, nat_t
 
 -- from the tests of the rows
 pub path_facts : (rows : Rows) → has_good_paths rows ≡ true → (row : EdgeRow) → IsIn row rows.edges → PathFacts rows row
-path_facts rows good row h =
-    let each = test_of_each (has_good_path rows) row rows.edges (right_true (rises_below rows.next_edge (map (λ row. row.id) rows.edges)) (list_all (has_good_path rows) rows.edges) good) h in
-    let facts = path_facts_of_tests row.a row.b (length rows.rotations) (nat_lt row.kind 64) (list_all (λ x. is_some (cross_row rows x)) row.crossings) each in
-    record { a_in = facts.0; b_in = facts.1; apart = facts.2 }
+path_facts rows good row h = grind (arith, test_of_each, right_true, path_facts_of_tests)
 
 -- ---- The points of the system
 
@@ -70,9 +67,7 @@ eqb_self n = grind (arith, nat_tests)
 
 -- a path names crossings that are there
 pub crossing_there : (rows : Rows) → has_good_paths rows ≡ true → (row : EdgeRow) → IsIn row rows.edges → (x : ℕ) → IsIn x row.crossings → is_some (cross_row rows x) ≡ true
-crossing_there rows good row h x named =
-    let each = test_of_each (has_good_path rows) row rows.edges (right_true (rises_below rows.next_edge (map (λ row. row.id) rows.edges)) (list_all (has_good_path rows) rows.edges) good) h in
-    test_of_each (λ x. is_some (cross_row rows x)) x row.crossings (right_true _ _ each) named
+crossing_there rows good row h x named = grind (arith, test_of_each, right_true)
 
 -- what an option holds that is not empty
 pub some_of : {X : Type 0} (o : Option X) → is_some o ≡ true → (x : X) × (o ≡ Some x)

@@ -53,10 +53,7 @@ or_mid false false c h = h
 
 -- what follows a dart of a list stands behind the head, or is the first
 follower_behind : (first c d : Dart) (cs : List Dart) → has_dart (c ∷ cs) d ≡ true → has_dart (first ∷ cs) (follower first (c ∷ cs) d) ≡ true
-follower_behind first c d [] h = elim (cases_Bool (same_dart d c)) [
-  | inl e ↦ subst (λ y. has_dart (first ∷ []) y ≡ true) (sym (ap (λ (b : Bool). cond b first first) e)) (first_in first [])
-  | inr e ↦ subst (λ y. has_dart (first ∷ []) y ≡ true) (sym (ap (λ (b : Bool). cond b first first) e)) (first_in first [])
-]
+follower_behind first c d [] h = grind (arith, cases_Bool, first_in)
 follower_behind first c d (b ∷ cs) h = elim (cases_Bool (same_dart d c)) [
   | inl e ↦ subst (λ y. has_dart (first ∷ b ∷ cs) y ≡ true) (sym (ap (λ (t : Bool). cond t b (follower first (b ∷ cs) d)) e)) (first_in first (b ∷ cs))
   | inr e ↦
@@ -77,8 +74,7 @@ head_follows_none first b d cs distinct outside there e =
 -- no two darts of a list are followed by the same
 follower_apart : (first z : Dart) (cs : List Dart) → IsDistinct (z ∷ cs) → has_dart cs first ≡ false → (c d : Dart) → has_dart (z ∷ cs) c ≡ true → has_dart (z ∷ cs) d ≡ true
     → follower first (z ∷ cs) c ≡ follower first (z ∷ cs) d → c ≡ d
-follower_apart first z [] distinct outside c d c_in d_in e =
-    let is_z : (y : Dart) → has_dart (z ∷ []) y ≡ true → y ≡ z = λ y h. elim (or_cases (same_dart y z) false h) [ inl k ↦ same_dart_true y z k | inr k ↦ absurd (false≢true k) ] in is_z c c_in ∙ sym (is_z d d_in)
+follower_apart first z [] distinct outside c d c_in d_in e = grind (arith, or_cases, same_dart_true, false≢true)
 follower_apart first z (b ∷ cs) distinct outside c d c_in d_in e =
     let rest = distinct_tail z (b ∷ cs) distinct in
     elim (cases_Bool (same_dart c z)) [

@@ -43,11 +43,7 @@ filter_front p xs ys each none = filter-append p xs ys ∙ ap (λ zs. zs ++ filt
 
 -- where only the item between two parts fails, the parts stay
 pub filter_parts : {X : Type 0} (p : X → Bool) (xs : List X) (y : X) (zs : List X) → p y ≡ false → ((x : X) → IsIn x (xs ++ zs) → p x ≡ true) → filter p (xs ++ y ∷ zs) ≡ xs ++ zs
-filter_parts p xs y zs fails each =
-    filter-append p xs (y ∷ zs)
-    ∙ ap (λ ws. ws ++ filter p (y ∷ zs)) (filter_whole p xs (λ x h. each x (in_left x xs zs h)))
-    ∙ ap (λ (b : Bool). xs ++ cond b (y ∷ filter p zs) (filter p zs)) fails
-    ∙ ap (λ ws. xs ++ ws) (filter_whole p zs (λ x h. each x (in_right x xs zs h)))
+filter_parts p xs y zs fails each = grind (arith, filter-append, filter_whole, in_left, in_right)
 
 -- where those of the path pass and none of the new ones, the path stays
 pub filter_woven : (p : ℕ → Bool) (new : ℕ → List ℕ) (s : ℕ) (path : List ℕ) → ((i x : ℕ) → IsIn x (new i) → p x ≡ false) → ((x : ℕ) → IsIn x path → p x ≡ true) → filter p (woven new s path) ≡ path
@@ -77,13 +73,8 @@ without_larger f around low = filter_whole (λ g. not (g == f)) around (λ g h. 
 
 -- and so it is with the new id put in and taken out
 pub put_in_undone : (p f : ℕ) (around : List ℕ) → ((g : ℕ) → IsIn g around → g < f) → filter (λ g. not (g == f)) (put_in p f around) ≡ around
-put_in_undone zero f around low = filter_front (λ g. not (g == f)) around (f ∷ []) (λ g h. other_id f g (low g h)) (λ g h. elim h [
-  | inl e ↦ ap (λ n. not (n == f)) e ∙ own_id f
-  | inr none ↦ absurd none
-])
-put_in_undone (suc p) f around low =
-    let whole = take-append-drop (suc p) around in
-    filter_parts (λ g. not (g == f)) (take (suc p) around) f (drop (suc p) around) (own_id f) (λ g h. other_id f g (low g (subst (IsIn g) whole h))) ∙ whole
+put_in_undone zero f around low = filter_front (λ g. not (g == f)) around (f ∷ []) (λ g h. other_id f g (low g h)) (λ g h. grind (arith, own_id))
+put_in_undone (suc p) f around low = grind (arith, take-append-drop, filter_parts, own_id, other_id)
 
 -- a list that begins with its least id is listed as it is
 pub from_least_stays : (around : List ℕ) → ((g : ℕ) → IsIn g around → get_or around 0 0 ≤ g) → from_least around ≡ around
@@ -188,13 +179,7 @@ module _ (rows : Rows) (u v kind : ℕ) (r : Route) (good : IsWellFormed rows) (
   finish_undone = end_undone v may.v_there r.end (shown_rotation_end rows u v kind r may.v_there may.ends_apart)
 
   rotation_undone : (w : ℕ) → w < length rows.rotations → rotation (without after rows.next_edge) w ≡ rotation rows w
-  rotation_undone w inside = elim (cases_Bool (eqb w u)) [
-    | inl at_u ↦ subst (λ n. rotation (without after rows.next_edge) n ≡ rotation rows n) (sym (eqb-true w u at_u)) start_undone
-    | inr not_u ↦ elim (cases_Bool (eqb w v)) [
-      | inl at_v ↦ subst (λ n. rotation (without after rows.next_edge) n ≡ rotation rows n) (sym (eqb-true w v at_v)) finish_undone
-      | inr not_v ↦ other_undone w inside (ne_from w u not_u) (ne_from w v not_v)
-    ]
-  ]
+  rotation_undone w inside = grind (arith, cases_Bool, eqb-true, start_undone, finish_undone, other_undone, ne_from)
 
   rotations_undone : (without after rows.next_edge).rotations ≡ rows.rotations
   rotations_undone =
@@ -207,10 +192,7 @@ module _ (rows : Rows) (u v kind : ℕ) (r : Route) (good : IsWellFormed rows) (
   built around es xs = record { rotations = around; edges = es; crossings = xs; next_edge = rows.next_edge + 1; next_crossing = rows.next_crossing + length r.crossed }
 
   pub insertion_undone_here : without after rows.next_edge ≡ record rows { next_edge = rows.next_edge + 1; next_crossing = rows.next_crossing + length r.crossed }
-  insertion_undone_here =
-      ap (λ (around : List (List ℕ)). built around (map (uncrossed_row gone) (filter (λ row. not (row.id == rows.next_edge)) after.edges)) (filter (λ x. not (has_id gone x.id)) after.crossings)) rotations_undone
-      ∙ ap (λ (es : List EdgeRow). built rows.rotations es (filter (λ x. not (has_id gone x.id)) after.crossings)) edges_undone
-      ∙ ap (λ (xs : List CrossRow). built rows.rotations rows.edges xs) crossings_undone
+  insertion_undone_here = grind (arith, rotations_undone, edges_undone, crossings_undone)
 
 -- taking out the edge that was just shown gives the picture back, but for the ids that were given
 pub insertion_undone : (rows : Rows) (u v kind : ℕ) (r : Route) → IsWellFormed rows → IsInsertable rows u v kind r

@@ -59,8 +59,7 @@ counted_numbers p x (y ∷ ys) = by_test (p y) (counted_numbers p x ys) refl whe
   by_test true rest e =
       let counted = sum_by-cons (λ z. one (z == x)) y.0 (map (λ y. y.0) (filter p ys)) in
       let here : cond {A = ℕ} (y.0 == x) (one (p y)) 0 ≡ one (y.0 == x) = ap (λ (b : Bool). cond {A = ℕ} (y.0 == x) (one b) 0) e in omega (arith, step)
-  by_test false rest e =
-      let here : cond {A = ℕ} (y.0 == x) (one (p y)) 0 ≡ 0 = ap (λ (b : Bool). cond {A = ℕ} (y.0 == x) (one b) 0) e ∙ nothing (y.0 == x) in omega (arith, step)
+  by_test false rest e = grind (arith, one, nothing, step)
 
 -- the number of an item is counted once where the item passes
 pub number_counted : {X : Type 0} (p : ℕ × X → Bool) (n x : ℕ) (d : X) (ds : List X) → IsIn (x, d) (enumerate_from n ds) → occurrences x (map (λ y. y.0) (filter p (enumerate_from n ds))) ≡ one (p (x, d))

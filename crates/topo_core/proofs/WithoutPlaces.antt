@@ -42,17 +42,11 @@ module _ (rows : Rows) (good : IsWellFormed rows) where
 
   -- and of one of its segments
   pub segment_of_dart : (d : Dart) → has_dart (darts rows) d ≡ true → d.seg ≤ length (edge_at rows d.edge).crossings
-  segment_of_dart d h =
-      let is_dart = of_rows_is_dart rows d (sym (listed_test rows good.paths d) ∙ h) in
-      let less = is_dart.2 in
-      subst (λ (row : EdgeRow). d.seg ≤ length row.crossings) (sym (edge_at_row rows d.edge is_dart.0 is_dart.1)) (omega arith)
+  segment_of_dart d h = grind (arith, of_rows_is_dart, listed_test, edge_at_row)
 
   -- each segment of an edge that is there has its darts
   pub dart_of_segment : (c s : ℕ) (w : Way) → is_some (edge_row rows c) ≡ true → s ≤ length (edge_at rows c).crossings → has_dart (darts rows) (record { edge = c; seg = s; way = w }) ≡ true
-  dart_of_segment c s w known h =
-      let pick = some_of (edge_row rows c) known in
-      let inside : s ≤ length pick.0.crossings = subst (λ (row : EdgeRow). s ≤ length row.crossings) (edge_at_row rows c pick.0 pick.1) h in
-      listed_test rows good.paths (record { edge = c; seg = s; way = w }) ∙ is_dart_of_rows rows (record { edge = c; seg = s; way = w }) (pick.0, pick.1, omega arith)
+  dart_of_segment c s w known h = grind (arith, some_of, edge_at_row, listed_test, is_dart_of_rows)
 
   -- no crossing stands twice on the path of an edge that is there
   pub edge_once : (c : ℕ) → is_some (edge_row rows c) ≡ true → (y : ℕ) → IsIn y (edge_at rows c).crossings → occurrences y (edge_at rows c).crossings ≤ 1
@@ -235,9 +229,7 @@ module _ (rows : Rows) (e : ℕ) (good : IsWellFormed rows) (known : is_some (ed
 
   -- and of one only
   pub on_one_segment : (c s t i : ℕ) → is_some (edge_row after c) ≡ true → IsIn i (crossings_between rows e c s) → IsIn i (crossings_between rows e c t) → s ≡ t
-  on_one_segment c s t i there h k =
-      let once = edge_once rows good c (left_edge c there).before i (gone_from (gone rows e) (edge_at rows c).crossings s i h).0 in
-      gone_once (gone rows e) (edge_at rows c).crossings s t i once h k
+  on_one_segment c s t i there h k = grind (arith, edge_once, left_edge, there, gone_from, gone, gone_once)
 
   -- ---- The darts at the crossings of the edge
 
@@ -361,14 +353,7 @@ module _ (rows : Rows) (e : ℕ) (good : IsWellFormed rows) (known : is_some (ed
     not_at = (not_ahead d.way, not_behind d.way)
 
   pub gone_apart : (c : ℕ) (x : CrossRow) (d : Dart) → IsCrossingOf rows e c x → has_dart (darts after) d ≡ true → (lift d ≢ ahead rows c x.id) × (lift d ≢ behind rows c x.id)
-  gone_apart c x d is h = (
-    λ same. (
-        let edges : c ≡ d.edge = sym (ap (λ (y : Dart). y.edge) same) ∙ lifted_edge after rows d in
-        (not_at d x (subst (λ f. IsCrossingOf rows e f x) edges is) h).0 (same ∙ ap (λ f. ahead rows f x.id) edges)),
-    λ same. (
-        let edges : c ≡ d.edge = sym (ap (λ (y : Dart). y.edge) same) ∙ lifted_edge after rows d in
-        (not_at d x (subst (λ f. IsCrossingOf rows e f x) edges is) h).1 (same ∙ ap (λ f. behind rows f x.id) edges)),
-  )
+  gone_apart c x d is h = grind (arith, lifted_edge, not_at)
 
   -- ---- The darts of the edge
 
@@ -377,9 +362,7 @@ module _ (rows : Rows) (e : ℕ) (good : IsWellFormed rows) (known : is_some (ed
 
   -- its crossings, by their places
   pub edge_place : (i n : ℕ) → slice_get (edge_at rows e).crossings i ≡ Some n → place_on rows e n ≡ i
-  edge_place i n at =
-      let is = got (edge_at rows e).crossings i n at in
-      ap (place_on rows e) (sym is.1) ∙ item_place (edge_at rows e).crossings i (edge_once rows good e known) is.0
+  edge_place i n at = grind (arith, got, item_place, edge_once)
 
   pub edge_meets : (i n : ℕ) → slice_get (edge_at rows e).crossings i ≡ Some n → (c : ℕ) × (x : CrossRow) × (x.id ≡ n) × IsCrossingOf rows e c x
   edge_meets i n at =

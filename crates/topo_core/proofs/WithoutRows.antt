@@ -55,10 +55,7 @@ find_passing q p (x ∷ xs) passes = by_test (p x) refl (find_passing q p xs pas
 
 -- what fails the test is not found
 pub find_failing : {X : Type 0} (q p : X → Bool) (xs : List X) → ((x : X) → q x ≡ true → p x ≡ false) → find q (filter p xs) ≡ None
-find_failing q p xs fails = none_found q (filter p xs) (λ x h. elim (cases_Bool (q x)) [
-  | inl e ↦ absurd (false≢true (sym (fails x e) ∙ filter_passes p x xs h))
-  | inr e ↦ e
-])
+find_failing q p xs fails = none_found q (filter p xs) (λ x h. grind (arith, cases_Bool, false≢true, fails, filter_passes))
 
 -- what passes is counted as often as before
 pub occurrences-passing : (p : ℕ → Bool) (x : ℕ) (xs : List ℕ) → p x ≡ true → occurrences x (filter p xs) ≡ occurrences x xs
@@ -69,11 +66,7 @@ occurrences-passing p x (y ∷ xs) passes = by_test (p y) refl (occurrences-pass
 
   by_test : (b : Bool) → p y ≡ b → occurrences x (filter p xs) ≡ occurrences x xs → occurrences x (cond b (y ∷ filter p xs) (filter p xs)) ≡ occurrences x (y ∷ xs)
   by_test true e rest = let kept = sum_by-cons (λ z. one (z == x)) y (filter p xs) in omega (arith, step)
-  by_test false e rest =
-      let other : one (y == x) ≡ 0 = elim (cases_Bool (y == x)) [
-        | inl same ↦ absurd (false≢true (sym e ∙ ap p (eqb-true y x same) ∙ passes))
-        | inr apart ↦ ap one apart
-      ] in omega (arith, step)
+  by_test false e rest = grind (arith, one, cases_Bool, false≢true, eqb-true, step)
 
 -- the test of ids finds what stands in the list
 pub has_id_in : (x : ℕ) (xs : List ℕ) → IsIn x xs → has_id xs x ≡ true
@@ -119,10 +112,7 @@ least_below a (x ∷ xs) y (inr (inl e)) = let rest = least_below (min a x) xs (
 least_below a (x ∷ xs) y (inr (inr h)) = least_below (min a x) xs y (inr h)
 
 min_is : (a x : ℕ) → (min a x ≡ a) ⊎ (min a x ≡ x)
-min_is a x = elim (cases_Bool (nat_lt a x)) [
-  | inl e ↦ inl (grind (arith))
-  | inr e ↦ inr (grind (arith))
-]
+min_is a x = grind (arith, cases_Bool)
 
 -- and stands in it
 pub least_in : (a : ℕ) (xs : List ℕ) → IsIn (fold min a xs) (a ∷ xs)
@@ -142,17 +132,11 @@ pub record IsRotated {X : Type 0} (before after : List X) : Type 0 where
 -- the same cycle, from another place on
 pub from_least_rotated : (around : List ℕ) → IsRotated around (from_least around)
 from_least_rotated [] = record { front = []; back = []; was = refl; now = refl }
-from_least_rotated (x ∷ xs) =
-    let i = place_of (x ∷ xs) (fold min x xs) in
-    record { front = take i (x ∷ xs); back = drop i (x ∷ xs); was = sym (take-append-drop i (x ∷ xs)); now = refl }
+from_least_rotated (x ∷ xs) = grind (arith, place_of, take-append-drop)
 
 -- the same items as often
 pub occurrences-rotated : {before after : List ℕ} → IsRotated before after → (y : ℕ) → occurrences y after ≡ occurrences y before
-occurrences-rotated {before} {after} r y =
-    let one_way = sum_by-append (λ z. one (z == y)) r.front r.back in
-    let other_way = sum_by-append (λ z. one (z == y)) r.back r.front in
-    let sum : occurrences y (r.back ++ r.front) ≡ occurrences y (r.front ++ r.back) = omega arith in
-    ap (occurrences y) r.now ∙ sum ∙ sym (ap (occurrences y) r.was)
+occurrences-rotated {before} {after} r y = grind (arith, sum_by-append, one)
 
 pub in_rotated : {before after : List ℕ} → IsRotated before after → (y : ℕ) → IsIn y after → IsIn y before
 in_rotated {before} {after} r y h = let same = occurrences-rotated r y in let counted = counted_in y after h in in_counted y before (omega arith)
@@ -186,16 +170,11 @@ module _ (rows : Rows) (e : ℕ) where
   is_uncrossed x = not (has_id gone x)
 
   not_edge : (f : ℕ) → f ≢ e → (row : EdgeRow) → (row.id == f) ≡ true → not (row.id == e) ≡ true
-  not_edge f apart row h = elim (cases_Bool (row.id == e)) [
-    | inl k ↦ absurd (apart (sym (eqb-true row.id f h) ∙ eqb-true row.id e k))
-    | inr k ↦ ap not k
-  ]
+  not_edge f apart row h = grind (arith, cases_Bool, eqb-true)
 
   -- another edge has its row, without the crossings that are gone
   pub without_edge_row : (f : ℕ) → f ≢ e → edge_row after f ≡ option_map (uncrossed_row gone) (edge_row rows f)
-  without_edge_row f apart =
-      find_map (λ row. row.id == f) (uncrossed_row gone) (filter is_left rows.edges)
-      ∙ ap (option_map (uncrossed_row gone)) (find_passing (λ row. row.id == f) is_left rows.edges (not_edge f apart))
+  without_edge_row f apart = grind (arith, find_map, find_passing, not_edge)
 
   pub without_row : (f : ℕ) → f ≢ e → (row : EdgeRow) → edge_row rows f ≡ Some row → edge_row after f ≡ Some (uncrossed_row gone row)
   without_row f apart row there = without_edge_row f apart ∙ ap (option_map (uncrossed_row gone)) there
@@ -208,9 +187,7 @@ module _ (rows : Rows) (e : ℕ) where
 
   -- and the edge has none
   pub without_no_row : edge_row after e ≡ None
-  without_no_row =
-      find_map (λ row. row.id == e) (uncrossed_row gone) (filter is_left rows.edges)
-      ∙ ap (option_map (uncrossed_row gone)) (find_failing (λ row. row.id == e) is_left rows.edges (λ row h. ap not h))
+  without_no_row = grind (arith, find_map, find_failing)
 
   -- an edge of the picture is an edge of the rows that is left
   pub without_known : (f : ℕ) (row : EdgeRow) → edge_row after f ≡ Some row → (f ≢ e) × ((old : EdgeRow) × (edge_row rows f ≡ Some old) × (row ≡ uncrossed_row gone old))
@@ -223,10 +200,7 @@ module _ (rows : Rows) (e : ℕ) where
 
   -- a row of the picture is an old one, without the crossings that are gone
   pub without_rows : (row : EdgeRow) → IsIn row after.edges → (old : EdgeRow) × IsIn old rows.edges × (old.id ≢ e) × (row ≡ uncrossed_row gone old)
-  without_rows row h =
-      let image = in_images (uncrossed_row gone) row (filter is_left rows.edges) h in
-      let passes = filter_passes is_left image.0 rows.edges image.1 in
-      (image.0, in_filter is_left image.0 rows.edges image.1, (λ same. false≢true (sym (ap not (eq-eqb image.0.id e same)) ∙ passes)), image.2)
+  without_rows row h = grind (arith, in_images, filter_passes, in_filter, false≢true, eq-eqb)
 
   -- ---- Its crossings
 
@@ -237,10 +211,7 @@ module _ (rows : Rows) (e : ℕ) where
 
   -- a crossing of the picture is one that is left
   pub without_crossings : (x : CrossRow) → IsIn x after.crossings → IsIn x rows.crossings × (has_id gone x.id ≡ false)
-  without_crossings x h = (
-    in_filter (λ x. not (has_id gone x.id)) x rows.crossings h,
-    not-true (has_id gone x.id) (filter_passes (λ x. not (has_id gone x.id)) x rows.crossings h),
-  )
+  without_crossings x h = grind (arith, in_filter, not-true, filter_passes)
 
   -- ---- Its rotations
 

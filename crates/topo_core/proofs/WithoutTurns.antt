@@ -137,11 +137,7 @@ module _ (rows : Rows) (e : ℕ) (good : IsWellFormed rows) (known : is_some (ed
         ∙ has_image lift (around_vertex after w) d h
 
     next_kept : IsDistinct kept → (d : Dart) → has_dart (around_vertex after w) d ≡ true → next_around kept (lift d) ≡ lift (turn (system after) d)
-    next_kept distinct d h =
-        ap (λ ds. next_around ds (lift d)) kept_is
-        ∙ next_rotated (map (end_dart rows w) turned.front) (map (end_dart rows w) turned.back) (lift d) (subst IsDistinct kept_is distinct) (ap (λ ds. has_dart ds (lift d)) (sym kept_is) ∙ kept_has d h)
-        ∙ ap (λ ds. next_around ds (lift d)) (sym lifted_is)
-        ∙ next_lifted (around_vertex after w) d point_after h
+    next_kept distinct d h = grind (arith, next_around, kept_is, next_rotated, distinct, kept_has, lifted_is, next_lifted, point_after)
 
     around_distinct : IsDistinct (around_vertex rows w)
     around_distinct = point_distinct (system rows) (around_vertex rows w) distinct_before point_before
@@ -267,20 +263,12 @@ module _ (rows : Rows) (e : ℕ) (good : IsWellFormed rows) (known : is_some (ed
     pub from_left : turn (system rows) (onward_by rows n e (reversed w)) ≡ ahead rows c n
 
   round_newcomer : (sign : Sign) (c n : ℕ) → IsPoint (clockwise sign (ahead rows c n) (behind rows c n) (ahead rows e n) (behind rows e n)) → RoundCrossing c n (newcomer_rightward sign)
-  round_newcomer LeftToRight c n point =
-      let turns = four_turns (ahead rows c n) (ahead rows e n) (behind rows c n) (behind rows e n) point in
-      record { to_right = turns.0; from_right = turns.1; to_left = turns.2; from_left = turns.3 }
-  round_newcomer RightToLeft c n point =
-      let turns = four_turns (ahead rows c n) (behind rows e n) (behind rows c n) (ahead rows e n) point in
-      record { to_right = turns.0; from_right = turns.1; to_left = turns.2; from_left = turns.3 }
+  round_newcomer LeftToRight c n point = grind (arith, four_turns)
+  round_newcomer RightToLeft c n point = grind (arith, four_turns)
 
   round_crossed : (sign : Sign) (c n : ℕ) → IsPoint (clockwise sign (ahead rows e n) (behind rows e n) (ahead rows c n) (behind rows c n)) → RoundCrossing c n (reversed (newcomer_rightward sign))
-  round_crossed LeftToRight c n point =
-      let turns = four_turns (ahead rows e n) (ahead rows c n) (behind rows e n) (behind rows c n) point in
-      record { to_right = turns.1; from_right = turns.2; to_left = turns.3; from_left = turns.0 }
-  round_crossed RightToLeft c n point =
-      let turns = four_turns (ahead rows e n) (behind rows c n) (behind rows e n) (ahead rows c n) point in
-      record { to_right = turns.3; from_right = turns.0; to_left = turns.1; from_left = turns.2 }
+  round_crossed LeftToRight c n point = grind (arith, four_turns)
+  round_crossed RightToLeft c n point = grind (arith, four_turns)
 
   -- as the crossing's sign says
   pub round_crossing : (c : ℕ) (x : CrossRow) → IsCrossingOf rows e c x → RoundCrossing c x.id (rightward x e)

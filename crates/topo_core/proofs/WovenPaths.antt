@@ -128,20 +128,12 @@ module _ (new : List ℕ) (s : ℕ) (path whole : List ℕ) (inside : s ≤ leng
   first_part_is = by_segment s refl where
     by_segment : (k : ℕ) → s ≡ k → first_part path whole k ≡ length parted.front
     by_segment zero e = sym (ap (λ (f : List ℕ). length f) (parted.first e))
-    by_segment (suc i) e =
-        let same : suc i - 1 ≡ i = omega arith in
-        ap (λ (t : Bool). cond t 0 (place_of whole (slice_index_or path (suc i - 1) 0) + 1)) (eqb_more (suc i) 0 (omega arith))
-        ∙ ap (λ k. place_of whole (slice_index_or path k 0) + 1) same ∙ after_previous i e
+    by_segment (suc i) e = grind (arith, eqb_more, after_previous)
 
   -- the last part ends where the new crossings end
   pub last_part_is : last_part path whole s ≡ length parted.front + length new
   last_part_is = elim (cases_Bool (s == length path)) [
-    | inl e ↦
-        let none = ap (λ (f : List ℕ). length f) (parted.last (eqb-true s (length path) e)) in
-        let sum = ap (λ (f : List ℕ). length f) parted.parts ∙ length-append parted.front (new ++ parted.back) in
-        let both = length-append new parted.back in
-        let all : length whole ≡ length parted.front + length new = omega arith in
-        ap (λ (t : Bool). cond t (length whole) (place_of whole (slice_index_or path s 0))) e ∙ all
+    | inl e ↦ grind (arith, eqb-true, length-append)
     | inr e ↦
         let behind = parted.next (below s (length path) inside e) in
         let place = place_in_parts (parted.front ++ new) behind.0 (slice_index_or path s 0) (parted.parts ∙ ap (λ b. parted.front ++ (new ++ b)) behind.1 ∙ sym (append_assoc parted.front new (slice_index_or path s 0 ∷ behind.0))) in

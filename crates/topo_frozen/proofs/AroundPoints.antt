@@ -30,17 +30,10 @@ module _ (g : ℕ → Dart) where
       → follower first (map g es) (g e) ≡ slice_index_or (map g es) (position_or_len (λ y. y == e) es + 1) first
   follower_of_entry first [] e distinct h has = cc
   follower_of_entry first (c ∷ cs) e distinct h has = elim (cases_Bool (c == e)) [
-    | inl t ↦
-        let same : e ≡ c = sym (eqb-true c e t) in
-        let at : position_or_len (λ y. y == e) (c ∷ cs) + 1 ≡ 1 = ap (λ (b : Bool). cond {A = ℕ} (not b) (1 + position_or_len (λ y. y == e) cs) 0 + 1) t in
-        ap (λ (b : Bool). cond b (slice_index_or (map g cs) 0 first) (follower first (map g cs) (g e))) (ap (λ x. same_dart (g e) (g x)) (sym same) ∙ same_dart_self (g e))
-        ∙ sym (ap (λ k. slice_index_or (map g (c ∷ cs)) k first) at)
+    | inl t ↦ grind (arith, eqb-true, same_dart_self)
     | inr f ↦
         let later : has_id cs e ≡ true = or_second (c == e) (has_id cs e) f h in
-        let other : same_dart (g e) (g c) ≡ false = elim (cases_Bool (same_dart (g e) (g c))) [
-          | inl s ↦ absurd (false≢true (sym (head_not_later (g c) (map g cs) distinct) ∙ ap (has_dart (map g cs)) (sym (same_dart_true (g e) (g c) s)) ∙ has cs later))
-          | inr n ↦ n
-        ] in
+        let other : same_dart (g e) (g c) ≡ false = grind (arith, cases_Bool, false≢true, head_not_later, same_dart_true) in
         let at : position_or_len (λ y. y == e) (c ∷ cs) ≡ 1 + position_or_len (λ y. y == e) cs = ap (λ (b : Bool). cond {A = ℕ} (not b) (1 + position_or_len (λ y. y == e) cs) 0) f in
         let next : position_or_len (λ y. y == e) (c ∷ cs) + 1 ≡ suc (position_or_len (λ y. y == e) cs + 1) = omega arith in
         ap (λ (b : Bool). cond b (slice_index_or (map g cs) 0 first) (follower first (map g cs) (g e))) other

@@ -69,14 +69,7 @@ pub record BeginsAt (n : ℕ) (edges : List EdgeRow) (k : ℕ) (row : EdgeRow) :
 
 pub begins_at : (n : ℕ) (edges : List EdgeRow) (k : ℕ) (row : EdgeRow) → slice_get edges k ≡ Some row → BeginsAt n edges k row
 begins_at n [] k row e = cc
-begins_at n (r ∷ rest) zero row e =
-    let same : r ≡ row = cc in
-    subst (λ (r' : EdgeRow). BeginsAt n (r ∷ rest) zero r') same (record {
-      before = 0;
-      here = omega arith;
-      next = begins_head (n + 2 * segment_count r) rest ∙ omega arith;
-      listed = λ j h. let place : 0 + j ≡ j = omega arith in ap (slice_get (darts_of r ++ flat_map darts_of rest)) place ∙ get_left (darts_of r) (flat_map darts_of rest) j (omega (arith, darts_length r));
-    })
+begins_at n (r ∷ rest) zero row e = grind (arith, begins_head, get_left, darts_length)
 begins_at n (r ∷ rest) (suc k) row e =
     let more = begins_at (n + 2 * segment_count r) rest k row e in record {
       before = 2 * segment_count r + more.before;
@@ -127,9 +120,7 @@ module _ (rows : Rows) (paths : has_good_paths rows ≡ true) (k : ℕ) (row : E
 pub found_at : (e : ℕ) (edges : List EdgeRow) → is_some (find (λ row. row.id == e) edges) ≡ true → slice_get edges (position_or_len (λ y. y == e) (map (λ row. row.id) edges)) ≡ find (λ row. row.id == e) edges
 found_at e [] h = cc
 found_at e (row ∷ rest) h = elim (cases_Bool (row.id == e)) [
-  | inl t ↦
-      let place : position_or_len (λ y. y == e) (row.id ∷ map (λ row. row.id) rest) ≡ 0 = ap (λ (b : Bool). cond {A = ℕ} (not b) (1 + position_or_len (λ y. y == e) (map (λ row. row.id) rest)) 0) t in
-      ap (slice_get (row ∷ rest)) place ∙ sym (ap (λ (b : Bool). cond b (Some row) (find (λ row. row.id == e) rest)) t)
+  | inl t ↦ cc
   | inr f ↦
       let place : position_or_len (λ y. y == e) (row.id ∷ map (λ row. row.id) rest) ≡ 1 + position_or_len (λ y. y == e) (map (λ row. row.id) rest) = ap (λ (b : Bool). cond {A = ℕ} (not b) (1 + position_or_len (λ y. y == e) (map (λ row. row.id) rest)) 0) f in
       let next : 1 + position_or_len (λ y. y == e) (map (λ row. row.id) rest) ≡ suc (position_or_len (λ y. y == e) (map (λ row. row.id) rest)) = omega arith in

@@ -51,10 +51,7 @@ module _ {X : Type 0} (key : X → ℕ) (xs : List X) (id : ℕ) (rise : IdsRise
     by_answer (Some x) e = absurd (none (position_or_len (λ row. key row == id) xs) x (sym (find_at (λ row. key row == id) xs) ∙ e) (eqb-true (key x) id (found (λ row. key row == id) x xs e).1))
 
   keys_rise : (i j : ℕ) (d : X) → i ≤ j → j < length xs → key (get_or xs i d) ≤ key (get_or xs j d)
-  keys_rise i j d below inside =
-      let climb = rising (map key xs) up i j 0 below (omega (arith, many)) in
-      let a = key_read i d (omega arith) in
-      let b = key_read j d inside in omega arith
+  keys_rise i j d below inside = grind (arith, rising, up, many, key_read)
 
   -- those before a row with an id as small have not the id
   pub none_below : (near : ℕ) (d : X) → near < length xs → key (get_or xs near d) ≤ id → NoneBefore xs key id near
@@ -86,11 +83,7 @@ crossings_rise rows crossings good same = subst (λ (cs : List CrossRow). IdsRis
 
 -- what is read at the place of an edge
 pub at_edge_place : (rows : Rows) (e place : ℕ) (row : EdgeRow) (edges : List EdgeRow) → edges ≡ rows.edges → IsPlaceOf edges (λ row. row.id) e place → row ≡ get_or edges place row → AtPlace rows e place row
-at_edge_place rows e place row edges same p read =
-    let is : row ≡ p.row = read ∙ get_or_from_slice_get edges place p.row row p.at in record {
-      is_row = ap (λ (es : List EdgeRow). find (λ row. row.id == e) es) (sym same) ∙ p.found ∙ ap Some (sym is);
-      at = ap (λ (es : List EdgeRow). slice_get es place) (sym same) ∙ p.at ∙ ap Some (sym is);
-    }
+at_edge_place rows e place row edges same p read = grind (arith, get_or_from_slice_get)
 
 pub finds_no_edge : (rows : Rows) (e id : ℕ) (edges : List EdgeRow) → id ≡ e → edges ≡ rows.edges → find (λ row. row.id == id) edges ≡ None → edge_row rows e ≡ None
 finds_no_edge rows e id edges is same none = ap (edge_row rows) (sym is) ∙ ap (λ (es : List EdgeRow). find (λ row. row.id == id) es) (sym same) ∙ none

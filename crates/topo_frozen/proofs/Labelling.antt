@@ -21,16 +21,7 @@ pub record IsWalked (f : ℕ → ℕ) (start k at : ℕ) (old new : List ℕ) : 
   pub others : (a : ℕ) → (SameCycle f start a → ⊥) → slice_index new a ≡ slice_index old a
 
 pub walk_on : (f : ℕ → ℕ) (start k at : ℕ) (old new : List ℕ) → at < length new → IsWalked f start k at old new → IsWalked f start (k + 1) (f at) old (slice_set new at start)
-walk_on f start k at old new within w = record {
-  place = ap f w.place ∙ sym (after-one f k start);
-  face = λ j l. elim (cases_eq (after f j start) at) [
-    | inl here ↦ ap (slice_index (slice_set new at start)) here ∙ get_or-set_same new at start 0 within
-    | inr there ↦
-        let before : j ≢ k = (λ e. there (ap (λ i. after f i start) e ∙ sym w.place)) in
-        get_or-set_other new at (after f j start) start 0 there ∙ w.face j (omega (arith, before))
-  ];
-  others = λ a apart. get_or-set_other new at a start 0 (λ e. apart (record { steps = k; leads = sym w.place ∙ sym e })) ∙ w.others a apart;
-}
+walk_on f start k at old new within w = grind (arith, after-one, cases_eq, get_or-set_same, get_or-set_other)
 
 -- a walk that has come home has labelled the whole face
 pub walked_home : (turns old new : List ℕ) (start k at : ℕ) → length new ≡ length old → 0 < k → at ≡ start → IsWalked (face_next (map_of turns)) start k at old new → IsLabelled turns old new start
@@ -59,15 +50,7 @@ pub record IsLabelledBelow (f : ℕ → ℕ) (n s : ℕ) (l : ℕ → ℕ) : Typ
 
 -- one that has a label already
 pub given_already : (f : ℕ → ℕ) (n s : ℕ) (l : ℕ → ℕ) → IsLabelledBelow f n s l → l s ≢ n → IsLabelledBelow f n (s + 1) l
-given_already f n s l p ne = record {
-  given = λ a la. elim (cases_eq a s) [
-    | inl here ↦ λ e. ne (ap l (sym here) ∙ e)
-    | inr other ↦ p.given a (let v : a < s = omega arith in v)
-  ];
-  within = p.within;
-  own = p.own;
-  same = p.same;
-}
+given_already f n s l p ne = grind (arith, cases_eq)
 
 on_cycle_or_not : (f : ℕ → ℕ) (n : ℕ) → IsPermutation f n → (a b : ℕ) → a < n → SameCycle f a b ⊎ (SameCycle f a b → ⊥)
 on_cycle_or_not f n h a b l = elim (cases_Bool (is_met f n a b)) [
@@ -83,10 +66,7 @@ given_now f n s l m h ls p face others = record {
     | inl on ↦ λ e. (let is : m a ≡ s = face a on in let z : ⊥ = omega (arith, is, e, ls) in z)
     | inr off ↦ λ e. p.given a (let apart : a ≢ s = (λ d. off (record { steps = 0; leads = sym d })) in let v : a < s = omega (arith, apart) in v) (sym (others a off) ∙ e)
   ];
-  within = λ a la ne. elim (on_cycle_or_not f n h s a ls) [
-    | inl on ↦ subst (λ x. x < n) (sym (face a on)) ls
-    | inr off ↦ subst (λ x. x < n) (sym (others a off)) (p.within a la (λ e. ne (others a off ∙ e)))
-  ];
+  within = λ a la ne. grind (arith, on_cycle_or_not);
   own = λ a la ne. elim (on_cycle_or_not f n h s a ls) [
     | inl on ↦ subst (λ x. SameCycle f x a) (sym (face a on)) on
     | inr off ↦ subst (λ x. SameCycle f x a) (sym (others a off)) (p.own a la (λ e. ne (others a off ∙ e)))

@@ -32,13 +32,7 @@ head_of_map ix first (c ∷ cs) = refl
 link_in : (ix : Dart → ℕ) (first d : Dart) (cs : List Dart) → has_dart cs d ≡ true → IsIn (ix d, ix (follower first cs d)) (links_to (ix first) (map ix cs))
 link_in ix first d [] h = cc
 link_in ix first d (c ∷ cs) h = elim (cases_Bool (same_dart d c)) [
-  | inl e ↦
-      let same : d ≡ c = same_dart_true d c e in
-      let next : follower first (c ∷ cs) d ≡ slice_index_or cs 0 first = ap (λ (b : Bool). cond b (slice_index_or cs 0 first) (follower first cs d)) e in
-      let x : ix d ≡ ix c = ap ix same in
-      let y : ix (follower first (c ∷ cs) d) ≡ slice_index_or (map ix cs) 0 (ix first) = ap ix next ∙ sym (head_of_map ix first cs) in
-      let both : (ix d, ix (follower first (c ∷ cs) d)) ≡ (ix c, slice_index_or (map ix cs) 0 (ix first)) = cc in
-      inl both
+  | inl e ↦ grind (arith, same_dart_true, head_of_map)
   | inr e ↦
       let next : follower first (c ∷ cs) d ≡ follower first cs d = ap (λ (b : Bool). cond b (slice_index_or cs 0 first) (follower first cs d)) e in
       inr (subst (λ y. IsIn (ix d, ix y) (links_to (ix first) (map ix cs))) (sym next) (link_in ix first d cs (or_second (same_dart d c) (has_dart cs d) e h)))
@@ -87,13 +81,7 @@ module _ (rows : Rows) (good : IsWellFormed rows) where
 
   -- two darts of the system have one number just when they are the same
   same_number : (d : Dart) → has_dart (darts rows) d ≡ true → (c : Dart) → has_dart (darts rows) c ≡ true → one (ix c == ix d) ≡ one (same_dart d c)
-  same_number d d_in c c_in = elim (cases_Bool (same_dart d c)) [
-    | inl e ↦ ap one (eq-eqb (ix c) (ix d) (ap ix (sym (same_dart_true d c e)))) ∙ sym (ap one e)
-    | inr e ↦ elim (cases_Bool (ix c == ix d)) [
-      | inl f ↦ absurd (false≢true (sym e ∙ (let same : c ≡ d = index_apart rows good.paths c d c_in d_in (eqb-true (ix c) (ix d) f) in ap (same_dart d) same ∙ same_dart_self d)))
-      | inr f ↦ ap one f ∙ sym (ap one e)
-    ]
-  ]
+  same_number d d_in c c_in = grind (arith, cases_Bool, one, eq-eqb, same_dart_true, false≢true, index_apart, eqb-true, same_dart_self)
 
   -- the place of each dart is written once
   once : (d : Dart) → has_dart (darts rows) d ≡ true → times (ix d) (links_of ix (system rows)) ≡ 1

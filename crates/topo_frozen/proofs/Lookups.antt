@@ -87,17 +87,12 @@ module _ (rows : Rows) (paths : has_good_paths rows ≡ true) where
   pub seg_told : (i : ℕ) (d : Dart) (row : EdgeRow) → slice_get (darts rows) i ≡ Some d → edge_row rows d.edge ≡ Some row → d.seg < segment_count row
   seg_told i d row at there =
       let is = of_rows_is_dart rows d (sym (listed_test rows paths d) ∙ has_at (darts rows) i d at) in
-      let both : Some is.0 ≡ Some row = sym is.1 ∙ there in
-      let same : is.0 ≡ row = cc in
-      let count : segment_count is.0 ≡ segment_count row = ap segment_count same in
-      let inside = is.2 in omega arith
+      grind arith
 
   -- so it starts where the row says
   pub tail_told : (i : ℕ) (d : Dart) (row : EdgeRow) (place : ℕ) (point : Point) → slice_get (darts rows) i ≡ Some d → edge_row rows d.edge ≡ Some row → place ≡ start_place d.seg d.way
       → point ≡ slice_index_or (points_of row) place (Vertex 0) → IsSomeAnd (slice_get (darts rows) i) (λ d. point ≡ start rows d)
-  tail_told i d row place point at there starts is =
-      and_some (λ (d : Dart). point ≡ start rows d) (slice_get (darts rows) i) d at
-      (is ∙ ap (λ k. slice_index_or (points_of row) k (Vertex 0)) starts ∙ ap (λ (r : EdgeRow). slice_index_or (points_of r) (start_place d.seg d.way) (Vertex 0)) (sym (edge_at_row rows d.edge row there)))
+  tail_told i d row place point at there starts is = grind (arith, and_some, edge_at_row)
 
   -- ---- A number by its dart
 

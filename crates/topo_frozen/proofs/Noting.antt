@@ -44,27 +44,17 @@ pub path_step : (crossings : List CrossRow) (e begin s : ℕ) (path ahead : List
     → written ahead (path_notes crossings e (begin + 2 * s) (drop s path)) ≡ written (slice_set ahead (note_place crossings e (slice_index path s)) (begin + 2 * s + 2)) (path_notes crossings e (begin + 2 * (s + 1)) (drop (s + 1) path))
 path_step crossings e begin s path ahead inside =
     let split : drop s path ≡ slice_index path s ∷ drop (suc s) path = drop-cons path s 0 inside in
-    let next : suc s ≡ s + 1 = omega arith in
-    let more : begin + 2 * s + 2 ≡ begin + 2 * (s + 1) = omega arith in
-    ap (λ xs. written ahead (path_notes crossings e (begin + 2 * s) xs)) split
-    ∙ ap (λ k. written (slice_set ahead (note_place crossings e (slice_index path s)) (begin + 2 * s + 2)) (path_notes crossings e (begin + 2 * s + 2) (drop k path))) next
-    ∙ ap (λ n. written (slice_set ahead (note_place crossings e (slice_index path s)) (begin + 2 * s + 2)) (path_notes crossings e n (drop (s + 1) path))) more
+    grind arith
 
 -- one path
 pub paths_step : (crossings : List CrossRow) (n i : ℕ) (edges : List EdgeRow) (row : EdgeRow) (ahead : List ℕ) → i < length edges → row ≡ get_or edges i row
     → written ahead (notes_from crossings n (drop i edges)) ≡ written (written ahead (path_notes crossings row.id n row.crossings)) (notes_from crossings (n + 2 * segment_count row) (drop (i + 1) edges))
-paths_step crossings n i edges row ahead inside at =
-    let split : drop i edges ≡ get_or edges i row ∷ drop (suc i) edges = drop-cons edges i row inside in
-    let next : suc i ≡ i + 1 = omega arith in
-    ap (λ xs. written ahead (notes_from crossings n xs)) (split ∙ ap (λ r. r ∷ drop (suc i) edges) (sym at) ∙ ap (λ k. row ∷ drop k edges) next)
-    ∙ written_append ahead (path_notes crossings row.id n row.crossings) (notes_from crossings (n + 2 * segment_count row) (drop (i + 1) edges))
+paths_step crossings n i edges row ahead inside at = grind (arith, drop-cons, written_append)
 
 -- where a note of a crossing that is there goes
 pub note_place_read : (crossings : List CrossRow) (e x place : ℕ) (d : CrossRow) → place ≡ crossing_place crossings x → place < length crossings
     → note_place crossings e x ≡ 2 * place + cond {A = ℕ} (e == (get_or crossings place d).crossed) 0 1
-note_place_read crossings e x place d is within =
-    ap (λ p. 2 * p + cond {A = ℕ} (e == slice_index (map (λ c. c.crossed) crossings) p) 0 1) (sym is)
-    ∙ ap (λ z. 2 * place + cond {A = ℕ} (e == z) 0 1) (get_or-map (λ c. c.crossed) crossings place d 0 within)
+note_place_read crossings e x place d is within = grind (arith, get_or-map)
 
 pub noted_at_crossed : (crossings : List CrossRow) (e x place : ℕ) (d : CrossRow) → place ≡ crossing_place crossings x → place < length crossings → e ≡ (get_or crossings place d).crossed → 2 * place ≡ note_place crossings e x
 noted_at_crossed crossings e x place d is within same =
@@ -83,11 +73,7 @@ noted_at_newcomer crossings e x place d is within other =
 module _ (crossings : List CrossRow) where
   path_note_in : (e n s x : ℕ) (path : List ℕ) → slice_get path s ≡ Some x → IsIn (note_place crossings e x, n + 2 * (s + 1)) (path_notes crossings e n path)
   path_note_in e n s x [] at = cc
-  path_note_in e n zero x (y ∷ path) at =
-      let same : y ≡ x = cc in
-      let number : n + 2 * (0 + 1) ≡ n + 2 = omega arith in
-      let place : note_place crossings e x ≡ note_place crossings e y = ap (note_place crossings e) (sym same) in
-      let both : (note_place crossings e x, n + 2 * (0 + 1)) ≡ (note_place crossings e y, n + 2) = cc in inl both
+  path_note_in e n zero x (y ∷ path) at = grind arith
   path_note_in e n (suc s) x (y ∷ path) at =
       let number : (n + 2) + 2 * (s + 1) ≡ n + 2 * (suc s + 1) = omega arith in
       inr (subst (λ k. IsIn (note_place crossings e x, k) (path_notes crossings e (n + 2) path)) number (path_note_in e (n + 2) s x path at))

@@ -17,21 +17,7 @@ pair_parts : (e x f y : ℕ) → x < 4294967296 → y < 4294967296 → pair e x 
 pair_parts e x f y h k same = let first : e ≡ f = omega arith in (first, omega arith)
 
 pub pair_same : (e x f y : ℕ) → x < 4294967296 → y < 4294967296 → eqb (pair e x) (pair f y) ≡ (eqb e f && eqb x y)
-pair_same e x f y h k = elim (cases_Bool (eqb (pair e x) (pair f y))) [
-  | inl t ↦
-      let parts = pair_parts e x f y h k (eqb-true (pair e x) (pair f y) t) in
-      t ∙ sym (ap (λ b. b && eqb x y) (eq-eqb e f parts.0) ∙ eq-eqb x y parts.1)
-  | inr n ↦ elim (cases_Bool (eqb e f)) [
-    | inl first ↦ elim (cases_Bool (eqb x y)) [
-      | inl second ↦
-          let e_same = eqb-true e f first in
-          let x_same = eqb-true x y second in
-          let same : pair e x ≡ pair f y = omega arith in absurd (false≢true (sym n ∙ eq-eqb (pair e x) (pair f y) same))
-      | inr apart ↦ n ∙ sym (ap (λ b. b && eqb x y) first ∙ apart)
-    ]
-    | inr apart ↦ n ∙ sym (ap (λ b. b && eqb x y) apart)
-  ]
-]
+pair_same e x f y h k = grind (arith, cases_Bool, pair_parts, eqb-true, eq-eqb, false≢true)
 
 one_of_swapped : (s t : Bool) → one (s && t) ≡ cond {A = ℕ} t (one s) 0
 one_of_swapped true true = refl

@@ -51,10 +51,7 @@ low_below k = omega arith
 -- one end or the other, where the ends are different
 one_end : (a b v : ℕ) → eqb a b ≡ false → one (a == v) + one (b == v) ≡ one (a == v || b == v)
 one_end a b v apart = elim (cases_Bool (a == v)) [
-  | inl e ↦ elim (cases_Bool (b == v)) [
-    | inl f ↦ absurd (let x = eqb-true a v e in let y = eqb-true b v f in let same : a ≡ b = x ∙ sym y in false≢true (sym apart ∙ eq-eqb a b same))
-    | inr f ↦ ap (λ (t : Bool). one t + one (b == v)) e ∙ ap (λ (t : Bool). 1 + one t) f ∙ sym (ap (λ (t : Bool). one (t || b == v)) e)
-  ]
+  | inl e ↦ grind (arith, cases_Bool, eqb-true, false≢true, eq-eqb, one)
   | inr e ↦ ap (λ (t : Bool). one t + one (b == v)) e ∙ zero_plus (one (b == v)) ∙ sym (ap (λ (t : Bool). one (t || b == v)) e)
 ] where
   zero_plus : (n : ℕ) → 0 + n ≡ n
@@ -143,11 +140,7 @@ module _ (rows : Rows) (paths : has_good_paths rows ≡ true) (small : rows.next
                 left ∙ ap (λ n. occurrences n row.crossings) (sym id_is) ∙ says.counted row (row_in rows e row here)
                 ∙ ap (λ (t : Bool). one (t || row.id == c.newcomer)) (eqb_symm row.id c.crossed) ∙ ap (λ (t : Bool). one (c.crossed == row.id || t)) (eqb_symm row.id c.newcomer)
                 ∙ ap (λ n. one (c.crossed == n || c.newcomer == n)) row_is ∙ sym (one_end c.crossed c.newcomer e says.apart) ∙ sym right
-            | inr none ↦
-                let left : unwrap_or (option_map (λ row. occurrences x row.crossings) (edge_row rows e)) 0 ≡ 0 = ap (λ (o : Option EdgeRow). unwrap_or (option_map (λ row. occurrences x row.crossings) o) 0) none in
-                let first : one (c.crossed == e) ≡ 0 = missing c.crossed e none says.crossed in
-                let second : one (c.newcomer == e) ≡ 0 = missing c.newcomer e none says.newcomer in
-                left ∙ omega arith ∙ sym right
+            | inr none ↦ grind (arith, one)
           ]
       | inr absent ↦
           let right : unwrap_or (option_map (λ c. one (c.crossed == e) + one (c.newcomer == e)) (cross_row rows x)) 0 ≡ 0 = ap (λ (o : Option CrossRow). unwrap_or (option_map (λ c. one (c.crossed == e) + one (c.newcomer == e)) o) 0) absent in
@@ -159,10 +152,7 @@ module _ (rows : Rows) (paths : has_good_paths rows ≡ true) (small : rows.next
           ]
     ] where
       missing : (f e : ℕ) → edge_row rows e ≡ None → is_some (edge_row rows f) ≡ true → one (f == e) ≡ 0
-      missing f e none is_there = elim (cases_Bool (f == e)) [
-        | inl same ↦ absurd (false≢true (sym (ap is_some none) ∙ ap (λ n. is_some (edge_row rows n)) (sym (eqb-true f e same)) ∙ is_there))
-        | inr apart ↦ ap one apart
-      ]
+      missing f e none is_there = grind (arith, cases_Bool, false≢true, eqb-true, one)
 
       none_stands : (row : EdgeRow) → IsIn row rows.edges → (x : ℕ) → cross_row rows x ≡ None → occurrences x row.crossings ≡ 0
       none_stands row h x absent = elim (cases_lt 0 (occurrences x row.crossings)) [
@@ -180,13 +170,7 @@ module _ (rows : Rows) (paths : has_good_paths rows ≡ true) (small : rows.next
 
 -- crossings whose ids do not rise, or of which one is of one edge alone, are not good
 pub crossings_refused : (rows : Rows) → (rises_below rows.next_crossing (map (λ x. x.id) rows.crossings) && list_all (λ x. not (x.crossed == x.newcomer)) rows.crossings) ≡ false → false ≡ has_good_crossings rows
-crossings_refused rows fails = elim (cases_Bool (has_good_crossings rows)) [
-  | inl good ↦ absurd (
-      let rises = left_true (rises_below rows.next_crossing (map (λ x. x.id) rows.crossings)) (list_all (is_good_crossing rows) rows.crossings) good in
-      let differ = all_from (λ x. not (x.crossed == x.newcomer)) rows.crossings (λ x h. ap not (good_crossing rows good x h).apart) in
-      false≢true (sym fails ∙ ap (λ (b : Bool). b && list_all (λ x. not (x.crossed == x.newcomer)) rows.crossings) rises ∙ differ))
-  | inr bad ↦ sym bad
-]
+crossings_refused rows fails = grind (arith, cases_Bool, left_true, all_from, good_crossing, false≢true)
 
 -- two pairs for each crossing
 pub two_pairs_each : (crossings : List CrossRow) → length (crossing_pairs crossings) ≡ 2 * length crossings
@@ -281,9 +265,7 @@ module _ (rows : Rows) (paths : has_good_paths rows ≡ true) (small : length ro
           elim (some_or_none (edge_row rows e)) [
             | inl (row, at) ↦
                 let facts = path_facts rows paths row (row_in rows e row at) in
-                let a_no : one (row.a == v) ≡ 0 = ap one (below_apart row.a v (omega (arith, facts.a_in))) in
-                let b_no : one (row.b == v) ≡ 0 = ap one (below_apart row.b v (omega (arith, facts.b_in))) in
-                let right : unwrap_or (option_map (λ row. one (row.a == v) + one (row.b == v)) (edge_row rows e)) 0 ≡ one (row.a == v) + one (row.b == v) = ap (λ (o : Option EdgeRow). unwrap_or (option_map (λ row. one (row.a == v) + one (row.b == v)) o) 0) at in omega arith
+                grind (arith, one)
             | inr none ↦ left ∙ sym (ap (λ (o : Option EdgeRow). unwrap_or (option_map (λ row. one (row.a == v) + one (row.b == v)) o) 0) none)
           ]
     ] where
@@ -291,10 +273,7 @@ module _ (rows : Rows) (paths : has_good_paths rows ≡ true) (small : length ro
       below_apart m n h = grind (arith, nat_tests)
 
       absent : GoodRotation rows v → edge_row rows e ≡ None → occurrences e (rotation rows v) ≡ 0
-      absent says none = elim (cases_lt 0 (occurrences e (rotation rows v))) [
-        | inl some ↦ absurd (false≢true (sym (ap is_some none) ∙ says.known e (in_counted e (rotation rows v) some)))
-        | inr zero_here ↦ omega arith
-      ]
+      absent says none = grind (arith, cases_lt, false≢true, in_counted)
 
   pub rotations_decided : (t : Bool) → (IsTrue t ↔ Agree) → list_all begins_with_least rows.rotations ≡ true → t ≡ has_good_rotations rows
   rotations_decided true tells least = sym (rotations_from_agree (tells.0 refl) least)

@@ -69,10 +69,7 @@ begins_low n (row ∷ rest) (suc p) h = let more = begins_low (n + 2 * segment_c
 pub place_between : (k n : ℕ) (edges : List EdgeRow) (p i : ℕ) → p < length edges → slice_index (begins_from n edges) p ≤ n + i → n + i < slice_index (begins_from n edges) (suc p)
     → slice_index (places_from k edges) (i / 2) ≡ k + p
 place_between k n [] p i inside from before = absurd (omega arith)
-place_between k n (row ∷ rest) zero i inside from before =
-    let next = begins_head (n + 2 * segment_count row) rest in
-    get_or_append_left (replicate (segment_count row) k) (places_from (k + 1) rest) 0 (i / 2) (omega (arith, length-replicate (segment_count row) k))
-    ∙ get_or-replicate (segment_count row) (i / 2) k 0 (omega arith) ∙ omega arith
+place_between k n (row ∷ rest) zero i inside from before = grind (arith, begins_head, get_or_append_left, length-replicate, get_or-replicate)
 place_between k n (row ∷ rest) (suc p) i inside from before =
     let low = begins_low (n + 2 * segment_count row) rest p (omega arith) in
     let j = i - 2 * segment_count row in
@@ -90,10 +87,7 @@ forward_step row step inside even =
     ap (slice_get (darts_of row)) half ∙ forward_get row.id 0 (segment_count row) (step / 2) (omega arith) ∙ ap (λ s. Some (record { edge = row.id; seg = s; way = Forward })) same
 
 back_step : (row : EdgeRow) (step : ℕ) → step < 2 * segment_count row → step % 2 ≡ 1 → slice_get (darts_of row) step ≡ Some (record { edge = row.id; seg = step / 2; way = Back })
-back_step row step inside odd =
-    let half : step ≡ 2 * (step / 2) + 1 = omega arith in
-    let same : 0 + step / 2 ≡ step / 2 = omega arith in
-    ap (slice_get (darts_of row)) half ∙ back_get row.id 0 (segment_count row) (step / 2) (omega arith) ∙ ap (λ s. Some (record { edge = row.id; seg = s; way = Back })) same
+back_step row step inside odd = grind (arith, back_get)
 
 -- a dart of the rows, by its number
 module _ (rows : Rows) (i : ℕ) (inside : i < length (darts rows)) where

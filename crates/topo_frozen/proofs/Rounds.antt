@@ -110,9 +110,7 @@ module _ (rows : Rows) (good : IsWellFormed rows) where
 
   -- where a crossing is noted
   note_place_of : (q : ℕ) (c : CrossRow) → slice_get rows.crossings q ≡ Some c → (e : ℕ) → note_place rows.crossings e c.id ≡ 2 * q + cond {A = ℕ} (e == c.crossed) 0 1
-  note_place_of q c at e =
-      ap (λ p. 2 * p + cond {A = ℕ} (e == slice_index (map (λ c. c.crossed) rows.crossings) p) 0 1) (place_of_crossing q c at)
-      ∙ ap (λ z. 2 * q + cond {A = ℕ} (e == z) 0 1) (crossed_of q c at)
+  note_place_of q c at e = grind (arith, place_of_crossing, crossed_of)
 
   find_place : (y : ℕ) (c : CrossRow) (cs : List CrossRow) → find (λ c. c.id == y) cs ≡ Some c → slice_get cs (position_or_len (λ c. c.id == y) cs) ≡ Some c
   find_place y c [] h = cc
@@ -147,29 +145,11 @@ module _ (rows : Rows) (good : IsWellFormed rows) where
   entry : (q : ℕ) (c : CrossRow) → slice_get rows.crossings q ≡ Some c → (row : EdgeRow) → IsIn row rows.edges → (y : ℕ) → IsIn y row.crossings
       → (one (note_place rows.crossings row.id y == 2 * q) ≡ cond {A = ℕ} (row.id == c.crossed) (one (y == c.id)) 0) × (one (note_place rows.crossings row.id y == 2 * q + 1) ≡ cond {A = ℕ} (not (row.id == c.crossed)) (one (y == c.id)) 0)
   entry q c at row h y named = elim (cases_Bool (y == c.id)) [
-    | inl same ↦
-        let y_is : y ≡ c.id = eqb-true y c.id same in
-        let place : note_place rows.crossings row.id y ≡ 2 * q + cond {A = ℕ} (row.id == c.crossed) 0 1 = ap (note_place rows.crossings row.id) y_is ∙ note_place_of q c at row.id in (
-          ap (λ n. one (n == 2 * q)) place ∙ side_even (row.id == c.crossed) q ∙ sym (ap (λ (b : Bool). cond {A = ℕ} (row.id == c.crossed) (one b) 0) same ∙ as_one (row.id == c.crossed)),
-          ap (λ n. one (n == 2 * q + 1)) place ∙ side_odd (row.id == c.crossed) q ∙ sym (ap (λ (b : Bool). cond {A = ℕ} (not (row.id == c.crossed)) (one b) 0) same ∙ as_one (not (row.id == c.crossed))),
-        )
+    | inl same ↦ grind (arith, eqb-true, note_place_of, one, side_even, side_odd)
     | inr apart ↦
         let d = some_of (cross_row rows y) (crossing_there rows good.paths row h y named) in
         let d_id : d.0.id ≡ y = eqb-true d.0.id y (found (λ c. c.id == y) d.0 rows.crossings d.1).1 in
-        let d_at : slice_get rows.crossings (crossing_place rows.crossings y) ≡ Some d.0 = find_place y d.0 rows.crossings d.1 in
-        let other : eqb (crossing_place rows.crossings y) q ≡ false = elim (cases_Bool (crossing_place rows.crossings y == q)) [
-          | inl hit ↦ absurd (
-              let one_row : Some d.0 ≡ Some c = sym d_at ∙ ap (slice_get rows.crossings) (eqb-true (crossing_place rows.crossings y) q hit) ∙ at in
-              let same_row : d.0 ≡ c = cc in
-              false≢true (sym apart ∙ eq-eqb y c.id (sym d_id ∙ ap (λ (c : CrossRow). c.id) same_row)))
-          | inr miss ↦ miss
-        ] in
-        let zero_side : 2 * q ≡ 2 * q + 0 = omega arith in
-        let side = cond {A = ℕ} (row.id == slice_index (map (λ c. c.crossed) rows.crossings) (crossing_place rows.crossings y)) 0 1 in
-        let side_small : side ≤ 1 = at_most (row.id == slice_index (map (λ c. c.crossed) rows.crossings) (crossing_place rows.crossings y)) in (
-          ap (λ n. one (note_place rows.crossings row.id y == n)) zero_side ∙ ap one (other_place (crossing_place rows.crossings y) q side 0 side_small (omega arith) other) ∙ sym (ap (λ (b : Bool). cond {A = ℕ} (row.id == c.crossed) (one b) 0) apart ∙ as_zero (row.id == c.crossed)),
-          ap one (other_place (crossing_place rows.crossings y) q side 1 side_small (omega arith) other) ∙ sym (ap (λ (b : Bool). cond {A = ℕ} (not (row.id == c.crossed)) (one b) 0) apart ∙ as_zero (not (row.id == c.crossed))),
-        )
+        grind (arith, find_place, cases_Bool, eqb-true, false≢true, eq-eqb, at_most, one, other_place)
   ] where
     as_one : (t : Bool) → cond {A = ℕ} t 1 0 ≡ one t
     as_one t = refl
@@ -235,13 +215,7 @@ module _ (rows : Rows) (good : IsWellFormed rows) where
       flip m n h = grind (arith, nat_tests)
 
       never_both : (r m n : ℕ) → eqb m n ≡ false → (eqb r m && eqb r n) ≡ false
-      never_both r m n apart = elim (cases_Bool (eqb r m)) [
-        | inl e ↦ elim (cases_Bool (eqb r n)) [
-          | inl f ↦ absurd (let a = eqb-true r m e in let b = eqb-true r n f in let same : m ≡ n = sym a ∙ b in false≢true (sym apart ∙ eq-eqb m n same))
-          | inr f ↦ ap (λ b. b && eqb r n) e ∙ f
-        ]
-        | inr e ↦ ap (λ b. b && eqb r n) e
-      ]
+      never_both r m n apart = grind (arith, cases_Bool, eqb-true, false≢true, eq-eqb)
 
       other_side : (s t : Bool) (n : ℕ) → n ≡ one (s || t) → (s && t) ≡ false → cond {A = ℕ} (not s) n 0 ≡ cond {A = ℕ} t n 0
       other_side true true n is both = cc
@@ -261,9 +235,7 @@ module _ (rows : Rows) (good : IsWellFormed rows) where
   each_within (d ∷ ds) each (suc k) h = each_within ds (λ d i. each d (inr i)) k (omega arith)
 
   pub round_within : (v : ℕ) → v < length rows.rotations → (round : List ℕ) → round ≡ vertex_round rows v → (k : ℕ) → k < length round → slice_index round k < length (darts rows)
-  round_within v h round is k below =
-      subst (λ xs. slice_index xs k < length (darts rows)) (sym is)
-      (each_within (around_vertex rows v) (λ d i. number_within d (at_vertex_in rows v d h i)) k (omega (arith, ap length is)))
+  round_within v h round is k below = grind (arith, each_within, number_within, at_vertex_in)
 
   -- the edges in a vertex's list are there
   pub edge_known : (v : ℕ) → v < length rows.rotations → (around : List ℕ) → around ≡ rotation rows v → (i : ℕ) → i < length around → is_some (edge_row rows (slice_index around i)) ≡ true
@@ -298,12 +270,8 @@ module _ (rows : Rows) (good : IsWellFormed rows) where
   newcomer_in RightToLeft a b m n = inr (inr (inr (inl refl)))
 
   round_of : (s : Sign) (a b m n : Dart) → index_of rows b + 1 ≡ index_of rows a → index_of rows n + 1 ≡ index_of rows m → round_ahead s (index_of rows a) (index_of rows m) ≡ map (index_of rows) (clockwise s a b m n)
-  round_of LeftToRight a b m n first second =
-      let x : index_of rows a - 1 ≡ index_of rows b = omega arith in
-      let y : index_of rows m - 1 ≡ index_of rows n = omega arith in cc
-  round_of RightToLeft a b m n first second =
-      let x : index_of rows a - 1 ≡ index_of rows b = omega arith in
-      let y : index_of rows m - 1 ≡ index_of rows n = omega arith in cc
+  round_of LeftToRight a b m n first second = grind arith
+  round_of RightToLeft a b m n first second = grind arith
 
   row_in_crossings : (q : ℕ) (c : CrossRow) (cs : List CrossRow) → slice_get cs q ≡ Some c → IsIn c cs
   row_in_crossings q c [] e = cc
@@ -349,9 +317,7 @@ range_push a (suc n) =
     ap (range_with_len a) e ∙ ap (λ xs. a ∷ xs) (range_push (a + 1) n ∙ ap (λ k. range_with_len (a + 1) n ++ k ∷ []) f)
 
 pub linked_more : {X : Type 0} (f : X → List (ℕ × ℕ)) (xs : List X) (x : X) (images now next : List ℕ) → now ≡ written images (flat_map f xs) → next ≡ written now (f x) → next ≡ written images (flat_map f (xs ++ x ∷ []))
-linked_more f xs x images now next was step =
-    step ∙ ap (λ (ys : List ℕ). written ys (f x)) was ∙ sym (written_append images (flat_map f xs) (f x))
-    ∙ ap (written images) (sym (flat_map-append f xs (x ∷ []) ∙ ap (λ us. flat_map f xs ++ us) (append-nil (f x))))
+linked_more f xs x images now next was step = grind (arith, written_append, flat_map-append, append-nil)
 
 -- the links of a round, written one after another from its first entry
 pub round_starts : (images round : List ℕ) (first : ℕ) → 0 < length round → first ≡ slice_index round 0 → written images (links_to first (first ∷ drop 1 round)) ≡ written images (links round)
@@ -360,9 +326,7 @@ round_starts images (x ∷ xs) first some is = ap (λ f. written images (links_t
 
 pub round_goes_on : (images round : List ℕ) (first here next i : ℕ) → i < length round → next ≡ slice_index round i
     → written images (links_to first (here ∷ drop i round)) ≡ written (set images here next) (links_to first (next ∷ drop (i + 1) round))
-round_goes_on images round first here next i inside is =
-    let after : suc i ≡ i + 1 = omega arith in
-    ap (λ xs. written images (links_to first (here ∷ xs))) (drop-cons round i 0 inside ∙ ap (λ n. n ∷ drop (suc i) round) (sym is) ∙ ap (λ k. next ∷ drop k round) after)
+round_goes_on images round first here next i inside is = grind (arith, drop-cons)
 
 pub round_ends : (images round : List ℕ) (first here i : ℕ) → length round ≤ i → written images (links_to first (here ∷ drop i round)) ≡ set images here first
 round_ends images round first here i past = ap (λ xs. written images (links_to first (here ∷ xs))) (drop_all i round past)

@@ -46,9 +46,7 @@ without_counts k x (y ∷ ys) h =
     let step = sum_by-cons (λ z. one (z == x)) y ys in
     let step_k = sum_by-cons (λ z. one (z == k)) y ys in
     elim (cases_Bool (y == x)) [
-      | inl e ↦
-          let is : occurrences k (cond (y == x) ys (y ∷ without x ys)) ≡ occurrences k ys = ap (λ (b : Bool). occurrences k (cond b ys (y ∷ without x ys))) e in
-          let same : one (y == k) ≡ one (x == k) = ap (λ z. one (z == k)) (eqb-true y x e) in omega arith
+      | inl e ↦ grind (arith, without, one, eqb-true)
       | inr e ↦
           let none : one (y == x) ≡ 0 = ap one e in
           let rest = without_counts k x ys (omega arith) in

@@ -63,18 +63,7 @@ le_of : (m n : ℕ) → nat_le m n ≡ true → m ≤ n
 le_of m n h = grind (arith, nat_tests)
 
 pub is_small : (limits : Limits) (rows : Rows) → fits limits rows ≡ true → has_good_paths rows ≡ true → has_good_crossings rows ≡ true → length (path_pairs rows.edges) ≡ 2 * length rows.crossings → IsSmall rows
-is_small limits rows fit paths crossings two =
-    let parts = three (nat_le (length rows.rotations) limits.vertices) (nat_le rows.next_edge limits.edges) (nat_le rows.next_crossing limits.crossings) fit in
-    let v = le_of (length rows.rotations) limits.vertices parts.0 in
-    let e = le_of rows.next_edge limits.edges parts.1 in
-    let x = le_of rows.next_crossing limits.crossings parts.2 in
-    let v_most = limits.vertices_in_range in
-    let e_most = limits.edges_in_range in
-    let x_most = limits.crossings_in_range in
-    let few_edges : length rows.edges ≤ rows.next_edge = (let f = few_rise rows.next_edge (map (λ row. row.id) rows.edges) (left_true _ (list_all (has_good_path rows) rows.edges) paths) in omega (arith, length-map rows.edges (λ (row : EdgeRow). row.id))) in
-    let few_crossings : length rows.crossings ≤ rows.next_crossing = (let f = few_rise rows.next_crossing (map (λ x. x.id) rows.crossings) (left_true _ (list_all (is_good_crossing rows) rows.crossings) crossings) in omega (arith, length-map rows.crossings (λ (x : CrossRow). x.id))) in
-    let segments = segments_by_pairs rows.edges in
-    record { segments = omega arith; vertices = omega arith; crossings = omega arith }
+is_small limits rows fit paths crossings two = grind (arith, three, le_of, few_rise, left_true, length-map, segments_by_pairs)
 
 -- ---- Euler's formula
 
@@ -129,7 +118,4 @@ not_whole rows bare = (λ h. absurd (false≢true h), λ connected. sym (connect
 
 -- and else the numbers tell whether it is connected
 pub whole_told : (rows : Rows) (images : List ℕ) (t : Bool) → IsWellFormed rows → images ≡ turn_images rows → list_any (λ around. length around == 0) rows.rotations ≡ false → (IsTrue t ↔ IsConnected images) → (IsTrue t ↔ Connected (system rows))
-whole_told rows images t good is full tells = (
-  λ h. record { no_bare_point = bare_points rows ∙ full; joined = darts_connected rows good.paths good.crossings good.rotations (subst IsConnected is (tells.0 h)) },
-  λ connected. tells.1 (subst IsConnected (sym is) (numbers_connected rows good.paths good.crossings good.rotations connected.joined)),
-)
+whole_told rows images t good is full tells = grind (arith, bare_points, darts_connected, numbers_connected)

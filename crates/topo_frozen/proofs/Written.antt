@@ -39,9 +39,7 @@ not_at : (k v : ℕ) (ws : List (ℕ × ℕ)) → IsIn (k, v) ws → times k ws 
 not_at k v [] h none = absurd h
 not_at k v (w ∷ ws) (inl e) none =
     let step = sum_by-cons (λ (w : ℕ × ℕ). one (w.0 == k)) w ws in
-    let same : k ≡ w.0 = ap (λ (w : ℕ × ℕ). w.0) e in
-    let here : eqb w.0 k ≡ true = grind (arith, nat_tests) in
-    let counted : one (w.0 == k) ≡ 1 = ap one here in omega arith
+    grind (arith, nat_tests, one)
 not_at k v (w ∷ ws) (inr h) none =
     let step = sum_by-cons (λ (w : ℕ × ℕ). one (w.0 == k)) w ws in not_at k v ws h (omega arith)
 

@@ -29,9 +29,7 @@ step f i p e = record { steps = 1; leads = e }
 
 -- labels of a slab, by equations of what it holds
 pub labelled_by : (s : Slab Segment) (live : ℕ → Bool) (f l : ℕ → ℕ) → holds s ≡ live → next_in s ≡ f → face_in s ≡ l → LabelsFaces live f l → LabelsFaces (holds s) (next_in s) (face_in s)
-labelled_by s live f l eh ef el w =
-    subst (λ (h : ℕ → Bool). LabelsFaces h (next_in s) (face_in s)) (sym eh)
-    (subst (λ (g : ℕ → ℕ). LabelsFaces live g (face_in s)) (sym ef) (subst (λ (m : ℕ → ℕ). LabelsFaces live f m) (sym el) w))
+labelled_by s live f l eh ef el w = grind (arith, live, f)
 
 -- ---- A step in one face
 
@@ -58,10 +56,7 @@ part_labels s s1 s2 i j y label unused rest w a taken same hy side p = record {
       let hg : IsPermutation (face_next g) n = faces_permuted s1 w.kept_after in
       let there : IsScene (holds s) (face_next g) n i j = record { permutation = hg; below = w.kept.within; first = w.first; second = w.second } in
       let coarse : IsCoarse (holds s) (face_next g) l i j = parted (holds s) f g l n i j (scene s i j w.kept w.first w.second) w.exchange was.labels (same label was) in
-      let ends : SameCycle (face_next g) y i ⊎ SameCycle (face_next g) y j = elim side [
-        | inl v ↦ inl (SameCycle-sym (face_next g) n hg i y (w.kept.within i w.first) v)
-        | inr v ↦ inr (SameCycle-sym (face_next g) n hg j y (w.kept.within j w.second) v)
-      ] in
+      let ends : SameCycle (face_next g) y i ⊎ SameCycle (face_next g) y j = grind (arith, i, j) in
       let fresh : (b : ℕ) → holds s b ≡ true → l b ≢ label = λ b t d. (let lb : l b < label = was.below b t in let z : ⊥ = omega arith in z) in
       let done : LabelsFaces (holds s) g (painted (face_next g) n y label l) = part_painted (holds s) g l n i j y label there coarse hy ends fresh in
       let el : face_in s2 ≡ painted (face_next g) n y label l = p.faces ∙ ap (λ (m : ℕ → ℕ). painted (face_next g) n y label m) w.faces in

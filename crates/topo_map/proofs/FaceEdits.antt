@@ -36,23 +36,7 @@ pub same_slots_sound : (s s' : Slab Segment) (unused : Option ℕ) → s'.slots 
 unfolding live_by turn_by
 same_slots_sound s s' unused e k =
     let eh : holds s' ≡ holds s = ap live_by e in
-    let en : next_in s' ≡ next_in s = ap (turn_by nexts) e in
-    let eb : before_in s' ≡ before_in s = ap (turn_by befores) e in
-    let ef : face_in s' ≡ face_in s = ap (turn_by sides) e in
-    record {
-      kept = record {
-        inverse = subst (λ (f : ℕ → ℕ). AreInverse f (before_in s')) (sym en) (subst (λ (b : ℕ → ℕ). AreInverse (next_in s) b) (sym eb) k.kept.inverse);
-        within = λ a h. k.kept.within a (ap (λ (p : ℕ → Bool). p a) (sym eh) ∙ h);
-      };
-      labels = record {
-        known = λ bound d.
-            let w : IsLabelled s bound = k.labels.known bound d in
-            record {
-              labels = labelled_by s' (holds s) (next_in s) (face_in s) eh en ef w.labels;
-              below = λ a t. subst (λ (v : ℕ). v < bound) (ap (λ (m : ℕ → ℕ). m a) (sym ef)) (w.below a (ap (λ (p : ℕ → Bool). p a) (sym eh) ∙ t));
-            };
-      };
-    }
+    grind (arith, turn_by, labelled_by)
 
 -- a clone of what is copied is the same
 same_slot : (R : Segment → Segment → Type 0) → ((x y : Segment) → R x y → y ≡ x) → (a b : Option Segment) → IsSlotClone R a b → b ≡ a
@@ -70,15 +54,7 @@ adds_below s s' x k k' a = record { below = k.within; below_after = k'.within; a
 
 -- a new segment is given no label that is not in use
 new_below : (s s' : Slab Segment) (l : ℕ → ℕ) (x left right bound : ℕ) → IsKept s' → AddsSegment (holds s) (holds s') half_limit x → ((a : ℕ) → holds s a ≡ true → face_in s a < bound) → AddsFaces (holds s) (face_in s) l x left right → left < bound → right < bound → (a : ℕ) → holds s' a ≡ true → l a < bound
-new_below s s' l x left right bound k' t below f ll lr a h = elim (cases_eq a x) [
-  | inl e ↦ subst (λ (v : ℕ). v < bound) (sym (ap l e ∙ f.here)) ll
-  | inr nx ↦ elim (cases_eq a (twin x)) [
-    | inl e ↦ subst (λ (v : ℕ). v < bound) (sym (ap l e ∙ f.here_twin)) lr
-    | inr nt ↦
-        let was : holds s a ≡ true = sym (t.others a (k'.within a h) nx nt) ∙ h in
-        subst (λ (v : ℕ). v < bound) (sym (f.others a was)) (below a was)
-  ]
-]
+new_below s s' l x left right bound k' t below f ll lr a h = grind (arith, cases_eq)
 
 faces_added : (live : ℕ → Bool) (old l m : ℕ → ℕ) (x left right : ℕ) → m ≡ l → AddsFaces live old l x left right → AddsFaces live old m x left right
 faces_added live old l m x left right e f = subst (λ (k : ℕ → ℕ). AddsFaces live old k x left right) (sym e) f
@@ -144,10 +120,7 @@ unhung_labels s s1 s2 s3 h t unused hh et u v e r kept a = record {
       let two : SameCycle f i j = record { steps = 2; leads = ap f (onto s1 t u.kept) ∙ ap (next_in s1) ej ∙ fixed ∙ sym ej } in
       let coarse : IsCoarse (holds s1) g (face_in s1) i j = parted (holds s1) (next_in s1) (next_in s2) (face_in s1) half_limit i j (scene s1 i j u.kept x.first x.second) x.exchange w.labels (w.labels.same_label i j x.first x.second two) in
       let hg : IsPermutation g half_limit = faces_permuted s2 v.kept in
-      let isolated : IsIsolated (next_in s2) t = record {
-        this = ap (next_in s2) et ∙ without_alone s1 s2 h t et v ∙ sym et;
-        other = ap (next_in s2) ej ∙ unchord_alone s s1 s2 h t et u v ∙ sym ej;
-      } in
+      let isolated : IsIsolated (next_in s2) t = grind (arith, without_alone, unchord_alone) in
       let was : (b : ℕ) → holds s3 b ≡ true → holds s1 b ≡ true = λ b hb.
       ap (λ (p : ℕ → Bool). p b) (sym v.live) ∙ r.live.others b (r.kept.within b hb) (λ z. false≢true (sym r.live.new ∙ ap (holds s3) (sym z) ∙ hb)) (λ z. false≢true (sym r.live.new_twin ∙ ap (holds s3) (sym z) ∙ hb)) ∙ hb in
       -- nothing that is left lies with the ends of what goes
@@ -180,15 +153,7 @@ pub blank_none : (s : Slab Segment) → ((a : ℕ) → holds s a ≡ true → �
 blank_none s none a h = absurd (none a h)
 
 pub blank_more : (s s' : Slab Segment) (x : ℕ) → AreBlank s → IsInserted s s' x → AddsFaces (holds s) (face_in s) (face_in s') x 0 0 → AreBlank s'
-blank_more s s' x blank i f a h = elim (cases_eq a x) [
-  | inl e ↦ ap (face_in s') e ∙ f.here
-  | inr nx ↦ elim (cases_eq a (twin x)) [
-    | inl e ↦ ap (face_in s') e ∙ f.here_twin
-    | inr nt ↦
-        let was : holds s a ≡ true = sym (i.live.others a (i.kept.within a h) nx nt) ∙ h in
-        f.others a was ∙ blank a was
-  ]
-]
+blank_more s s' x blank i f a h = grind (arith, cases_eq)
 
 pub joined_painted : (s s' : Slab Segment) (hs ts : List ℕ) (l : ℕ → ℕ) → IsJoined s hs ts → Repaints s s' l → IsJoined s' hs ts
 joined_painted s s' hs ts l j r = record {
@@ -226,10 +191,4 @@ seed_labels s s' x none st f = record {
 }
   where
     which : (a : ℕ) → holds s' a ≡ true → (a ≡ x) ⊎ (a ≡ twin x)
-    which a h = elim (cases_eq a x) [
-      | inl e ↦ inl e
-      | inr nx ↦ elim (cases_eq a (twin x)) [
-        | inl e ↦ inr e
-        | inr nt ↦ absurd (none a (sym (st.inserted.live.others a (st.inserted.kept.within a h) nx nt) ∙ h))
-      ]
-    ]
+    which a h = grind (arith, cases_eq)

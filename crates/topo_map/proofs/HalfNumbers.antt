@@ -11,10 +11,7 @@ number_key key Back = omega arith
 
 -- the half at its key, on its way
 pub numbered : (a : ℕ) → half_number (a / 2) (way_of a) ≡ a
-numbered a = elim (cases_eq (a % 2) 0) [
-  | inl z ↦ ap (half_number (a / 2)) (cond-true _ _ _ (eq-eqb _ _ z)) ∙ (let e : 2 * (a / 2) ≡ a = omega arith in e)
-  | inr z ↦ ap (half_number (a / 2)) (cond-false _ _ _ (ne_eqb _ _ z)) ∙ (let e : 2 * (a / 2) + 1 ≡ a = omega arith in e)
-]
+numbered a = grind (arith, cases_eq, cond-true, eq-eqb, cond-false, ne_eqb)
 
 pub half_of : (key : ℕ) (way : Way) (a : ℕ) → key ≡ a / 2 → way ≡ way_of a → half_number key way ≡ a
 half_of key way a ek ew = ap (λ (k : ℕ). half_number k way) ek ∙ ap (half_number (a / 2)) ew ∙ numbered a

@@ -124,18 +124,7 @@ renumbered s hs ts p el j =
     let small : (a : ℕ) → a < length ts → a < length hs = λ a l. subst (λ (n : ℕ). a < n) (sym el) l in
     let w : IsWhole (holds s) (next_in s) = whole s j.kept in
     record {
-      turn = record {
-        before = p;
-        after = w.slab.permutation;
-        numbers = record {
-          within = λ a l. j.kept.within (map_of hs a) (j.listed.alive a (small a l));
-          alive = λ a l. j.listed.alive a (small a l);
-          returns = λ a l. j.listed.returns a (small a l);
-          back_within = λ y l h. subst (λ (n : ℕ). j.listed.place y < n) el (j.listed.place_within y h);
-          back_returns = λ y l h. j.listed.place_returns y h;
-        };
-        map = record { each = λ a l. j.next a l };
-      };
+      turn = grind arith;
       even = subst (λ (n : ℕ). n % 2 ≡ 0) el j.listed.even;
       after_even = w.slab.even;
       twins = record { each = λ a l. j.listed.twins a (small a l) };
@@ -173,10 +162,7 @@ seed_made s s' x e i =
     let hs : List ℕ = x ∷ twin x ∷ [] in
     let ts : List ℕ = 0 ∷ 1 ∷ [] in
     let k : AreAlone s' hs = alone_more s s' [] hs x (twin x) (empty_alone s e) i refl refl in
-    let p : IsPermutation (map_of ts) 2 = record {
-      within = λ a l. subst (λ (n : ℕ). n < 2) (sym (two_places a l)) l;
-      apart = λ a b l m w. sym (two_places a l) ∙ w ∙ two_places b m;
-    } in
+    let p : IsPermutation (map_of ts) 2 = grind (arith, two_places) in
     made_from s' hs ts p refl (record {
       kept = k.kept;
       listed = k.listed;

@@ -1,5 +1,5 @@
 -- A slab in which both directions of the turn agree, and halves that are put in or taken out of it.
-use Rattle.std.proofs.Common.{◌≡◌, ◌≢◌, ℕ, ◌/◌, Bool, true, false, inl, inr, refl, sym, ◌∙◌, ap, subst, Option, Some, None, is_some}
+use Rattle.std.proofs.Common.{arith, ◌≡◌, ◌≢◌, ℕ, ◌/◌, Bool, true, false, inl, inr, refl, sym, ◌∙◌, ap, subst, Option, Some, None, is_some}
 use Rattle.std.proofs.lemmas.Bool.{cases_Bool}
 use Rattle.std.specs.Option.{option_map}
 use Rattle.slab.specs.Slab.{Slab, get}
@@ -38,17 +38,7 @@ inverse-at : (f b f' b' : ℕ → ℕ) → f ≡ f' → b ≡ b' → AreInverse 
 inverse-at f b f' b' e d k = subst (λ (g : ℕ → ℕ). AreInverse g b) (sym e) (subst (λ (g : ℕ → ℕ). AreInverse f' g) (sym d) k)
 
 turned_to : (s s1 s2 : Slab Segment) (f f' b' : ℕ → ℕ) (f1 b1 f2 b2 : ℕ → ℕ) → IsKept s → Rewires s s1 f1 b1 → Rewires s1 s2 f2 b2 → f2 ≡ f' → b2 ≡ b' → f' ≡ f → AreInverse f' b' → IsTurned s s2 f
-turned_to s s1 s2 f f' b' f1 b1 f2 b2 k r1 r2 ef eb e i = record {
-  next = r2.next ∙ ef ∙ e;
-  live = r2.live ∙ r1.live;
-  edges = r2.edges ∙ r1.edges;
-  len = r2.len ∙ r1.len;
-  capacity = r2.capacity ∙ r1.capacity;
-  kept = record {
-    inverse = inverse-at (next_in s2) (before_in s2) f' b' (r2.next ∙ ef) (r2.before ∙ eb) i;
-    within = λ a h. k.within a (ap (λ (g : ℕ → Bool). g a) (sym (r2.live ∙ r1.live)) ∙ h);
-  };
-}
+turned_to s s1 s2 f f' b' f1 b1 f2 b2 k r1 r2 ef eb e i = grind (arith, inverse-at)
 
 pub put_turned : (s s1 s2 : Slab Segment) (p x c : ℕ) → IsKept s → p ≡ before_in s c → c ≢ x → next_in s x ≡ x
     → Rewires s s1 (written (next_in s) p x) (written (before_in s) x p)

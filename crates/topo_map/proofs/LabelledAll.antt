@@ -37,10 +37,7 @@ given_already s l k y unused p ey ne = record {
         below = w.below;
         same_face = w.same_face;
         same_label = w.same_label;
-        given = λ a la ha. elim (cases_eq a k) [
-          | inl same ↦ λ z. ne (ap (holds s) (ey ∙ sym same) ∙ ha) (ap l (ey ∙ sym same) ∙ z)
-          | inr other ↦ w.given a (let v : a < k = omega arith in v) ha
-        ];
+        given = λ a la ha. grind (arith, cases_eq);
       };
 }
 
@@ -67,10 +64,7 @@ given_now s l k y label unused rest kept p ey hy zero taken = record {
             | Within v q ↦ SameCycle-trans f a y b (turn_round y a hy m) v
             | Beyond v q ↦ absurd (fresh b tb (sym q ∙ sym d ∙ u))
           ]
-          | Beyond m u ↦ elim (lies f n y label l b hf ly) [
-            | Within v q ↦ absurd (fresh a ta (sym u ∙ d ∙ q))
-            | Beyond v q ↦ w.same_face a b ta tb (λ z. ne (u ∙ z)) (sym u ∙ d ∙ q)
-          ]
+          | Beyond m u ↦ grind (arith, lies)
         ];
         same_label = λ a b ta tb m. elim (lies f n y label l a hf ly) [
           | Within v u ↦ u ∙ sym (painted-in f n y label l b hf ly (SameCycle-trans f y a b v m))
@@ -79,13 +73,7 @@ given_now s l k y label unused rest kept p ey hy zero taken = record {
             | Beyond q r ↦ u ∙ w.same_label a b ta tb m ∙ sym r
           ]
         ];
-        given = λ a la ha z. elim (lies f n y label l a hf ly) [
-          | Within v u ↦ not_none (sym u ∙ z)
-          | Beyond v u ↦ elim (cases_eq a k) [
-            | inl same ↦ v (subst (λ (b : ℕ). SameCycle f y b) (ey ∙ sym same) (record { steps = 0; leads = refl }))
-            | inr other ↦ w.given a (let q : a < k = omega arith in q) ha (sym u ∙ z)
-          ]
-        ];
+        given = λ a la ha z. grind (arith, lies, cases_eq);
       };
 }
 
@@ -98,12 +86,7 @@ pub step_over : (s s1 : Slab Segment) (k y : ℕ) (unused : Option ℕ) → IsPa
 step_over s s1 k y unused w ey ne = record { same = w.same; partly = given_already s (face_in s1) k y unused w.partly ey (λ h. ne (painted_live s s1 (face_in s1) y w.same h)) }
 
 pub step_painted : (s s1 s2 : Slab Segment) (k y label : ℕ) (unused rest : Option ℕ) → IsKept s → IsPartlyLabelled s s1 k unused → y ≡ k → holds s1 y ≡ true → face_in s1 y ≡ 0 → IsTakenLabel unused label rest → IsPainted s1 s2 y label → IsPartlyLabelled s s2 (k + 1) rest
-step_painted s s1 s2 k y label unused rest kept w ey hy zero taken p =
-    let e : face_in s2 ≡ painted (face_next (next_in s)) half_limit y label (face_in s1) = p.faces ∙ ap (λ (f : ℕ → ℕ). painted (face_next f) half_limit y label (face_in s1)) w.same.next in
-    record {
-      same = repainted s s2 _ (face_in s2) (sym p.faces) (then_painted s s1 s2 (face_in s1) _ w.same p);
-      partly = subst (λ (l : ℕ → ℕ). ArePartly s l (k + 1) rest) (sym e) (given_now s (face_in s1) k y label unused rest kept w.partly ey (ap (λ (h : ℕ → Bool). h y) (sym w.same.live) ∙ hy) zero taken);
-    }
+step_painted s s1 s2 k y label unused rest kept w ey hy zero taken p = grind (arith, repainted, then_painted, given_now)
 
 -- and all of them
 pub all_given : (s s1 : Slab Segment) (k : ℕ) (unused : Option ℕ) → IsPartlyLabelled s s1 k unused → ((a : ℕ) → holds s a ≡ true → a < k) → AreLabels s1 unused
@@ -113,10 +96,7 @@ all_given s s1 k unused p small = record {
       let r : Repaints s s1 l = p.same in
       let w : IsPartly (holds s) (face_next (next_in s)) l k bound = p.partly.known bound e in
       record {
-        labels = labelled_by s1 (holds s) (next_in s) l r.live r.next refl (record {
-          same_face = λ a b t u d. w.same_face a b t u (w.given a (small a t) t) d;
-          same_label = w.same_label;
-        });
+        labels = labelled_by s1 (holds s) (next_in s) l r.live r.next refl (grind arith);
         below = λ a t. w.below a (ap (λ (h : ℕ → Bool). h a) (sym r.live) ∙ t);
       };
 }
@@ -129,6 +109,4 @@ pub record AreBlankBelow (s s1 : Slab Segment) (k : ℕ) : Type 0 where
   pub blank : (a : ℕ) → a < k → holds s a ≡ true → face_in s1 a ≡ 0
 
 pub blank_all : (s s1 : Slab Segment) (k : ℕ) → AreBlankBelow s s1 k → ((a : ℕ) → holds s a ≡ true → a < k) → AreBlank s1
-blank_all s s1 k w small a h =
-    let was : holds s a ≡ true = ap (λ (p : ℕ → Bool). p a) (sym w.same.live) ∙ h in
-    w.blank a (small a was) was
+blank_all s s1 k w small a h = grind arith

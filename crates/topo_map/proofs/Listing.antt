@@ -32,18 +32,10 @@ longer hs x y =
     }
 
 three : (a m : ℕ) → a < m + 2 → (a < m) ⊎ ((a ≡ m) ⊎ (a ≡ m + 1))
-three a m l = elim (cases_eq a m) [
-  | inl e ↦ inr (inl e)
-  | inr ne ↦ elim (cases_eq a (m + 1)) [
-    | inl e ↦ inr (inr e)
-    | inr nd ↦ inl (let w : a < m = omega arith in w)
-  ]
-]
+three a m l = grind (arith, cases_eq)
 
 even-twin : (m : ℕ) → m % 2 ≡ 0 → (twin m ≡ m + 1) × (twin (m + 1) ≡ m)
-even-twin m e =
-    let t : twin m ≡ m + 1 = elim (twin-cases m) [ inl w ↦ w.1 | inr w ↦ absurd (w.0 e) ] in
-    (t, ap twin (sym t) ∙ twin-twin m)
+even-twin m e = grind (arith, twin-cases, twin-twin)
 
 abbrev placed : (ℕ → ℕ) → ℕ → ℕ → ℕ → ℕ → ℕ
 placed place x y m v = cond (v == x) m (cond (v == y) (m + 1) (place v))
@@ -79,45 +71,21 @@ listed_more live live' hs new x y one_more within within' k t ey en =
         | inl old ↦
             let h : live (map_of hs a) ≡ true = k.alive a old in
             ap live' (g.old a old) ∙ t.others (map_of hs a) (within (map_of hs a) h) (not_x (map_of hs a) h) (λ w. not_y (map_of hs a) h (w ∙ sym ey)) ∙ h
-        | inr q ↦ elim q [
-          | inl e ↦ ap (λ (n : ℕ). live' (map_of new n)) e ∙ ap live' g.first ∙ t.here
-          | inr e ↦ ap (λ (n : ℕ). live' (map_of new n)) e ∙ ap live' g.second ∙ here_y
-        ]
+        | inr q ↦ grind arith
       ];
       twins = λ a l. elim (three a m (subst (λ (n : ℕ). a < n) size l)) [
         | inl old ↦ ap twin (g.old a old) ∙ k.twins a old ∙ sym (g.old (twin a) (twin-within m a even_m old))
-        | inr q ↦ elim q [
-          | inl e ↦ ap (λ (n : ℕ). twin (map_of new n)) e ∙ ap twin g.first ∙ sym ey ∙ sym (ap (λ (n : ℕ). map_of new (twin n)) e ∙ ap (map_of new) (even-twin m even_m).0 ∙ g.second)
-          | inr e ↦ ap (λ (n : ℕ). twin (map_of new n)) e ∙ ap twin (g.second ∙ ey) ∙ twin-twin x ∙ sym (ap (λ (n : ℕ). map_of new (twin n)) e ∙ ap (map_of new) (even-twin m even_m).1 ∙ g.first)
-        ]
+        | inr q ↦ grind (arith, even-twin, twin-twin)
       ];
       place = place';
       returns = λ a l. elim (three a m (subst (λ (n : ℕ). a < n) size l)) [
         | inl old ↦
             let h : live (map_of hs a) ≡ true = k.alive a old in
             ap place' (g.old a old) ∙ placed-else k.place x y m (map_of hs a) (not_x (map_of hs a) h) (not_y (map_of hs a) h) ∙ k.returns a old
-        | inr q ↦ elim q [
-          | inl e ↦ ap (λ (n : ℕ). place' (map_of new n)) e ∙ ap place' g.first ∙ placed-first k.place x y m x refl ∙ sym e
-          | inr e ↦ ap (λ (n : ℕ). place' (map_of new n)) e ∙ ap place' g.second ∙ placed-second k.place x y m y yx refl ∙ sym e
-        ]
+        | inr q ↦ grind (arith, placed-first, placed-second)
       ];
-      place_within = λ v h. elim (cases_eq v x) [
-        | inl e ↦ (let w : place' v ≡ m = placed-first k.place x y m v e in let z : place' v < length new = omega arith in z)
-        | inr nx ↦ elim (cases_eq v y) [
-          | inl e ↦ (let w : place' v ≡ m + 1 = placed-second k.place x y m v nx e in let z : place' v < length new = omega arith in z)
-          | inr ny ↦
-              let w : place' v ≡ k.place v = placed-else k.place x y m v nx ny in
-              let u : k.place v < m = k.place_within v (was v h nx ny) in
-              let z : place' v < length new = omega arith in z
-        ]
-      ];
-      place_returns = λ v h. elim (cases_eq v x) [
-        | inl e ↦ ap (map_of new) (placed-first k.place x y m v e) ∙ g.first ∙ sym e
-        | inr nx ↦ elim (cases_eq v y) [
-          | inl e ↦ ap (map_of new) (placed-second k.place x y m v nx e) ∙ g.second ∙ sym e
-          | inr ny ↦ ap (map_of new) (placed-else k.place x y m v nx ny) ∙ g.old (k.place v) (k.place_within v (was v h nx ny)) ∙ k.place_returns v (was v h nx ny)
-        ]
-      ];
+      place_within = λ v h. grind (arith, cases_eq, placed-first, placed-second, placed-else);
+      place_returns = λ v h. grind (arith, cases_eq, placed-first, placed-second, placed-else);
     }
 
 -- a new segment's halves have its label
@@ -127,10 +95,7 @@ labelled_more old new live labels hs all x y i label en ey size is k were t a l 
     let g : Longer hs all x y = subst (λ (l : List ℕ). Longer hs l x y) (sym en) (longer hs x y) in
     elim (three a (length hs) (subst (λ (n : ℕ). a < n) g.size l)) [
       | inl before ↦ ap new (g.old a before) ∙ t.others (map_of hs a) (k.alive a before) ∙ were a before
-      | inr q ↦ elim q [
-        | inl e ↦ ap (λ (n : ℕ). new (map_of all n)) e ∙ ap new g.first ∙ t.here ∙ is ∙ ap (map_of labels) (let w : i ≡ a / 2 = omega arith in w)
-        | inr e ↦ ap (λ (n : ℕ). new (map_of all n)) e ∙ ap new (g.second ∙ ey) ∙ t.here_twin ∙ is ∙ ap (map_of labels) (let w : i ≡ a / 2 = omega arith in w)
-      ]
+      | inr q ↦ grind arith
     ]
 
 count_none : (p : ℕ → Bool) (n : ℕ) → ((i : ℕ) → p i ≡ false) → count_below p n ≡ 0

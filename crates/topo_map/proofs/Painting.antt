@@ -30,22 +30,14 @@ lies f n y label l a p ly = elim (cases_Bool (is_met f n y a)) [
 
 -- one step more of the walk that paints
 painted-step : (f : ℕ → ℕ) (k y label : ℕ) (l : ℕ → ℕ) (at a : ℕ) → at ≡ after f k y → painted f (k + 1) y label l a ≡ written (painted f k y label l) at label a
-painted-step f k y label l at a e = elim (cases_eq a at) [
-  | inl same ↦ cond-true _ _ _ (is_met_more f k y a ∙ or_left _ _ (eq-eqb _ _ (sym e ∙ sym same))) ∙ sym (cond-true _ _ _ (eq-eqb _ _ same))
-  | inr ne ↦
-      let unmet : (after f k y == a) ≡ false = ne_eqb _ _ (λ w. ne (sym w ∙ sym e)) in
-      let both : is_met f (k + 1) y a ≡ is_met f k y a = is_met_more f k y a ∙ ap (λ (b : Bool). b || is_met f k y a) unmet in
-      ap (λ (b : Bool). cond b label (l a)) both ∙ sym (cond-false _ _ _ (ne_eqb _ _ ne))
-]
+painted-step f k y label l at a e = grind (arith, cases_eq, cond-true, is_met_more, or_left, eq-eqb, ne_eqb, cond-false)
 
 pub painted_more : (f : ℕ → ℕ) (k y label : ℕ) (l : ℕ → ℕ) (at : ℕ) → at ≡ after f k y → written (painted f k y label l) at label ≡ painted f (k + 1) y label l
 painted_more f k y label l at e = funext (written (painted f k y label l) at label) (painted f (k + 1) y label l) (λ a. sym (painted-step f k y label l at a e))
 
 -- back at the start, the whole cycle is painted
 pub painted_round : (f : ℕ → ℕ) (n k y label : ℕ) (l : ℕ → ℕ) → k < n → after f (k + 1) y ≡ y → painted f (k + 1) y label l ≡ painted f n y label l
-painted_round f n k y label l lk home =
-    let turn : IsPeriod f y (k + 1) = record { some = omega arith; home = home } in
-    funext (painted f (k + 1) y label l) (painted f n y label l) (λ a. ap (λ (b : Bool). cond b label (l a)) (is_met-period f n y a (k + 1) turn (omega arith)))
+painted_round f n k y label l lk home = grind (arith, funext, is_met-period)
 
 -- ---- Two faces with one label
 
@@ -99,10 +91,7 @@ joined live f g l n i j w x k apart =
       ];
       same_label = λ a b ta tb s. elim (spread p q i j x a b s) [
         | inl v ↦ k.same_label a b ta tb v
-        | inr c ↦ elim c [
-          | inl v ↦ k.same_label a i ta w.first v.0 ∙ k.ends ∙ k.same_label j b w.second tb v.1
-          | inr v ↦ k.same_label a j ta w.second v.0 ∙ sym k.ends ∙ k.same_label i b w.first tb v.1
-        ]
+        | inr c ↦ grind arith
       ];
     }
 
@@ -158,10 +147,7 @@ share_painted live f l n i j y z w labels ty tz side =
     let turn_round : (a b : ℕ) → live a ≡ true → SameCycle q a b → SameCycle q b a = λ a b ta s. SameCycle-sym q n hq a b (w.below a ta) s in
     -- what lies with z has its label
     let with_z : (a : ℕ) → live a ≡ true → SameCycle q z a → painted q n y (l z) l a ≡ l z =
-    λ a ta s. elim (lies q n y (l z) l a hq ly) [
-      | Within v e ↦ e
-      | Beyond v e ↦ e ∙ labels.same_label a z ta tz (turn_round z a tz s)
-    ] in
+    λ a ta s. grind (arith, lies) in
     record {
       same_face = λ a b ta tb d. elim (lies q n y (l z) l a hq ly) [
         | Within s e ↦ elim (lies q n y (l z) l b hq ly) [
@@ -191,43 +177,20 @@ share_painted live f l n i j y z w labels ty tz side =
           | Beyond v f ↦ e ∙ labels.same_label a b ta tb m ∙ sym f
         ]
       ];
-      ends = elim side [
-        | inl m ↦ painted-in q n y (l z) l i hq ly m.0 ∙ sym (with_z j w.second m.1)
-        | inr m ↦ with_z i w.first m.1 ∙ sym (painted-in q n y (l z) l j hq ly m.0)
-      ];
+      ends = grind (arith, painted-in);
     }
 
 -- no label from the bound on is given
 pub painted_below : (f : ℕ → ℕ) (n y label : ℕ) (l : ℕ → ℕ) (a bound : ℕ) → label < bound → l a < bound → painted f n y label l a < bound
-painted_below f n y label l a bound first other = elim (cases_Bool (is_met f n y a)) [
-  | inl t ↦ subst (λ (v : ℕ). v < bound) (sym (cond-true _ _ _ t)) first
-  | inr e ↦ subst (λ (v : ℕ). v < bound) (sym (cond-false _ _ _ e)) other
-]
+painted_below f n y label l a bound first other = grind (arith, cases_Bool, cond-true, first, cond-false)
 
 -- ---- The exchanges of the two steps
 
 face_exchange : (f g : ℕ → ℕ) (i j : ℕ) → IsExchange f g i j → IsExchange (face_next f) (face_next g) (twin i) (twin j)
-face_exchange f g i j x = record {
-  at_first = ap g (twin-twin i) ∙ x.at_first ∙ sym (ap f (twin-twin j));
-  at_second = ap g (twin-twin j) ∙ x.at_second ∙ sym (ap f (twin-twin i));
-  elsewhere = λ a ni nj. x.elsewhere (twin a) (λ e. ni (sym (twin-twin a) ∙ ap twin e)) (λ e. nj (sym (twin-twin a) ∙ ap twin e));
-}
+face_exchange f g i j x = grind (arith, twin-twin)
 
 pub put_exchange : (f b : ℕ → ℕ) (x c : ℕ) → IsLone f b x c → IsExchange (face_next f) (face_next (put f x c)) (twin (b c)) (twin x)
-put_exchange f b x c l = face_exchange f (put f x c) (b c) x (record {
-  at_first =
-      let ne : b c ≢ x = λ e. l.different (sym (l.inverse.onward c) ∙ ap f e ∙ l.alone) in
-      cond-false _ _ _ (ne_eqb _ _ ne) ∙ cond-true _ _ _ (eq-eqb _ _ (l.inverse.onward c)) ∙ sym l.alone;
-  at_second = cond-true _ _ _ (eq-eqb x x refl) ∙ sym (l.inverse.onward c);
-  elsewhere = λ a nb nx. cond-false _ _ _ (ne_eqb _ _ nx) ∙ cond-false _ _ _ (ne_eqb _ _ (λ e. nb (sym (l.inverse.back a) ∙ ap b e)));
-})
+put_exchange f b x c l = face_exchange f (put f x c) (b c) x (grind (arith, cond-false, ne_eqb, cond-true, eq-eqb))
 
 pub without_exchange : (f b : ℕ → ℕ) (x : ℕ) → AreInverse f b → IsExchange (face_next f) (face_next (without f x)) (twin (b x)) (twin x)
-without_exchange f b x l = face_exchange f (without f x) (b x) x (record {
-  at_first = elim (cases_eq (b x) x) [
-    | inl e ↦ cond-true _ _ _ (eq-eqb _ _ e) ∙ sym (ap f (sym e) ∙ l.onward x)
-    | inr ne ↦ cond-false _ _ _ (ne_eqb _ _ ne) ∙ cond-true _ _ _ (eq-eqb _ _ (l.onward x))
-  ];
-  at_second = cond-true _ _ _ (eq-eqb x x refl) ∙ sym (l.onward x);
-  elsewhere = λ a nb nx. cond-false _ _ _ (ne_eqb _ _ nx) ∙ cond-false _ _ _ (ne_eqb _ _ (λ e. nb (sym (l.back a) ∙ ap b e)));
-})
+without_exchange f b x l = face_exchange f (without f x) (b x) x (grind (arith, cases_eq, cond-true, eq-eqb, cond-false, ne_eqb))

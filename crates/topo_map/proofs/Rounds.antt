@@ -33,7 +33,4 @@ whole_degree r n k a d h la e ed out =
     ]
 
 pub out_more : (f : ℕ → ℕ) (k a at : ℕ) → at ≡ after f k a → at ≢ a → ((j : ℕ) → 0 < j → j < k → after f j a ≢ a) → (j : ℕ) → 0 < j → j < k + 1 → after f j a ≢ a
-out_more f k a at e ne out j p l = elim (cases_eq j k) [
-  | inl same ↦ λ w. ne (e ∙ ap (λ (m : ℕ). after f m a) (sym same) ∙ w)
-  | inr other ↦ out j p (let w : j < k = omega arith in w)
-]
+out_more f k a at e ne out j p l = grind (arith, cases_eq)

@@ -68,14 +68,8 @@ found pick s key way at seg e g = slot-at pick s at key seg (key-at key way at e
 -- ---- A write to one slot
 
 sided : (way : Way) (key at a to : ℕ) (t : Slot) (f : ℕ → ℕ) → half_number key way ≡ at → a / 2 ≡ key → f a ≡ turned a (Some t) → turned a (Some (with_side way t to)) ≡ written f at to a
-sided Forward key at a to t f e k h = elim (cases_eq (a % 2) 0) [
-  | inl z ↦ cond-true _ _ _ (eq-eqb _ _ z) ∙ sym (written-at f at to a (let w : a ≡ at = omega arith in w))
-  | inr z ↦ cond-false _ _ _ (ne_eqb _ _ z) ∙ sym (written-else f at to a (λ (w : a ≡ at). z (let v : a % 2 ≡ 0 = omega arith in v)) ∙ h ∙ cond-false _ _ _ (ne_eqb _ _ z))
-]
-sided Back key at a to t f e k h = elim (cases_eq (a % 2) 0) [
-  | inl z ↦ cond-true _ _ _ (eq-eqb _ _ z) ∙ sym (written-else f at to a (λ (w : a ≡ at). let v : ⊥ = omega arith in v) ∙ h ∙ cond-true _ _ _ (eq-eqb _ _ z))
-  | inr z ↦ cond-false _ _ _ (ne_eqb _ _ z) ∙ sym (written-at f at to a (let w : a ≡ at = omega arith in w))
-]
+sided Forward key at a to t f e k h = grind (arith, cases_eq, cond-true, eq-eqb, written-at, cond-false, ne_eqb, written-else)
+sided Back key at a to t f e k h = grind (arith, cases_eq, cond-true, eq-eqb, written-else, cond-false, ne_eqb, written-at)
 
 pub rewritten : (pick : Segment → Slot) (s s' : Slab Segment) (key : ℕ) (way : Way) (at to : ℕ) (seg v : Segment) → half_number key way ≡ at → get s key ≡ Some seg → Updates s s' key (Some v) → pick v ≡ with_side way (pick seg) to → turn_in (shown pick s') ≡ written (turn_in (shown pick s)) at to
 rewritten pick s s' key way at to seg v e g u p = funext (turn_in (shown pick s')) (written (turn_in (shown pick s)) at to) (λ a. elim (cases_eq (a / 2) key) [
@@ -92,10 +86,7 @@ unwritten pick s s' key seg v g u p = funext (turn_in (shown pick s')) (turn_in 
 ])
 
 same_live-at : (s s' : Slab Segment) (key : ℕ) (seg v : Segment) → get s key ≡ Some seg → Updates s s' key (Some v) → (a : ℕ) → holds s' a ≡ holds s a
-same_live-at s s' key seg v g u a = live_at nexts s' a ∙ elim (cases_eq (a / 2) key) [
-  | inr ne ↦ ap is_some (u.others (a / 2) ne)
-  | inl same ↦ ap (λ (k : ℕ). is_some (get s' k)) same ∙ ap is_some u.changed ∙ sym (ap (λ (k : ℕ). is_some (get s k)) same ∙ ap is_some g)
-] ∙ sym (live_at nexts s a)
+same_live-at s s' key seg v g u a = live_at nexts s' a ∙ grind (arith, cases_eq, live_at) ∙ sym (live_at nexts s a)
 
 pub same_live : (s s' : Slab Segment) (key : ℕ) (seg v : Segment) → get s key ≡ Some seg → Updates s s' key (Some v) → holds s' ≡ holds s
 same_live s s' key seg v g u = λ i a. same_live-at s s' key seg v g u a i
@@ -113,10 +104,7 @@ pub label-else : (s s' : Slab Segment) (key : ℕ) (slot : Option Segment) → U
 label-else s s' key slot u a ne = label_at s' a ∙ ap (λ (o : Option Segment). labelled (option_map nexts o)) (u.others (a / 2) ne) ∙ sym (label_at s a)
 
 same_labels : (s s' : Slab Segment) (key : ℕ) (seg v : Segment) → get s key ≡ Some seg → Updates s s' key (Some v) → v.edge ≡ seg.edge → label_in s' ≡ label_in s
-same_labels s s' key seg v g u e = funext (label_in s') (label_in s) (λ a. elim (cases_eq (a / 2) key) [
-  | inr ne ↦ label-else s s' key (Some v) u a ne
-  | inl same ↦ label-there s' key v a same u.changed ∙ e ∙ sym (label-there s key seg a same g)
-])
+same_labels s s' key seg v g u e = funext (label_in s') (label_in s) (λ a. grind (arith, cases_eq, label-else, label-there))
 
 -- the label of a face that the segment at a key has
 pub face-there : (s : Slab Segment) (key : ℕ) (way : Way) (at : ℕ) (seg : Segment) → half_number key way ≡ at → get s key ≡ Some seg → face_in s at ≡ side way (sides seg)
@@ -132,10 +120,7 @@ side-edge Back t to = refl
 -- ---- A write through a reference to a slot
 
 in-slots : (s : Slab Segment) (key : ℕ) (seg : Segment) → get s key ≡ Some seg → key < length s.slots
-in-slots s key seg g = elim (cases_lt key (length s.slots)) [
-  | inl l ↦ l
-  | inr past ↦ absurd (none_some seg (sym (get_or_past s.slots key None past) ∙ g))
-]
+in-slots s key seg g = grind (arith, cases_lt, none_some, get_or_past)
 
 slot_of : (s : Slab Segment) (key : ℕ) (o : Option Segment) → get s key ≡ o → is_some o ≡ true → key < length s.slots
 slot_of s key None g h = cc
@@ -146,17 +131,10 @@ pub live-slot : (s : Slab Segment) (a : ℕ) → holds s a ≡ true → a / 2 < 
 live-slot s a h = slot_of s (a / 2) (get s (a / 2)) refl (sym (live_at nexts s a) ∙ h)
 
 pub updates : (s : Slab Segment) (key : ℕ) (seg v : Segment) → get s key ≡ Some seg → Updates s (with_value s key v) key (Some v)
-updates s key seg v g = record {
-  changed = get_or-set_same s.slots key (Some v) None (in-slots s key seg g);
-  others = λ other ne. get_or-set_other s.slots key other (Some v) None ne;
-}
+updates s key seg v g = grind (arith, get_or-set_same, in-slots, get_or-set_other)
 
 pub same_len : (s : Slab Segment) (key : ℕ) (seg v : Segment) → get s key ≡ Some seg → slab_len (with_value s key v) ≡ slab_len s
-same_len s key seg v g =
-    let f : Option Segment → ℕ = λ o. cond (is_some o) 1 0 in
-    let e : slab_len (with_value s key v) + f (get s key) ≡ slab_len s + 1 = sum_by-set f s.slots key (Some v) None (in-slots s key seg g) in
-    let d : f (get s key) ≡ 1 = ap f g in
-    omega arith
+same_len s key seg v g = grind (arith, sum_by-set, in-slots)
 
 pub wired_next : (s : Slab Segment) (key : ℕ) (way : Way) (at to : ℕ) (seg v : Segment) → half_number key way ≡ at → get s key ≡ Some seg → nexts v ≡ with_side way (nexts seg) to → befores v ≡ befores seg → sides v ≡ sides seg → Rewires s (with_value s key v) (written (next_in s) at to) (before_in s)
 wired_next s key way at to seg v e g p q r =

@@ -35,13 +35,7 @@ turns_within s k a l = elim (cases_Bool (holds s a)) [
 ]
 
 darts : (s : Slab Segment) → IsKept s → AreDarts (next_in s) half_limit
-darts s k = record {
-  permutation = record {
-    within = turns_within s k;
-    apart = λ a b la lb e. sym (k.inverse.back a) ∙ ap (before_in s) e ∙ k.inverse.back b;
-  };
-  even = (let e : half_limit ≡ 4294967294 = limit-is in let w : half_limit % 2 ≡ 0 = omega arith in w);
-}
+darts s k = grind (arith, turns_within, limit-is)
 
 pub whole : (s : Slab Segment) → IsKept s → IsWhole (holds s) (next_in s)
 whole s i = record {
@@ -73,16 +67,10 @@ pub twin_alone : (s s1 : Slab Segment) (x : ℕ) → IsStart s s1 x → next_in 
 twin_alone s s1 x st = ap (λ (f : ℕ → ℕ). f (twin x)) st.inserted.next ∙ (isolated s s1 x st).other
 
 pub apart : (s s1 : Slab Segment) (x c : ℕ) → IsStart s s1 x → holds s c ≡ true → IsApart half_limit c x
-apart s s1 x c st h = record {
-  within = st.sound.within c h;
-  not_self = λ e. true_false (sym h ∙ ap (holds s) e ∙ st.inserted.live.new);
-  not_twin = λ e. true_false (sym h ∙ ap (holds s) e ∙ st.inserted.live.new_twin);
-}
+apart s s1 x c st h = grind (arith, true_false)
 
 pub still_live : (s s1 : Slab Segment) (x c : ℕ) → IsStart s s1 x → holds s c ≡ true → holds s1 c ≡ true
-still_live s s1 x c st h =
-    let k : IsApart half_limit c x = apart s s1 x c st h in
-    st.inserted.live.others c k.within k.not_self k.not_twin ∙ h
+still_live s s1 x c st h = grind (arith, apart)
 
 -- ---- Steps in a row
 
@@ -189,10 +177,7 @@ pub record IsChorded (s s' : Slab Segment) (c d x : ℕ) : Type 0 where
   pub counts : IsOneFace (view_of s) c d → CountsMore (view_of s) (view_of s') 0 1
 
 pub chord_end_alone : (s s1 s2 : Slab Segment) (c x y : ℕ) → IsStart s s1 x → holds s c ≡ true → IsTurned s1 s2 (put (next_in s1) x c) → y ≡ twin x → next_in s2 y ≡ y
-chord_end_alone s s1 s2 c x y st alive t e =
-    let k : IsApart half_limit c x = apart s s1 x c st alive in
-    let a : next_in s1 (twin x) ≡ twin x = twin_alone s s1 x st in
-    ap (next_in s2) e ∙ ap (λ (f : ℕ → ℕ). f (twin x)) t.next ∙ put-elsewhere (next_in s1) x c (twin x) (twin-other x) (λ w. k.not_twin (sym w ∙ a)) ∙ a ∙ sym e
+chord_end_alone s s1 s2 c x y st alive t e = grind (arith, apart, twin_alone, put-elsewhere, twin-other)
 
 pub chorded : (s s1 s2 s3 : Slab Segment) (c d x y : ℕ) → IsStart s s1 x → holds s c ≡ true → holds s d ≡ true → y ≡ twin x → IsTurned s1 s2 (put (next_in s1) x c) → IsTurned s2 s3 (put (next_in s2) y d) → IsChorded s s3 c d x
 chorded s s1 s2 s3 c d x y st alive alive_d ey t u =
@@ -216,13 +201,7 @@ pub record IsSplitUp (s s' : Slab Segment) (h x : ℕ) : Type 0 where
 
 -- after its end is out of the turn, x still stands alone
 pub split_alone : (s s1 s2 s3 : Slab Segment) (h x y t : ℕ) → IsStart s s1 x → holds s h ≡ true → y ≡ twin x → t ≡ twin h → IsTurned s1 s2 (put (next_in s1) y t) → IsTurned s2 s3 (without (next_in s2) t) → next_in s3 x ≡ x
-split_alone s s1 s2 s3 h x y t st alive ey et u v =
-    let k : IsApart half_limit h x = apart s s1 x h st alive in
-    let tx : t ≢ x = λ w. k.not_twin (sym (twin-twin h) ∙ ap twin (sym et ∙ w)) in
-    let a : next_in s1 x ≡ x = alone s s1 x st in
-    let yx : x ≢ y = λ w. twin-other x (sym (w ∙ ey)) in
-    let b : next_in s2 x ≡ x = ap (λ (f : ℕ → ℕ). f x) u.next ∙ put-elsewhere (next_in s1) y t x yx (λ w. tx (sym w ∙ a)) ∙ a in
-    ap (λ (f : ℕ → ℕ). f x) v.next ∙ without-elsewhere (next_in s2) t x (λ w. tx (sym w)) (λ w. tx (sym w ∙ b)) ∙ b
+split_alone s s1 s2 s3 h x y t st alive ey et u v = grind (arith, apart, twin-twin, alone, twin-other, put-elsewhere, without-elsewhere)
 
 pub splitted : (s s1 s2 s3 s4 : Slab Segment) (h x y t : ℕ) → IsStart s s1 x → holds s h ≡ true → y ≡ twin x → t ≡ twin h → IsTurned s1 s2 (put (next_in s1) y t) → IsTurned s2 s3 (without (next_in s2) t) → IsTurned s3 s4 (put (next_in s3) x t) → IsSplitUp s s4 h x
 splitted s s1 s2 s3 s4 h x y t st alive ey et u v w =
@@ -248,10 +227,7 @@ pub record IsUnchorded (s s' : Slab Segment) (h : ℕ) : Type 0 where
   pub counts : PartsFaces (view_of s) h → CountsFewer (view_of s) (view_of s') 0 1
 
 pub unchord_alone : (s s1 s2 : Slab Segment) (h t : ℕ) → t ≡ twin h → IsTurned s s1 (without (next_in s) h) → IsTurned s1 s2 (without (next_in s1) t) → next_in s2 h ≡ h
-unchord_alone s s1 s2 h t et u v =
-    let ne : h ≢ t = λ w. twin-other h (sym (w ∙ et)) in
-    let a : next_in s1 h ≡ h = ap (λ (f : ℕ → ℕ). f h) u.next ∙ without-self (next_in s) h h refl in
-    ap (λ (f : ℕ → ℕ). f h) v.next ∙ without-elsewhere (next_in s1) t h ne (λ w. ne (sym a ∙ w)) ∙ a
+unchord_alone s s1 s2 h t et u v = grind (arith, twin-other, without-self, without-elsewhere)
 
 pub without_alone : (s s1 : Slab Segment) (h t : ℕ) → t ≡ twin h → IsTurned s s1 (without (next_in s) t) → next_in s1 (twin h) ≡ twin h
 without_alone s s1 h t et v = ap (next_in s1) (sym et) ∙ ap (λ (f : ℕ → ℕ). f t) v.next ∙ without-self (next_in s) t t refl ∙ et

@@ -32,58 +32,25 @@ record HasRoom (cap len : ℕ) : Type 0 where
   below : len + 1 ≤ cap
 
 has_room : (cap len : ℕ) → 0 < room_at cap len → HasRoom cap len
-has_room cap len h = elim (cases_Bool (nat_le cap 2147483647)) [
-  | inl t ↦
-      let e : room_at cap len ≡ cap - len = cond-true _ _ _ t in
-      record { narrow = leb-true cap 2147483647 t; below = omega arith }
-  | inr f ↦
-      let e : room_at cap len ≡ 0 = cond-false _ _ _ f in
-      absurd (omega arith)
-]
+has_room cap len h = grind (arith, cases_Bool, len, cond-true, leb-true, cond-false)
 
 room_less : (cap len cap' len' : ℕ) → 0 < room_at cap len → cap' ≡ cap → len' ≡ len + 1 → room_at cap' len' + 1 ≡ room_at cap len
-room_less cap len cap' len' h ec el = elim (cases_Bool (nat_le cap 2147483647)) [
-  | inl t ↦
-      let e : room_at cap len ≡ cap - len = cond-true _ _ _ t in
-      let d : room_at cap' len' ≡ cap' - len' = cond-true _ _ _ (ap (λ (n : ℕ). nat_le n 2147483647) ec ∙ t) in
-      omega arith
-  | inr f ↦
-      let e : room_at cap len ≡ 0 = cond-false _ _ _ f in
-      absurd (omega arith)
-]
+room_less cap len cap' len' h ec el = grind (arith, cases_Bool, len, cond-true, cond-false)
 
 record Frees (cap len cap' len' : ℕ) : Type 0 where
   never_less : room_at cap len ≤ room_at cap' len'
   one_more : 0 < room_at cap len → room_at cap' len' ≡ room_at cap len + 1
 
 room_more : (cap len cap' len' : ℕ) → cap' ≡ cap → len' + 1 ≡ len → Frees cap len cap' len'
-room_more cap len cap' len' ec el = elim (cases_Bool (nat_le cap 2147483647)) [
-  | inl t ↦
-      let e : room_at cap len ≡ cap - len = cond-true _ _ _ t in
-      let d : room_at cap' len' ≡ cap' - len' = cond-true _ _ _ (ap (λ (n : ℕ). nat_le n 2147483647) ec ∙ t) in
-      record { never_less = omega arith; one_more = λ h. omega arith }
-  | inr f ↦
-      let e : room_at cap len ≡ 0 = cond-false _ _ _ f in
-      record { never_less = omega arith; one_more = λ h. absurd (omega arith) }
-]
+room_more cap len cap' len' ec el = grind (arith, cases_Bool, len, cond-true, cond-false)
 
 pub below_limit : (s : Slab Segment) (a : ℕ) → IsKept s → length s.slots ≤ s.capacity → holds s a ≡ true → a < limit_of s
-below_limit s a k all h =
-    let lim : half_limit ≡ 4294967294 = limit-is in
-    let within : a < half_limit = k.within a h in
-    let there : a / 2 < length s.slots = live-slot s a h in
-    omega arith
+below_limit s a k all h = grind (arith, limit-is, live-slot)
 
 -- ---- The two halves at a key
 
 adds : (live live' : ℕ → Bool) (n key x : ℕ) → x / 2 ≡ key → ((a : ℕ) → a / 2 ≡ key → live a ≡ false) → ((a : ℕ) → a / 2 ≡ key → live' a ≡ true) → ((a : ℕ) → a / 2 ≢ key → live' a ≡ live a) → AddsSegment live live' n x
-adds live live' n key x e none some others = record {
-  new = none x e;
-  new_twin = none (twin x) (twin-half x ∙ e);
-  here = some x e;
-  here_twin = some (twin x) (twin-half x ∙ e);
-  others = λ a la nx nt. others a (λ w. elim (half-same a x (w ∙ sym e)) [ inl p ↦ nx p | inr p ↦ nt p ]);
-}
+adds live live' n key x e none some others = grind (arith, twin-half, half-same)
 
 -- ---- A slot that changes
 
@@ -106,10 +73,7 @@ turn-none : (pick : Segment → Slot) (s : Slab Segment) (key : ℕ) → get s k
 turn-none pick s key g a e = turn_at pick s a ∙ ap (λ (k : ℕ). turned a (option_map pick (get s k))) e ∙ ap (λ (o : Option Segment). turned a (option_map pick o)) g
 
 by_itself : (a key : ℕ) → a / 2 ≡ key → cond (a % 2 == 0) (2 * key) (2 * key + 1) ≡ a
-by_itself a key e = elim (cases_eq (a % 2) 0) [
-  | inl z ↦ cond-true _ _ _ (eq-eqb _ _ z) ∙ (let w : 2 * key ≡ a = omega arith in w)
-  | inr z ↦ cond-false _ _ _ (ne_eqb _ _ z) ∙ (let w : 2 * key + 1 ≡ a = omega arith in w)
-]
+by_itself a key e = grind (arith, cases_eq, cond-true, eq-eqb, cond-false, ne_eqb)
 
 inverse-same : (f b f' b' : ℕ → ℕ) → f' ≡ f → b' ≡ b → AreInverse f b → AreInverse f' b'
 inverse-same f b f' b' e d k = subst (λ (g : ℕ → ℕ). AreInverse g b') (sym e) (subst (λ (g : ℕ → ℕ). AreInverse f g) (sym d) k)
@@ -151,22 +115,13 @@ inserted s new key edge left right x k room i ex =
 
 -- its halves have its label, and all others theirs
 pub label_stored : (s new : Slab Segment) (key edge left right x : ℕ) → IsNewAt s new key edge left right → 2 * key ≡ x → AddsLabel (holds s) (label_in s) (label_in new) x edge
-label_stored s new key edge left right x i ex =
-    let kx : x / 2 ≡ key = omega arith in
-    record {
-      here = label-there new key (isolated_segment key edge left right) x kx i.updates.changed;
-      here_twin = label-there new key (isolated_segment key edge left right) (twin x) (twin-half x ∙ kx) i.updates.changed;
-      others = λ a h. label-else s new key (Some (isolated_segment key edge left right)) i.updates a (λ e. true_false (sym h ∙ live-was s key None i.free a e));
-    }
+label_stored s new key edge left right x i ex = grind (arith, label-there, twin-half, label-else, true_false, live-was)
 
 -- its halves have their labels of faces, and all others theirs
 pub faces_stored : (s new : Slab Segment) (key edge left right x : ℕ) → IsNewAt s new key edge left right → 2 * key ≡ x → AddsFaces (holds s) (face_in s) (face_in new) x left right
 faces_stored s new key edge left right x i ex =
     let kx : x / 2 ≡ key = omega arith in
-    let t : half_number key Back ≡ twin x = elim (twin-cases x) [
-      | inl w ↦ let e : twin x ≡ x + 1 = w.1 in let v : 2 * key + 1 ≡ twin x = omega arith in v
-      | inr w ↦ absurd (w.0 (let v : x % 2 ≡ 0 = omega arith in v))
-    ] in
+    let t : half_number key Back ≡ twin x = grind (arith, twin-cases) in
     record {
       here = face-there new key Forward x (isolated_segment key edge left right) ex i.updates.changed;
       here_twin = face-there new key Back (twin x) (isolated_segment key edge left right) t i.updates.changed;
@@ -181,10 +136,7 @@ pub record IsGoneAt (s new : Slab Segment) (key : ℕ) (seg : Segment) : Type 0 
 
 pub removed : (s new : Slab Segment) (key x : ℕ) (seg : Segment) → IsKept s → next_in s x ≡ x → next_in s (twin x) ≡ twin x → IsGoneAt s new key seg → x / 2 ≡ key → IsRemoved s new x
 removed s new key x seg k alone twin_alone i kx =
-    let fixed : (a : ℕ) → a / 2 ≡ key → next_in s a ≡ a = λ a e. elim (half-same a x (e ∙ sym kx)) [
-      | inl p ↦ ap (next_in s) p ∙ alone ∙ sym p
-      | inr p ↦ ap (next_in s) p ∙ twin_alone ∙ sym p
-    ] in
+    let fixed : (a : ℕ) → a / 2 ≡ key → next_in s a ≡ a = λ a e. grind (arith, half-same) in
     let f : next_in new ≡ next_in s = same_turn nexts s new key None i.updates (λ a e. refl) fixed in
     let b : before_in new ≡ before_in s = same_turn befores s new key None i.updates (λ a e. refl) (λ a e. ap (before_in s) (sym (fixed a e)) ∙ k.inverse.back a) in
     let r : Frees s.capacity (slab_len s) new.capacity (slab_len new) = room_more s.capacity (slab_len s) new.capacity (slab_len new) i.capacity i.len in
@@ -214,10 +166,4 @@ faces_left s new key seg i a h = face-else s new key None i.updates a (λ e. tru
 pub two_writes : (s mid : Slab Segment) (key edge left right : ℕ) (blank seg : Segment) → get s key ≡ None → Updates s mid key (Some blank) → seg ≡ isolated_segment key edge left right → slab_len mid ≡ slab_len s + 1 → mid.capacity ≡ s.capacity → key < mid.capacity → IsNewAt s (with_value mid key seg) key edge left right
 two_writes s mid key edge left right blank seg free u e len cap below =
     let v : Updates mid (with_value mid key seg) key (Some seg) = updates mid key blank seg u.changed in
-    record {
-      free = free;
-      updates = record { changed = v.changed ∙ ap Some e; others = λ other ne. v.others other ne ∙ u.others other ne };
-      len = same_len mid key blank seg u.changed ∙ len;
-      capacity = cap;
-      below = subst (λ (n : ℕ). key < n) cap below;
-    }
+    grind (arith, free, updates, len, same_len, below)

@@ -1,5 +1,5 @@
 -- Slabs along a walk that paints a face.
-use Rattle.std.proofs.Common.{◌≡◌, ℕ, ◌+◌, ◌<◌, Bool, true, refl, sym, ◌∙◌, ap, subst}
+use Rattle.std.proofs.Common.{arith, ◌≡◌, ℕ, ◌+◌, ◌<◌, Bool, true, refl, sym, ◌∙◌, ap, subst}
 use Rattle.slab.specs.Slab.{Slab}
 use Rattle.topo_core.specs.Cycles.{after}
 use Rattle.topo_core.specs.Rotations.{twin, face_next}
@@ -25,10 +25,7 @@ pub painted_live : (s s1 : Slab Segment) (l : ℕ → ℕ) (a : ℕ) → Repaint
 painted_live s s1 l a r h = ap (λ (p : ℕ → Bool). p a) r.live ∙ h
 
 pub painted_kept : (s s1 : Slab Segment) (l : ℕ → ℕ) → IsKept s → Repaints s s1 l → IsKept s1
-painted_kept s s1 l k r = record {
-  inverse = subst (λ (f : ℕ → ℕ). AreInverse f (before_in s1)) (sym r.next) (subst (λ (b : ℕ → ℕ). AreInverse (next_in s) b) (sym r.before) k.inverse);
-  within = λ a h. k.within a (ap (λ (p : ℕ → Bool). p a) (sym r.live) ∙ h);
-}
+painted_kept s s1 l k r = grind arith
 
 -- the half after t on the face of a, which t is the twin of
 pub live_on : (s : Slab Segment) (a t b : ℕ) → IsKept s → t ≡ twin a → b ≡ next_in s t → holds s a ≡ true → holds s b ≡ true

@@ -58,10 +58,7 @@ resized most (suc n) m (x ∷ xs) small (suc k) = resized most n m xs (λ j. sma
 
 -- what is read is no more than the greatest number
 reads_within : (now round number : ℕ) → number ≤ unreached → read_in now round number ≤ unreached
-reads_within now round number small = elim (cases_eq round now) [
-  | inl e ↦ let is = reads_itself now round number e in omega arith
-  | inr ne ↦ let is = reads_blank now round number ne in omega arith
-]
+reads_within now round number small = grind (arith, cases_eq, reads_itself, reads_blank)
 
 pub all_within : (now : ℕ) (rounds numbers : List ℕ) → AreAtMost unreached numbers → AreAtMost unreached (read_all now rounds numbers)
 all_within now [] numbers small k = none_above unreached k

@@ -26,11 +26,7 @@ module _ {X : Type 0} (f : X → List ℕ) where
   -- one item more at the front of a list
   pub waiting_more : (xs : List X) (i t k : ℕ) (y d : X) → i < length xs → f y ≡ t ∷ f (get_or xs i d) → is_waiting (flat_map f (set xs i y)) k ≡ (t == k || is_waiting (flat_map f xs) k)
   waiting_more [] i t k y d l e = absurd (omega arith)
-  waiting_more (x ∷ xs) zero t k y d l e =
-      list_any-append (λ z. z == k) (f y) (flat_map f xs)
-      ∙ ap (λ ys. list_any (λ z. z == k) ys || is_waiting (flat_map f xs) k) e
-      ∙ or_first (t == k) (is_waiting (f x) k) (is_waiting (flat_map f xs) k)
-      ∙ ap (λ (b : Bool). t == k || b) (sym (list_any-append (λ z. z == k) (f x) (flat_map f xs)))
+  waiting_more (x ∷ xs) zero t k y d l e = cc
   waiting_more (x ∷ xs) (suc i) t k y d l e =
       list_any-append (λ z. z == k) (f x) (flat_map f (set xs i y))
       ∙ ap (λ (b : Bool). is_waiting (f x) k || b) (waiting_more xs i t k y d (omega arith) e)
@@ -48,11 +44,7 @@ module _ {X : Type 0} (f : X → List ℕ) where
   -- one item less at the front of a list
   pub waiting_less : (xs : List X) (i t k : ℕ) (y d : X) → i < length xs → f (get_or xs i d) ≡ t ∷ f y → is_waiting (flat_map f xs) k ≡ (t == k || is_waiting (flat_map f (set xs i y)) k)
   waiting_less [] i t k y d l e = absurd (omega arith)
-  waiting_less (x ∷ xs) zero t k y d l e =
-      list_any-append (λ z. z == k) (f x) (flat_map f xs)
-      ∙ ap (λ ys. list_any (λ z. z == k) ys || is_waiting (flat_map f xs) k) e
-      ∙ or_first (t == k) (is_waiting (f y) k) (is_waiting (flat_map f xs) k)
-      ∙ ap (λ (b : Bool). t == k || b) (sym (list_any-append (λ z. z == k) (f y) (flat_map f xs)))
+  waiting_less (x ∷ xs) zero t k y d l e = cc
   waiting_less (x ∷ xs) (suc i) t k y d l e =
       list_any-append (λ z. z == k) (f x) (flat_map f xs)
       ∙ ap (λ (b : Bool). is_waiting (f x) k || b) (waiting_less xs i t k y d (omega arith) e)
@@ -93,10 +85,7 @@ appended entries e down (suc m) (suc i) l =
 
 -- the chain of a head
 pub unchained : (entries : List Entry) → GoesDown entries → (i : ℕ) → chained entries (suc i) ≡ (slice_index_or entries i no_entry).item ∷ chained entries (slice_index_or entries i no_entry).below
-unchained entries down i =
-    let below = (slice_index_or entries i no_entry).below in
-    let low = down i in
-    ap (λ ds. (slice_index_or entries i no_entry).item ∷ ds) (bounded entries down i below below low (omega arith))
+unchained entries down i = grind (arith, bounded)
 
 module _ (entries : List Entry) (heads : List ℕ) (down : GoesDown entries) (stay : StaysBelow entries heads) (b item below : ℕ) (is_below : below ≡ slice_index heads b) (within : b < length heads) where
   abbrev e : Entry
@@ -109,12 +98,8 @@ module _ (entries : List Entry) (heads : List ℕ) (down : GoesDown entries) (st
   down_longer i = elim (cases_lt i (length entries)) [
     | inl less ↦ let same : (slice_index_or longer i no_entry).below ≡ (slice_index_or entries i no_entry).below = ap (λ x. x.below) (get_or-append entries (e ∷ []) no_entry i less) in let low = down i in omega arith
     | inr more ↦ elim (cases_eq i (length entries)) [
-      | inl here ↦
-          let is : (slice_index_or longer i no_entry).below ≡ below = ap (λ k. (slice_index_or longer k no_entry).below) here ∙ ap (λ x. x.below) (get_or-append_seam entries e [] no_entry) in
-          let low = stay b in omega arith
-      | inr past ↦
-          let long = length-append entries (e ∷ []) in
-          let none : (slice_index_or longer i no_entry).below ≡ 0 = ap (λ x. x.below) (get_or_past longer i no_entry (omega arith)) in omega arith
+      | inl here ↦ grind (arith, get_or-append_seam)
+      | inr past ↦ grind (arith, length-append, get_or_past)
     ]
   ]
 
@@ -143,19 +128,13 @@ all_empty entries [] h = refl
 all_empty entries (x ∷ heads) h = ap (λ y. chained entries y ++ all_chained entries heads) (h 0 (omega arith)) ∙ all_empty entries heads (λ i l. h (suc i) (omega arith))
 
 pub all_zero : (n b : ℕ) → slice_index (replicate n 0) b ≡ 0
-all_zero n b = elim (cases_lt b n) [
-  | inl less ↦ get_or-replicate n b 0 0 less
-  | inr more ↦ get_or_past (replicate n 0) b 0 (omega (arith, length-replicate {A = ℕ} n 0))
-]
+all_zero n b = grind (arith, cases_lt, get_or-replicate, get_or_past, replicate, length-replicate)
 
 -- an entry is taken from the top of a chain
 module _ (entries : List Entry) (heads whole : List ℕ) (down : GoesDown entries) (b item below : ℕ) (within : b < length heads) (some : 0 < slice_index heads b)
     (is : item ≡ (slice_index_or entries (slice_index heads b - 1) no_entry).item) (is_below : below ≡ (slice_index_or entries (slice_index heads b - 1) no_entry).below) (same : all_chained entries heads ≡ whole) where
   top : chained entries (slice_index heads b) ≡ item ∷ chained entries below
-  top =
-      let i = slice_index heads b - 1 in
-      let next : slice_index heads b ≡ suc i = omega arith in
-      ap (chained entries) next ∙ unchained entries down i ∙ ap (λ d. d ∷ chained entries (slice_index_or entries i no_entry).below) (sym is) ∙ ap (λ k. item ∷ chained entries k) (sym is_below)
+  top = grind (arith, unchained)
 
   pub popped_waits : (k : ℕ) → is_waiting whole k ≡ (item == k || is_waiting (all_chained entries (set heads b below)) k)
   popped_waits k = ap (λ ws. is_waiting ws k) (sym same) ∙ waiting_less (chained entries) heads b item k below 0 within top

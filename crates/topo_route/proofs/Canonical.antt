@@ -64,12 +64,7 @@ module _ (rows : Rows) (lawful : Lawful rows) where
   -- the order of the numbers is that of the darts
   pub canonical_order : (i j : ℕ) → IsName (canonical rows) i → IsName (canonical rows) j
       → (i < j → dart_cmp (dart_named (canonical rows) i) (dart_named (canonical rows) j) ≡ Less) × (dart_cmp (dart_named (canonical rows) i) (dart_named (canonical rows) j) ≡ Less → i < j)
-  canonical_order i j ni nj =
-      let c = dart_named (canonical rows) i in
-      let d = dart_named (canonical rows) j in (
-        (λ less. (number_order rows lawful.embedding.well_formed.paths c d ni.there nj.there (omega (arith, ni.is, nj.is))).0),
-        (λ less. omega (arith, order_number rows lawful.embedding.well_formed.paths c d ni.there nj.there less, ni.is, nj.is)),
-      )
+  canonical_order i j ni nj = grind (arith, number_order, order_number)
 
 -- ---- A picture whose names are the numbers
 

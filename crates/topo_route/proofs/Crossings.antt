@@ -41,9 +41,7 @@ module _ (price : Pricing) (g : Named) (lawful : Lawful g.rows) (has : IsNamed g
 -- the twin is so low that no price lowers it as far as the bound
 pub crossed_already : (price : Pricing) (g : Named) (bound : ℕ) (heights : List ℕ) (d other : ℕ) → KeepsPromise price → other ≡ twin_name g d → min (slice_index heights other) bound ≤ slice_index heights d + 1
     → IsCrossed price g bound heights d
-crossed_already price g bound heights d other promise is low p asked =
-    let there : slice_index heights other ≡ slice_index heights (twin_name g d) = ap (slice_index heights) is in
-    omega (arith, promise.positive asked.facts p asked.asked)
+crossed_already price g bound heights d other promise is low p asked = grind arith
 
 -- and nor does its own price
 pub crossed_low : (price : Pricing) (g : Named) (bound : ℕ) (heights : List ℕ) (d other q : ℕ) → KeepsPromise price → Price price g.rows (dart_named g d) q → other ≡ twin_name g d

@@ -80,14 +80,7 @@ module _ (price : Pricing) (g : Named) (lawful : Lawful g.rows) (has : IsNamed g
       let there = in_face (dart_named g at) x here walk.0 in
       let start : level (dart_named g at) ≡ n = omega (arith, level_is (dart_named g at)) in
       let (from, next) = goes_down x xs (dart_named g at) to n here walk cost down start in
-      let total = cost.4 in
-      let tight : IsTight price g.rows height x = record { cost = cost.0; asked = cost.2; drop = omega (arith, level_is x, level_is (dart_twin x)) } in
-      record {
-        dart = x;
-        there = there;
-        face = walk.0;
-        tight = tight;
-      }
+      grind (arith, level_is)
 
   pub has_tight : (at : ℕ) → IsName g at → height (dart_named g at) < bound → 0 < height (dart_named g at) → HasTight price g heights at
   has_tight at l below above =
@@ -123,11 +116,7 @@ module _ (price : Pricing) (g : Named) (lawful : Lawful g.rows) (has : IsNamed g
     tight = subst (IsTight price g.rows height) is first.tight
 
     drop_here : height (dart_named g at) ≡ tight.cost + height (dart_named g next)
-    drop_here =
-        let low : height (dart_named g at) < bound = let far_low = far.low in omega arith in
-        let one = one_height (dart_named g at) x far.name.there low face in
-        let there : height (dart_named g next) ≡ height (dart_twin x) = ap height lands_on in
-        let drop = tight.drop in omega arith
+    drop_here = grind (arith, one_height, face, lands_on, tight)
 
     pub lower : height (dart_named g next) < height (dart_named g at)
     lower = let drop = drop_here in let one = promise.positive tight.asked.facts tight.cost tight.asked.asked in omega arith
@@ -143,10 +132,7 @@ module _ (price : Pricing) (g : Named) (lawful : Lawful g.rows) (has : IsNamed g
           let onward : Costs price g.rows (x ∷ rest) (height (dart_named g at)) = (tight.cost, height (dart_named g next), tight.asked, cost, drop_here) in
           subst (λ xs. Costs price g.rows xs (height (dart_named g from))) (sym (append_assoc crossed (x ∷ []) rest)) (far.cost (x ∷ rest) onward);
       first_darts = λ rest takes.
-          let onward : TakesFirstDarts price g.rows height (dart_named g at) (x ∷ rest) = (
-            subst (λ d. (y : Dart) → has_dart (darts g.rows) y ≡ true → SameFace (system g.rows) (dart_named g at) y → IsTight price g.rows height y → dart_cmp d y ≢ Greater) is first.first,
-            subst (λ c. TakesFirstDarts price g.rows height c rest) lands_on takes,
-          ) in
+          let onward : TakesFirstDarts price g.rows height (dart_named g at) (x ∷ rest) = grind (arith, lands_on) in
           subst (TakesFirstDarts price g.rows height (dart_named g from)) (sym (append_assoc crossed (x ∷ []) rest)) (far.first_darts (x ∷ rest) onward);
       arrives = λ rest. ap (arrival (dart_named g from)) (append_assoc crossed (x ∷ []) rest) ∙ far.arrives (x ∷ rest) ∙ ap (λ c. arrival c rest) (sym lands_on);
     }
@@ -175,9 +161,7 @@ module _ (price : Pricing) (g : Named) (lawful : Lawful g.rows) (has : IsNamed g
   -- a face of height 0 has a corner of the target
   pub has_end : (promise : KeepsPromise price) (last : ℕ) → IsName g last → height (dart_named g last) ≡ 0 → 0 < bound
       → ((p : ℕ) (c : Dart) → corner g.rows v p ≡ Some c → SameFace (system g.rows) (dart_named g last) c → ⊥) → ⊥
-  has_end promise last l down above none =
-      let walk = known.reaches (dart_named g last) l.there (omega arith) in
-      no_end promise (dart_named g last) walk.crossed walk.to (height (dart_named g last)) walk.position walk.walk walk.cost down walk.ends none
+  has_end promise last l down above none = grind (arith, no_end)
 
   -- a route from the first lowest corner down to its end is the first
   pub is_first : (promise : KeepsPromise price) (u : ℕ) (found : PricedRoute) (from last : ℕ) → IsStart g u heights found.route.start from → found.price ≡ height (dart_named g from)
@@ -186,10 +170,7 @@ module _ (price : Pricing) (g : Named) (lawful : Lawful g.rows) (has : IsNamed g
       let n = height (dart_named g from) in
       let c = dart_named g from in
       let walk = descent.walk end.to end.face in
-      let priced : IsPricedRoute price g.rows u v found.route n = record {
-        route = record { from = c; to = end.to; starts = start.there; ends = end.there; walk = walk };
-        cost = descent.cost;
-      } in
+      let priced : IsPricedRoute price g.rows u v found.route n = grind arith in
       let first_end = subst (λ c. (p : ℕ) (d : Dart) → p < found.route.end → corner g.rows v p ≡ Some d → SameFace (system g.rows) c d → ⊥) (sym descent.arrives) end.first in
       let by_heights : IsFirstByHeights price g.rows u v height found.route n = record {
         priced = priced;
@@ -208,10 +189,7 @@ module _ (price : Pricing) (g : Named) (lawful : Lawful g.rows) (has : IsNamed g
       } in
       let first = first_by_heights price g.rows u v level (certified price g.rows u v level lawful.embedding.well_formed known.certificate)
       (λ d p asked. promise.positive asked.facts p asked.asked) found.route n by_levels in
-      record {
-        first = subst (IsFirst price g.rows u v found.route) (sym cost) first;
-        by_heights = subst (IsFirstByHeights price g.rows u v height found.route) (sym cost) by_heights;
-      }
+      grind arith
 
 -- no corner of u is reached, so there is no route
 pub no_route : (price : Pricing) (g : Named) → Lawful g.rows → (v : ℕ) (heights : List ℕ) → AreHeights price g v heights → (u : ℕ) → HasNoStart g u heights → HasNoRoute price g.rows u v
@@ -272,10 +250,7 @@ module _ (price : Pricing) (g : Named) (heights : List ℕ) (at : ℕ) where
     less_later None dart k name_d names less later = elim later [ ]
 
     none_less : (first : Option ℕ) (dart : ℕ) → IsName g dart → IfSome first (IsName g) → IsSomeAnd first (λ b. dart_cmp (dart_named g dart) (dart_named g b) ≢ Less) → NoLater first dart
-    none_less (Some b) dart name_d names kept = elim (cases_lt (number dart) (number b)) [
-      | inl less ↦ absurd (kept (number_order g.rows lawful.embedding.well_formed.paths (dart_named g dart) (dart_named g b) name_d.there names.there less).0)
-      | inr more ↦ omega arith
-    ]
+    none_less (Some b) dart name_d names kept = grind (arith, cases_lt, number_order)
     none_less None dart name_d names kept = elim kept [ ]
 
     pub first_step : (i dart : ℕ) (first result : Option ℕ) → dart ≡ after (next_name g) i at → IsName g dart → FirstSoFar i first → IsFirstOf price g heights first dart result → FirstSoFar (i + 1) result

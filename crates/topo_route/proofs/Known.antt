@@ -28,10 +28,7 @@ module _ (price : Pricing) (g : Named) (lawful : Lawful g.rows) (has : IsNamed g
           (omega (arith, capped_at bound heights k, capped_at bound heights (next_name g k))),
           (λ p asked. let climb = crossed p asked in omega (arith, capped_at bound heights k, capped_at bound heights (twin_name g k))),
         )
-    | inr high ↦ (
-      (omega (arith, capped_at bound heights k, capped_at bound heights (next_name g k))),
-      (λ p asked. omega (arith, capped_at bound heights k, capped_at bound heights (twin_name g k))),
-    )
+    | inr high ↦ grind (arith, capped_at)
   ]
 
   meets_capped : IsZeroAt g.rows v (height_of g heights) → IsZeroAt g.rows v (height_of g (capped bound heights))
@@ -67,32 +64,19 @@ module _ (price : Pricing) (g : Named) (lawful : Lawful g.rows) (has : IsNamed g
 module _ (g : Named) (u : ℕ) where
   -- heights fall
   pub corner_lower : (before after : List ℕ) (bound : ℕ) → AreLowered before after → HasCornerBelow g u before bound → HasCornerBelow g u after bound
-  corner_lower before after bound lower corner = record {
-    position = corner.position;
-    from = corner.from;
-    there = corner.there;
-    below = omega (arith, lower (g.name corner.from), corner.below);
-  }
+  corner_lower before after bound lower corner = grind arith
 
   -- of the lesser of two bounds
   pub corner_least : (heights : List ℕ) (a b bound : ℕ) → bound ≡ min a b → (a ≢ unreached → HasCornerBelow g u heights a) → (b ≢ unreached → HasCornerBelow g u heights b)
       → bound ≢ unreached → HasCornerBelow g u heights bound
-  corner_least heights a b bound is of_a of_b some = elim (cases_lt a b) [
-    | inl less ↦ let same : a ≡ bound = omega arith in subst (HasCornerBelow g u heights) same (of_a (λ e. some (omega arith)))
-    | inr more ↦ let same : b ≡ bound = omega arith in subst (HasCornerBelow g u heights) same (of_b (λ e. some (omega arith)))
-  ]
+  corner_least heights a b bound is of_a of_b some = grind (arith, cases_lt)
 
 -- ---- The heights for routes from u
 
 module _ (price : Pricing) (g : Named) (lawful : Lawful g.rows) (has : IsNamed g) (u v : ℕ) (heights : List ℕ) where
   -- a corner of u lies below the bound
   pub for_some : (bound : ℕ) → bound ≤ unreached → AreHeightsBelow price g v bound heights → HasCornerBelow g u heights bound → AreHeightsFor price g u v heights
-  for_some bound small known corner = record {
-    bound = bound;
-    known = known;
-    start = λ position from start. omega (arith, start.least corner.position corner.from corner.there, corner.below, height_named g has heights from start.name);
-    none = λ none. absurd (omega (arith, none corner.position corner.from corner.there, corner.below));
-  }
+  for_some bound small known corner = grind (arith, height_named)
 
   -- all darts have their heights
   pub for_all : ((k : ℕ) → slice_index heights k ≤ unreached) → AreHeights price g v heights → AreHeightsFor price g u v heights

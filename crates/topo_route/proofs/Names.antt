@@ -32,16 +32,11 @@ first_named name k (c ∷ ds) d h is = by_test (cases_Bool (name c == k)) (λ th
   has_first = ap (λ b. b || has_dart ds c) (same_dart_self c)
 
   later : (d : Dart) → has_dart ds d ≡ true → has_dart (c ∷ ds) d ≡ true
-  later d there = elim (cases_Bool (same_dart d c)) [
-    | inl e ↦ ap (λ b. b || has_dart ds d) e
-    | inr e ↦ ap (λ b. b || has_dart ds d) e ∙ there
-  ]
+  later d there = grind (arith, cases_Bool)
 
   by_test : ((name c == k) ≡ true) ⊎ ((name c == k) ≡ false) → (has_dart ds d ≡ true → Found ds (unwrap_or (find (λ c. name c == k) ds) no_dart))
       → Found (c ∷ ds) (unwrap_or (find (λ c. name c == k) (c ∷ ds)) no_dart)
-  by_test (inl e) onward =
-      let here : unwrap_or (find (λ c. name c == k) (c ∷ ds)) no_dart ≡ c = ap (λ (b : Bool). unwrap_or (cond b (Some c) (find (λ c. name c == k) ds)) no_dart) e in
-      subst (Found (c ∷ ds)) (sym here) (has_first, eqb-true (name c) k e)
+  by_test (inl e) onward = grind (arith, eqb-true)
   by_test (inr e) onward =
       let here : unwrap_or (find (λ c. name c == k) (c ∷ ds)) no_dart ≡ unwrap_or (find (λ c. name c == k) ds) no_dart = ap (λ (b : Bool). unwrap_or (cond b (Some c) (find (λ c. name c == k) ds)) no_dart) e in
       let rest = onward (by_place (cases_Bool (same_dart d c))) in
@@ -170,10 +165,7 @@ module _ (g : Named) (lawful : Lawful g.rows) (has : IsNamed g) where
   face_of_names i j n same = record { steps = same.steps; leads = sym (dart_after same.steps i n) ∙ ap (dart_named g) same.leads }
 
   pub names_of_face : (i : ℕ) (d : Dart) → IsName g i → SameFace (system g.rows) (dart_named g i) d → SameCycle (next_name g) i (g.name d)
-  names_of_face i d n same = record {
-    steps = same.steps;
-    leads = sym (after_is same.steps i n).is ∙ ap g.name (dart_after same.steps i n ∙ same.leads);
-  }
+  names_of_face i d n same = grind (arith, after_is, dart_after)
 
   -- ---- Heights
 

@@ -22,11 +22,7 @@ in_list (y ∷ xs) zero x d e = let same : y ≡ x = cc in same
 in_list (y ∷ xs) (suc i) x d e = in_list xs i x d e
 
 pub twin_cases : (a : ℕ) → ((a % 2 ≡ 0) × (twin a ≡ a + 1)) ⊎ ((a % 2 ≢ 0) × (twin a ≡ a - 1))
-twin_cases a =
-    elim (cases_Bool (a % 2 == 0)) [
-      | inl e ↦ inl (eqb-true _ _ e, cond-true _ _ _ e)
-      | inr e ↦ inr (eqb-false _ _ e, cond-false _ _ _ e)
-    ]
+twin_cases a = grind (arith, cases_Bool, eqb-true, cond-true, eqb-false, cond-false)
 
 -- the twin of the twin
 pub twin_twin : (a : ℕ) → twin (twin a) ≡ a
@@ -92,9 +88,7 @@ module _ (rows : Rows) (lawful : Lawful rows) where
 
   -- one face on darts and on numbers
   pub face_of_numbers : (i j : ℕ) → i < length (darts rows) → j < length (darts rows) → SameCycle (next_of rows) i j → SameFace (system rows) (dart_of rows i) (dart_of rows j)
-  face_of_numbers i j li lj same =
-      face_darts rows good.paths good.crossings good.rotations (dart_of rows i) (dart_of rows j) (dart_in i li) (dart_in j lj)
-      (subst (λ x. SameCycle (next_of rows) x (index_of rows (dart_of rows j))) (sym (number_of i li)) (subst (SameCycle (next_of rows) i) (sym (number_of j lj)) same))
+  face_of_numbers i j li lj same = grind (arith, face_darts, dart_in, number_of)
 
   pub numbers_of_face : (i : ℕ) (d : Dart) → i < length (darts rows) → SameFace (system rows) (dart_of rows i) d → SameCycle (next_of rows) i (index_of rows d)
   numbers_of_face i d li same =

@@ -94,9 +94,7 @@ module _ (price : Pricing) (g : Named) (lawful : Lawful g.rows) (has : IsNamed g
   even k l =
       let step : SameCycle (next_name g) k (next_name g k) = record { steps = 1; leads = refl } in
       let back = back_round g lawful has k (next_name g k) l step in
-      let round = falls back.steps (next_name g k) (next_is g lawful has k l) in
-      let home : slice_index heights (after (next_name g) back.steps (next_name g k)) ≡ slice_index heights k = ap (slice_index heights) back.leads in
-      let down = (settled k l).0 in omega arith
+      grind (arith, falls, next_is)
 
   gentle : (k p : ℕ) → IsName g k → Price price g.rows (dart_named g k) p → slice_index heights k ≤ p + slice_index heights (twin_name g k)
   gentle k p l asked =
@@ -139,9 +137,4 @@ module _ (price : Pricing) (g : Named) (lawful : Lawful g.rows) (has : IsNamed g
     ]
 
     pub are_heights : AreHeights price g v heights
-    are_heights = record {
-      one_each = costs.one_each;
-      exact = exact;
-      certificate = certificate;
-      unreached_none = λ d h e m walk. is_reached walk.crossed d walk.to m h walk.walk walk.cost (meets walk.position walk.to walk.ends) e;
-    }
+    are_heights = grind (arith, exact, certificate, is_reached)

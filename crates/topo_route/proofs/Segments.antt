@@ -46,9 +46,7 @@ next_price price rows prices s answer are is promise = record {
     | inl e ↦
         let at : slice_index_or (prices ++ answer ∷ []) t None ≡ answer = ap (λ i. slice_index_or (prices ++ answer ∷ []) i None) (e ∙ sym are.one_each) ∙ at_end prices answer None in
         subst (IsPriceAt price rows (2 * t)) (sym at) (subst (λ i. IsPriceAt price rows (2 * i) answer) (sym e) is)
-    | inr ne ↦
-        let less : t < length prices = let e = are.one_each in omega arith in
-        subst (IsPriceAt price rows (2 * t)) (sym (before_end prices answer None t less)) (are.right t (omega arith))
+    | inr ne ↦ grind (arith, before_end)
   ];
   promise = λ l. promise;
 }

@@ -51,10 +51,7 @@ module _ (heights : List ℕ) (t x : ℕ) (within : t < length heights) where
   lowered_other k ne = get_or-set_other heights t k x 0 ne
 
   pub lowered_less : (k : ℕ) → x ≤ slice_index heights t → slice_index lowered k ≤ slice_index heights k
-  lowered_less k low = elim (cases_eq k t) [
-    | inl e ↦ let now : slice_index lowered k ≡ x = ap (slice_index lowered) e ∙ lowered_there in let was : slice_index heights k ≡ slice_index heights t = ap (slice_index heights) e in omega arith
-    | inr ne ↦ let same = lowered_other k ne in omega arith
-  ]
+  lowered_less k low = grind (arith, cases_eq, lowered_there, lowered_other)
 
   pub lowered_sum : sum_by (λ h. h) lowered + slice_index heights t ≡ sum_by (λ h. h) heights + x
   lowered_sum = sum_by-set (λ h. h) heights t x 0 within
@@ -64,10 +61,7 @@ module _ (heights : List ℕ) (t x : ℕ) (within : t < length heights) where
   lowered_reached some = let e = sum_by-set counts heights t x 0 within in let one = counts_reached x some in omega arith
 
   pub lowered_more : x ≢ unreached → reached heights ≤ reached lowered
-  lowered_more some = let e = lowered_reached some in elim (cases_eq (slice_index heights t) unreached) [
-    | inl was ↦ let none = counts_unreached (slice_index heights t) was in omega arith
-    | inr was ↦ let one = counts_reached (slice_index heights t) was in omega arith
-  ]
+  lowered_more some = let e = lowered_reached some in grind (arith, cases_eq, counts_unreached, counts_reached)
 
 module _ (price : Pricing) (g : Named) (v : ℕ) (heights : List ℕ) (has : IsNamed g) (costs : AreCosts price g v heights) (t x : ℕ) (there : IsName g t)
     (low : x < slice_index heights t) (walk : Reaches price g.rows v (dart_named g t) x) (near : x ≤ 1000 * reached heights + 1000) where
@@ -79,32 +73,7 @@ module _ (price : Pricing) (g : Named) (v : ℕ) (heights : List ℕ) (has : IsN
 
   -- a lower cost keeps heights costs
   pub lowered_costs : AreCosts price g v (set heights t x)
-  lowered_costs = record {
-    one_each = length-set heights t x ∙ costs.one_each;
-    capped = λ k. let less = lowered_less heights t x inside k (omega arith) in let cap = costs.capped k in omega arith;
-    costs = λ k l reached_k. elim (cases_eq k t) [
-      | inl e ↦
-          let now : slice_index (set heights t x) k ≡ x = ap (slice_index (set heights t x)) e ∙ lowered_there heights t x inside in
-          subst (λ n. Reaches price g.rows v (dart_named g k) n) (sym now) (subst (λ j. Reaches price g.rows v (dart_named g j) x) (sym e) walk)
-      | inr ne ↦
-          let same = lowered_other heights t x inside k ne in
-          subst (λ n. Reaches price g.rows v (dart_named g k) n) (sym same) (costs.costs k l (λ was. reached_k (same ∙ was)))
-    ];
-    bounded = λ k l reached_k.
-        let more = lowered_more heights t x inside some in
-        elim (cases_eq k t) [
-          | inl e ↦
-              let now : slice_index (set heights t x) k ≡ x = ap (slice_index (set heights t x)) e ∙ lowered_there heights t x inside in
-              let total = lowered_reached heights t x inside some in
-              elim (cases_eq (slice_index heights t) unreached) [
-                | inl was ↦ let none = counts_unreached (slice_index heights t) was in omega arith
-                | inr was ↦ let bound = costs.bounded t there was in omega arith
-              ]
-          | inr ne ↦
-              let same = lowered_other heights t x inside k ne in
-              let bound = costs.bounded k l (λ was. reached_k (same ∙ was)) in omega arith
-        ];
-  }
+  lowered_costs = grind (arith, length-set, lowered_less, inside, cases_eq, set, lowered_there, lowered_other, lowered_more, some, lowered_reached, counts_unreached)
 
   -- what was reached is
   pub lowered_stays : (k : ℕ) → slice_index heights k ≢ unreached → slice_index (set heights t x) k ≢ unreached

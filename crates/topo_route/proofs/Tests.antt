@@ -32,27 +32,13 @@ module _ (rows : Rows) (v : ℕ) (P : ℕ → Dart → Type 0) where
   before_none p c l at = absurd (omega arith)
 
   pub before_some : (i : ℕ) (d : Dart) → corner rows v i ≡ Some d → P i d → Before i → Before (i + 1)
-  before_some i d here holds before p c l at = elim (cases_eq p i) [
-    | inl e ↦
-        let same : Some d ≡ Some c = sym here ∙ ap (corner rows v) (sym e) ∙ at in
-        let one : d ≡ c = cc in
-        subst (λ q. P q c) (sym e) (subst (P i) one holds)
-    | inr ne ↦ before p c (omega arith) at
-  ]
+  before_some i d here holds before p c l at = grind (arith, cases_eq)
 
   pub before_past : (i : ℕ) → corner rows v i ≡ None → Before i → Before (i + 1)
-  before_past i none before p c l at = elim (cases_eq p i) [
-    | inl e ↦ let bad : None ≡ Some c = sym none ∙ ap (corner rows v) (sym e) ∙ at in cc
-    | inr ne ↦ before p c (omega arith) at
-  ]
+  before_past i none before p c l at = grind (arith, cases_eq)
 
   pub before_all : (i : ℕ) → i ≡ length (rotation rows v) → Before i → (p : ℕ) (c : Dart) → corner rows v p ≡ Some c → P p c
-  before_all i whole before p c at = elim (cases_lt p i) [
-    | inl l ↦ before p c l at
-    | inr past ↦
-        let long : length (around_vertex rows v) ≤ p = omega (arith, length-map (rotation rows v) (end_dart rows v)) in
-        let bad : None ≡ Some c = sym (get_past (around_vertex rows v) p long) ∙ at in cc
-  ]
+  before_all i whole before p c at = grind (arith, cases_lt, length-map, get_past)
 
 -- ---- Heights
 
@@ -122,26 +108,14 @@ module _ (rows : Rows) (u : ℕ) (heights : List ℕ) (cost : ℕ) where
   Differs p c = height_in rows heights c ≢ cost
 
   pub least_found : (found : Bool) (i : ℕ) (d : Dart) → corner rows u i ≡ Some d → height_in rows heights d ≡ cost → LeastBefore rows u heights cost found i → LeastBefore rows u heights cost true (i + 1)
-  least_found found i d here same before = record {
-    least = before_some rows u AtLeast i d here (omega arith) before.least;
-    there = λ e. (i, d, here, same);
-    not_there = λ e. absurd (false≢true (sym e));
-  }
+  least_found found i d here same before = grind (arith, before_some, false≢true)
 
   pub least_kept : (found : Bool) (i : ℕ) (d : Dart) → corner rows u i ≡ Some d → cost ≤ height_in rows heights d → height_in rows heights d ≢ cost → LeastBefore rows u heights cost found i
       → LeastBefore rows u heights cost found (i + 1)
-  least_kept found i d here low differs before = record {
-    least = before_some rows u AtLeast i d here low before.least;
-    there = before.there;
-    not_there = λ e. before_some rows u Differs i d here differs (before.not_there e);
-  }
+  least_kept found i d here low differs before = grind (arith, before_some)
 
   pub least_past : (found : Bool) (i : ℕ) → corner rows u i ≡ None → LeastBefore rows u heights cost found i → LeastBefore rows u heights cost found (i + 1)
-  least_past found i none before = record {
-    least = before_past rows u AtLeast i none before.least;
-    there = before.there;
-    not_there = λ e. before_past rows u Differs i none (before.not_there e);
-  }
+  least_past found i none before = grind (arith, before_past)
 
   least_true : ((p : ℕ) (c : Dart) → corner rows u p ≡ Some c → cost ≤ height_in rows heights c)
       → ((p : ℕ) × (c : Dart) × (corner rows u p ≡ Some c) × (height_in rows heights c ≡ cost)) → IsLeastHeight rows u heights cost
@@ -167,25 +141,13 @@ module _ (rows : Rows) (u : ℕ) (height : Dart → ℕ) where
   lowest_none = record { capped = omega arith; low = before_none rows u (λ p c. unreached ≤ height c); attained = λ ne. absurd (ne refl) }
 
   pub lowest_lower : (least i x : ℕ) (d : Dart) → corner rows u i ≡ Some d → height d ≡ x → x < least → LowestBefore rows u height least i → LowestBefore rows u height x (i + 1)
-  lowest_lower least i x d at is less lowest = record {
-    capped = let cap = lowest.capped in omega arith;
-    low = before_some rows u (λ p c. x ≤ height c) i d at (omega arith) (λ p c l there. let low = lowest.low p c l there in omega arith);
-    attained = λ ne. (i, d, at, is);
-  }
+  lowest_lower least i x d at is less lowest = grind (arith, before_some)
 
   pub lowest_kept : (least i : ℕ) (d : Dart) → corner rows u i ≡ Some d → least ≤ height d → LowestBefore rows u height least i → LowestBefore rows u height least (i + 1)
-  lowest_kept least i d at more lowest = record {
-    capped = lowest.capped;
-    low = before_some rows u (λ p c. least ≤ height c) i d at more lowest.low;
-    attained = lowest.attained;
-  }
+  lowest_kept least i d at more lowest = grind (arith, before_some)
 
   pub lowest_past : (least i : ℕ) → corner rows u i ≡ None → LowestBefore rows u height least i → LowestBefore rows u height least (i + 1)
-  lowest_past least i none lowest = record {
-    capped = lowest.capped;
-    low = before_past rows u (λ p c. least ≤ height c) i none lowest.low;
-    attained = lowest.attained;
-  }
+  lowest_past least i none lowest = grind (arith, before_past)
 
   pub lowest_all : (least i : ℕ) → i ≡ length (rotation rows u) → LowestBefore rows u height least i → (p : ℕ) (c : Dart) → corner rows u p ≡ Some c → least ≤ height c
   lowest_all least i whole lowest = before_all rows u (λ p c. least ≤ height c) i whole lowest.low

@@ -40,13 +40,8 @@ module _ (rows : Rows) (lawful : Lawful rows) where
     Found o = MatchOption o (has_dart (darts rows) d ≡ false) (λ k. (k < length (darts rows)) × (dart_of rows k ≡ d) × (index_of rows d ≡ k))
 
     by_test : (b : Bool) → has_dart (darts rows) d ≡ b → MatchOption result (has_dart (darts rows) d ≡ false) (λ k. (k < length (darts rows)) × (dart_of rows k ≡ d) × (index_of rows d ≡ k))
-    by_test true h =
-        let is : result ≡ Some (index_of rows d) = e ∙ ap (λ (b : Bool). if b then Some (index_of rows d) else None) h in
-        subst (λ o. MatchOption o (has_dart (darts rows) d ≡ false) (λ k. (k < length (darts rows)) × (dart_of rows k ≡ d) × (index_of rows d ≡ k))) (sym is)
-        (number_below rows lawful d h, dart_of_number rows lawful d h, refl)
-    by_test false h =
-        let is : result ≡ None = e ∙ ap (λ (b : Bool). if b then Some (index_of rows d) else None) h in
-        subst (λ o. MatchOption o (has_dart (darts rows) d ≡ false) (λ k. (k < length (darts rows)) × (dart_of rows k ≡ d) × (index_of rows d ≡ k))) (sym is) h
+    by_test true h = grind (arith, number_below, dart_of_number)
+    by_test false h = grind arith
 
 -- ---- Steps
 
@@ -56,19 +51,11 @@ module _ (price : Pricing) (rows : Rows) (lawful : Lawful rows) where
       → Walks price rows (dart_of rows at) (x ∷ xs) to left → Walks price rows (dart_of rows next) xs to rest
   step_forth at x xs to left next rest crossing (walk, cost) =
       let same : cost.0 ≡ crossing.payment.cost = crossing.payment.single cost.0 cost.2 in
-      let sum = crossing.payment.sum in
-      let total = cost.4 in
-      let others : cost.1 ≡ rest = omega arith in (
-        subst (λ c. Crosses (system rows) c xs to) (sym crossing.lands) walk.1,
-        subst (Costs price rows xs) others cost.3,
-      )
+      grind arith
 
   pub step_back : (at : ℕ) (x : Dart) (xs : List Dart) (to : Dart) (left next rest : ℕ) → Crossing price rows at x left next rest
       → Walks price rows (dart_of rows next) xs to rest → Walks price rows (dart_of rows at) (x ∷ xs) to left
-  step_back at x xs to left next rest crossing (walk, cost) = (
-    (crossing.face, subst (λ c. Crosses (system rows) c xs to) crossing.lands walk),
-    (crossing.payment.cost, rest, crossing.payment.asked, cost, crossing.payment.sum),
-  )
+  step_back at x xs to left next rest crossing (walk, cost) = grind arith
 
   pub no_step : (at : ℕ) (x : Dart) (xs : List Dart) (to : Dart) (left : ℕ) → CannotCross price rows at x left → Walks price rows (dart_of rows at) (x ∷ xs) to left → ⊥
   no_step at x xs to left cannot (walk, cost) = let total = cost.4 in cannot walk.0 cost.0 cost.2 (omega arith)
@@ -83,12 +70,7 @@ module _ (price : Pricing) (rows : Rows) (lawful : Lawful rows) where
 
   pub crossed_to : (at k left next rest : ℕ) (d : Dart) → at < length (darts rows) → k < length (darts rows) → dart_of rows k ≡ d → next ≡ twin k → next < length (darts rows)
       → SameCycle (next_of rows) at k → Payment price rows (dart_of rows k) left rest → dart_of rows (twin k) ≡ dart_twin (dart_of rows k) → Crossing price rows at d left next rest
-  crossed_to at k left next rest d l lk is there next_in same payment lands = record {
-    within = next_in;
-    lands = ap (dart_of rows) there ∙ lands ∙ ap dart_twin is;
-    face = subst (SameFace (system rows) (dart_of rows at)) is (face_of_numbers rows lawful at k l lk same);
-    payment = subst (λ x. Payment price rows x left rest) is payment;
-  }
+  crossed_to at k left next rest d l lk is there next_in same payment lands = grind (arith, face_of_numbers)
 
   -- ---- First tight darts
 
@@ -162,10 +144,7 @@ pub none_before : (price : Pricing) (rows : Rows) (heights : List ℕ) (at numbe
 none_before price rows heights at number i home none here before =
     let Free = λ (x : ℕ). x < number → IsTight price rows (height_in rows heights) (dart_of rows x) → ⊥ in
     round_home (next_of rows) Free at (suc i) (omega arith) home
-    (λ j l. elim (cases_lt j i) [
-      | inl less ↦ none j less
-      | inr more ↦ let is : i ≡ j = omega arith in subst (λ k. Free (after (next_of rows) k at)) is here
-    ])
+    (λ j l. grind (arith, cases_lt))
     before.dart before.face before.before before.tight
 
 -- one more first tight dart

@@ -44,11 +44,7 @@ returns c =
       agrees = record { entry = insertion; there = refl; same_call = refl; same_reply = refl };
       differs = λ agrees. let wrong : Refused SameEnds ≡ Refused NoVertex = ap (λ (o : Option Entry). (unwrap_or o refusal).reply) agrees.there ∙ agrees.same_reply in cc;
       no_more = λ agrees. let wrong : None ≡ Some agrees.entry = agrees.there in cc;
-      run = record {
-        replayed = (grown seed 1 0 0, (grow, refl, refl, refl), (grown seed 1 0 0, (inl refl, refl), (after_two, (join, first, omega arith, refl, refl), refl)));
-        calls = λ c below. by_caller c below;
-        callers = below_two;
-      };
+      run = grind (arith, by_caller, below_two);
     } where
       by_caller : (c : ℕ) → c < 2 → map (λ entry. entry.call) (entries_of c two_callers) ≡ map call_of (slice_index_or two_lists c [])
       by_caller zero below = refl

@@ -1,8 +1,6 @@
+use Rattle.std.proofs.Common.{arith}
 use Rattle.topo_core.proofs.Renumbering.{face_darts, face_numbers}
 use Rattle.topo_core.proofs.laws.numbers_keep_faces.Goals as goal
 
 pub returns : goal.returns
-returns ctx rows good c d c_in d_in = (
-  face_numbers rows good.paths good.crossings good.rotations c d c_in,
-  face_darts rows good.paths good.crossings good.rotations c d c_in d_in,
-)
+returns ctx rows good c d c_in d_in = grind (arith, face_numbers, face_darts)

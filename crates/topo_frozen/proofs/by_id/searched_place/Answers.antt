@@ -26,11 +26,7 @@ loop-left-preserved g c =
     ]
 
 pub returns-then-id-2 : goal.returns-then-id-2
-returns-then-id-2 g c =
-    let inside = c.loop-left.invariant.within in
-    let some = c.loop-left.invariant.some in
-    placed_read g.T.Identified.id_of c.args.rows.now c.args.id c.requires c.loop-left.base c.index-rows-base.result (omega arith)
-    (ap g.T.Identified.id_of (sym c.index-rows-base.is) ∙ sym c.id-2.ensures ∙ c.if-id-2.true)
+returns-then-id-2 g c = grind (arith, placed_read)
 
 pub returns-else-id-2 : goal.returns-else-id-2
 returns-else-id-2 g c =

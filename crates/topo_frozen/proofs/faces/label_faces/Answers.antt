@@ -18,9 +18,7 @@ loop-start-preserved c =
       | then-labels-start w ↦ record {
         labelled = subst Below (sym w.labels-is) (given_now f n k (slice_index old) _ permutes c.loop-start-test.true c.loop-start.invariant.labelled w.label_face.ensures.face w.label_face.ensures.others);
       }
-      | else-labels-start w ↦ record {
-        labelled = subst Below (sym w.labels-is) (given_already f n k (slice_index old) c.loop-start.invariant.labelled w.if-labels-start.false);
-      }
+      | else-labels-start w ↦ grind (arith, given_already)
     ]
 
 pub returns : goal.returns

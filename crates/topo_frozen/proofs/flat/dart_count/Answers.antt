@@ -5,11 +5,7 @@ use Rattle.topo_frozen.proofs.Begins.{begins_last, begins_length}
 use Rattle.topo_frozen.proofs.flat.dart_count.Goals as goal
 
 pub bounds-begins-last : goal.bounds-begins-last
-bounds-begins-last c =
-    let begins = ap length c.requires ∙ begins_length 0 c.args.rows.now.edges in
-    let edges = ap length c.as_slice-last.ensures in omega arith
+bounds-begins-last c = grind (arith, begins_length)
 
 pub returns : goal.returns
-returns c =
-    let last = begins_last 0 c.args.rows.now.edges in
-    ap (λ xs. slice_index xs (length c.as_slice-last.result.now)) c.requires ∙ ap (λ xs. slice_index (begins_from 0 c.args.rows.now.edges) (length xs)) c.as_slice-last.ensures ∙ last ∙ omega arith
+returns c = grind (arith, begins_last)

@@ -14,16 +14,10 @@ pub place_of_edge-place-requires-clause-there : goal.place_of_edge-place-require
 place_of_edge-place-requires-clause-there c = ap (λ (edges : List EdgeRow). is_some (find (λ row. row.id == c.args.e) edges)) c.as_slice-edges.ensures ∙ c.requires.there
 
 pub bounds-begins-place : goal.bounds-begins-place
-bounds-begins-place c =
-    let begins = ap length c.requires.begins ∙ begins_length 0 c.args.rows.now.edges in
-    let edges = ap length c.as_slice-edges.ensures in
-    let within = c.place_of_edge-place.ensures.within in omega arith
+bounds-begins-place c = grind (arith, begins_length)
 
 pub bounds-begins-place-else-row-v : goal.bounds-begins-place-else-row-v
-bounds-begins-place-else-row-v c =
-    let begins = ap length c.requires.begins ∙ begins_length 0 c.args.rows.now.edges in
-    let edges = ap length c.as_slice-edges.ensures in
-    let within = c.place_of_edge-place.ensures.within in omega arith
+bounds-begins-place-else-row-v c = grind (arith, begins_length)
 
 apart : (m n : ℕ) → (m ≡ n → ⊥) → eqb m n ≡ false
 apart m n h = grind (arith, nat_tests)

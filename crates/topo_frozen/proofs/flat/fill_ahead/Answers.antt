@@ -19,11 +19,4 @@ note_paths-requires-clause-known c =
     ∙ paths_known c.args.rows.now c.requires.well_formed
 
 pub returns : goal.returns
-returns c =
-    let kept : take c.resize.new.self.len (c.note_paths.new.ahead ++ drop (length c.note_paths.new.ahead) c.resize.new.self.items) ≡ c.note_paths.new.ahead = grind (arith, common_steps) in
-    let noted : c.note_paths.new.ahead ≡ written c.deref_mut.result.now (notes_from c.args.rows.now.crossings 0 c.args.rows.now.edges) =
-    c.note_paths.ensures ∙ ap (λ xs. written c.deref_mut.result.now (notes_from xs 0 c.as_slice.result.now)) c.as_slice-crossings.ensures
-    ∙ ap (λ xs. written c.deref_mut.result.now (notes_from c.args.rows.now.crossings 0 xs)) c.as_slice.ensures in
-    let room : length c.deref_mut.result.now ≡ 2 * length c.args.rows.now.crossings =
-    (let a = c.deref_mut.ensures.len in let b = c.in_ok-resize.ensures.len in let d = ap length c.as_slice-crossings.ensures in omega arith) in
-    subst (AreAhead c.args.rows.now) (sym (kept ∙ noted)) (are_ahead c.args.rows.now c.requires.well_formed c.deref_mut.result.now room)
+returns c = grind (arith, common_steps, are_ahead)

@@ -18,13 +18,7 @@ loop-i-init c =
     let many = round_length c.args.rows.now c.args.v c.as_slice-around.result.now around in
     let some : 0 < length c.as_slice-around.result.now = some_length _ _ c.is_empty.ensures c.if-is_empty.false in
     let number = c.end_number-first.ensures ∙ sym (round_number c.args.rows.now c.args.v c.as_slice-around.result.now around 0 some) in
-    let inside : 0 < length (vertex_round c.args.rows.now c.args.v) = omega arith in
-    let below = round_within c.args.rows.now c.requires.well_formed c.args.v c.requires.vertex (vertex_round c.args.rows.now c.args.v) refl 0 inside in
-    let room = c.requires.room in
-    record {
-      within = omega (arith, number);
-      linked = round_starts c.args.images.now (vertex_round c.args.rows.now c.args.v) c.end_number-first.result inside number;
-    }
+    grind (arith, round_within, round_starts)
 
 pub end_number-next-requires-clause-there : goal.end_number-next-requires-clause-there
 end_number-next-requires-clause-there c = edge_known c.args.rows.now c.requires.well_formed c.args.v c.requires.vertex c.as_slice-around.result.now (rotation_read c.args.rows.now c.args.v c.as_slice-around.result.now c.index-as_slice-v.result c.as_slice.result.now c.requires.vertex c.as_slice-around.ensures c.index-as_slice-v.is c.as_slice.ensures) c.loop-i.i c.loop-i-test.true
@@ -34,18 +28,7 @@ loop-i-preserved c =
     let around = (rotation_read c.args.rows.now c.args.v c.as_slice-around.result.now c.index-as_slice-v.result c.as_slice.result.now c.requires.vertex c.as_slice-around.ensures c.index-as_slice-v.is c.as_slice.ensures) in
     let many = round_length c.args.rows.now c.args.v c.as_slice-around.result.now around in
     let number = c.end_number-next.ensures ∙ sym (round_number c.args.rows.now c.args.v c.as_slice-around.result.now around c.loop-i.i c.loop-i-test.true) in
-    let inside : c.loop-i.i < length (vertex_round c.args.rows.now c.args.v) = (let test = c.loop-i-test.true in omega arith) in
-    let within = round_within c.args.rows.now c.requires.well_formed c.args.v c.requires.vertex (vertex_round c.args.rows.now c.args.v) refl c.loop-i.i inside in
-    let same = c.loop-i.auto.images in
-    let room = c.requires.room in
-    record {
-      within = simp length-set (omega (arith, number));
-      linked = sym (round_goes_on c.loop-i.images (vertex_round c.args.rows.now c.args.v) c.end_number-first.result c.loop-i.here c.end_number-next.result c.loop-i.i inside number) ∙ c.loop-i.invariant.linked;
-    }
+    grind (arith, round_within, length-set, round_goes_on)
 
 pub returns : goal.returns
-returns c =
-    let around = (rotation_read c.args.rows.now c.args.v c.as_slice-around.result.now c.index-as_slice-v.result c.as_slice.result.now c.requires.vertex c.as_slice-around.ensures c.index-as_slice-v.is c.as_slice.ensures) in
-    let many = round_length c.args.rows.now c.args.v c.as_slice-around.result.now around in
-    let past = c.loop-i-test.false in
-    sym (round_ends c.loop-i.images (vertex_round c.args.rows.now c.args.v) c.end_number-first.result c.loop-i.here c.loop-i.i (omega arith)) ∙ c.loop-i.invariant.linked
+returns c = grind (arith, rotation_read, round_length, round_ends)

@@ -11,15 +11,7 @@ pub faces-requires-clause-even : goal.faces-requires-clause-even
 faces-requires-clause-even c = ap (λ (xs : List ℕ). length xs % 2) c.requires.images ∙ even_images c.args.rows.now
 
 pub overflow_add-result : goal.overflow_add-result
-overflow_add-result c =
-    let count = c.in_ok-faces.ensures in
-    let most = faces_at_most c.args.images.now in
-    let total = images_total c.args.rows.now c.args.images.now c.requires.images in
-    let v = ap length c.as_slice.ensures in
-    let x = ap length c.as_slice-2.ensures in
-    let few = c.requires.few in
-    let few_v = c.requires.vertices in
-    let few_x = c.requires.crossings in omega arith
+overflow_add-result c = grind (arith, faces_at_most, images_total)
 
 pub returns : goal.returns
 returns c =

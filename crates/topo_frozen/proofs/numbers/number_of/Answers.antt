@@ -13,11 +13,7 @@ pub edge_place-requires : goal.edge_place-requires
 edge_place-requires c = edges_rise c.args.rows.now c.as_slice-edges.result.now c.requires.paths c.as_slice-edges.ensures
 
 pub bounds-begins-place : goal.bounds-begins-place
-bounds-begins-place c =
-    let edges = ap length c.as_slice-edges.ensures in
-    let begins = ap length c.requires.begins ∙ begins_length 0 c.args.rows.now.edges in
-    let p = c.in_ok-place.ensures in
-    let within = p.within in omega arith
+bounds-begins-place c = grind (arith, begins_length)
 
 at_edge : (rows : Rows) (e id place : ℕ) (row : EdgeRow) (edges : List EdgeRow) → id ≡ e → edges ≡ rows.edges → IsPlaceOf edges (λ row. row.id) id place → row ≡ get_or edges place row → AtPlace rows e place row
 at_edge rows e id place row edges is same p read = let at = at_edge_place rows id place row edges same p read in record { is_row = ap (edge_row rows) (sym is) ∙ at.is_row; at = at.at }
@@ -68,10 +64,7 @@ returns-in-Back c =
     shown _ _ _ (dart_there c.args.rows.now c.requires.paths c.args.dart c.index-edges-place.result p.is_row less) (told.back c.in-Back.is ∙ omega arith)
 
 pub returns-else-dart-as_slice : goal.returns-else-dart-as_slice
-returns-else-dart-as_slice c =
-    let p = at_edge c.args.rows.now c.args.dart.edge c.number.result c.in_ok-place.place c.index-edges-place.result c.as_slice-edges.result.now c.number.ensures c.as_slice-edges.ensures c.in_ok-place.ensures c.index-edges-place.is in
-    let past : length c.index-edges-place.result.crossings + 1 ≤ c.args.dart.seg = (let test = c.if-dart-as_slice.false in let path = ap (λ (xs : List ℕ). length xs) c.as_slice.ensures in omega arith) in
-    hidden _ _ (dart_past c.args.rows.now c.requires.paths c.args.dart c.index-edges-place.result p.is_row past)
+returns-else-dart-as_slice c = grind (arith, at_edge, hidden, dart_past)
 
 pub returns-in_err-place : goal.returns-in_err-place
 returns-in_err-place c = c.from_residual.ensures ∙ hidden _ _ (no_dart c.args.rows.now c.requires.paths c.args.dart (finds_no_edge c.args.rows.now c.args.dart.edge c.number.result c.as_slice-edges.result.now c.number.ensures c.as_slice-edges.ensures c.in_err-place.ensures))

@@ -6,18 +6,7 @@ use Rattle.topo_frozen.proofs.numbers.tail_numbered.Goals as goal
 use Rattle.topo_frozen.proofs.numbers.tail_numbered.Goals.{in-Forward, in-Back}
 
 pub point_on-requires : goal.point_on-requires
-point_on-requires c =
-    let d = c.dart_numbered-dart.result in
-    let there = some_and (λ (d : Dart). edge_row c.args.rows.now d.edge ≡ Some c.edge_under-row.result.now) _ d c.dart_numbered-dart.ensures c.edge_under-row.ensures in
-    let less = seg_told c.args.rows.now c.requires.paths c.args.number d c.edge_under-row.result.now c.dart_numbered-dart.ensures there in
-    elim c.match-dart.branch [ in-Forward w ↦ omega arith | in-Back w ↦ omega arith ]
+point_on-requires c = grind (arith, some_and, seg_told, in-Forward, in-Back)
 
 pub returns : goal.returns
-returns c =
-    let d = c.dart_numbered-dart.result in
-    tail_told c.args.rows.now c.requires.paths c.args.number d c.edge_under-row.result.now c.match-dart.along c.point_on.result c.dart_numbered-dart.ensures
-    (some_and (λ (d : Dart). edge_row c.args.rows.now d.edge ≡ Some c.edge_under-row.result.now) _ d c.dart_numbered-dart.ensures c.edge_under-row.ensures)
-    (elim c.match-dart.branch [
-      | in-Forward w ↦ w.along-is ∙ sym (ap (start_place d.seg) w.in-Forward.is)
-      | in-Back w ↦ w.along-is ∙ sym (ap (start_place d.seg) w.in-Back.is)
-    ]) c.point_on.ensures
+returns c = grind (arith, tail_told, some_and, in-Forward, in-Back)

@@ -1,3 +1,4 @@
+use Rattle.std.proofs.Common.{arith}
 use Rattle.topo_map.proofs.Steps.{live_twin}
 use Rattle.topo_map.proofs.Walked.{live_on}
 use Rattle.topo_map.proofs.faces.is_shorter.Goals as goal
@@ -9,7 +10,4 @@ pub next-other-requires : goal.next-other-requires
 next-other-requires c = live_twin c.args.segments.now c.loop-steps.other c.twin-in-loop-steps.result c.twin-in-loop-steps.ensures c.loop-steps.invariant.live_other
 
 pub loop-steps-preserved : goal.loop-steps-preserved
-loop-steps-preserved c = record {
-  live = live_on c.args.segments.now c.loop-steps.at c.twin.result c.next-at.result c.requires.kept c.twin.ensures c.next-at.ensures c.loop-steps.invariant.live;
-  live_other = live_on c.args.segments.now c.loop-steps.other c.twin-in-loop-steps.result c.next-other.result c.requires.kept c.twin-in-loop-steps.ensures c.next-other.ensures c.loop-steps.invariant.live_other;
-}
+loop-steps-preserved c = grind (arith, live_on)

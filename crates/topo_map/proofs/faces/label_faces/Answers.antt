@@ -18,13 +18,11 @@ loop-number-preserved c =
             let done : IsPartlyLabelled s w.paint.new.segments (k + 1) w.take_label-label.result.1 =
             step_painted s c.loop-number.segments w.paint.new.segments k y w.take_label-label.result.0 c.loop-number.unused w.take_label-label.result.1 c.requires.kept c.loop-number.invariant.partly c.numbered-half.ensures
             at.0 at.1 w.take_label-label.ensures w.paint.ensures in
-            subst (λ (t : Slab Segment). IsPartlyLabelled s t (k + 1) c.if-lacks_label.unused) (sym w.segments-is)
-            (subst (λ (u : Option ℕ). IsPartlyLabelled s w.paint.new.segments (k + 1) u) (sym w.unused-is) done)
+            grind arith
         | else-lacks_label w ↦
             let done : IsPartlyLabelled s c.loop-number.segments (k + 1) c.loop-number.unused =
             step_over s c.loop-number.segments k y c.loop-number.unused c.loop-number.invariant.partly c.numbered-half.ensures (c.lacks_label.ensures.no w.if-lacks_label.false) in
-            subst (λ (t : Slab Segment). IsPartlyLabelled s t (k + 1) c.if-lacks_label.unused) (sym w.segments-is)
-            (subst (λ (u : Option ℕ). IsPartlyLabelled s c.loop-number.segments (k + 1) u) (sym w.unused-is) done)
+            grind arith
       ];
     }
 

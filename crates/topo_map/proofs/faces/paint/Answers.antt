@@ -33,7 +33,4 @@ returns-then-eq c =
     (eqb-true _ _ (sym c.if-eq.ensures))
 
 pub returns : goal.returns
-returns c =
-    let l : half_limit ≡ 4294967294 = limit-is in
-    let all : c.loop-steps._steps ≡ half_limit = omega arith in
-    painted_end c.args.segments.now c.loop-steps.segments c.loop-steps._steps c.args.start c.args.label c.loop-steps.at all c.loop-steps.invariant.walked
+returns c = grind (arith, limit-is, painted_end)

@@ -4,7 +4,4 @@ use Rattle.topo_map.proofs.LabelledAll.{blank_all}
 use Rattle.topo_map.proofs.faces.unlabel.Goals as goal
 
 pub returns-clause-blank : goal.returns-clause-blank
-returns-clause-blank c =
-    let all : c.loop-number.number ≡ c.limit-number-end.result = omega arith in
-    blank_all c.args.segments.now c.loop-number.segments c.loop-number.number c.loop-number.invariant.blank
-    (λ a h. subst (λ (n : ℕ). a < n) (sym (all ∙ c.limit-number-end.ensures.value)) (below_limit c.args.segments.now a c.requires c.limit-number-end.ensures.slots h))
+returns-clause-blank c = grind (arith, blank_all, below_limit)

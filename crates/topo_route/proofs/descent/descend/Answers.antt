@@ -7,25 +7,13 @@ use Rattle.topo_route.proofs.Names.{height_named, name_some}
 use Rattle.topo_route.proofs.descent.descend.Goals as goal
 
 pub loop-dart-init : goal.loop-dart-init
-loop-dart-init g c =
-    let named = g.W.Walked.named c.args.graph.now.walked.now in
-    let price = prices_of (g.F.Asks.answers c.args.graph.now.tariff.now) in
-    subst (λ xs. Descends price named c.args.heights.now c.args.from xs c.args.from) (sym c.new-crossed.ensures.items)
-    (at_start price named (g.met.W.Walked.lawful c.args.graph.now.walked.now) (g.met.W.Walked.has_names c.args.graph.now.walked.now) c.args.v c.requires.known.bound c.args.heights.now c.requires.known.known c.args.from c.requires.name)
+loop-dart-init g c = grind (arith, at_start)
 
 pub first_tight-requires-clause-known : goal.first_tight-requires-clause-known
-first_tight-requires-clause-known g c =
-    let named = g.W.Walked.named c.args.graph.now.walked.now in
-    let has = g.met.W.Walked.has_names c.args.graph.now.walked.now in
-    let here = height_named named has c.args.heights.now c.loop-dart.at c.loop-dart.invariant.name in
-    let start = height_named named has c.args.heights.now c.args.from c.requires.name in
-    record { bound = c.requires.known.bound; known = c.requires.known.known; below = omega (arith, c.loop-dart.invariant.low, c.requires.known.below) }
+first_tight-requires-clause-known g c = grind (arith, height_named)
 
 pub first_tight-requires-clause-above : goal.first_tight-requires-clause-above
-first_tight-requires-clause-above g c =
-    let named = g.W.Walked.named c.args.graph.now.walked.now in
-    let height = height_named named (g.met.W.Walked.has_names c.args.graph.now.walked.now) c.args.heights.now c.loop-dart.at c.loop-dart.invariant.name in
-    omega arith
+first_tight-requires-clause-above g c = grind (arith, height_named)
 
 pub loop-dart-smaller : goal.loop-dart-smaller
 loop-dart-smaller g c =
@@ -38,9 +26,7 @@ loop-dart-smaller g c =
     let below : height_of named heights (dart_named named c.args.from) < c.requires.known.bound = omega (arith, height_named named has heights c.args.from c.requires.name, c.requires.known.below) in
     let less = lower price named lawful has c.args.v c.requires.known.bound heights c.requires.known.known promise c.args.from c.loop-dart.at c.in-Some.dart c.across-at.result c.loop-dart.crossed.items c.dart.result
     c.loop-dart.invariant c.in-Some.ensures (sym c.dart.ensures) c.across-at.ensures.twin below in
-    let here = height_named named has heights c.loop-dart.at c.loop-dart.invariant.name in
-    let there = height_named named has heights c.across-at.result c.across-at.ensures.name in
-    omega arith
+    grind (arith, height_named)
 
 pub loop-dart-preserved : goal.loop-dart-preserved
 loop-dart-preserved g c =

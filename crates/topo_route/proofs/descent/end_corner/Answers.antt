@@ -8,14 +8,7 @@ use Rattle.topo_route.proofs.descent.end_corner.Goals as goal
 use Rattle.topo_route.proofs.descent.end_corner.Goals.{in-Some+else-same_face, in_default}
 
 pub returns-then-same_face : goal.returns-then-same_face
-returns-then-same_face g c =
-    let named = g.W.Walked.named c.args.walked.now in
-    record {
-      to = dart_named named c.in-Some.corner;
-      there = c.in-Some.ensures.1;
-      face = c.same_face.ensures.0 c.if-same_face.true;
-      first = c.loop-position.invariant;
-    }
+returns-then-same_face g c = grind arith
 
 pub loop-position-preserved : goal.loop-position-preserved
 loop-position-preserved g c =

@@ -8,12 +8,7 @@ use Rattle.topo_route.proofs.Rounds.{after-one}
 use Rattle.topo_route.proofs.descent.first_tight.Goals as goal
 
 pub loop-steps-init : goal.loop-steps-init
-loop-steps-init g c =
-    record {
-      place = refl;
-      name = c.requires.name;
-      so_far = none_so_far (prices_of (g.F.Asks.answers c.args.graph.now.tariff.now)) (g.W.Walked.named c.args.graph.now.walked.now) c.args.heights.now c.args.at;
-    }
+loop-steps-init g c = grind (arith, none_so_far)
 
 pub first_of-first-requires-clause-first_there : goal.first_of-first-requires-clause-first_there
 first_of-first-requires-clause-first_there g c =

@@ -24,10 +24,7 @@ returns-then-height-other g c =
     let has = g.met.W.Walked.has_names c.args.graph.now.walked.now in
     let heights = c.args.heights.now in
     let promise = c.requires.right.promise (name_some named c.args.dart c.requires.name) in
-    let other : get_or heights c.across.result 0 ≡ get_or heights (twin_name named c.args.dart) 0 = ap (λ k. get_or heights k 0) c.across.ensures.twin in (
-      λ w. absurd (false≢true w),
-      λ tight. absurd (omega (arith, tight.drop, promise.positive tight.asked.facts tight.cost tight.asked.asked, height_named named has heights c.args.dart c.requires.name)),
-    )
+    grind (arith, false≢true, height_named)
 
 pub returns-in-None : goal.returns-in-None
 returns-in-None g c = (λ w. absurd (false≢true w), λ tight. absurd (c.in-None.ensures.price tight.cost tight.asked))

@@ -6,9 +6,7 @@ use Rattle.topo_route.proofs.Canonical.{is_number, number_is}
 use Rattle.topo_route.proofs.dual.has_number.Goals as goal
 
 pub returns-clause-number : goal.returns-clause-number
-returns-clause-number g c =
-    let whole : c.size.result ≡ length (darts (g.D.Dual.shows c.args.dual.now)) = c.size.ensures ∙ ap (λ (n : Named). n.size) (g.met.D.Dual.numbered c.args.dual.now) in
-    (λ w. grind (arith, nat_tests), λ less. grind (arith, nat_tests))
+returns-clause-number g c = grind (arith, nat_tests)
 
 pub returns-clause-name : goal.returns-clause-name
 returns-clause-name g c =

@@ -1,4 +1,4 @@
-use Rattle.std.proofs.Common.{◌∙◌}
+use Rattle.std.proofs.Common.{arith, ◌∙◌}
 use Rattle.topo_route.proofs.Canonical.{is_number, number_is, twin_is_number}
 use Rattle.topo_route.proofs.faces.across.Goals as goal
 
@@ -8,11 +8,7 @@ across-requires g c =
     number_is (g.D.Walked.named dual) (g.D.Dual.shows dual) (g.met.D.Dual.numbered dual) (g.met.D.Walked.lawful dual) c.args.dart c.requires
 
 pub returns-clause-twin : goal.returns-clause-twin
-returns-clause-twin g c =
-    let dual = c.args.dual.now in
-    c.across.ensures.twin ∙ twin_is_number (g.D.Walked.named dual) (g.D.Dual.shows dual) (g.met.D.Dual.numbered dual) (g.met.D.Walked.lawful dual) c.args.dart c.requires
+returns-clause-twin g c = grind (arith, twin_is_number)
 
 pub returns-clause-within : goal.returns-clause-within
-returns-clause-within g c =
-    let dual = c.args.dual.now in
-    is_number (g.D.Walked.named dual) (g.D.Dual.shows dual) (g.met.D.Dual.numbered dual) (g.met.D.Walked.lawful dual) c.across.result c.across.ensures.name
+returns-clause-within g c = grind (arith, is_number)

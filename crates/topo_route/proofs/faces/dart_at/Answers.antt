@@ -1,4 +1,4 @@
-use Rattle.std.proofs.Common.{◌∙◌}
+use Rattle.std.proofs.Common.{arith, ◌∙◌}
 use Rattle.topo_route.proofs.Canonical.{dart_is_number, number_is}
 use Rattle.topo_route.proofs.faces.dart_at.Goals as goal
 
@@ -8,6 +8,4 @@ dart-requires g c =
     number_is (g.D.Walked.named dual) (g.D.Dual.shows dual) (g.met.D.Dual.numbered dual) (g.met.D.Walked.lawful dual) c.args.dart c.requires
 
 pub returns : goal.returns
-returns g c =
-    let dual = c.args.dual.now in
-    c.dart.ensures ∙ dart_is_number (g.D.Walked.named dual) (g.D.Dual.shows dual) (g.met.D.Dual.numbered dual) (g.met.D.Walked.lawful dual) c.args.dart c.requires
+returns g c = grind (arith, dart_is_number)

@@ -1,4 +1,4 @@
-use Rattle.std.proofs.Common.{◌∙◌}
+use Rattle.std.proofs.Common.{arith, ◌∙◌}
 use Rattle.topo_route.proofs.Canonical.{is_number, next_is_number, number_is}
 use Rattle.topo_route.proofs.faces.next_along.Goals as goal
 
@@ -8,11 +8,7 @@ next_along-requires g c =
     number_is (g.D.Walked.named dual) (g.D.Dual.shows dual) (g.met.D.Dual.numbered dual) (g.met.D.Walked.lawful dual) c.args.dart c.requires
 
 pub returns-clause-next : goal.returns-clause-next
-returns-clause-next g c =
-    let dual = c.args.dual.now in
-    c.next_along.ensures.next ∙ next_is_number (g.D.Walked.named dual) (g.D.Dual.shows dual) (g.met.D.Dual.numbered dual) (g.met.D.Walked.lawful dual) c.args.dart c.requires
+returns-clause-next g c = grind (arith, next_is_number)
 
 pub returns-clause-within : goal.returns-clause-within
-returns-clause-within g c =
-    let dual = c.args.dual.now in
-    is_number (g.D.Walked.named dual) (g.D.Dual.shows dual) (g.met.D.Dual.numbered dual) (g.met.D.Walked.lawful dual) c.next_along.result c.next_along.ensures.name
+returns-clause-within g c = grind (arith, is_number)

@@ -1,3 +1,4 @@
+use Rattle.std.proofs.Common.{arith}
 use Rattle.topo_route.proofs.Canonical.{face_is_cycle, number_is}
 use Rattle.topo_route.proofs.faces.same_face.Goals as goal
 
@@ -12,7 +13,4 @@ same_face-requires-clause-other_there g c =
     number_is (g.D.Walked.named dual) (g.D.Dual.shows dual) (g.met.D.Dual.numbered dual) (g.met.D.Walked.lawful dual) c.args.b c.requires.b_within
 
 pub returns : goal.returns
-returns g c =
-    let dual = c.args.dual.now in
-    let face = face_is_cycle (g.D.Walked.named dual) (g.D.Dual.shows dual) (g.met.D.Dual.numbered dual) (g.met.D.Walked.lawful dual) c.args.a c.args.b c.requires.a_within c.requires.b_within in
-    (λ w. face.1 (c.same_face.ensures.0 w), λ s. c.same_face.ensures.1 (face.0 s))
+returns g c = grind (arith, face_is_cycle)

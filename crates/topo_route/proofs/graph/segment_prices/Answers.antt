@@ -7,11 +7,7 @@ use Rattle.topo_route.proofs.Segments.{all_prices, next_price}
 use Rattle.topo_route.proofs.graph.segment_prices.Goals as goal
 
 pub loop-segment-preserved : goal.loop-segment-preserved
-loop-segment-preserved g c =
-    let rows = g.D.Dual.shows c.args.dual.now in
-    let price = prices_of (g.F.Asks.answers c.args.tariff.now) in
-    subst (λ ps. ArePricesOf price rows ps (c.loop-segment.segment + 1)) (sym c.in_ok-push.ensures.items)
-    (next_price price rows c.loop-segment.prices.items c.loop-segment.segment c.segment_price-price.result c.loop-segment.invariant c.segment_price-price.ensures.price c.segment_price-price.ensures.promise)
+loop-segment-preserved g c = grind (arith, next_price)
 
 pub returns : goal.returns
 returns g c =

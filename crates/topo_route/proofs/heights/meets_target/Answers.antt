@@ -8,21 +8,10 @@ use Rattle.topo_route.proofs.heights.meets_target.Goals as goal
 use Rattle.topo_route.proofs.heights.meets_target.Goals.{in-Some+else-heights-corner-ne0, in_default}
 
 pub returns-then-heights-corner-ne0 : goal.returns-then-heights-corner-ne0
-returns-then-heights-corner-ne0 g c =
-    let rows = g.D.Dual.shows c.args.dual.now in
-    let height = height_at rows (lawful_shown (g.met.D.Dual.numbered c.args.dual.now) (g.met.D.Walked.lawful c.args.dual.now)) c.args.heights.now c.in-Some.corner c.in-Some.ensures.0 in
-    (λ w. absurd (false≢true w), λ meets. absurd (c.if-heights-corner-ne0.true (sym height ∙ meets c.loop-position.position (dart_of rows c.in-Some.corner) c.in-Some.ensures.1)))
+returns-then-heights-corner-ne0 g c = grind (arith, height_at, lawful_shown, false≢true)
 
 pub loop-position-preserved : goal.loop-position-preserved
-loop-position-preserved g c =
-    let rows = g.D.Dual.shows c.args.dual.now in
-    elim c.match-corner_at.branch [
-      | in-Some+else-heights-corner-ne0 w ↦
-          let height = height_at rows (lawful_shown (g.met.D.Dual.numbered c.args.dual.now) (g.met.D.Walked.lawful c.args.dual.now)) c.args.heights.now w.in-Some.corner w.in-Some.ensures.0 in
-          before_some rows c.args.v (λ p d. height_in rows c.args.heights.now d ≡ 0) c.loop-position.position (dart_of rows w.in-Some.corner) w.in-Some.ensures.1
-          (height ∙ w.if-heights-corner-ne0.false) c.loop-position.invariant
-      | in_default w ↦ before_past rows c.args.v (λ p d. height_in rows c.args.heights.now d ≡ 0) c.loop-position.position w.in_default.ensures c.loop-position.invariant
-    ]
+loop-position-preserved g c = grind (arith, in-Some+else-heights-corner-ne0, height_at, lawful_shown, before_some, in_default, before_past)
 
 pub returns : goal.returns
 returns g c =

@@ -1,4 +1,4 @@
-use Rattle.std.proofs.Common.{◌≡◌, ◌+◌, ◌∷◌, ◌∙◌, ℕ, true, List, sym, ap, subst, drop}
+use Rattle.std.proofs.Common.{arith, ◌≡◌, ◌+◌, ◌∷◌, ◌∙◌, ℕ, true, List, sym, ap, subst, drop}
 use Rattle.std.proofs.lemmas.Bool.{false≢true}
 use Rattle.topo_core.specs.declared.darts.Dart.{Dart}
 use Rattle.topo_core.specs.Picture.{darts, system}
@@ -18,26 +18,10 @@ returns-then-has_tight_before g c takes =
     let rows = g.D.Dual.shows c.args.dual.now in
     let price = prices_of (g.F.Asks.answers c.args.tariff.now) in
     let lawful = lawful_shown (g.met.D.Dual.numbered c.args.dual.now) (g.met.D.Walked.lawful c.args.dual.now) in
-    let i = c.loop-dart.dart-index in
-    let rest : drop i c.args.crossed.now ≡ c.dart-item.result ∷ drop (i + 1) c.args.crossed.now = from_item c.args.crossed.now i c.dart-item.result c.loop-dart-test.true c.dart-item.is in
-    let Takes = λ (xs : List Dart). TakesFirstDarts price rows (height_in rows c.args.heights.now) (dart_of rows c.loop-dart.at) xs in
-    let here = dart_in rows lawful c.in-Some.number c.in-Some.ensures.0 in
-    let Before = λ (k : ℕ). HasTightBefore price rows c.args.heights.now c.loop-dart.at k in
-    first_fails price rows lawful c.args.heights.now c.loop-dart.at c.dart-item.result (drop (i + 1) c.args.crossed.now) c.loop-dart.invariant.within
-    (subst (λ d. has_dart (darts rows) d ≡ true) c.in-Some.ensures.1 here)
-    (subst Before (sym c.in-Some.ensures.2) (c.has_tight_before.ensures.0 c.if-has_tight_before.true))
-    (subst Takes rest (c.loop-dart.invariant.forth takes))
+    grind (arith, from_item, dart_in, first_fails)
 
 pub returns-in-None : goal.returns-in-None
-returns-in-None g c takes =
-    let rows = g.D.Dual.shows c.args.dual.now in
-    let lawful = lawful_shown (g.met.D.Dual.numbered c.args.dual.now) (g.met.D.Walked.lawful c.args.dual.now) in
-    let i = c.loop-dart.dart-index in
-    let rest : drop i c.args.crossed.now ≡ c.dart-item.result ∷ drop (i + 1) c.args.crossed.now = from_item c.args.crossed.now i c.dart-item.result c.loop-dart-test.true c.dart-item.is in
-    let to = c.loop-dart.invariant.walk.0 in
-    let On = λ (xs : List Dart). Crosses (system rows) (dart_of rows c.loop-dart.at) xs to in
-    let walk = subst On rest c.loop-dart.invariant.walk.1 in
-    false≢true (sym c.in-None.ensures ∙ face_has rows lawful (dart_of rows c.loop-dart.at) c.dart-item.result (dart_in rows lawful c.loop-dart.at c.loop-dart.invariant.within) walk.0)
+returns-in-None g c takes = grind (arith, lawful_shown, from_item, false≢true, face_has, dart_in)
 
 pub loop-dart-preserved : goal.loop-dart-preserved
 loop-dart-preserved g c =

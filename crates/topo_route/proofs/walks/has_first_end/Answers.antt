@@ -11,12 +11,7 @@ use Rattle.topo_route.proofs.walks.has_first_end.Goals as goal
 use Rattle.topo_route.proofs.walks.has_first_end.Goals.{in-Some+else-same_face, in_default}
 
 pub returns-then-same_face : goal.returns-then-same_face
-returns-then-same_face g c =
-    let rows = g.D.Dual.shows c.args.dual.now in (
-      λ w. absurd (false≢true w),
-      λ first. absurd (first c.loop-position.position (dart_of rows c.in-Some.corner) c.loop-position-test.true c.in-Some.ensures.1
-          (face_of_numbers rows (lawful_shown (g.met.D.Dual.numbered c.args.dual.now) (g.met.D.Walked.lawful c.args.dual.now)) c.args.last c.in-Some.corner c.requires c.in-Some.ensures.0 (c.same_face.ensures.0 c.if-same_face.true))),
-    )
+returns-then-same_face g c = grind (arith, false≢true, face_of_numbers, lawful_shown)
 
 pub loop-position-preserved : goal.loop-position-preserved
 loop-position-preserved g c =

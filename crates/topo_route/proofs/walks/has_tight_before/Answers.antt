@@ -21,10 +21,7 @@ returns-then-dart-at g c =
     let place = c.loop-steps.invariant.place in
     let home : next_of rows (after (next_of rows) i c.args.at) ≡ c.args.at = ap (next_of rows) (sym place) ∙ sym c.next_along-dart.ensures.next ∙ c.if-dart-at.true in
     let Free = λ (x : ℕ). x < c.args.number → IsTight price rows (height_in rows c.args.heights.now) (dart_of rows x) → ⊥ in
-    let here : Free c.loop-steps.dart = elim c.else-dart-number.branch [
-      | else-dart-number-via-then-dart-number+else-is_tight w ↦ λ less tight. false≢true (sym w.if-is_tight.false ∙ w.is_tight.ensures.1 tight)
-      | else-dart-number-via-else-dart-number w ↦ λ less tight. let high = w.if-dart-number.false in absurd (omega arith)
-    ] in
+    let here : Free c.loop-steps.dart = grind (arith, else-dart-number-via-then-dart-number+else-is_tight, false≢true, else-dart-number-via-else-dart-number) in
     (λ w. absurd (false≢true w), λ before. absurd (none_before price rows c.args.heights.now c.args.at c.args.number i home c.loop-steps.invariant.none (subst Free place here) before))
 
 pub returns : goal.returns

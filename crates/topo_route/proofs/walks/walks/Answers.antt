@@ -1,4 +1,4 @@
-use Rattle.std.proofs.Common.{◌≡◌, ◌+◌, [], ◌∷◌, List, sym, subst, drop}
+use Rattle.std.proofs.Common.{arith, ◌≡◌, ◌+◌, [], ◌∷◌, List, sym, subst, drop}
 use Rattle.std.proofs.lemmas.Bool.{false≢true}
 use Rattle.std.proofs.lemmas.List.{drop_all}
 use Rattle.topo_core.specs.declared.darts.Dart.{Dart}
@@ -9,32 +9,10 @@ use Rattle.topo_route.proofs.Walking.{from_item, no_step, step_back, step_forth,
 use Rattle.topo_route.proofs.walks.walks.Goals as goal
 
 pub returns-in-None : goal.returns-in-None
-returns-in-None g c =
-    let rows = g.D.Dual.shows c.args.dual.now in
-    let price = prices_of (g.F.Asks.answers c.args.tariff.now) in
-    let i = c.loop-dart.dart-index in
-    let rest : drop i c.args.crossed.now ≡ c.dart-item.result ∷ drop (i + 1) c.args.crossed.now = from_item c.args.crossed.now i c.dart-item.result c.loop-dart-test.true c.dart-item.is in
-    let On = λ (xs : List Dart). Walks price rows (dart_of rows c.loop-dart.at) xs (dart_of rows c.args.to) c.loop-dart.left in (
-      λ w. absurd (false≢true w),
-      λ walk. absurd (no_step price rows (lawful_shown (g.met.D.Dual.numbered c.args.dual.now) (g.met.D.Walked.lawful c.args.dual.now)) c.loop-dart.at c.dart-item.result (drop (i + 1) c.args.crossed.now) (dart_of rows c.args.to) c.loop-dart.left
-          c.in-None.ensures (subst On rest (c.loop-dart.invariant.forth walk))),
-    )
+returns-in-None g c = grind (arith, from_item, false≢true, no_step, lawful_shown)
 
 pub loop-dart-preserved : goal.loop-dart-preserved
-loop-dart-preserved g c =
-    let rows = g.D.Dual.shows c.args.dual.now in
-    let price = prices_of (g.F.Asks.answers c.args.tariff.now) in
-    let i = c.loop-dart.dart-index in
-    let rest : drop i c.args.crossed.now ≡ c.dart-item.result ∷ drop (i + 1) c.args.crossed.now = from_item c.args.crossed.now i c.dart-item.result c.loop-dart-test.true c.dart-item.is in
-    let On = λ (xs : List Dart). Walks price rows (dart_of rows c.loop-dart.at) xs (dart_of rows c.args.to) c.loop-dart.left in
-    let lawful = lawful_shown (g.met.D.Dual.numbered c.args.dual.now) (g.met.D.Walked.lawful c.args.dual.now) in
-    record {
-      within = c.in-Some.ensures.within;
-      forth = λ walk. step_forth price rows lawful c.loop-dart.at c.dart-item.result (drop (i + 1) c.args.crossed.now) (dart_of rows c.args.to) c.loop-dart.left c.in-Some.next c.in-Some.rest
-          c.in-Some.ensures (subst On rest (c.loop-dart.invariant.forth walk));
-      back = λ walk. c.loop-dart.invariant.back (subst On (sym rest) (step_back price rows lawful c.loop-dart.at c.dart-item.result (drop (i + 1) c.args.crossed.now) (dart_of rows c.args.to) c.loop-dart.left
-          c.in-Some.next c.in-Some.rest c.in-Some.ensures walk));
-    }
+loop-dart-preserved g c = grind (arith, from_item, lawful_shown, step_forth, step_back)
 
 pub returns-then-left-eq0 : goal.returns-then-left-eq0
 returns-then-left-eq0 g c =

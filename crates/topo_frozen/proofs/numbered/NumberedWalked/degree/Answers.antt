@@ -7,6 +7,4 @@ use Rattle.topo_frozen.proofs.numbered.NumberedWalked.degree.Goals as goal
 pub overflow_cast-result : goal.overflow_cast-result
 overflow_cast-result c =
     let most = degree_most c.self.inside.rows.now (well_formed_again c.self.inside.rows.now c.self.inside.lawful) c.self.invariant.few_vertices c.args.v in
-    let total = images_total c.self.inside.rows.now c.self.inside.lists.now.turns.items c.self.invariant.images in
-    let few = c.self.invariant.few_darts in
-    let is = c.degree.ensures in omega arith
+    grind (arith, images_total)

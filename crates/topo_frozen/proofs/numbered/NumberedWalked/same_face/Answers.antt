@@ -37,6 +37,4 @@ returns c =
     let first = within c.args.dart c.requires.dart_there in
     let second = within c.args.other c.requires.other_there in
     let told = told_by_labels rows turns labels c.self.invariant.images (subst (λ (xs : List ℕ). AreFaceLabels turns xs) (sym c.as_slice-labels.ensures.value) c.self.invariant.labels) c.args.dart c.args.other first second in
-    let face = canonical_face rows lawful c.args.dart c.args.other first second in
-    let shown = λ (r : Rows). SameFace (system r) (dart_named (canonical r) c.args.dart) (dart_named (canonical r) c.args.other) in
-    (λ w. subst shown same (face.0 (told.0 (eqb-true _ _ w))), λ s. eq-eqb _ _ (told.1 (face.1 (subst shown (sym same) s))))
+    grind (arith, canonical_face, eqb-true, eq-eqb)

@@ -1,4 +1,4 @@
-use Rattle.std.proofs.Common.{ap, ◌∙◌, sym, subst, Bool, ℕ}
+use Rattle.std.proofs.Common.{arith, ap, ◌∙◌, sym, subst, Bool, ℕ}
 use Rattle.topo_core.specs.Edits.{IsSplit}
 use Rattle.topo_map.specs.Rotation.{AddsLabel, edge_of, CountsMore, Rotation, Grows, half_limit, turn, is_live}
 use Rattle.topo_map.specs.Segments.{face_in, holds, label_in, next_in, view_of}
@@ -13,10 +13,7 @@ put_before-requires-clause-live_corner c = live_twin c.insert_isolated-x.new.seg
     (ap (λ (r : Rotation). is_live r c.args.h) c.self.view_is ∙ c.requires.live))
 
 pub put_before-requires-clause-alone : goal.put_before-requires-clause-alone
-put_before-requires-clause-alone c =
-    ap (next_in c.insert_isolated-x.new.segments) c.twin.ensures
-    ∙ twin_alone c.self.inside.segments c.insert_isolated-x.new.segments c.insert_isolated-x.result (record { sound = c.self.invariant.kept; inserted = c.insert_isolated-x.ensures.inserted })
-    ∙ sym c.twin.ensures
+put_before-requires-clause-alone c = grind (arith, twin_alone)
 
 pub take_out-requires-clause-live : goal.take_out-requires-clause-live
 take_out-requires-clause-live c = ap (λ (l : ℕ → Bool). l c.twin-end.result) c.put_before.ensures.turned.live ∙ live_twin c.insert_isolated-x.new.segments c.args.h c.twin-end.result c.twin-end.ensures

@@ -1,4 +1,4 @@
-use Rattle.std.proofs.Common.{ap, ◌∙◌, subst, Bool, ℕ}
+use Rattle.std.proofs.Common.{arith, ap, ◌∙◌, subst, Bool, ℕ}
 use Rattle.topo_core.specs.Edits.{IsUnchord}
 use Rattle.topo_map.specs.Rotation.{KeepsLabels, edge_of, CountsFewer, PartsFaces, Rotation, Shrinks, half_limit, turn, is_live}
 use Rattle.topo_map.specs.Segments.{holds, label_in, view_of}
@@ -7,9 +7,7 @@ use Rattle.topo_map.proofs.Steps.{labels_kept, IsUnchorded, unchord_alone, witho
 use Rattle.topo_map.proofs.embedding.Embedding.unchord.Goals as goal
 
 pub take_out-requires-clause-live : goal.take_out-requires-clause-live
-take_out-requires-clause-live c =
-    ap (λ (l : ℕ → Bool). l c.twin.result) c.detach-unused.ensures.turned.live ∙ ap (holds c.self.inside.segments) c.twin.ensures ∙ same_twin c.self.inside.segments c.args.h
-    ∙ ap (λ (r : Rotation). is_live r c.args.h) c.self.view_is ∙ c.requires
+take_out-requires-clause-live c = grind (arith, same_twin)
 
 done : (c : goal.After-remove_isolated) → IsUnchorded c.self.inside.segments c.remove_isolated.new.segments c.args.h
 done c = unchorded c.self.inside.segments c.detach-unused.new.segments c.take_out.new.segments c.remove_isolated.new.segments c.args.h c.twin.result c.self.invariant.kept

@@ -12,14 +12,7 @@ false_true : false ≡ true → ⊥
 false_true e = cc
 
 pub loop-steps-preserved : goal.loop-steps-preserved
-loop-steps-preserved c =
-    let f = face_next (turn c.args.self.now) in
-    let ne : c.loop-steps.at ≢ c.args.b = λ e. false_true (c.if-eq.ensures ∙ eq-eqb _ _ e) in
-    record {
-      place = c.face_next-at.ensures.next ∙ ap f c.loop-steps.invariant.place ∙ sym (after_more f c.loop-steps._steps c.args.a);
-      live = c.face_next-at.ensures.live;
-      unmet = unmet_more f c.loop-steps._steps c.args.a c.args.b c.loop-steps.at c.loop-steps.invariant.place ne c.loop-steps.invariant.unmet;
-    }
+loop-steps-preserved c = grind (arith, false_true, eq-eqb, after_more, unmet_more)
 
 -- back at a with no b on the way
 pub returns-then-eq-2 : goal.returns-then-eq-2

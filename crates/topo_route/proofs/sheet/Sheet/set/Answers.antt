@@ -4,15 +4,10 @@ use Rattle.topo_route.proofs.Blank.{all_long, written_number}
 use Rattle.topo_route.proofs.sheet.Sheet.set.Goals as goal
 
 pub index_mut-requires : goal.index_mut-requires
-index_mut-requires c =
-    let long : length c.args.self.now ≡ length c.self.inside.rounds.items = sym (ap length c.self.view_is) ∙ all_long c.self.inside.round c.self.inside.rounds.items c.self.inside.numbers.items in
-    let many = c.self.invariant.as_many in
-    omega (arith, c.requires, c.self.inside.numbers.ok.0)
+index_mut-requires c = grind (arith, all_long)
 
 pub index_mut-requires-2 : goal.index_mut-requires-2
-index_mut-requires-2 c =
-    let long : length c.args.self.now ≡ length c.self.inside.rounds.items = sym (ap length c.self.view_is) ∙ all_long c.self.inside.round c.self.inside.rounds.items c.self.inside.numbers.items in
-    omega (arith, c.requires, c.self.inside.rounds.ok.0)
+index_mut-requires-2 c = grind (arith, all_long)
 
 pub returns : goal.returns
 returns c = written_number c.self.inside.round c.self.inside.rounds.items c.self.inside.numbers.items c.args.place c.args.number c.self.invariant.as_many ∙ ap (λ (xs : List ℕ). set xs c.args.place c.args.number) c.self.view_is
