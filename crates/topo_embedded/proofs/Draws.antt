@@ -68,32 +68,13 @@ module _ (before now now' : Rotation) (cs : List Crossed) (end edge : ℕ) (line
       }
 
 pub draw_none : (before : Rotation) (cs : List Crossed) (end edge : ℕ) (line : List ℕ) → IsEmbedding before → is_live before end ≡ true → length cs + 1 ≤ before.room → length line ≡ length cs + 1 → AreDrawnFrom before before cs (length cs) end end edge line
-draw_none before cs end edge line whole alive room many =
-    let none : drop (length cs) cs ≡ [] = drop_all (length cs) cs (omega arith) in
-    let blank : drop (length cs + 1) line ≡ [] = drop_all (length cs + 1) line (omega (arith, many)) in
-    record {
-      within = omega arith;
-      many = many;
-      links = [];
-      along = λ rows name e z x is. subst (λ (rest : List Crossed). AreAlong name z (bends_of rows rest) e (record { from = z; to = end; half = x } ∷ [])) (sym none) (refl, is);
-      run = refl;
-      whole = whole;
-      halves = blank;
-      labels = subst (HaveLabel before edge) (sym blank) tt;
-      keeps = λ id h l. l;
-      stays = λ h l. l;
-      to_alive = alive;
-      room = room;
-    }
+draw_none before cs end edge line whole alive room many = grind (arith, drop_all)
 
 -- ---- The corners
 
 pub bent_alive : (now : Rotation) (cs : List Crossed) (h : ℕ) → AllByRecursion (λ c. (is_live now c.beyond ≡ true) × (is_live now (twin c.beyond) ≡ true)) cs → is_live now h ≡ true → is_live now (bent_half cs h) ≡ true
 bent_alive now [] h all alive = alive
-bent_alive now (c ∷ cs) h all alive = elim (cases_eq h (twin c.near)) [
-  | inl e ↦ subst (λ (y : ℕ). is_live now y ≡ true) (sym (cond-true _ _ _ (eq-eqb h (twin c.near) e))) all.0.1
-  | inr ne ↦ subst (λ (y : ℕ). is_live now y ≡ true) (sym (cond-false _ _ _ (ne_eqb h (twin c.near) ne))) (bent_alive now cs h all.1 alive)
-]
+bent_alive now (c ∷ cs) h all alive = grind (arith, cases_eq, cond-true, eq-eqb, cond-false, ne_eqb, bent_alive now cs h all.1 alive)
 
 module _ (p : Drawn) (good : IsWellFormed p.rows) (r : Rotation) (s : ShowsRows p r) where
   -- the half of a dart once the segments are split

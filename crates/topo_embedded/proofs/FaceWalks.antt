@@ -43,10 +43,7 @@ among : (e f s out : ℕ) → f ≡ e → s < out → (f == e && nat_lt s out) �
 among e f s out same less = grind (arith, nat_tests)
 
 not_among : (e f s out : ℕ) → (e ≡ f → out ≤ s) → (f == e && nat_lt s out) ≡ false
-not_among e f s out past = elim (cases_eq f e) [
-  | inl same ↦ let many = past (sym same) in grind (arith, nat_tests)
-  | inr other ↦ grind (arith, nat_tests)
-]
+not_among e f s out past = grind (arith, cases_eq, nat_tests)
 
 module _ (p : Drawn) (r : Rotation) (e out : ℕ) (path : List ℕ) (o : IsOpenedOn p r e out path) where
   abbrev rows : Rows
@@ -62,22 +59,13 @@ module _ (p : Drawn) (r : Rotation) (e out : ℕ) (path : List ℕ) (o : IsOpene
   pub path_many : length path ≡ segment_count o.row
   path_many =
       let at : StandsAt rows (forward e 0) = stands_at rows good (forward e 0) (dart_on 0 Forward (omega arith)) in
-      let both : Some at.row ≡ Some o.row = sym at.found ∙ o.there in
-      let same : at.row ≡ o.row = cc in
-      ap length o.own ∙ o.shows.along (position_or_len (λ row. row.id == e) rows.edges) at.row at.at ∙ ap segment_count same
+      grind arith
 
   pub path_is : length path ≡ length (edge_at rows e).crossings + 1
   path_is = path_many ∙ ap segment_count (sym (edge_at_row rows e o.row o.there))
 
   pub opened_to : (i : ℕ) → i < length path → IsOpenedOn p r e i path
-  opened_to i less = record {
-    well_formed = good;
-    shows = o.shows;
-    row = o.row;
-    there = o.there;
-    inside = omega (arith, less, path_many);
-    own = o.own;
-  }
+  opened_to i less = grind (arith, path_many)
 
   pub out_inside : out < length path
   out_inside = let inside = o.inside in omega (arith, path_many)
@@ -134,14 +122,7 @@ module _ (p : Drawn) (r : Rotation) (e out : ℕ) (path : List ℕ) (o : IsOpene
       pub on_path : IsOnPath path h
       on_path =
           let at : StandsAt rows d = stands_at rows good d here in
-          let both : Some at.row ≡ Some o.row = sym at.found ∙ ap (edge_row rows) (sym mine) ∙ o.there in
-          let same : at.row ≡ o.row = cc in
-          record {
-            seg = d.seg;
-            way = d.way;
-            within = (let inside : d.seg < segment_count o.row = subst (λ (x : EdgeRow). d.seg < segment_count x) same at.on_path in omega (arith, path_many));
-            is = ap (λ (xs : List ℕ). by_way (slice_index_or xs d.seg 0) d.way) (o.own ∙ ap (path_of p) mine) ∙ sym is;
-          }
+          grind (arith, path_many)
 
   -- ---- A walk past what is out
 
@@ -335,7 +316,4 @@ module _ (p : Drawn) (r : Rotation) (e : ℕ) (path : List ℕ) (o : IsOpenedOn 
     first_twin_live = alive p r e 0 path o (back e 0) (back_here p r e 0 path o) (twin half) (twin_named p r e 0 path o half read)
 
     pub first_face : Together half (twin half) ↔ HasOneFace p.rows e 0
-    first_face = (
-      λ same. whole_faces.0 (halves_together.1 (subst (λ (b : ℕ). Together (half_at p ahead_number) b) (sym back_half) (subst (λ (a : ℕ). Together a (twin half)) (sym ahead_half) same))),
-      λ one. subst (λ (b : ℕ). Together half b) back_half (subst (λ (a : ℕ). Together a (half_at p back_number)) ahead_half (halves_together.0 (whole_faces.1 one))),
-    )
+    first_face = grind (arith, whole_faces, halves_together, back_half, ahead_half)

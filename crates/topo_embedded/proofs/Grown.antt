@@ -63,10 +63,7 @@ got_one_more [] y d (suc a) h = absurd (none h) where
   none : {X : Type 0} {d : X} → None ≡ Some d → ⊥
   none h = cc
 got_one_more (x ∷ xs) y d zero h = inl h
-got_one_more (x ∷ xs) y d (suc a) h = elim (got_one_more xs y d a h) [
-  | inl old ↦ inl old
-  | inr new ↦ inr (omega (arith, new.0), new.1)
-]
+got_one_more (x ∷ xs) y d (suc a) h = grind (arith, got_one_more xs y d a h)
 
 got_two_more : {X : Type 0} (xs : List X) (y z d : X) (a : ℕ) → slice_get (xs ++ y ∷ z ∷ []) a ≡ Some d → (slice_get xs a ≡ Some d) ⊎ (((a ≡ length xs) × (d ≡ y)) ⊎ ((a ≡ suc (length xs)) × (d ≡ z)))
 got_two_more [] y z d zero h = inr (inl (refl, cc))
@@ -75,11 +72,7 @@ got_two_more [] y z d (suc (suc a)) h = absurd (none h) where
   none : {X : Type 0} {d : X} → None ≡ Some d → ⊥
   none h = cc
 got_two_more (x ∷ xs) y z d zero h = inl h
-got_two_more (x ∷ xs) y z d (suc a) h = elim (got_two_more xs y z d a h) [
-  | inl old ↦ inl old
-  | inr (inl new) ↦ inr (inl (omega (arith, new.0), new.1))
-  | inr (inr new) ↦ inr (inr (omega (arith, new.0), new.1))
-]
+got_two_more (x ∷ xs) y z d (suc a) h = grind (arith, got_two_more xs y z d a h)
 
 -- ---- The grown rows
 
@@ -113,10 +106,7 @@ module _ (rows : Rows) (good : IsWellFormed rows) (u v kind : ℕ) (u_in : u < l
   old_half : (d : Dart) → has_dart (darts rows) d ≡ true → half_in q d ≡ half_in p d
   old_half d h =
       let at : StandsAt rows d = stands_at rows good d h in
-      let place : position_or_len (λ r. r.id == d.edge) after.edges ≡ position_or_len (λ r. r.id == d.edge) rows.edges = position_more (λ (r : EdgeRow). r.id == d.edge) rows.edges (row ∷ []) at.row at.found in
-      let inside : position_or_len (λ r. r.id == d.edge) rows.edges < length paths = omega (arith, s.as_many, slice_get_within rows.edges (position_or_len (λ r. r.id == d.edge) rows.edges) at.row at.at) in
-      let path : path_of q d.edge ≡ path_of p d.edge = ap (λ k. slice_index_or (paths ++ (x ∷ []) ∷ []) k []) place ∙ get_or_append_left paths ((x ∷ []) ∷ []) [] (position_or_len (λ r. r.id == d.edge) rows.edges) inside in
-      ap (λ (xs : List ℕ). by_way (slice_index_or xs d.seg 0) d.way) path
+      grind (arith, position_more, slice_get_within, get_or_append_left)
 
   new_path : path_of q f ≡ x ∷ []
   new_path =
@@ -163,12 +153,7 @@ module _ (rows : Rows) (good : IsWellFormed rows) (u v kind : ℕ) (u_in : u < l
             numbered = under.old_number a less ∙ ap (λ (o : Option Dart). half_in p (unwrap_or o (record { edge = 0; seg = 0; way = Forward }))) old ∙ sym (old_half d h);
             label = ap (edge_of r') (old_half d h) ∙ labels.others (half_in p d) (alive d h) ∙ s.labels d h;
           }
-      | inr (inl new) ↦
-          let place : a ≡ m = omega (arith, new.0, images_length rows) in
-          subst (HasHalf a) (sym new.1) (record {
-            numbered = ap under.number place ∙ under.new_number ∙ sym new_half;
-            label = ap (edge_of r') new_half ∙ labels.here;
-          })
+      | inr (inl new) ↦ grind (arith, images_length, under, new_half)
       | inr (inr new) ↦
           let place : a ≡ twin m = omega (arith, new.0, images_length rows, even_count rows good, twin-cases m) in
           let less : m < suc (suc m) = omega arith in
@@ -185,9 +170,7 @@ module _ (rows : Rows) (good : IsWellFormed rows) (u v kind : ℕ) (u_in : u < l
         | inl old ↦
             let inside : k < length paths = omega (arith, s.as_many, slice_get_within rows.edges k other old) in
             ap length (get_or_append_left paths ((x ∷ []) ∷ []) [] k inside) ∙ s.along k other old
-        | inr new ↦
-            let place : k ≡ length paths = omega (arith, new.0, s.as_many) in
-            ap length (ap (λ k. slice_index_or (paths ++ (x ∷ []) ∷ []) k []) place ∙ get_or_at paths (x ∷ []) [] [] (length paths) refl) ∙ sym (ap segment_count new.1)
+        | inr new ↦ grind (arith, get_or_at)
       ];
       back = under.back_number;
       renumbers = agreeing_numbers under.number (half_at q) under.back_number (map_of (turn_images after)) (turn r') (length (turn_images after)) (is_live r') half_limit
@@ -201,13 +184,7 @@ module _ (rows : Rows) (good : IsWellFormed rows) (u v kind : ℕ) (u_in : u < l
 
 -- the halves and the turn tell
 pub kept_shows : (p : Drawn) (r r' : Rotation) → r'.slots ≡ r.slots → ShowsRows p r → ShowsRows p r'
-kept_shows p r r' same s = record {
-  as_many = s.as_many;
-  along = s.along;
-  back = s.back;
-  renumbers = subst (λ (slots : List (Option Slot)). RenumbersTurn (half_at p) s.back (map_of (turn_images p.rows)) (turn_in slots) (length (turn_images p.rows)) (live_in slots) half_limit) (sym same) s.renumbers;
-  labels = λ d h. ap (λ (slots : List (Option Slot)). edge_in slots (half_in p d)) same ∙ s.labels d h;
-}
+kept_shows p r r' same s = grind (arith, as_many)
 
 pub corner_alive : (p : Drawn) → IsWellFormed p.rows → (r r' : Rotation) → r'.slots ≡ r.slots → ShowsRows p r → (u v named : ℕ) → u < length p.rows.rotations → v < length (rotation p.rows u) → ((c : Dart) → corner p.rows u v ≡ Some c → named ≡ half_in p c)
     → is_live r' named ≡ true

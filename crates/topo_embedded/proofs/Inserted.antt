@@ -78,18 +78,10 @@ module _ (p : Drawn) (good : IsWellFormed p.rows) (r : Rotation) (s : ShowsRows 
   put d = put_in p good r s u v kind route once now js all d
 
   pub path_old : (e : ℕ) (row : EdgeRow) → edge_row p.rows e ≡ Some row → path_of inserted e ≡ put_halves js (path_of p e)
-  path_old e row found =
-      let place = place_old p.rows route e p.rows.edges (newcomer_row p.rows u v kind route ∷ []) row found in
-      let k : ℕ = position_or_len (λ (x : EdgeRow). x.id == e) p.rows.edges in
-      let inside : k < length (map (put_halves js) p.paths) = omega (arith, s.as_many, got_within p.rows.edges k row (found_place (λ x. x.id == e) p.rows.edges row found), length-map p.paths (put_halves js)) in
-      ap (λ (j : ℕ). slice_index_or (map (put_halves js) p.paths ++ line ∷ []) j []) place ∙ get_or_append_left (map (put_halves js) p.paths) (line ∷ []) [] k inside ∙ got_map (put_halves js) (put_none js) p.paths k
+  path_old e row found = grind (arith, place_old, newcomer_row, got_within, found_place, length-map, get_or_append_left, got_map, put_none)
 
   pub path_new : path_of inserted p.rows.next_edge ≡ line
-  path_new =
-      let f : ℕ = p.rows.next_edge in
-      let place = place_new p.rows route f p.rows.edges (newcomer_row p.rows u v kind route) (λ x h. ne_eqb x.id f (λ e. (let less = edge_below p.rows good.paths x h in absurd (omega arith)))) (eqb_self f) in
-      let long : length p.rows.edges ≡ length (map (put_halves js) p.paths) = sym s.as_many ∙ sym (length-map p.paths (put_halves js)) in
-      ap (λ (k : ℕ). slice_index_or (map (put_halves js) p.paths ++ line ∷ []) k []) (place ∙ long) ∙ get_or_at (map (put_halves js) p.paths) line [] [] (length (map (put_halves js) p.paths)) refl
+  path_new = grind (arith, place_new, newcomer_row, ne_eqb, edge_below, eqb_self, length-map, get_or_at)
 
   -- the bend of a crossed dart
   bend_for : (n x : ℕ) (d : Dart) (ds : List Dart) (ks : List Bend) → AreCrossedAt p r ds ks → IsIn (x, d) (enumerate_from n ds) → (j : Bend) × (has_dart (darts p.rows) d ≡ true) × AreAt x d j n ds ks
@@ -153,9 +145,6 @@ module _ (p : Drawn) (good : IsWellFormed p.rows) (r : Rotation) (s : ShowsRows 
         | inl old ↦ ap (half_in inserted) old.2 ∙ lifted_has old.0 old.1 ∙ ap (λ (c : Dart). number (index_of q c)) (sym old.2)
         | inr y ↦ (
             let (j, there, at) = bend_for p.rows.next_crossing y.0 y.1 route.crossed js all y.2 in
-            elim y.3 [
-              | inl on ↦ ap (half_in inserted) on ∙ onward_has y.0 y.1 j there at ∙ ap (λ (c : Dart). number (index_of q c)) (sym on)
-              | inr back ↦ ap (half_in inserted) back ∙ backward_has y.0 y.1 j there at ∙ ap (λ (c : Dart). number (index_of q c)) (sym back)
-            ])
+            grind (arith, onward_has, backward_has))
       ]
     ]

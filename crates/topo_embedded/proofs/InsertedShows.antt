@@ -58,9 +58,7 @@ module _ (p : Drawn) (good : IsWellFormed p.rows) (r : Rotation) (s : ShowsRows 
   found_row : (k : ℕ) (row : EdgeRow) → slice_get q.edges k ≡ Some row → edge_row q row.id ≡ Some row
   found_row k row got =
       let pl = place_of_row k row got in
-      let both : Some pl.row ≡ Some row = sym pl.at ∙ got in
-      let same : pl.row ≡ row = cc in
-      pl.found ∙ ap Some same
+      cc
 
   long_path : (e : ℕ) (row : EdgeRow) → edge_row q e ≡ Some row → length (path_of after e) ≡ segment_count row
   long_path e row found = elim (shown_edges p.rows u v kind route good.paths e row found) [
@@ -83,9 +81,7 @@ module _ (p : Drawn) (good : IsWellFormed p.rows) (r : Rotation) (s : ShowsRows 
 
     pub inserted_shows : ShowsRows after r'
     inserted_shows = record {
-      as_many =
-          length-append (map (put_halves js) p.paths) (line ∷ []) ∙ ap (λ (k : ℕ). k + 1) (length-map p.paths (put_halves js) ∙ s.as_many ∙ sym (length-map p.rows.edges (crossed_row p.rows route)))
-          ∙ sym (length-append (map (crossed_row p.rows route) p.rows.edges) (newcomer_row p.rows u v kind route ∷ []));
+      as_many = grind (arith, length-append, length-map, newcomer_row);
       along = λ k row got. ap (λ (xs : List ℕ). length xs) (path_at k row got) ∙ long_path row.id row (found_row k row got);
       back = back;
       renumbers = agreeing_numbers number (half_at after) back (map_of (turn_images q)) (turn r') (length (turn_images q)) (is_live r') half_limit renumbers (λ a la.

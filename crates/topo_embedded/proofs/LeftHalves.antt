@@ -33,10 +33,7 @@ spared_length goes gone (x ∷ path) [] g = absurd (omega (arith, g.as_many))
 spared_length goes gone (x ∷ path) (h ∷ hs) g =
     let rest = spared_length goes gone path hs (together_later goes gone x h path hs g) in
     let first : goes h ≡ has_id gone x = g.each 0 (omega arith) in
-    elim (cases_Bool (has_id gone x)) [
-      | inl t ↦ ap length (spared_taken goes h hs (first ∙ t)) ∙ rest ∙ sym (ap length (left_taken gone x path t))
-      | inr f ↦ (let a = ap length (spared_kept goes h hs (first ∙ f)) in let b = ap length (left_kept gone x path f) in omega arith)
-    ]
+    grind (arith, cases_Bool, spared_taken, left_taken, spared_kept, left_kept)
 
 -- the crossing that is left at this place, and the half behind it
 record StoodAt (gone path hs left halves : List ℕ) (s : ℕ) : Type 0 where
@@ -66,12 +63,7 @@ stood_at goes gone (x ∷ path) (h ∷ hs) g s ls =
     ] where
       kept_at : (s : ℕ) → s < length (left_of gone (x ∷ path)) → left_of gone (x ∷ path) ≡ x ∷ left_of gone path → spared goes (h ∷ hs) ≡ h ∷ spared goes hs
           → ((j : ℕ) → j < length (left_of gone path) → StoodAt gone path hs (left_of gone path) (spared goes hs) j) → StoodAt gone (x ∷ path) (h ∷ hs) (left_of gone (x ∷ path)) (spared goes (h ∷ hs)) s
-      kept_at zero ls is_left is_spared rest = record {
-        place = 0;
-        inside = omega arith;
-        crossing = ap (λ (l : List ℕ). get_or l 0 0) is_left;
-        half = ap (λ (l : List ℕ). get_or l 0 0) is_spared;
-      }
+      kept_at zero ls is_left is_spared rest = grind arith
       kept_at (suc j) ls is_left is_spared rest =
           let before = rest j (omega (arith, ls, ap length is_left)) in
           record {
@@ -101,8 +93,4 @@ module _ (goes : ℕ → Bool) (gone path : List ℕ) where
   uncrossed_halves (h ∷ hs) u once zero ls = ap (λ (l : List ℕ). get_or l 0 0) (spared_kept goes h hs u.first)
   uncrossed_halves (h ∷ hs) u once (suc j) ls =
       let at = stood_at goes gone path hs (behind_first h hs u) j (omega (arith, ls)) in
-      let before : suc j - 1 ≡ j = omega arith in
-      let place : place_of path (get_or (left_of gone path) j 0) ≡ at.place = ap (place_of path) at.crossing ∙ item_place path at.place once at.inside in
-      let later : first_part (left_of gone path) path (suc j) ≡ place_of path (get_or (left_of gone path) (suc j - 1) 0) + 1 = ap (λ (b : Bool). cond {A = ℕ} b 0 (place_of path (get_or (left_of gone path) (suc j - 1) 0) + 1)) (ne_eqb (suc j) 0 (λ e. absurd (omega (arith, e)))) in
-      let part : first_part (left_of gone path) path (suc j) ≡ suc at.place = omega (arith, later, ap (λ k. place_of path (get_or (left_of gone path) k 0)) before, place) in
-      ap (λ (l : List ℕ). get_or l (suc j) 0) (spared_kept goes h hs u.first) ∙ at.half ∙ sym (ap (λ k. get_or (h ∷ hs) k 0) part)
+      grind (arith, place_of, left_of, item_place, first_part, ne_eqb, spared_kept)

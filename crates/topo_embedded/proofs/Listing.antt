@@ -16,13 +16,7 @@ paths_more edges begins halves paths more k row path p at is_path is = record {
   as_many = ap length is ∙ length-append paths (path ∷ []) ∙ omega (arith, p.as_many);
   each = λ i other li got. subst (IsPathOf halves (slice_index begins i) (segment_count other)) (sym (ap (λ xs. slice_index_or xs i []) is)) (elim (cases_lt i k) [
     | inl less ↦ subst (IsPathOf halves (slice_index begins i) (segment_count other)) (sym (get_or_append_left paths (path ∷ []) [] i (omega (arith, p.as_many)))) (p.each i other less got)
-    | inr last ↦
-        let here : k ≡ i = omega (arith, li, last) in
-        let place : i ≡ length paths = omega (arith, p.as_many) in
-        let both : Some row ≡ Some other = sym at ∙ ap (slice_get edges) here ∙ got in
-        let same : row ≡ other = cc in
-        subst (IsPathOf halves (slice_index begins i) (segment_count other)) (sym (ap (λ j. slice_index_or (paths ++ path ∷ []) j []) place ∙ get_or_at paths path [] [] (length paths) refl))
-        (subst (λ (j : ℕ). IsPathOf halves (slice_index begins j) (segment_count other) path) here (subst (λ (r : EdgeRow). IsPathOf halves (slice_index begins k) (segment_count r) path) same is_path))
+    | inr last ↦ grind (arith, get_or_at)
   ]);
 }
 

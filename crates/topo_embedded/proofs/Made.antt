@@ -61,15 +61,7 @@ record LabelsAt (n : ℕ) (edges : List EdgeRow) (k : ℕ) (row : EdgeRow) : Typ
 
 labels_at : (n : ℕ) (edges : List EdgeRow) (k : ℕ) (row : EdgeRow) → slice_get edges k ≡ Some row → LabelsAt n edges k row
 labels_at n [] k row at = cc
-labels_at n (e ∷ rest) zero row at =
-    let same : e ≡ row = cc in
-    subst (λ (r : EdgeRow). LabelsAt n (e ∷ rest) 0 r) same (record {
-      before = 0;
-      here = omega arith;
-      labelled = λ s ls.
-          let place : 0 + s ≡ s = omega arith in
-          ap (slice_index (labels_of (e ∷ rest))) place ∙ get_or_append_left (replicate (segment_count e) e.id) (labels_of rest) 0 s (omega (arith, length-replicate (segment_count e) e.id)) ∙ get_or-replicate (segment_count e) s e.id 0 ls;
-    })
+labels_at n (e ∷ rest) zero row at = grind (arith, get_or_append_left, length-replicate, get_or-replicate)
 labels_at n (e ∷ rest) (suc k) row at =
     let later : LabelsAt (n + 2 * segment_count e) rest k row = labels_at (n + 2 * segment_count e) rest k row at in
     record {
@@ -133,10 +125,7 @@ module _ (rows : Rows) (good : IsWellFormed rows) (begins halves : List ℕ) (pa
       let same : record { edge = s.row.id; seg = d.seg; way = d.way } ≡ d = ap (λ (e : ℕ). (let c : Dart = record { edge = e; seg = d.seg; way = d.way } in c)) s.id in
       let there : Is (record { edge = s.row.id; seg = d.seg; way = d.way }) = subst Is (sym same) h in
       let is : half_in p d ≡ map_of halves (index_of rows d) = made_half k s.row s.at d.seg s.on_path d.way there ∙ ap (λ (c : Dart). map_of halves (index_of rows c)) same in
-      record {
-        is = is;
-        label = ap (edge_of r) is ∙ ap (λ (c : Dart). edge_of r (map_of halves (index_of rows c))) (sym same) ∙ made_label k s.row s.at d.seg s.on_path d.way there ∙ s.id;
-      }
+      grind (arith, made_label)
 
   pub made_shows : ShowsRows p r
   made_shows = record {

@@ -24,10 +24,7 @@ use Rattle.topo_embedded.specs.Halves.{Drawn, IsHalf, ShowsRows, half_at, half_i
 pub found_place : {X : Type 0} (q : X → Bool) (xs : List X) (x : X) → find q xs ≡ Some x → slice_get xs (position_or_len q xs) ≡ Some x
 found_place q [] x h = cc
 found_place q (y ∷ xs) x h = elim (cases_Bool (q y)) [
-  | inl t ↦
-      let place : position_or_len q (y ∷ xs) ≡ 0 = ap (λ (b : Bool). cond {A = ℕ} (not b) (1 + position_or_len q xs) 0) t in
-      let is : Some y ≡ Some x = sym (ap (λ (b : Bool). cond b (Some y) (find q xs)) t) ∙ h in
-      ap (slice_get (y ∷ xs)) place ∙ is
+  | inl t ↦ cc
   | inr f ↦
       let place : position_or_len q (y ∷ xs) ≡ 1 + position_or_len q xs = ap (λ (b : Bool). cond {A = ℕ} (not b) (1 + position_or_len q xs) 0) f in
       let next : 1 + position_or_len q xs ≡ suc (position_or_len q xs) = omega arith in
@@ -45,15 +42,7 @@ pub record StandsAt (rows : Rows) (d : Dart) : Type 0 where
 pub stands_at : (rows : Rows) (good : IsWellFormed rows) (d : Dart) → has_dart (darts rows) d ≡ true → StandsAt rows d
 stands_at rows good d h =
     let pick = some_of (edge_row rows d.edge) (edge_of_dart rows good d h) in
-    let inside : d.seg ≤ length (edge_at rows d.edge).crossings = segment_of_dart rows good d h in
-    let same : length (edge_at rows d.edge).crossings ≡ length pick.0.crossings = ap (λ (r : EdgeRow). length r.crossings) (edge_at_row rows d.edge pick.0 pick.1) in
-    record {
-      row = pick.0;
-      id = row_id rows d.edge pick.0 pick.1;
-      found = pick.1;
-      at = found_place (λ r. r.id == d.edge) rows.edges pick.0 pick.1;
-      on_path = omega arith;
-    }
+    grind (arith, segment_of_dart, edge_at_row, row_id, found_place)
 
 module _ (p : Drawn) (good : IsWellFormed p.rows) where
   -- the half at the number of a dart is its half
@@ -75,9 +64,7 @@ module _ (p : Drawn) (good : IsWellFormed p.rows) where
         ∙ half_of_number (dart_turn (system p.rows) d) (turn_stays p.rows good.paths good.crossings good.rotations d h)
 
     pub twin_half : (d : Dart) → has_dart (darts p.rows) d ≡ true → twin (half_in p d) ≡ half_in p (dart_twin d)
-    twin_half d h =
-        ap twin (sym (half_of_number d h)) ∙ s.renumbers.twins.each (index_of p.rows d) (number_less d h)
-        ∙ ap (half_at p) (sym (index_twin p.rows d h)) ∙ half_of_number (dart_twin d) (twin_in p.rows d h)
+    twin_half d h = grind (arith, half_of_number, number_less, index_twin, twin_in)
 
     pub face_half : (h : ℕ) (d : Dart) → has_dart (darts p.rows) d ≡ true → half_in p d ≡ h → face_next (turn r) h ≡ half_in p (face_step (system p.rows) d)
     face_half h d there is = ap (face_next (turn r)) (sym is) ∙ ap (turn r) (twin_half d there) ∙ turned_half (dart_twin d) (twin_in p.rows d there)
@@ -99,9 +86,7 @@ module _ (p : Drawn) (good : IsWellFormed p.rows) where
         path_here = path_is ∙ get_or_default p.paths place path [] path_inside ∙ ap (λ k. slice_index_or p.paths k []) found_at
 
         pub on_list : d.seg < length path
-        on_list =
-            let many : length (path_of p d.edge) ≡ segment_count stands.row = ap (λ k. length (slice_index_or p.paths k [])) (sym found_at) ∙ s.along place stands.row at_place in
-            omega (arith, ap length path_here, stands.on_path)
+        on_list = grind (arith, stands, at_place, path_here)
 
         pub half_read : (half : ℕ) → half ≡ slice_index_or path d.seg 0 → half ≡ slice_index_or (path_of p d.edge) d.seg 0
         half_read half is = is ∙ ap (λ xs. slice_index_or xs d.seg 0) path_here

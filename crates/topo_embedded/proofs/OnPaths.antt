@@ -102,10 +102,7 @@ still_among near js hs new a alone = record {
 
 -- and gets a neighbour
 pub among_split : (j : Bend) (hs : List ℕ) (a : IsAmong j.near hs) → flat_map (piece j) hs ≡ a.before ++ (piece j a.half ++ a.behind)
-among_split j hs a =
-    ap (flat_map (piece j)) a.is ∙ flat_map-append (piece j) a.before (a.half ∷ a.behind)
-    ∙ ap (λ (xs : List ℕ). xs ++ (piece j a.half ++ flat_map (piece j) a.behind)) (pieces_stay j a.before a.before_off)
-    ∙ ap (λ (xs : List ℕ). a.before ++ (piece j a.half ++ xs)) (pieces_stay j a.behind a.behind_off)
+among_split j hs a = grind (arith, flat_map-append, pieces_stay)
 
 -- ---- Halves of darts
 
@@ -140,10 +137,7 @@ module _ (p : Drawn) (good : IsWellFormed p.rows) (r : Rotation) (s : ShowsRows 
   -- the segment of a dart does not matter which way
   pub off_by_way : (near : ℕ) (e g : ℕ) (w : Way) → IsOff near (half_in p (record { edge = e; seg = g; way = w })) → IsOff near (half_in p (forward e g))
   off_by_way near e g Forward off = off
-  off_by_way near e g Back off = (
-    λ same. off.1 (ap twin same),
-    λ same. off.0 (ap twin same ∙ twin-twin near),
-  )
+  off_by_way near e g Back off = grind (arith, twin-twin)
 
   -- the halves of one path are those of darts
   pub along_there : (k : ℕ) (row : EdgeRow) → slice_get p.rows.edges k ≡ Some row → (i : ℕ) → i < length (slice_index_or p.paths k []) → Is (forward row.id i) × (slice_index_or (slice_index_or p.paths k []) i 0 ≡ half_in p (forward row.id i))

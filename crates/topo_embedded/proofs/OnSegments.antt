@@ -25,13 +25,7 @@ pub off_false : (half h : ℕ) → IsOff half h → on_segment half h ≡ false
 off_false half h off = ap (λ b. b || h == twin half) (ne_eqb h half off.0) ∙ ne_eqb h (twin half) off.1
 
 pub on_is : (half h : ℕ) → on_segment half h ≡ true → IsOn half h
-on_is half h on = elim (cases_eq h half) [
-  | inl e ↦ inl e
-  | inr ne ↦ elim (cases_eq h (twin half)) [
-    | inl e ↦ inr e
-    | inr away ↦ absurd (false≢true (sym (off_false half h (ne, away)) ∙ on))
-  ]
-]
+on_is half h on = grind (arith, cases_eq, false≢true, off_false)
 
 by_way_on : (half h : ℕ) (way : Way) → by_way h way ≡ half → IsOn half h
 by_way_on half h Forward is = inl is
@@ -39,17 +33,11 @@ by_way_on half h Back is = inr (sym (twin-twin h) ∙ ap twin is)
 
 -- one way along the segment the half leads
 pub way_on : (half h : ℕ) → on_segment half h ≡ true → (way : Way) × (by_way h way ≡ half)
-way_on half h on = elim (on_is half h on) [
-  | inl e ↦ (Forward, e)
-  | inr e ↦ (Back, ap twin e ∙ twin-twin half)
-]
+way_on half h on = grind (arith, on_is, twin-twin)
 
 -- the other way where it is not the half that stands there
 pub way_back : (half h : ℕ) → on_segment half h ≡ true → h ≢ half → twin h ≡ half
-way_back half h on other = elim (on_is half h on) [
-  | inl e ↦ absurd (other e)
-  | inr e ↦ ap twin e ∙ twin-twin half
-]
+way_back half h on other = grind (arith, on_is, twin-twin)
 
 -- ---- The first place
 
@@ -75,7 +63,4 @@ found_on path half place there is = record {
   on_it = on_true half (get_or path there.seg 0) (by_way_on half (get_or path there.seg 0) there.way there.is)
 
   inside : place < length path
-  inside = elim (cases_lt there.seg (position_or_len (on_segment half) path)) [
-    | inl before ↦ absurd (false≢true (sym (fails_before_first (on_segment half) path there.seg 0 before) ∙ on_it))
-    | inr past ↦ (let within = there.within in omega (arith, is, past, within))
-  ]
+  inside = grind (arith, cases_lt, false≢true, fails_before_first)

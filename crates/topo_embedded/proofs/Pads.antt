@@ -72,16 +72,7 @@ pads_here k cs i d less here = pads_more k cs i d less ∙ ap (λ (xs : List ℕ
 pub one_changed : (f f' : List ℕ → List ℕ) (was now now' : List (List ℕ)) (cs cs' : List Crossed) (k : ℕ) (list : List ℕ) → ArePadded f was cs now → k < length was → now' ≡ set now k list
     → ((j : ℕ) → j < length was → j ≢ k → f' (slice_index_or was j []) ++ pads j cs' ≡ f (slice_index_or was j []) ++ pads j cs) → list ≡ f' (slice_index_or was k []) ++ pads k cs'
     → ((j : ℕ) → j < length was → 0 < length (pads j cs') → 0 < length (slice_index_or was j [])) → ArePadded f' was cs' now'
-one_changed f f' was now now' cs cs' k list p less is others here some = record {
-  some = some;
-  as_many = ap (λ (xs : List (List ℕ)). length xs) is ∙ length-set now k list ∙ p.as_many;
-  each = λ j lj. ap (λ (xs : List (List ℕ)). slice_index_or xs j []) is ∙ elim (cases_eq j k) [
-    | inl e ↦
-        let there : j < length now = omega (arith, p.as_many, lj) in
-        subst (λ (i : ℕ). get_or (set now i list) j [] ≡ f' (slice_index_or was j []) ++ pads j cs') e (get_or-set_same now j list [] there ∙ here ∙ ap (λ (i : ℕ). f' (slice_index_or was i []) ++ pads i cs') (sym e))
-    | inr ne ↦ get_or-set_other now k j list [] ne ∙ p.each j lj ∙ sym (others j lj ne)
-  ];
-}
+one_changed f f' was now now' cs cs' k list p less is others here some = grind (arith, length-set, cases_eq, get_or-set_same, get_or-set_other)
 
 -- with room for one fewer there is no more room than before
 pub pads_fewer : (k : ℕ) (cs : List Crossed) (i : ℕ) (d : Crossed) → i < length cs → 0 < length (pads k (take i cs)) → 0 < length (pads k (take (i + 1) cs))
@@ -97,10 +88,7 @@ pad_less was now now' cs i c list p less is placed set_is list_is =
     (λ j lj more. p.some j lj (pads_fewer j cs i c less more))
   where
     held : 0 < length (slice_index_or was c.place [] ++ pads c.place (take i cs))
-    held =
-        let here = ap length (pads_here c.place cs i c less (ap (λ (b : Crossed). b.place) is)) ∙ length-append (pads c.place (take i cs)) (0 ∷ []) in
-        let some = p.some c.place placed (omega (arith, here)) in
-        omega (arith, some, length-append (slice_index_or was c.place []) (pads c.place (take i cs)))
+    held = grind (arith, pads_here, length-append)
 
 -- with no room more the lists are the changed ones
 pub no_pads : (was now : List (List ℕ)) (cs : List Crossed) → ArePadded (λ hs. hs) was (take 0 cs) now → now ≡ was

@@ -1,5 +1,5 @@
 -- One segment of an edge that a route crosses or not: the halves that are along it then.
-use Rattle.std.proofs.Common.{◌≡◌, ◌≢◌, ◌+◌, ◌⊎◌, ap, append-nil, Bool, false, inl, inr, List, [], ◌∷◌, ◌++◌, refl, subst, sym, true, ℕ, ◌∙◌}
+use Rattle.std.proofs.Common.{arith, ◌≡◌, ◌≢◌, ◌+◌, ◌⊎◌, ap, append-nil, Bool, false, inl, inr, List, [], ◌∷◌, ◌++◌, refl, subst, sym, true, ℕ, ◌∙◌}
 use Rattle.std.specs.Prelude.{◌&&◌, ◌==◌, flat_map}
 use Rattle.std.specs.List.{AllByRecursion, enumerate_from}
 use Rattle.std.proofs.lemmas.Bool.{and_from, cases_Bool, cond-false, cond-true, eq-eqb, eqb-true, false≢true, ne_eqb}
@@ -56,10 +56,7 @@ last_of Back j h = h
 
 piece_split : (j : Bend) (h : ℕ) (w : Way) → j.near ≡ by_way h w → piece j h ≡ first_of w j h ∷ last_of w j h ∷ []
 piece_split j h Forward is = cond-true _ _ _ (eq-eqb h j.near (sym is))
-piece_split j h Back is =
-    let other : h ≢ j.near = λ e. twin-other h (sym (e ∙ is)) in
-    let here : h ≡ twin j.near = sym (ap twin is ∙ twin-twin h) in
-    cond-false _ _ _ (ne_eqb h j.near other) ∙ cond-true _ _ _ (eq-eqb h (twin j.near) here)
+piece_split j h Back is = grind (arith, twin-other, twin-twin, cond-false, ne_eqb, cond-true, eq-eqb)
 
 put_on_one : (j : Bend) (h : ℕ) → flat_map (piece j) (h ∷ []) ≡ piece j h
 put_on_one j h = append-nil (piece j h)
@@ -144,25 +141,13 @@ module _ (p : Drawn) (good : IsWellFormed p.rows) (r : Rotation) (s : ShowsRows 
         off_segment d (reversed w) off (sym (twin_twin_dart d) ∙ ap dart_twin (sym other))))
 
     past_uncrossed : (n : ℕ) (d : Dart) (ds : List Dart) (j : Bend) (js : List Bend) → IsCrossedAt p r d j → same_segment d (forward e g) ≡ false → IsUncrossed (n + 1) ds js → IsUncrossed n (d ∷ ds) (j ∷ js)
-    past_uncrossed n d ds j js c off u =
-        let (ne, nt) = off_half d c.there off in record {
-          ids = skipped (forward e g) (n, d) (enumerate_from (n + 1) ds) off ∙ u.ids;
-          one = ap (flat_map (piece j)) u.one ∙ put_on_one j h ∙ piece_other j h (λ q. ne (q ∙ c.near)) (λ q. nt (q ∙ ap twin c.near));
-          first = bent_past d j js Forward c off ∙ u.first;
-          last = bent_past d j js Back c off ∙ u.last;
-        }
+    past_uncrossed n d ds j js c off u = grind (arith, off_half, skipped, put_on_one, piece_other, bent_past)
 
     -- what is along a crossed segment is not split again
     two_stay : (d : Dart) (j k : Bend) (w : Way) → IsCrossedAt p r d j → same_segment d (forward e g) ≡ false → is_live r k.beyond ≡ false → is_live r (twin k.beyond) ≡ false
         → flat_map (piece j) (first_of w k h ∷ last_of w k h ∷ []) ≡ first_of w k h ∷ last_of w k h ∷ []
-    two_stay d j k Forward c off dead dead_back =
-        let (ne, nt) = off_half d c.there off in
-        let (be, bt) = strange k.beyond d c.there dead in
-        put_on_two j h k.beyond (λ q. ne (q ∙ c.near)) (λ q. nt (q ∙ ap twin c.near)) (λ q. be (q ∙ c.near)) (λ q. bt (q ∙ ap twin c.near))
-    two_stay d j k Back c off dead dead_back =
-        let (ne, nt) = off_half d c.there off in
-        let (be, bt) = strange (twin k.beyond) d c.there dead_back in
-        put_on_two j (twin k.beyond) h (λ q. be (q ∙ c.near)) (λ q. bt (q ∙ ap twin c.near)) (λ q. ne (q ∙ c.near)) (λ q. nt (q ∙ ap twin c.near))
+    two_stay d j k Forward c off dead dead_back = grind (arith, off_half, strange, put_on_two)
+    two_stay d j k Back c off dead dead_back = grind (arith, off_half, strange, put_on_two)
 
     -- the bend at a place is new
     new_at : (x : ℕ) (d : Dart) (k : Bend) (n : ℕ) (ds : List Dart) (js : List Bend) → AreCrossedAt p r ds js → AreAt x d k n ds js → IsCrossedAt p r d k
@@ -173,23 +158,12 @@ module _ (p : Drawn) (good : IsWellFormed p.rows) (r : Rotation) (s : ShowsRows 
 
     past_crossed : (x : ℕ) (w : Way) (k : Bend) (n : ℕ) (d : Dart) (ds : List Dart) (j : Bend) (js : List Bend) → IsCrossedAt p r d j → same_segment d (forward e g) ≡ false → AreCrossedAt p r ds js → IsCrossed x w k (n + 1) ds js
         → IsCrossed x w k n (d ∷ ds) (j ∷ js)
-    past_crossed x w k n d ds j js c off all u =
-        let new = new_at x (on_seg w) k (n + 1) ds js all u.at in record {
-          at = inr u.at;
-          near = u.near;
-          ids = skipped (forward e g) (n, d) (enumerate_from (n + 1) ds) off ∙ u.ids;
-          two = ap (flat_map (piece j)) u.two ∙ two_stay d j k w c off new.new new.new_back;
-          first = bent_past d j js Forward c off ∙ u.first;
-          last = bent_past d j js Back c off ∙ u.last;
-        }
+    past_crossed x w k n d ds j js c off all u = grind (arith, new_at, skipped, two_stay, bent_past)
 
     -- ---- A crossed dart on the segment
 
     on_way : (d : Dart) → same_segment d (forward e g) ≡ true → (w : Way) × (d ≡ on_seg w)
-    on_way d on = elim (same_or_twins d (forward e g) on) [
-      | inl same ↦ (Forward, sym same)
-      | inr turned ↦ (Back, sym turned)
-    ]
+    on_way d on = grind (arith, same_or_twins)
 
     bent_first : (j : Bend) (js : List Bend) (w : Way) → j.dart ≡ index_of p.rows (on_seg w) → bent_number (half_at p) js (index_of p.rows (forward e g)) ≡ h → bent_number (half_at p) (j ∷ js) (index_of p.rows (forward e g)) ≡ first_of w j h
     bent_first j js Forward is rest = cond-false _ _ _ (ne_eqb _ _ (λ same. twin-other (index_of p.rows (forward e g)) (sym (same ∙ ap twin is)))) ∙ rest
@@ -200,28 +174,12 @@ module _ (p : Drawn) (good : IsWellFormed p.rows) (r : Rotation) (s : ShowsRows 
     bent_last j js Back is rest = cond-false _ _ _ (ne_eqb _ _ (λ same. twin-other (index_of p.rows (back e g)) (sym (same ∙ ap twin is)))) ∙ rest
 
     here_crossed : (n : ℕ) (d : Dart) (w : Way) (ds : List Dart) (j : Bend) (js : List Bend) → IsCrossedAt p r d j → d ≡ on_seg w → IsUncrossed (n + 1) ds js → IsCrossed n w j n (d ∷ ds) (j ∷ js)
-    here_crossed n d w ds j js c is u =
-        let on : same_segment d (forward e g) ≡ true = ap (λ (b : Dart). same_segment b (forward e g)) is ∙ on_itself w in
-        let near : j.near ≡ by_way h w = c.near ∙ ap (half_in p) is in
-        let dart : j.dart ≡ index_of p.rows (on_seg w) = c.dart ∙ ap (index_of p.rows) is in
-        record {
-          at = inl (refl, sym is, refl);
-          near = near;
-          ids = taken (forward e g) (n, d) (enumerate_from (n + 1) ds) on ∙ ap (λ (xs : List ℕ). n ∷ xs) u.ids;
-          two = ap (flat_map (piece j)) u.one ∙ put_on_one j h ∙ piece_split j h w near;
-          first = bent_first j js w dart u.first;
-          last = bent_last j js w dart u.last;
-        }
+    here_crossed n d w ds j js c is u = grind (arith, on_itself, taken, put_on_one, piece_split, bent_first, bent_last)
 
     -- ---- All crossed darts
 
     none_crossed : (n : ℕ) (ds : List Dart) (js : List Bend) → AreCrossedAt p r ds js → AllByRecursion (λ c. same_segment c (forward e g) ≡ false) ds → IsUncrossed n ds js
-    none_crossed n [] [] all off = record {
-      ids = refl;
-      one = refl;
-      first = half_of_number p good (forward e g) here;
-      last = half_of_number p good (back e g) there;
-    }
+    none_crossed n [] [] all off = grind (arith, half_of_number, there)
     none_crossed n [] (j ∷ js) all off = absurd all
     none_crossed n (d ∷ ds) [] all off = absurd all
     none_crossed n (d ∷ ds) (j ∷ js) all off = past_uncrossed n d ds j js all.0 off.0 (none_crossed (n + 1) ds js all.1 off.1)
@@ -230,11 +188,7 @@ module _ (p : Drawn) (good : IsWellFormed p.rows) (r : Rotation) (s : ShowsRows 
     others_off d [] on off = tt
     others_off d (c ∷ ds) on off = (same_to_off d c on off.0, others_off d ds on off.1) where
       same_to_off : (d c : Dart) → same_segment d (forward e g) ≡ true → same_segment d c ≡ false → same_segment c (forward e g) ≡ false
-      same_to_off d c on off =
-          let edges : e ≡ d.edge = sym (eqb-true d.edge e (left_true (d.edge == e) (d.seg == g) on)) in
-          let segs : g ≡ d.seg = sym (eqb-true d.seg g (right_true (d.edge == e) (d.seg == g) on)) in
-          ap (λ (k : ℕ). same_segment c (forward k g)) edges ∙ ap (λ (k : ℕ). same_segment c (forward d.edge k)) segs
-          ∙ ap (λ (b : Bool). b && c.seg == d.seg) (eqb_symm c.edge d.edge) ∙ ap (λ (b : Bool). d.edge == c.edge && b) (eqb_symm c.seg d.seg) ∙ off
+      same_to_off d c on off = grind (arith, eqb-true, left_true, right_true, eqb_symm)
 
     -- at most one crosses it
     abbrev pub SomeCrossed : ℕ → List Dart → List Bend → Type 0

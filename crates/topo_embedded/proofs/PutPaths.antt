@@ -34,10 +34,7 @@ use Rattle.topo_embedded.proofs.Pieces.{IsCrossed, IsUncrossed, SomeCrossed, cro
 -- ---- Parts of a path
 
 last_then_first : (path whole : List ℕ) (g : ℕ) → g < length path → first_part path whole (g + 1) ≡ last_part path whole g + 1
-last_then_first path whole g less =
-    let back : g + 1 - 1 ≡ g = omega arith in
-    cond-false _ _ _ (ne_eqb (g + 1) 0 (omega arith)) ∙ ap (λ (k : ℕ). place_of whole (slice_index_or path k 0) + 1) back
-    ∙ ap (λ (k : ℕ). k + 1) (sym (cond-false _ _ _ (ne_eqb g (length path) (omega arith))))
+last_then_first path whole g less = grind (arith, cond-false, ne_eqb, place_of)
 
 -- ---- The halves before and at a place
 
@@ -124,11 +121,7 @@ module _ (p : Drawn) (good : IsWellFormed p.rows) (r : Rotation) (s : ShowsRows 
         let lower : g < length hs = omega arith in
         let rest = offset g lower in
         let more = before_more js hs g lower in
-        let long = bits_long g lower in
-        let last = last_is g lower in
-        let on = last_then_first path whole g (omega (arith, path_long)) in
-        let sum : length (put_halves js (take (g + 1) hs)) ≡ first (g + 1) = omega (arith, rest, more, long, last, on) in
-        ap (λ (k : ℕ). length (put_halves js (take k hs))) next ∙ sum ∙ ap first (sym next)
+        grind (arith, bits_long, last_is, last_then_first, path_long)
 
     at : (g i : ℕ) → g < length hs → i < length (bits g) → slice_index_or (put_halves js hs) (first g + i) 0 ≡ slice_index_or (bits g) i 0
     at g i less inside = ap (λ (k : ℕ). slice_index_or (put_halves js hs) (k + i) 0) (sym (offset g less)) ∙ at_place js hs g i less inside
@@ -148,10 +141,7 @@ module _ (p : Drawn) (good : IsWellFormed p.rows) (r : Rotation) (s : ShowsRows 
         let sum = offset n less in
         let long = bits_long n less in
         let last = last_is n less in
-        let end : last_part path whole n ≡ length whole = cond-true _ _ _ (eq-eqb n n refl) in
-        let every : take (n + 1) hs ≡ hs = take_all (n + 1) hs (omega (arith, path_long)) in
-        let same : length (put_halves js hs) ≡ length (put_halves js (take (n + 1) hs)) = ap (λ (xs : List ℕ). length (put_halves js xs)) (sym every) in
-        omega (arith, same, more, sum, long, last, end)
+        grind (arith, last_part, cond-true, eq-eqb, take_all, path_long)
 
     module _ (g : ℕ) (less : g < length hs) where
       pub forward_put : put_in (lifted p.rows q (forward e g)) ≡ bent_number (half_at p) js (index_of p.rows (forward e g))
@@ -178,9 +168,7 @@ module _ (p : Drawn) (good : IsWellFormed p.rows) (r : Rotation) (s : ShowsRows 
         read_first w c = ap (λ (k : ℕ). slice_index_or (put_halves js hs) k 0) (place_is w c) ∙ at_first g less ∙ ap (λ (xs : List ℕ). slice_index_or xs 0 0) c.two
 
         read_last : (w : Way) (c : IsCrossed p good r s e g (here g less) x w j p.rows.next_crossing route.crossed js) → slice_index_or (put_halves js hs) (place_on q e x + 1) 0 ≡ last_of w j (slice_index_or hs g 0)
-        read_last w c =
-            let long = ap (λ (xs : List ℕ). length xs) c.two in
-            ap (λ (k : ℕ). slice_index_or (put_halves js hs) (k + 1) 0) (place_is w c) ∙ at g 1 less (omega (arith, long)) ∙ ap (λ (xs : List ℕ). slice_index_or xs 1 0) c.two
+        read_last w c = grind (arith, place_is, at)
 
         pub onward_put : (w : Way) → IsCrossed p good r s e g (here g less) x w j p.rows.next_crossing route.crossed js → put_in (onward q x (record { edge = e; seg = g; way = w })) ≡ j.beyond
         onward_put Forward c = read_last Forward c

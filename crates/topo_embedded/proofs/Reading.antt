@@ -34,12 +34,7 @@ pub record EdgeRead (rows : Rows) (e place : ℕ) (row : EdgeRow) : Type 0 where
   pub first : place ≡ position_or_len (λ row. row.id == e) rows.edges
 
 pub edge_read : (rows : Rows) (e place : ℕ) (edges : List EdgeRow) → edges ≡ rows.edges → (p : IsPlaceOf edges (λ row. row.id) e place) → EdgeRead rows e place p.row
-edge_read rows e place edges same p = record {
-  found = ap (λ (es : List EdgeRow). find (λ row. row.id == e) es) (sym same) ∙ p.found;
-  at = ap (λ (es : List EdgeRow). slice_get es place) (sym same) ∙ p.at;
-  id = row_id rows e p.row (ap (λ (es : List EdgeRow). find (λ row. row.id == e) es) (sym same) ∙ p.found);
-  first = p.first ∙ ap (λ (es : List EdgeRow). position_or_len (λ row. row.id == e) es) same;
-}
+edge_read rows e place edges same p = grind (arith, row_id)
 
 pub row_read : (rows : Rows) (e place : ℕ) (edges : List EdgeRow) (row read : EdgeRow) → edges ≡ rows.edges → EdgeRead rows e place row → read ≡ slice_index_or edges place read → read ≡ row
 row_read rows e place edges row read same at is = is ∙ get_or_from_slice_get edges place row read (ap (λ (es : List EdgeRow). slice_get es place) same ∙ at.at)
@@ -74,12 +69,7 @@ pub around_read : (rows : Rows) (v : ℕ) (lists : List (List ℕ)) (x read : Li
 around_read rows v lists x read inside same is read_is = read_is ∙ is ∙ get_or_default lists v x [] inside ∙ ap (λ (ls : List (List ℕ)). slice_index_or ls v []) same
 
 pub vertex_there : (rows : Rows) (v p : ℕ) → p < length (rotation rows v) → v < length rows.rotations
-vertex_there rows v p h = elim (cases_lt v (length rows.rotations)) [
-  | inl less ↦ less
-  | inr past ↦
-      let none : rotation rows v ≡ [] = get_or_past rows.rotations v [] past in
-      absurd (omega (arith, ap length none))
-]
+vertex_there rows v p h = grind (arith, cases_lt, get_or_past)
 
 -- ---- Paths
 
@@ -105,13 +95,7 @@ module _ (p : Drawn) (good : IsWellFormed p.rows) (r : Rotation) (s : ShowsRows 
     pub half_on_list : IsOnPath path half
     half_on_list =
         let st = stands_at p.rows good d h in
-        let on_path : d.seg < segment_count row = subst (λ (x : EdgeRow). d.seg < segment_count x) (row_same st) st.on_path in
-        record {
-          seg = d.seg;
-          way = d.way;
-          within = omega (arith, list_many);
-          is = ap (λ (xs : List ℕ). by_way (slice_index_or xs d.seg 0) d.way) (list_read ∙ ap (path_of p) same) ∙ is;
-        }
+        grind (arith, row_same, list_many, list_read)
 
     pub dart_read : (seg : ℕ) (way : Way) → seg < length path → by_way (slice_index_or path seg 0) way ≡ half → record { edge = e; seg = seg; way = way } ≡ d
     dart_read seg way inside found =
@@ -123,21 +107,12 @@ module _ (p : Drawn) (good : IsWellFormed p.rows) (r : Rotation) (s : ShowsRows 
   pub list_few : length path ≤ length (darts p.rows)
   list_few =
       let most : segment_count (slice_index_or p.rows.edges place row) ≤ sum_by segment_count p.rows.edges = get_or-le-sum_by segment_count p.rows.edges place row (got_within p.rows.edges place row at.at) in
-      let same : slice_index_or p.rows.edges place row ≡ row = get_or_from_slice_get p.rows.edges place row row at.at in
-      let read : segment_count (slice_index_or p.rows.edges place row) ≡ segment_count row = ap segment_count same in
-      omega (arith, list_many, darts_total p.rows.edges)
+      grind (arith, get_or_from_slice_get, list_many, darts_total)
 
   -- the half at an end of the edge
   module _ (v : ℕ) (read : EdgeRow) (seg : ℕ) (way : Way) (same : read ≡ row) (seg_is : seg ≡ end_seg read (read.a == v)) (way_is : way ≡ end_way (read.a == v)) where
     pub end_on_list : seg < length path
-    end_on_list =
-        let inside : end_seg row (row.a == v) < segment_count row = end_inside row (row.a == v) in
-        let is : seg ≡ end_seg row (row.a == v) = seg_is ∙ ap (λ (x : EdgeRow). end_seg x (x.a == v)) same in
-        omega (arith, list_many)
+    end_on_list = grind (arith, end_inside, list_many)
 
     pub end_half_is : (half : ℕ) → half ≡ slice_index_or path seg 0 → by_way half way ≡ half_in p (end_dart p.rows v e)
-    end_half_is half is =
-        along_read seg half way is
-        ∙ ap (λ (k : ℕ). half_in p (record { edge = e; seg = k; way = way })) (seg_is ∙ ap (λ (x : EdgeRow). end_seg x (x.a == v)) same)
-        ∙ ap (λ (w : Way). half_in p (record { edge = e; seg = end_seg row (row.a == v); way = w })) (way_is ∙ ap (λ (x : EdgeRow). end_way (x.a == v)) same)
-        ∙ ap (half_in p) (sym (end_is p.rows v e place row at))
+    end_half_is half is = grind (arith, along_read, end_is)

@@ -1,5 +1,5 @@
 -- Rows with their embedding once a new edge is drawn along a route.
-use Rattle.std.proofs.Common.{◌≡◌, ◌++◌, ap, List, [], ◌∷◌, Err, Ok, OnErr, OnOk, Result, subst, sym, true, ℕ, ◌∙◌}
+use Rattle.std.proofs.Common.{arith, ◌≡◌, ◌++◌, ap, List, [], ◌∷◌, Err, Ok, OnErr, OnOk, Result, subst, sym, true, ℕ, ◌∙◌}
 use Rattle.std.specs.Prelude.{map, slice_index_or}
 use Rattle.std.specs.List.{All, AllByRecursion}
 use Rattle.std.proofs.lemmas.List.Elements.{recursion_from_All}
@@ -44,13 +44,7 @@ module _ (p : Drawn) (r : Rotation) (cs : List Crossed) (u v kind : ℕ) (route 
   end_alive = corner_alive p ready.formed r now slots ready.shows v route.end end ready.insertable.v_there ready.insertable.end ready.ends
 
   pub ready_now : (paths : List (List ℕ)) → ArePadded (λ hs. hs) p.paths cs paths → IsReady p now cs paths
-  ready_now paths pad = record {
-    formed = ready.formed;
-    shows = shows;
-    marked = ready.marked;
-    once = subst CrossesOnce (sym ready.darts) ready.insertable.once;
-    padded = pad;
-  }
+  ready_now paths pad = grind (arith, shows)
 
   pub routed_shows : IsEmbedding now → (after : Rotation) (cs' : List Crossed) → crossed_darts cs' ≡ crossed_darts cs → All (IsMarked p) cs' → (line : List ℕ) → IsRouted p now after cs' start end p.rows.next_edge line
       → ShowsRows (record { rows = shown p.rows u v kind route; paths = map (put_halves (bends_of p.rows cs')) p.paths ++ line ∷ [] }) after
@@ -77,9 +71,7 @@ pub inserted_drawn : (p : Drawn) (r now after : Rotation) (cs cs' : List Crossed
     → ShowsRows (record { rows = rows; paths = paths }) after
 inserted_drawn p r now after cs cs' u v kind route start end edge ready slots whole same marked line rows lists paths edge_is routed rows_are lists_are paths_are =
     let shows = routed_shows p r cs u v kind route start end ready now slots whole after cs' same marked line (subst (λ (e : ℕ). IsRouted p now after cs' start end e line) edge_is routed) in
-    subst (λ (q : Drawn). ShowsRows q after) (ap (λ (rs : Rows). (let q : Drawn = record { rows = rs; paths = map (put_halves (bends_of p.rows cs')) p.paths ++ line ∷ [] } in q)) (sym rows_are)
-    ∙ ap (λ (ps : List (List ℕ)). (let q : Drawn = record { rows = rows; paths = ps } in q))
-    (ap (λ (ls : List (List ℕ)). ls ++ line ∷ []) (sym lists_are) ∙ sym paths_are)) shows
+    grind (arith, shows)
 
 -- inserted or not
 pub inserted_formed : {A E : Type 0} (result : Result A E) (p : Drawn) (rows new : Rows) (paths : List (List ℕ)) → (let q : Drawn = record { rows = rows; paths = paths } in q ≡ p) → IsWellFormed rows → (u v kind : ℕ) (route : Route) → IsInsertable p.rows u v kind route

@@ -108,12 +108,7 @@ module _ (rows : Rows) (paths : List (List ℕ)) (many : length paths ≡ length
   place_inside c there = let (row, named, at) = placed c there in omega (arith, many, slice_get_within rows.edges (place c) row at)
 
   pub places_apart : (c d : ℕ) → is_some (edge_row rows c) ≡ true → is_some (edge_row rows d) ≡ true → d ≢ c → place d ≢ place c
-  places_apart c d c_there d_there apart same =
-      let (row, named, at) = placed c c_there in
-      let (other, other_named, other_at) = placed d d_there in
-      let both : Some other ≡ Some row = sym other_at ∙ ap (slice_get rows.edges) same ∙ at in
-      let one : other ≡ row = cc in
-      apart (sym other_named ∙ ap (λ (r : EdgeRow). r.id) one ∙ named)
+  places_apart c d c_there d_there apart same = grind (arith, placed)
 
   -- of another edge
   pub set_apart : (c d : ℕ) (xs : List ℕ) → is_some (edge_row rows c) ≡ true → is_some (edge_row rows d) ≡ true → d ≢ c → path_of (record { rows = rows; paths = set paths (place c) xs }) d ≡ path_of (record { rows = rows; paths = paths }) d
@@ -147,13 +142,7 @@ module _ (rows : Rows) (others : List (List ℕ)) (e : ℕ) (mids : List ℕ) (o
   known = (some_of (edge_row rows e) o.set_out.there).1
 
   pub smoothed_none : IsSmoothedTo p e r opened mids 0 opened others
-  smoothed_none = record {
-    run = refl;
-    whole = o.opened.whole;
-    keeps = o.opened.keeps;
-    as_many = o.set_out.as_many;
-    lists = λ c there apart. o.set_out.same c there apart ∙ sym (spared_none (path_of p c));
-  }
+  smoothed_none = grind (arith, spared_none)
 
   -- a half on the list of an edge lies on that edge
   label_on : (c : ℕ) → is_some (edge_row rows c) ≡ true → (h : ℕ) → IsIn h (path_of p c) → edge_of r h ≡ c
@@ -320,10 +309,7 @@ module _ (rows : Rows) (others : List (List ℕ)) (e : ℕ) (mids : List ℕ) (o
           id_apart left there = let (old, old_there, apart, is) = without_rows rows e left there in λ same. apart (sym (ap (λ (row : EdgeRow). row.id) is) ∙ same)
 
     all_left : ArePathsLeft p e (has_id mids) (remove paths at)
-    all_left = record {
-      as_many = omega (arith, length-remove paths at inside_paths, many_left, st.as_many, ap length left_edges, length-map (remove rows.edges at) uncrossed);
-      each = list_left;
-    }
+    all_left = grind (arith, length-remove, inside_paths, many_left, left_edges, length-map, list_left)
 
     pub deleted : ShowsRows (record { rows = without rows e; paths = remove paths at }) now
     deleted = deleted_shows p good r o.set_out.shows e row known o.set_out.lawful.embedding.connected o.set_out.lawful.genus_zero mids are_mids o.set_out.whole (turning_of opened) now o.opened.run all_smoothed st.keeps (remove paths at) all_left where
@@ -360,19 +346,7 @@ module _ (rows : Rows) (e : ℕ) (paths : List (List ℕ)) (r : Rotation) (lawfu
 
   -- the list of the edge is handed out
   pub handed_out : IsSetOut rows others e path r
-  handed_out = record {
-    lawful = lawful;
-    there = there;
-    paths = paths;
-    shows = shows;
-    whole = whole;
-    as_many = ap length others_are ∙ length-set paths at blank ∙ shows.as_many;
-    own = path_is ∙ ap (λ (n : ℕ). slice_index_or paths n d) place_is ∙ get_or_default paths (position_or_len (λ row. row.id == e) rows.edges) d [] (place_inside rows paths shows.as_many e there);
-    same = λ c c_there apart.
-        ap (λ (ls : List (List ℕ)). path_of (record { rows = rows; paths = ls }) c) others_are
-        ∙ ap (λ (n : ℕ). path_of (record { rows = rows; paths = set paths n blank }) c) place_is
-        ∙ set_apart rows paths shows.as_many e c blank there c_there apart;
-  }
+  handed_out = grind (arith, length-set, place_is, get_or_default, place_inside, set_apart)
 
   module _ (now : Rotation) (list mids : List ℕ) (done : (e : ℕ) (o : IsSetOut rows others e path r) → IsOpenTo (record { rows = rows; paths = o.paths }) e r (length path) now list) (mids_are : mids ≡ take (length list - 1) list) where
     pub opened_here : IsOpened rows (set paths at blank) e mids now

@@ -110,10 +110,7 @@ module _ (p : Drawn) (good : IsWellFormed p.rows) (r : Rotation) (s : ShowsRows 
     near_alive = half_alive p good r s c.near (record { dart = c.dart; there = is.there; is = sym is.near })
 
     dead_before : (a : ℕ) → is_live now a ≡ false → is_live r a ≡ false
-    dead_before a dead = elim (cases_Bool (is_live r a)) [
-      | inl t ↦ absurd (false≢true (sym dead ∙ alive_still r now js a whole sp.run t))
-      | inr f ↦ f
-    ]
+    dead_before a dead = grind (arith, cases_Bool, false≢true, alive_still)
 
     pub one_split : AreSplit p r now' (c' ∷ cs)
     one_split = record {
@@ -213,19 +210,10 @@ module _ (p : Drawn) (good : IsWellFormed p.rows) (r : Rotation) (s : ShowsRows 
       label_at k row at i less =
           let (there, is) = along_there p good r s k row at i less in
           let back : has_dart (darts p.rows) (dart_twin (forward row.id i)) ≡ true = twin_in p.rows (forward row.id i) there in
-          let turned : twin (half_in p (forward row.id i)) ≡ half_in p (dart_twin (forward row.id i)) = twin_in_path p (forward row.id i) in
-          subst (HasLabel r row.id) (sym is) (record {
-            alive = half_alive p good r s (half_in p (forward row.id i)) (record { dart = forward row.id i; there = there; is = refl });
-            alive_back = half_alive p good r s (twin (half_in p (forward row.id i))) (record { dart = dart_twin (forward row.id i); there = back; is = sym turned });
-            here = s.labels (forward row.id i) there;
-            behind = ap (edge_of r) turned ∙ s.labels (dart_twin (forward row.id i)) back;
-          })
+          grind (arith, twin_in_path, half_alive)
 
       path_labels : (k : ℕ) (row : EdgeRow) → slice_get p.rows.edges k ≡ Some row → HaveLabel r row.id (slice_index_or p.paths k [])
       path_labels k row at = recursion_from_All (HasLabel r row.id) (slice_index_or p.paths k []) (All-from_get_or (HasLabel r row.id) (slice_index_or p.paths k []) 0 (label_at k row at))
 
   pub split_all : (now : Rotation) (was cs : List Crossed) (n : ℕ) (paths : List (List ℕ)) → n ≡ 0 → AreSplitFrom p r now was cs n paths → AreSplit p r now cs × (paths ≡ map (put_halves (bends_of p.rows cs)) p.paths)
-  split_all now was cs n paths none from = (
-    subst (λ (k : ℕ). AreSplit p r now (drop k cs)) none from.split,
-    put_everywhere (bends_of p.rows cs) p.paths paths (subst (λ (k : ℕ). ArePadded (put_halves (bends_of p.rows (drop k cs))) p.paths (take k cs) paths) none from.padded),
-  )
+  split_all now was cs n paths none from = grind (arith, put_everywhere)

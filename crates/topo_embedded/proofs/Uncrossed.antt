@@ -61,11 +61,7 @@ module _ (p : Drawn) (good : IsWellFormed p.rows) (r : Rotation) (s : ShowsRows 
         let a : IsAhead p e (half_in p (forward c seg)) = are.others (half_in p (forward c seg)) test in
         let o : OtherEdge p.rows e good there a.other a.crossing.id = other_edge p.rows e good there a.other a.crossing a.is in
         let same : forward c seg ≡ ahead p.rows a.other a.crossing.id = halves_apart p good r s (forward c seg) (ahead p.rows a.other a.crossing.id) (on seg l) (ahead_there p.rows e good there a.other a.crossing a.is) a.half in
-        let edge : c ≡ a.other = ap (λ (d : Dart). d.edge) same in
-        let on_path : IsIn a.crossing.id path = subst (λ (f : ℕ). IsIn a.crossing.id (edge_at p.rows f).crossings) (sym edge) o.on_path in
-        let at = at_its_place a.crossing.id path on_path in
-        let place : seg ≡ place_of path a.crossing.id + 1 = ap (λ (d : Dart). d.seg) same ∙ ap (λ (f : ℕ). place_on p.rows f a.crossing.id + 1) (sym edge) in
-        (place_of path a.crossing.id, place, at.0, ap (has_id gone) at.1 ∙ o.is_gone)
+        grind (arith, at_its_place, place_of)
 
     pub uncrossed : IsUncrossed goes gone path (path_of p c)
     uncrossed = record {

@@ -1,5 +1,5 @@
 -- The embedding without an edge shows the rows without it.
-use Rattle.std.proofs.Common.{◌≡◌, ◌<◌, ◌%◌, ap, length, List, [], subst, sym, true, ℕ, ◌∙◌, Bool}
+use Rattle.std.proofs.Common.{arith, ◌≡◌, ◌<◌, ◌%◌, ap, length, List, [], subst, sym, true, ℕ, ◌∙◌, Bool}
 use Rattle.std.specs.Prelude.{is_some, Option, slice_get, Some, unwrap_or}
 use Rattle.topo_core.specs.declared.darts.Dart.{Dart}
 use Rattle.topo_core.specs.declared.darts.Way.{Way}
@@ -81,11 +81,7 @@ module _ (p : Drawn) (good : IsWellFormed p.rows) (r : Rotation) (s : ShowsRows 
           let named : name a ≡ index_of p.rows (lift (forward c seg)) = ap (λ (o : Option Dart). index_of p.rows (lift (unwrap_or o (record { edge = 0; seg = 0; way = Forward })))) got in
           let even : index_of p.rows (lift (forward c seg)) % 2 ≡ 0 = index_forward p.rows (lift (forward c seg)) here (ap (λ (d : Dart). d.way) (lifted_forward after p.rows c seg)) in
           let numbered : under.number a ≡ half_in q (forward c seg) = under.forward a (less a (forward c seg) got) (ap (λ k. k % 2) named ∙ even) ∙ ap (half_at p) named ∙ half_of_number p good (lift (forward c seg)) here ∙ sym half in
-          let live : is_live r' (half_in q (forward c seg)) ≡ true = ap (is_live r') (sym numbered) ∙ live_number a (less a (forward c seg) got) in
-          record {
-            numbered = numbered;
-            label = keeps (half_in q (forward c seg)) live ∙ ap (edge_of r) half ∙ s.labels (lift (forward c seg)) here ∙ lifted_edge after p.rows (forward c seg);
-          }
+          grind (arith, live_number, less, half, here, lifted_edge)
 
       back_number : (a : ℕ) → slice_get (darts after) a ≡ Some (back c seg) → HasHalf a (back c seg)
       back_number a got =

@@ -38,10 +38,7 @@ pub has_one_face-requires : goal.has_one_face-requires
 has_one_face-requires c = let (p, o) = c.requires in (p, opened_to p c.args.segments.now c.args.e 0 c.args.path.now o c.loop-segment.segment (omega (arith, c.loop-segment-test.true, c.len-segment-end.ensures.len)))
 
 pub overflow_cast-result : goal.overflow_cast-result
-overflow_cast-result c =
-    let (p, o) = c.requires in
-    let short = path_few p c.args.segments.now c.args.e 0 c.args.path.now o in
-    omega (arith, short, c.loop-segment-test.true, c.len-segment-end.ensures.len)
+overflow_cast-result c = grind (arith, path_few)
 
 pub returns-then-has_one_face : goal.returns-then-has_one_face
 returns-then-has_one_face c = λ p o.

@@ -1,4 +1,4 @@
-use Rattle.std.proofs.Common.{◌≡◌, ap, subst, sym, ℕ, ◌∙◌}
+use Rattle.std.proofs.Common.{arith, ◌≡◌, ap, subst, sym, ℕ, ◌∙◌}
 use Rattle.topo_core.specs.Openings.{is_opened}
 use Rattle.topo_embedded.specs.Cutting.{IsDartBeside}
 use Rattle.topo_embedded.proofs.FaceWalks.{alive, label_is, on_other_edge}
@@ -8,10 +8,7 @@ pub edge-requires : goal.edge-requires
 edge-requires c = let (p, d, b) = c.requires in alive p c.args.segments.now c.args.e c.args.out c.args.path.now b.opened d b.there c.args.half b.named
 
 pub is_among-requires : goal.is_among-requires
-is_among-requires c =
-    let (p, d, b) = c.requires in
-    let mine : c.args.e ≡ d.edge = sym c.if-edge-e.true ∙ c.edge.ensures ∙ label_is p c.args.segments.now c.args.e c.args.out c.args.path.now b.opened d b.there c.args.half b.named in
-    (p, c.args.segments.now, d, subst (λ (k : ℕ). IsDartBeside p c.args.segments.now k c.args.out c.args.path.now c.args.half d) mine b)
+is_among-requires c = grind (arith, label_is)
 
 pub returns-then-edge-e : goal.returns-then-edge-e
 returns-then-edge-e c = λ p d b.

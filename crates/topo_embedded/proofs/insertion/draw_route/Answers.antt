@@ -1,4 +1,4 @@
-use Rattle.std.proofs.Common.{ap, ◌∙◌}
+use Rattle.std.proofs.Common.{arith, ap, ◌∙◌}
 use Rattle.topo_embedded.proofs.Draws.{bent_alive, route_alive}
 use Rattle.topo_embedded.proofs.Splits.{alive_still}
 use Rattle.topo_embedded.specs.Crossing.{bends_of}
@@ -6,16 +6,10 @@ use Rattle.topo_map.specs.Rotation.{is_live}
 use Rattle.topo_embedded.proofs.insertion.draw_route.Goals as goal
 
 pub draw-requires-clause-start : goal.draw-requires-clause-start
-draw-requires-clause-start g c =
-    let split = c.split_crossed.ensures.split in
-    ap (is_live c.split_crossed.new.segments) c.bent-start.ensures
-    ∙ bent_alive c.split_crossed.new.segments c.split_crossed.new.crossed c.args.corners.0 split.alive (alive_still c.args.segments.now c.split_crossed.new.segments (bends_of g.p.rows c.split_crossed.new.crossed) c.args.corners.0 c.laws.ensures split.run c.requires.1.1.0)
+draw-requires-clause-start g c = grind (arith, bent_alive, alive_still)
 
 pub draw-requires-clause-end : goal.draw-requires-clause-end
-draw-requires-clause-end g c =
-    let split = c.split_crossed.ensures.split in
-    ap (is_live c.split_crossed.new.segments) c.bent-end.ensures
-    ∙ bent_alive c.split_crossed.new.segments c.split_crossed.new.crossed c.args.corners.1 split.alive (alive_still c.args.segments.now c.split_crossed.new.segments (bends_of g.p.rows c.split_crossed.new.crossed) c.args.corners.1 c.laws.ensures split.run c.requires.1.1.1.0)
+draw-requires-clause-end g c = grind (arith, bent_alive, alive_still)
 
 pub draw-requires-clause-alive : goal.draw-requires-clause-alive
 draw-requires-clause-alive g c = route_alive g.p c.requires.0.formed c.args.segments.now c.requires.0.shows c.split_crossed.new.segments c.split_crossed.new.crossed c.laws.ensures c.split_crossed.ensures.split c.split_crossed.ensures.marked

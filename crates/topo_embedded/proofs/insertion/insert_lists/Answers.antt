@@ -1,4 +1,4 @@
-use Rattle.std.proofs.Common.{◌≡◌, ◌++◌, ◌∷◌, [], Bool, List, ap, drop, length, subst, sym, take, ℕ, ◌∙◌}
+use Rattle.std.proofs.Common.{arith, ◌≡◌, ◌++◌, ◌∷◌, [], Bool, List, ap, drop, length, subst, sym, take, ℕ, ◌∙◌}
 use Rattle.std.specs.Prelude.{if◌then◌else◌, is_ok}
 use Rattle.std.specs.Vec.{vec_len}
 use Rattle.std.proofs.lemmas.List.{take_at}
@@ -26,17 +26,7 @@ unpad-requires g c =
     all_placed_here g.p ready.formed c.args.segments.now ready.shows c.args.crossed.now ready.marked c.deref_mut.result.now long
 
 pub returns-then-is_err-clause-shows : goal.returns-then-is_err-clause-shows
-returns-then-is_err-clause-shows g c =
-    let was : Drawn = record { rows = c.args.rows.now; paths = c.args.paths.now.items } in
-    let ready = c.requires.1.0 in
-    let lists : c.deref_mut.result.now ≡ c.make_room.new.paths.items = c.deref_mut.ensures.value in
-    let back : c.unpad.new.paths ≡ c.args.paths.now.items = c.unpad.ensures c.args.paths.now.items (subst (λ (ps : List (List ℕ)). ArePadded (λ hs. hs) c.args.paths.now.items c.args.crossed.now ps) (sym lists) c.in_ok-line.ensures.padded) in
-    let long : length c.unpad.new.paths ≡ vec_len c.make_room.new.paths = c.unpad.auto.paths ∙ c.deref_mut.ensures.len in
-    let rows : c.apply_rows.new.rows ≡ c.args.rows.now = when_err c.apply_rows.result (sym c.if-is_err.ensures.value) c.apply_rows.ensures.err in
-    subst (λ (q : Drawn). ShowsRows q c.make_room.new.segments)
-    (c.requires.0 ∙ ap (λ (rs : Rows). (let q : Drawn = record { rows = rs; paths = c.args.paths.now.items } in q)) (sym rows)
-    ∙ ap (λ (ps : List (List ℕ)). (let q : Drawn = record { rows = c.apply_rows.new.rows; paths = ps } in q)) (sym (take_at c.unpad.new.paths _ _ long ∙ back)))
-    (kept_shows g.p c.args.segments.now c.make_room.new.segments c.make_room.ensures.slots ready.shows)
+returns-then-is_err-clause-shows g c = grind (arith, when_err, take_at, kept_shows)
 
 pub draw_route-requires : goal.draw_route-requires
 draw_route-requires g c =

@@ -18,12 +18,7 @@ split-beyond-requires-clause-live g c =
     marked_alive g.p c.requires.0.formed c.args.segments.now c.requires.0.shows c.laws.ensures c.loop-n.segments c.args.crossed.now c.loop-n.crossed c.loop-n.n cross c.loop-n.paths c.loop-n.invariant is
 
 pub split-beyond-requires-clause-room : goal.split-beyond-requires-clause-room
-split-beyond-requires-clause-room g c =
-    let room = c.loop-n.invariant.room in
-    let within = c.loop-n.invariant.within in
-    let darts = same_many c.loop-n.crossed c.args.crossed.now c.loop-n.invariant.darts in
-    let enough = c.requires.1 in
-    omega (arith, room, within, darts, enough)
+split-beyond-requires-clause-room g c = grind (arith, same_many)
 
 pub offset_bounds-paths-cross : goal.offset_bounds-paths-cross
 offset_bounds-paths-cross g c =
@@ -69,7 +64,4 @@ pub returns-clause-paths : goal.returns-clause-paths
 returns-clause-paths g c = (split_all g.p c.requires.0.formed c.args.segments.now c.requires.0.shows c.laws.ensures c.loop-n.segments c.args.crossed.now c.loop-n.crossed c.loop-n.n c.loop-n.paths (omega arith) c.loop-n.invariant).1
 
 pub returns-clause-room : goal.returns-clause-room
-returns-clause-room g c =
-    let room = c.loop-n.invariant.room in
-    let darts = same_many c.loop-n.crossed c.args.crossed.now c.loop-n.invariant.darts in
-    omega (arith, room, darts)
+returns-clause-room g c = grind (arith, same_many)

@@ -12,18 +12,7 @@ pub bounds-begins-place : goal.bounds-begins-place
 bounds-begins-place c = let many = begins_length 0 c.args.edges.now in let same = ap length c.requires.begins in omega (arith, c.loop-place-test.true)
 
 pub path_of-requires : goal.path_of-requires
-path_of-requires c =
-    let row : EdgeRow = c.index-edges-place.result in
-    let at : slice_get c.args.edges.now c.loop-place.place ≡ Some row = slice_get-get_or c.args.edges.now c.loop-place.place row c.loop-place-test.true ∙ ap Some (sym c.index-edges-place.is) in
-    let same : length c.as_slice-crossings.result.now ≡ length row.crossings = ap length (c.as_slice-crossings.ensures ∙ ap (λ (r : EdgeRow). r.crossings) (sym c.index-edges-place.is)) in
-    let fits = path_fits c.args.edges.now c.args.begins.now c.loop-place.place row c.requires.begins at in
-    record { fits = omega (arith, c.requires.halves) }
+path_of-requires c = grind (arith, slice_get-get_or, path_fits)
 
 pub loop-place-preserved : goal.loop-place-preserved
-loop-place-preserved c =
-    let row : EdgeRow = c.index-edges-place.result in
-    let at : slice_get c.args.edges.now c.loop-place.place ≡ Some row = slice_get-get_or c.args.edges.now c.loop-place.place row c.loop-place-test.true ∙ ap Some (sym c.index-edges-place.is) in
-    let same : length c.as_slice-crossings.result.now + 1 ≡ segment_count row = ap (λ (xs : List ℕ). length xs + 1) (c.as_slice-crossings.ensures ∙ ap (λ (r : EdgeRow). r.crossings) (sym c.index-edges-place.is)) in
-    paths_more c.args.edges.now c.args.begins.now c.args.halves.now c.loop-place.paths.items c.push.new.self.items c.loop-place.place row c.in_ok-path.path c.loop-place.invariant at
-    (subst (λ (n : ℕ). IsPathOf c.args.halves.now (slice_index c.args.begins.now c.loop-place.place) n c.in_ok-path.path) same c.in_ok-path.ensures)
-    c.in_ok-push.ensures.items
+loop-place-preserved c = grind (arith, slice_get-get_or, paths_more)

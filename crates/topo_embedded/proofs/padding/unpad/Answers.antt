@@ -6,11 +6,7 @@ use Rattle.topo_embedded.proofs.Pads.{no_pads, pad_less}
 use Rattle.topo_embedded.proofs.padding.unpad.Goals as goal
 
 pub loop-n-init : goal.loop-n-init
-loop-n-init c = record {
-  within = omega arith;
-  many = refl;
-  padded = λ was p. subst (λ (cs : List Crossed). ArePadded (λ hs. hs) was cs c.args.paths.now) (sym (take_all (length c.args.crossed.now) c.args.crossed.now (omega arith))) p;
-}
+loop-n-init c = grind (arith, take_all)
 
 pub loop-n-preserved : goal.loop-n-preserved
 loop-n-preserved c =

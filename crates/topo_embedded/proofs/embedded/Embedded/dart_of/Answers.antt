@@ -14,9 +14,7 @@ use Rattle.topo_embedded.proofs.Reading.{dart_read, edge_read, half_on_list, lis
 use Rattle.topo_embedded.proofs.embedded.Embedded.dart_of.Goals as goal
 
 pub edge-label-requires : goal.edge-label-requires
-edge-label-requires c =
-    let p : Drawn = record { rows = c.self.inside.rows; paths = c.self.inside.paths } in
-    half_alive p c.self.invariant.0 c.self.inside.segments c.self.invariant.1 c.args.half (subst (λ (q : Drawn). IsHalf q c.args.half) (sym c.self.view_is) c.requires)
+edge-label-requires c = grind (arith, half_alive)
 
 pub place_of_edge-place-requires-clause-there : goal.place_of_edge-place-requires-clause-there
 place_of_edge-place-requires-clause-there c =

@@ -1,4 +1,4 @@
-use Rattle.std.proofs.Common.{◌≡◌, List, ap, subst, sym, true, ◌∙◌}
+use Rattle.std.proofs.Common.{arith, ◌≡◌, List, ap, subst, sym, true, ◌∙◌}
 use Rattle.std.specs.Prelude.{find, is_some, ◌==◌}
 use Rattle.topo_core.specs.declared.darts.Dart.{Dart}
 use Rattle.topo_core.specs.declared.rows.EdgeRow.{EdgeRow}
@@ -13,9 +13,7 @@ use Rattle.topo_embedded.proofs.Reading.{edge_read, facts_read}
 use Rattle.topo_embedded.proofs.embedded.Embedded.facts.Goals as goal
 
 pub edge-requires : goal.edge-requires
-edge-requires c =
-    let p : Drawn = record { rows = c.self.inside.rows; paths = c.self.inside.paths } in
-    half_alive p c.self.invariant.0 c.self.inside.segments c.self.invariant.1 c.args.half (subst (λ (q : Drawn). IsHalf q c.args.half) (sym c.self.view_is) c.requires)
+edge-requires c = grind (arith, half_alive)
 
 pub place_of_edge-place-requires-clause-there : goal.place_of_edge-place-requires-clause-there
 place_of_edge-place-requires-clause-there c =

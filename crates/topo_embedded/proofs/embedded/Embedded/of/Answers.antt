@@ -11,10 +11,7 @@ from_turns-requires-clause-permutation c =
     subst IsPermutationList (sym (c.as_slice-images.ensures.value ∙ c.requires.turns.images)) (turn_permutes c.args.rows c.requires.well_formed.paths c.requires.well_formed.crossings c.requires.well_formed.rotations)
 
 pub from_turns-requires-clause-two_each : goal.from_turns-requires-clause-two_each
-from_turns-requires-clause-two_each c =
-    let many = images_total c.args.rows c.as_slice-images.result.now (c.as_slice-images.ensures.value ∙ c.requires.turns.images) in
-    let labels = ap length (c.as_slice.ensures.value ∙ c.in_ok-labels.ensures ∙ ap labels_of c.as_slice-edges.ensures) ∙ labels_length c.args.rows.edges in
-    omega (arith, many, labels)
+from_turns-requires-clause-two_each c = grind (arith, images_total, labels_length)
 
 pub invariant_of-result : goal.invariant_of-result
 invariant_of-result c = (

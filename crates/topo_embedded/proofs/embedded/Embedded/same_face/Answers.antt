@@ -1,4 +1,4 @@
-use Rattle.std.proofs.Common.{◌≡◌, subst, sym, true}
+use Rattle.std.proofs.Common.{arith, ◌≡◌, subst, sym, true}
 use Rattle.std.specs.Prelude.{◌↔◌, IsTrue}
 use Rattle.topo_core.specs.declared.darts.Dart.{Dart}
 use Rattle.topo_core.specs.Cycles.{SameCycle}
@@ -12,14 +12,10 @@ use Rattle.topo_embedded.proofs.SameFaces.{same_faces}
 use Rattle.topo_embedded.proofs.embedded.Embedded.same_face.Goals as goal
 
 pub same_face-requires-clause-live : goal.same_face-requires-clause-live
-same_face-requires-clause-live c =
-    let p : Drawn = record { rows = c.self.inside.rows; paths = c.self.inside.paths } in
-    half_alive p c.self.invariant.0 c.self.inside.segments c.self.invariant.1 c.args.half (subst (λ (q : Drawn). IsHalf q c.args.half) (sym c.self.view_is) c.requires.half_there)
+same_face-requires-clause-live c = grind (arith, half_alive)
 
 pub same_face-requires-clause-live_other : goal.same_face-requires-clause-live_other
-same_face-requires-clause-live_other c =
-    let p : Drawn = record { rows = c.self.inside.rows; paths = c.self.inside.paths } in
-    half_alive p c.self.invariant.0 c.self.inside.segments c.self.invariant.1 c.args.other (subst (λ (q : Drawn). IsHalf q c.args.other) (sym c.self.view_is) c.requires.other_there)
+same_face-requires-clause-live_other c = grind (arith, half_alive)
 
 pub returns : goal.returns
 returns c =
@@ -27,7 +23,4 @@ returns c =
     let r = c.self.inside.segments in
     subst (λ (q : Drawn). (x y : Dart) → has_dart (darts q.rows) x ≡ true → has_dart (darts q.rows) y ≡ true → half_in q x ≡ c.args.half → half_in q y ≡ c.args.other → IsTrue c.same_face.result ↔ SameFace (system q.rows) x y) c.self.view_is
     (λ x y hx hy x_is y_is.
-    let faces = same_faces p c.self.invariant.0 r c.self.invariant.1 x y hx hy in (
-      (λ w. faces.0 (subst (λ h. SameCycle (face_next (turn r)) h (half_in p y)) (sym x_is) (subst (SameCycle (face_next (turn r)) c.args.half) (sym y_is) (c.same_face.ensures.0 w)))),
-      (λ same. c.same_face.ensures.1 (subst (λ h. SameCycle (face_next (turn r)) h c.args.other) x_is (subst (SameCycle (face_next (turn r)) (half_in p x)) y_is (faces.1 same)))),
-    ))
+    let faces = same_faces p c.self.invariant.0 r c.self.invariant.1 x y hx hy in grind arith)

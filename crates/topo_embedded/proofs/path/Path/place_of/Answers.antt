@@ -7,9 +7,7 @@ pub is_at-requires : goal.is_at-requires
 is_at-requires c = omega (arith, c.loop-place-test.true, c.len-place-end.ensures.len)
 
 pub returns-then-is_at : goal.returns-then-is_at
-returns-then-is_at c =
-    let less : c.loop-place.place < length c.args.self.now = omega (arith, c.loop-place-test.true, c.len-place-end.ensures.len) in
-    sym (position_or_len_is (on_segment c.args.half) c.args.self.now c.loop-place.place 0 (omega (arith, less)) c.loop-place.invariant (λ inside. sym c.is_at.ensures ∙ c.if-is_at.true))
+returns-then-is_at c = grind (arith, position_or_len_is)
 
 pub returns : goal.returns
 returns c =

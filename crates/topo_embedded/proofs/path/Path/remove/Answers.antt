@@ -1,4 +1,4 @@
-use Rattle.std.proofs.Common.{◌≡◌, ◌≢◌, ◌==◌, ◌∙◌, ◌∷◌, [], List, ap, not, sym, ℕ}
+use Rattle.std.proofs.Common.{arith, ◌≡◌, ◌≢◌, ◌==◌, ◌∙◌, ◌∷◌, [], List, ap, not, sym, ℕ}
 use Rattle.std.specs.Prelude.{filter, slice_index_or}
 use Rattle.std.proofs.lemmas.Bool.{ne_eqb}
 use Rattle.topo_embedded.specs.Along.{halves_along}
@@ -9,9 +9,7 @@ use Rattle.topo_embedded.proofs.path.Path.remove.Goals as goal
 
 -- the first stays, and what goes is among the others
 first_stays : (half first : ℕ) (others halves : List ℕ) → slice_index_or halves 0 0 ≢ half → first ∷ others ≡ halves → first ∷ filter (λ h. not (h == half)) others ≡ filter (λ h. not (h == half)) halves
-first_stays half first others halves stays same =
-    sym (spared_kept (λ h. h == half) first others (ne_eqb first half (λ is. stays (ap (λ (hs : List ℕ). slice_index_or hs 0 0) (sym same) ∙ is))))
-    ∙ ap (spared (λ h. h == half)) same
+first_stays half first others halves stays same = grind (arith, spared_kept, ne_eqb)
 
 pub returns : goal.returns
 returns c =

@@ -10,6 +10,4 @@ pub overflow_cast-result : goal.overflow_cast-result
 overflow_cast-result c =
     let rows : Rows = c.self.inside.embedded.now.rows in
     let most = degree_most rows (well_formed_again rows c.self.inside.lawful) c.self.invariant.1 c.args.v in
-    let total = darts_total rows.edges in
-    let few = c.self.invariant.0 in
-    let is = c.degree.ensures ∙ ap (λ (r : Rows). length (rotation r c.args.v)) c.rows.ensures in omega arith
+    grind (arith, darts_total)
