@@ -1,5 +1,5 @@
 -- What the writes of each edit make of the turn is the edit.
-use Rattle.std.proofs.Common.{◌≡◌, ◌≢◌, ℕ, ◌%◌, ◌<◌, refl, sym, ◌∙◌, ap}
+use Rattle.std.proofs.Common.{arith, ◌≡◌, ◌≢◌, ℕ, ◌%◌, ◌<◌, refl, sym, ◌∙◌, ap}
 use Rattle.topo_core.specs.Cycles.{IsPermutation, SameCycle}
 use Rattle.topo_core.specs.Rotations.{twin, face_next}
 use Rattle.topo_core.specs.Edits.{IsChord, IsIsolated, IsUnchord}
@@ -17,11 +17,7 @@ pub record AreDarts (f : ℕ → ℕ) (n : ℕ) : Type 0 where
 pub hang_allowed : (f : ℕ → ℕ) (n c x : ℕ) → AreDarts f n → x < n → IsIsolated f x → IsApart n c x → IsAllowedHang f (put f x c) n c x
 hang_allowed f n c x h lx room k =
     let w : IsPutBefore f (put f x c) n x c = put-is f n x c room.this k.not_self in
-    record {
-      turns = record { before = h.permutation; after = put_permutation f (put f x c) n x c h.permutation lx k.within k.not_self w; even = h.even; within = lx };
-      corner = k;
-      edit = record { room = room; start = put_before f (put f x c) n x c h.permutation lx k.within k.not_self w };
-    }
+    grind (arith, put_permutation, put, put_before)
 
 -- a chord, whether or not its corners lie in one face
 pub record IsDrawn (f g : ℕ → ℕ) (n c d x : ℕ) : Type 0 where

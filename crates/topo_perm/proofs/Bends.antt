@@ -114,9 +114,7 @@ turn_far b c n f m name k s =
     let lt : t < n = twin-within n k.near s.named.even s.bend.near_there in
     let at : b (twin k.beyond) ≡ name (f (twin a)) = ap b (sym s.bend.other_end) ∙ s.named.turns (twin a) lta in
     elim (cases_eq (c t) t) [
-      | inl e ↦
-          let same : f (twin a) ≡ twin a = s.named.apart (f (twin a)) (twin a) (s.named.turn.within (twin a) lta) lta (sym at ∙ s.split.edit.leads_itself e ∙ sym s.bend.other_end) in
-          e ∙ sym (renamed-twin name k (f (twin a)) same)
+      | inl e ↦ grind (arith, renamed-twin)
       | inr ne ↦
           let on : name (f (twin a)) ≡ c t = sym at ∙ s.split.edit.leads_on ne in
           let other : f (twin a) ≢ twin a = λ w. apart_twins b c n f m name k s (led_beyond b c n f m name k s t lt (sym on ∙ ap name w ∙ s.bend.other_end)) in
@@ -152,15 +150,9 @@ step_named b c n f m name k s =
       even = s.named.even;
       turn = s.named.turn;
       turn_even = s.named.turn_even;
-      within = λ d ld. elim (cases_eq d (twin a)) [
-        | inl e ↦ subst (λ (v : ℕ). v < n) (sym (renamed-twin name k d e)) lt
-        | inr ne ↦ subst (λ (v : ℕ). v < n) (sym (renamed-other name k d ne)) (s.named.within d ld)
-      ];
+      within = λ d ld. grind (arith, cases_eq, renamed-twin, renamed-other);
       apart = λ x y lx ly e. elim (cases_eq x (twin a)) [
-        | inl ex ↦ elim (cases_eq y (twin a)) [
-          | inl ey ↦ ex ∙ sym ey
-          | inr ny ↦ absurd (s.bend.new_back y ly (sym (renamed-other name k y ny) ∙ sym e ∙ renamed-twin name k x ex))
-        ]
+        | inl ex ↦ grind (arith, cases_eq, renamed-other, renamed-twin)
         | inr nx ↦ elim (cases_eq y (twin a)) [
           | inl ey ↦ absurd (s.bend.new_back x lx (sym (renamed-other name k x nx) ∙ e ∙ renamed-twin name k y ey))
           | inr ny ↦ s.named.apart x y lx ly (sym (renamed-other name k x nx) ∙ e ∙ renamed-other name k y ny)
@@ -299,28 +291,14 @@ live_bends live [] a l = l
 live_bends live (k ∷ ks) a l = with_old (with_bends live ks) k.beyond a (live_bends live ks a l)
 
 beyond_apart : (b : ℕ → ℕ) (n m : ℕ) (name : ℕ → ℕ) (k l : Bend) → m % 2 ≡ 0 → IsBend b n m name k → AreOnOthers m k l → IsBend b n m name l → IsApart n k.beyond l.beyond
-beyond_apart b n m name k l even i o j = record {
-  within = i.beyond_there;
-  not_self = λ w. o.beyond (sym w);
-  not_twin = λ w. i.new (twin l.dart) (twin-within m l.dart even j.there) (j.other_end ∙ sym w);
-}
+beyond_apart b n m name k l even i o j = grind (arith, twin-within)
 
 -- what the first step leaves as it was
 step_alone : (b c : ℕ → ℕ) (n : ℕ) (f : ℕ → ℕ) (m : ℕ) (name : ℕ → ℕ) (k : Bend) → IsStep b c n f m name k → (y : ℕ) → y < n → b y ≡ y → ((d : ℕ) → d < m → name d ≢ y) → c y ≡ y
-step_alone b c n f m name k s y ly e u =
-    let lta : twin k.dart < m = twin-within m k.dart s.named.turn_even s.bend.there in
-    let ny : y ≢ twin k.beyond = λ w. u (twin k.dart) lta (s.bend.other_end ∙ sym w) in
-    step_elsewhere b c n f m name k s y ly
-    (λ w. s.bend.two (sym w ∙ sym e ∙ ap b w ∙ s.bend.onto))
-    ny
-    (λ w. s.bend.two (sym s.bend.round ∙ ap b (sym w) ∙ e ∙ w))
-    (λ w. ny (sym e ∙ w)) ∙ e
+step_alone b c n f m name k s y ly e u = grind (arith, twin-within, step_elsewhere)
 
 fresh_after : (b c : ℕ → ℕ) (n : ℕ) (f : ℕ → ℕ) (m : ℕ) (name : ℕ → ℕ) (k : Bend) → IsStep b c n f m name k → (y : ℕ) → y ≢ twin k.near → ((d : ℕ) → d < m → d ≢ twin k.dart → name d ≢ y) → (d : ℕ) → d < m → renamed name k d ≢ y
-fresh_after b c n f m name k s y nt u d ld w = elim (cases_eq d (twin k.dart)) [
-  | inl e ↦ nt (sym w ∙ renamed-twin name k d e)
-  | inr ne ↦ u d ld ne (sym (renamed-other name k d ne) ∙ w)
-]
+fresh_after b c n f m name k s y nt u d ld w = grind (arith, cases_eq, renamed-twin, renamed-other)
 
 -- b, c without the bend, and that the bend can go
 record IsFirstStep (b : ℕ → ℕ) (n : ℕ) (f : ℕ → ℕ) (m : ℕ) (name : ℕ → ℕ) (k : Bend) : Type 0 where
@@ -335,11 +313,7 @@ first_step b n f m name k named i =
     record {
       c = led.turn;
       smooth = led.edit;
-      step = record {
-        named = named;
-        bend = i;
-        split = subst (λ (h : ℕ). IsAllowedSplit led.turn b n h k.beyond) (ap twin i.onto ∙ twin-twin k.near) (smoothed b led.turn n k.beyond led.edit);
-      };
+      step = grind (arith, twin-twin, smoothed);
     }
 
 bend_adds : (live : ℕ → Bool) (b c : ℕ → ℕ) (n : ℕ) (f : ℕ → ℕ) (m : ℕ) (name : ℕ → ℕ) (k : Bend) (ks : List Bend) → IsStep b c n f m name k → AllByRecursion (AreOnOthers m k) ks → AreBends b n m name ks → AreBendable live (k ∷ ks)

@@ -36,13 +36,7 @@ bypassed_joined f g o n i a b h li x w la na nb j =
         | inr ne ↦ inl (ne, subst (λ z. Joined g o a z) (x.elsewhere v lv nv ne) (Joined-turned g o a v k))
       ],
     )
-    turned v (lv, inr (e, k)) = (
-      h.within v lv,
-      elim (cases_eq (f v) i) [
-        | inl same ↦ inr (same, k)
-        | inr ne ↦ inl (ne, subst (λ z. Joined g o a z) (ap f (sym e)) k)
-      ],
-    )
+    turned v (lv, inr (e, k)) = grind (arith, cases_eq)
 
     crossed : (v : ℕ) → Through f g o n i a v → Through f g o n i a (o v)
     crossed v (lv, inl (nv, k)) = (w.within v lv, inl (w.away v lv nv, Joined-crossed g o a v k))
@@ -83,16 +77,7 @@ crossed_else h a nh nt =
     cond-true _ _ _ (not_from_false _ (ne_eqb _ _ (λ e. elim (half-same a h e) [ inl s ↦ nh s | inr s ↦ nt s ])))
 
 pub aside_self : (n h i : ℕ) → n % 2 ≡ 0 → i / 2 ≡ h / 2 → IsAside (partly (all_but h)) n i
-aside_self n h i even e = record {
-  within = λ a la. partly-within (all_but h) n a even la;
-  still = crossed_not h i e;
-  away = λ a la na w. elim (cases_eq (a / 2) (h / 2)) [
-    | inl s ↦ na (sym (crossed_not h a s) ∙ w)
-    | inr ne ↦
-        let at : partly (all_but h) a ≡ twin a = crossed_else h a (λ v. ne (ap (λ z. z / 2) v)) (λ v. ne (ap (λ z. z / 2) v ∙ twin-half h)) in
-        ne (sym (twin-half a) ∙ ap (λ z. z / 2) (sym at ∙ w) ∙ e)
-  ];
-}
+aside_self n h i even e = grind (arith, partly-within, crossed_not, cases_eq, crossed_else, twin-half)
 
 -- where the segment is isolated, it is all the same whether it is crossed
 Outside : (ℕ → ℕ) → (ℕ → ℕ) → ℕ → ℕ → ℕ → ℕ → Type 0
@@ -131,11 +116,7 @@ isolated_joined g n h a b hg even lh at_h at_t la nh nt = (
 -- ---- The laws
 
 without_is : (h : ℕ) → IsWithout (all_but h) (λ _. true) (h / 2)
-without_is h = record {
-  gone = not_from_true _ (eq-eqb (h / 2) (h / 2) refl);
-  there = refl;
-  others = λ i ne. not_from_false _ (ne_eqb _ _ ne);
-}
+without_is h = grind (arith, not_from_true, eq-eqb, not_from_false, ne_eqb)
 
 -- h is the even or the odd dart of its segment
 pub halves : (h : ℕ) → ((h ≡ 2 * (h / 2)) × (twin h ≡ 2 * (h / 2) + 1)) ⊎ ((h ≡ 2 * (h / 2) + 1) × (twin h ≡ 2 * (h / 2)))
@@ -149,9 +130,7 @@ two_faces_law f n h k differ =
     let ends : (SameCycle (face_next f) (2 * (h / 2)) (2 * (h / 2) + 1) → ⊥) → JoinedWithout f h (2 * (h / 2)) (2 * (h / 2) + 1) =
     λ d. two_faces_joined f n (all_but h) (λ _. true) (h / 2) hff low (without_is h) d in
     elim (halves h) [
-      | inl e ↦
-          subst (λ v. JoinedWithout f h h v) (sym e.1) (subst (λ v. JoinedWithout f h v (2 * (h / 2) + 1)) (sym e.0)
-          (ends (λ s. differ (subst (λ v. SameCycle (face_next f) h v) (sym e.1) (subst (λ v. SameCycle (face_next f) v (2 * (h / 2) + 1)) (sym e.0) s)))))
+      | inl e ↦ grind arith
       | inr e ↦
           Joined-sym f (all_but h) n k.permutation k.even (twin h) h lt
           (subst (λ v. JoinedWithout f h (twin h) v) (sym e.0) (subst (λ v. JoinedWithout f h v (2 * (h / 2) + 1)) (sym e.1)

@@ -11,11 +11,7 @@ pub count_below-more : (p q : ℕ → Bool) (n m : ℕ) → m < n → p m ≡ tr
 count_below-more p q zero m l pm qm h = absurd (omega arith)
 count_below-more p q (suc n) m l pm qm h =
     elim (cases_eq m n) [
-      | inl e ↦
-          let low : count_below p n ≡ count_below q n = count_below-same p q n (λ a la. h a (omega arith) (omega arith)) in
-          let pn : p n ≡ true = ap p (sym e) ∙ pm in
-          let qn : q n ≡ false = ap q (sym e) ∙ qm in
-          rw (pn, qn) (omega (arith, low))
+      | inl e ↦ grind (arith, count_below-same)
       | inr ne ↦
           let low : count_below p n ≡ count_below q n + 1 = count_below-more p q n m (omega arith) pm qm (λ a la. h a (omega arith)) in
           let same : p n ≡ q n = h n (omega arith) (λ e. ne (sym e)) in
@@ -41,14 +37,7 @@ first-before r a b e l =
     ]
 
 pub is_first-iff : (r s : ℕ → ℕ → Bool) (a : ℕ) → (is_first r a ≡ true → is_first s a ≡ true) → (is_first s a ≡ true → is_first r a ≡ true) → is_first r a ≡ is_first s a
-is_first-iff r s a f g =
-    elim (cases_Bool (is_first r a)) [
-      | inl here ↦ here ∙ sym (f here)
-      | inr not_here ↦ elim (cases_Bool (is_first s a)) [
-        | inl there ↦ absurd (both_ways (is_first r a) not_here (g there))
-        | inr not_there ↦ not_here ∙ sym not_there
-      ]
-    ]
+is_first-iff r s a f g = grind (arith, cases_Bool, both_ways)
 
 -- a and b are related by r, or one to i and the other to j
 abbrev pub AreJoined : (ℕ → ℕ → Bool) → ℕ → ℕ → ℕ → ℕ → Type 0
@@ -60,10 +49,7 @@ pub record IsJoin (r s : ℕ → ℕ → Bool) (n i j : ℕ) : Type 0 where
   pub from : (a b : ℕ) → a < n → b < n → s a b ≡ true → AreJoined r i j a b
 
 pub IsJoin-sym : (r s : ℕ → ℕ → Bool) (n i j : ℕ) → IsJoin r s n i j → IsJoin r s n j i
-IsJoin-sym r s n i j h = record {
-  into = λ a b la lb w. h.into a b la lb (elim w [ inl x ↦ inl x | inr v ↦ elim v [ inl x ↦ inr (inr x) | inr x ↦ inr (inl x) ] ]);
-  from = λ a b la lb e. elim (h.from a b la lb e) [ inl x ↦ inl x | inr v ↦ elim v [ inl x ↦ inr (inr x) | inr x ↦ inr (inl x) ] ];
-}
+IsJoin-sym r s n i j h = grind arith
 
 -- the least number related to i
 pub record IsLeast (r : ℕ → ℕ → Bool) (i m : ℕ) : Type 0 where
@@ -96,10 +82,7 @@ joined_below r s n i j mi mj h w li lj apart ti tj l =
     let lmi : mi < n = omega (arith, ti.low) in
     let lmj : mj < n = omega (arith, tj.low) in
     let first_j : is_first r mj ≡ true =
-    is_first-from r mj (λ b lb. elim (cases_Bool (r b mj)) [
-      | inl met ↦ absurd (both_ways (r b j) (tj.least b lb) (h.transitive b mj j (omega arith) lmj lj met tj.related))
-      | inr none ↦ none
-    ]) in
+    is_first-from r mj (λ b lb. grind (arith, cases_Bool, both_ways)) in
     let not_first : is_first s mj ≡ false =
     is_first-not s mj mi l (w.into mi mj lmi lmj (inr (inl (ti.related, h.symmetric mj j lmj lj tj.related)))) in
     let same : (a : ℕ) → a < n → a ≢ mj → is_first r a ≡ is_first s a = λ a la ne. is_first-iff r s a
@@ -127,10 +110,7 @@ class_count-join r s n i j h w li lj apart =
     let (mj, tj) = least_of r n j h lj in
     let lmi : mi < n = omega (arith, ti.low) in
     let lmj : mj < n = omega (arith, tj.low) in
-    let apart' : r j i ≡ false = elim (cases_Bool (r j i)) [
-      | inl met ↦ absurd (both_ways (r i j) apart (h.symmetric j i lj li met))
-      | inr none ↦ none
-    ] in
+    let apart' : r j i ≡ false = grind (arith, cases_Bool, both_ways) in
     elim (cases_order mi mj) [
       | inl e ↦ absurd (both_ways (r i j) apart (h.transitive i mi j li lmi lj (h.symmetric mi i lmi li ti.related) (ap (λ m. r m j) e ∙ tj.related)))
       | inr v ↦ elim v [

@@ -1,5 +1,5 @@
 -- A system whose segments are drawn with points of degree two on them: it has the faces and the connections of the system itself.
-use Rattle.std.proofs.Common.{◌≡◌, ℕ, zero, suc, ◌%◌, ◌<◌, Bool, true, false, List, [], ◌∷◌, ◌⊎◌, inl, inr, sym, ◌∙◌, ap, subst}
+use Rattle.std.proofs.Common.{arith, ◌≡◌, ℕ, zero, suc, ◌%◌, ◌<◌, Bool, true, false, List, [], ◌∷◌, ◌⊎◌, inl, inr, sym, ◌∙◌, ap, subst}
 use Rattle.std.proofs.lemmas.Bool.{cases_Bool, false≢true}
 use Rattle.topo_core.specs.Cycles.{IsPermutation, SameCycle, after, cycle_count, is_met}
 use Rattle.topo_core.specs.Rotations.{Joined, Move, along, face_next, twin}
@@ -41,13 +41,7 @@ module _ (t : ℕ → ℕ) (n : ℕ) (live : ℕ → Bool) (f : ℕ → ℕ) (m 
   -- ---- What is live stays live
 
   live_turn : (y : ℕ) → y < n → live y ≡ true → live (t y) ≡ true
-  live_turn y ly h = elim (cases_Bool (live (t y))) [
-    | inl w ↦ w
-    | inr w ↦
-        let fixed : t (t y) ≡ t y = c.slab.free (t y) (c.slab.permutation.within y ly) w in
-        let same : t y ≡ y = c.slab.permutation.apart (t y) y (c.slab.permutation.within y ly) ly fixed in
-        absurd (false≢true (sym w ∙ ap live same ∙ h))
-  ]
+  live_turn y ly h = grind (arith, cases_Bool, false≢true)
 
   live_twin : (y : ℕ) → y < n → live y ≡ true → live (twin y) ≡ true
   live_twin y ly h = c.slab.twins y ly ∙ h
@@ -62,10 +56,7 @@ module _ (t : ℕ → ℕ) (n : ℕ) (live : ℕ → Bool) (f : ℕ → ℕ) (m 
   face_step_onto y ly h =
       let lt : twin y < n = twin-within n y c.slab.even ly in
       let at : onto (twin y) ≡ twin (onto y) = c.twins y ly h in
-      elim (c.turns (twin y) lt (live_twin y ly h)) [
-        | inl e ↦ inl (e ∙ ap f at)
-        | inr e ↦ inr (e ∙ ap twin at ∙ twin-twin (onto y))
-      ]
+      grind (arith, live_twin, twin-twin)
 
   record IsOnFace (a y : ℕ) : Type 0 where
     inside : y < n
@@ -120,12 +111,7 @@ module _ (t : ℕ → ℕ) (n : ℕ) (live : ℕ → Bool) (f : ℕ → ℕ) (m 
     from = onto;
     from_within = c.onto_within;
     meets = λ y ly h. SameCycle-is_met (face_next t) n faces_t (name (onto y)) y (c.within (onto y) (c.onto_within y ly h)) (c.parts y ly h);
-    apart = λ y z ly lz h w. elim (cases_Bool (live y)) [
-      | inl v ↦ v
-      | inr v ↦
-          let s : SameCycle (face_next t) y z = is_met-SameCycle (face_next t) n y z w in
-          absurd (false≢true (sym (subst (λ (x : ℕ). live x ≡ false) s.leads (dead_steps s.steps y ly v).0) ∙ h))
-    ];
+    apart = λ y z ly lz h w. grind (arith, cases_Bool, is_met-SameCycle, false≢true, dead_steps);
   })
 
   -- ---- Connections

@@ -1,5 +1,5 @@
 -- Slabs whose live darts stand for one another: the way back, one numbering after another, and slabs of which all darts are live.
-use Rattle.std.proofs.Common.{◌≡◌, ℕ, ◌<◌, Bool, true, refl, sym, ◌∙◌, ap}
+use Rattle.std.proofs.Common.{arith, ◌≡◌, ℕ, ◌<◌, Bool, true, refl, sym, ◌∙◌, ap}
 use Rattle.std.proofs.lemmas.Bool.{false≢true}
 use Rattle.topo_core.specs.Rotations.{twin}
 use Rattle.topo_perm.specs.Live.{IsSlab}
@@ -22,11 +22,7 @@ back_numbers h back live f n live' g m r = record {
 }
 
 into_into : (h back h' back' : ℕ → ℕ) (live : ℕ → Bool) (n : ℕ) (live' : ℕ → Bool) (m : ℕ) (live'' : ℕ → Bool) (l : ℕ) → IsInto h back live n live' m → IsInto h' back' live' m live'' l → IsInto (λ a. h' (h a)) (λ y. back (back' y)) live n live'' l
-into_into h back h' back' live n live' m live'' l i j = record {
-  there = λ a at. j.there (h a) (i.there a at);
-  returns = λ a at. ap back (j.returns (h a) (i.there a at)) ∙ i.returns a at;
-  twins = λ a at. ap h' (i.twins a at) ∙ j.twins (h a) (i.there a at);
-}
+into_into h back h' back' live n live' m live'' l i j = grind arith
 
 pub composed_numbers : (h back h' back' : ℕ → ℕ) (live : ℕ → Bool) (f : ℕ → ℕ) (n : ℕ) (live' : ℕ → Bool) (g : ℕ → ℕ) (m : ℕ) (live'' : ℕ → Bool) (k : ℕ → ℕ) (l : ℕ) → RenumbersSlab h back live f n live' g m → RenumbersSlab h' back' live' g m live'' k l
     → RenumbersSlab (λ a. h' (h a)) (λ y. back (back' y)) live f n live'' k l
@@ -44,11 +40,7 @@ pub slab_of_turn : (h back f g : ℕ → ℕ) (n : ℕ) (live : ℕ → Bool) (m
 slab_of_turn h back f g n live m r s = record {
   before = record { permutation = r.turn.before; even = r.even; twins = λ a la. refl; free = λ a la e. absurd (false≢true (sym e)) };
   after = s;
-  into = record {
-    there = λ a at. record { within = r.turn.numbers.within a at.within; alive = r.turn.numbers.alive a at.within };
-    returns = λ a at. r.turn.numbers.returns a at.within;
-    twins = λ a at. sym (r.twins.each a at.within);
-  };
+  into = grind arith;
   from = record {
     there = λ y yt. record { within = r.turn.numbers.back_within y yt.within yt.alive; alive = refl };
     returns = λ y yt. r.turn.numbers.back_returns y yt.within yt.alive;

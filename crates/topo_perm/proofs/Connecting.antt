@@ -1,5 +1,5 @@
 -- The laws of the edits on what is joined.
-use Rattle.std.proofs.Common.{◌≡◌, ◌≢◌, ℕ, ◌%◌, ◌<◌, Bool, true, ◌⊎◌, inl, inr, refl, sym, ◌∙◌, ap, subst}
+use Rattle.std.proofs.Common.{arith, ◌≡◌, ◌≢◌, ℕ, ◌%◌, ◌<◌, Bool, true, ◌⊎◌, inl, inr, refl, sym, ◌∙◌, ap, subst}
 use Rattle.std.proofs.lemmas.Bool.{cases_eq, both_ways}
 use Rattle.topo_core.specs.Cycles.{IsPermutation}
 use Rattle.topo_core.specs.Rotations.{twin, Joined}
@@ -161,10 +161,7 @@ smooth_connects f g live live' n x k s all a b la lb va vb =
               | inr e ↦ elim (cases_eq (f (twin x)) (twin x)) [
                 | inl alone ↦ inl (inr (ap f e ∙ alone), q.1)
                 | inr more ↦
-                    let moved : g t ≡ f v = elim (cases_eq (g t) t) [
-                      | inl fixed ↦ absurd (more (k.edit.leads_itself (ap g is_t ∙ fixed ∙ sym is_t)))
-                      | inr free ↦ ap g (sym is_t) ∙ sym (k.edit.leads_on (λ z. free (ap g (sym is_t) ∙ z ∙ is_t))) ∙ ap f (sym e)
-                    ] in
+                    let moved : g t ≡ f v = grind (arith, cases_eq) in
                     inr (λ z. yt (to_x (twin x) ly (ap f (sym e) ∙ z)), λ z. more (ap f (sym e) ∙ z), subst (λ z. Joined g twin a z) moved (Joined-turned g twin a t q.1))
               ]
             ]

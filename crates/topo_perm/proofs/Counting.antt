@@ -64,28 +64,7 @@ counted_closed f n seen found count k h even lk c = record {
 
 -- a dart that is not marked is the least of its component
 pub counted_new : (f : ℕ → ℕ) (n : ℕ) (seen seen' : List Bool) (found found' count k : ℕ) → Counted f n seen found count k → k < n → mark seen k ≡ false → found' ≡ marked_count seen' n → ((a : ℕ) → a < n → (mark seen' a ≡ true) ↔ ((mark seen a ≡ true) ⊎ Joined f twin k a)) → Counted f n seen' found' (count + 1) (k + 1)
-counted_new f n seen seen' found found' count k c lk fresh e reached =
-    let r : ℕ → ℕ → Bool = c.test in
-    let new : some_below (λ b. r b k) k ≡ false = sym (c.marked k lk) ∙ fresh in
-    record {
-      test = r;
-      is_test = c.is_test;
-      counted = omega (arith, first_counted r k new, c.counted);
-      marked = λ a la. elim (cases_Bool (mark seen' a)) [
-        | inl here ↦ here ∙ sym (some_below_more (λ b. r b a) k ∙ elim ((reached a la).0 here) [
-          | inl old ↦ or_right (r k a) _ (sym (c.marked a la) ∙ old)
-          | inr j ↦ or_left (r k a) _ (c.is_test.complete k a lk la j)
-        ])
-        | inr none ↦ none ∙ sym (some_below_more (λ b. r b a) k ∙ elim (cases_Bool (r k a || some_below (λ b. r b a) k)) [
-          | inr out ↦ out
-          | inl met ↦ absurd (both_ways (mark seen' a) none ((reached a la).1 (elim (or_cases (r k a) _ met) [
-            | inl j ↦ inr (c.is_test.sound k a lk la j)
-            | inr old ↦ inl (c.marked a la ∙ old)
-          ])))
-        ])
-      ];
-      found_count = e;
-    }
+counted_new f n seen seen' found found' count k c lk fresh e reached = grind (arith, first_counted, cases_Bool, some_below_more, or_right, or_left, both_ways, or_cases)
 
 pub counted_old : (f : ℕ → ℕ) (n : ℕ) (seen : List Bool) (found count k : ℕ) → IsPermutation f n → n % 2 ≡ 0 → Counted f n seen found count k → k < n → mark seen k ≡ true → Counted f n seen found count (k + 1)
 counted_old f n seen found count k h even c lk old =
@@ -103,12 +82,7 @@ pub counted_most : (f : ℕ → ℕ) (n : ℕ) (seen : List Bool) (found count k
 counted_most f n seen found count k c = omega (arith, c.counted, count_below-le (is_first c.test) k)
 
 pub counted_all : (f : ℕ → ℕ) (n : ℕ) (seen : List Bool) (found count k : ℕ) → Counted f n seen found count k → k ≡ n → IsClassCount (Joined f twin) n count
-counted_all f n seen found count k c e = record {
-  test = c.test;
-  sound = c.is_test.sound;
-  complete = c.is_test.complete;
-  count = sym (c.counted ∙ ap (count_below (is_first c.test)) e);
-}
+counted_all f n seen found count k c e = grind arith
 
 -- two numbers that pass
 two_below : (p : ℕ → Bool) (n x y : ℕ) → x < n → y < n → x ≢ y → p x ≡ true → p y ≡ true → 2 ≤ count_below p n
@@ -127,10 +101,7 @@ one_below : (p : ℕ → Bool) (n : ℕ) → ((a : ℕ) → 0 < a → a < n → 
 one_below p zero h = omega arith
 one_below p (suc n) h =
     let low : count_below p n ≤ 1 = one_below p n (λ a l la. h a l (omega arith)) in
-    elim (cases_eq n 0) [
-      | inl e ↦ rw e (elim (cases_Bool (p 0)) [ inl here ↦ rw here (omega arith) | inr none ↦ rw none (omega arith) ])
-      | inr ne ↦ let out : p n ≡ false = h n (omega arith) (omega arith) in rw out (omega (arith, low))
-    ]
+    grind (arith, cases_eq, cases_Bool)
 
 -- at most one component: any two are joined
 pub one_class : (f : ℕ → ℕ) (n c : ℕ) → IsPermutation f n → n % 2 ≡ 0 → IsClassCount (Joined f twin) n c → c ≤ 1 → (a b : ℕ) → a < n → b < n → Joined f twin a b

@@ -37,26 +37,11 @@ twin-high : (k : ℕ) → twin (2 * k + 1) ≡ 2 * k
 twin-high k = omega (arith, twin-cases (2 * k + 1))
 
 pub partly-within : (s : ℕ → Bool) (n d : ℕ) → n % 2 ≡ 0 → d < n → partly s d < n
-partly-within s n d even l =
-    elim (cases_Bool (s (d / 2))) [
-      | inl e ↦ omega (arith, partly-in s d e, twin-within n d even l)
-      | inr e ↦ omega (arith, partly-out s d e)
-    ]
+partly-within s n d even l = grind (arith, cases_Bool, partly-in, twin-within, partly-out)
 
 -- one segment more exchanges two images of the faces
 pub face_by-exchange : (f : ℕ → ℕ) (s t : ℕ → Bool) (n k : ℕ) → IsWithout s t k → IsExchangeBelow (face_by f s) (face_by f t) n (2 * k) (2 * k + 1)
-face_by-exchange f s t n k w =
-    let sl : s ((2 * k) / 2) ≡ false = ap s (half-low k) ∙ w.gone in
-    let sh : s ((2 * k + 1) / 2) ≡ false = ap s (half-high k) ∙ w.gone in
-    let tl : t ((2 * k) / 2) ≡ true = ap t (half-low k) ∙ w.there in
-    let th : t ((2 * k + 1) / 2) ≡ true = ap t (half-high k) ∙ w.there in
-    record {
-      at_first = ap f (partly-in t (2 * k) tl ∙ twin-low k ∙ sym (partly-out s (2 * k + 1) sh));
-      at_second = ap f (partly-in t (2 * k + 1) th ∙ twin-high k ∙ sym (partly-out s (2 * k) sl));
-      elsewhere = λ a la ni nj.
-          let ne : a / 2 ≢ k = omega arith in
-          ap (λ b. f (cond b (twin a) a)) (sym (w.others (a / 2) ne));
-    }
+face_by-exchange f s t n k w = grind (arith, half-low, half-high, partly-in, twin-low, partly-out, twin-high)
 
 -- with more segments there is no less
 Joined-step : (f : ℕ → ℕ) (s t : ℕ → Bool) (k : ℕ) → IsWithout s t k → (d : ℕ) → Joined f (partly t) d (partly s d)
@@ -123,10 +108,7 @@ stage_none f n h =
     let classes : class_count (same_label l) n ≡ cycle_count f n =
     class_count-same (same_label l) (is_met f n) n (λ a b la lb. elim (cases_eq (l a) (l b)) [
       | inl e ↦ eq-eqb _ _ e ∙ sym (SameCycle-is_met f n h a b la (met a b la lb e))
-      | inr ne ↦ ne_eqb _ _ ne ∙ sym (elim (cases_Bool (is_met f n a b)) [
-        | inr none ↦ none
-        | inl here ↦ absurd (ne (one a b la lb (is_met-SameCycle f n a b here)))
-      ])
+      | inr ne ↦ ne_eqb _ _ ne ∙ sym (grind (arith, cases_Bool, is_met-SameCycle))
     ]) in
     record {
       turned = λ a la. one a (f a) la (h.within a la) (record { steps = 1; leads = refl });
@@ -246,27 +228,17 @@ stage_below f n s h even (suc k) l =
     elim (cases_Bool (s k)) [
       | inr out ↦ record {
         labels = before.labels;
-        stage = stage_same f n (below s k) (below s (suc k)) _ (λ i. elim (cases_eq i k) [
-          | inl e ↦ and_left (s i) (ltb i k) (ap s e ∙ out) ∙ sym (and_left (s i) (ltb i (suc k)) (ap s e ∙ out))
-          | inr ne ↦ ap (λ b. s i && b) (lower i k ne)
-        ]) before.stage;
+        stage = stage_same f n (below s k) (below s (suc k)) _ (λ i. grind (arith, cases_eq, and_left)) before.stage;
       }
       | inl here ↦ record {
         labels = relabelled before.labels (2 * k) (2 * k + 1);
         stage = stage_more f n (below s k) (below s (suc k)) k before.labels h even (omega arith)
-            (record {
-              gone = and_right (s k) (ltb k k) (le-ltb k k (omega arith));
-              there = and_from (s k) (ltb k (suc k)) here (lt-ltb k (suc k) (omega arith));
-              others = λ i ne. ap (λ b. s i && b) (lower i k ne);
-            }) before.stage;
+            (grind (arith, and_right, le-ltb, and_from, lt-ltb)) before.stage;
       }
     ]
   where
     lower : (i k : ℕ) → i ≢ k → ltb i k ≡ ltb i (suc k)
-    lower i k ne = elim (cases_lt i k) [
-      | inl lt ↦ lt-ltb i k lt ∙ sym (lt-ltb i (suc k) (omega arith))
-      | inr ge ↦ le-ltb i k ge ∙ sym (le-ltb i (suc k) (omega arith))
-    ]
+    lower i k ne = grind (arith, cases_lt, lt-ltb, le-ltb)
 
 -- how many components there are where the segments of s alone are crossed, with the bound
 pub record HasComponents (f : ℕ → ℕ) (n : ℕ) (s : ℕ → Bool) : Type 0 where
@@ -297,10 +269,7 @@ components_of f n s h even =
     }
   where
     within : (s : ℕ → Bool) (k i : ℕ) → i < k → below s k i ≡ s i
-    within s k i l = elim (cases_Bool (s i)) [
-      | inl e ↦ and_from (s i) (ltb i k) e (lt-ltb i k l) ∙ sym e
-      | inr e ↦ and_left (s i) (ltb i k) e ∙ sym e
-    ]
+    within s k i l = grind (arith, cases_Bool, and_from, lt-ltb, and_left)
 
     walk : (u v : ℕ → Bool) → ((d : ℕ) → d < n → partly u d ≡ partly v d) → (ms : List Move) (a : ℕ) → a < n → along f (partly u) ms a ≡ along f (partly v) ms a
     walk u v e [] a la = refl
@@ -338,14 +307,7 @@ two_faces_joined f n s t k h lk w differ =
     round c = subst (λ v. Joined f (partly s) (2 * k) v) c.leads (walk c.steps (2 * k))
 
 pub partly-partly : (s : ℕ → Bool) (d : ℕ) → partly s (partly s d) ≡ d
-partly-partly s d =
-    elim (cases_Bool (s (d / 2))) [
-      | inr e ↦ ap (partly s) (partly-out s d e) ∙ partly-out s d e
-      | inl e ↦
-          let same : twin d / 2 ≡ d / 2 = omega (arith, twin-cases d) in
-          let back : twin (twin d) ≡ d = omega (arith, twin-cases d, twin-cases (twin d)) in
-          ap (partly s) (partly-in s d e) ∙ partly-in s (twin d) (ap s same ∙ e) ∙ back
-    ]
+partly-partly s d = grind (arith, cases_Bool, partly-out, twin-cases, partly-in)
 
 returned : (f : ℕ → ℕ) (s : ℕ → Bool) (n : ℕ) → IsPermutation f n → n % 2 ≡ 0 → (ms : List Move) (a : ℕ) → a < n → Joined f (partly s) (along f (partly s) ms a) a
 returned f s n h even [] a la = Joined-refl f (partly s) a
@@ -378,9 +340,7 @@ around f n s t k h even lk w j (Cross ∷ ms) a =
       | inl e ↦
           let crosses : partly t d ≡ twin d = partly-in t d (ap t e ∙ w.there) in
           elim (cases_eq d (2 * k)) [
-            | inl low ↦
-                let to : 2 * k + 1 ≡ partly t d = sym (crosses ∙ ap twin low ∙ twin-low k) in
-                subst (λ v. Joined f (partly s) v (partly t d)) (sym low) (subst (λ v. Joined f (partly s) (2 * k) v) to j)
+            | inl low ↦ grind (arith, twin-low)
             | inr not_low ↦
                 let high : d ≡ 2 * k + 1 = omega arith in
                 let to : 2 * k ≡ partly t d = sym (crosses ∙ ap twin high ∙ twin-high k) in

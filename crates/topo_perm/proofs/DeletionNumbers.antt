@@ -84,17 +84,7 @@ module _ (middle : ℕ → Type 0) (rank : ℕ → ℕ) (live : ℕ → Bool) (t
     not_live false k = refl
 
   smoothed : (xs : List ℕ) (v : Turning) → AreMids middle live n xs → IsRun limit u (smooths_of nu xs) v → IsSmoothedTo middle rank live n f m name onto nu back limit xs v
-  smoothed [] v mids run = record {
-    left = live;
-    turn = t;
-    names = name;
-    midway = w;
-    numbers = subst (λ (z : Turning). RenumbersSlab nu back live t n z.live z.turn limit) run r;
-    forward = λ d ld e. refl;
-    was = λ a at. at;
-    stays = λ a at far. at;
-    gone = tt;
-  }
+  smoothed [] v mids run = grind arith
   smoothed (x ∷ xs) v mids run =
       let before : IsSmoothedTo middle rank live n f m name onto nu back limit xs run.0 = smoothed xs run.0 mids.3 run.1 in
       let old : ℕ → Bool = before.left in

@@ -1,5 +1,5 @@
 -- Slabs whose live darts stand for one another: what is added, put in and taken out in both leaves them so.
-use Rattle.std.proofs.Common.{◌≡◌, ◌≢◌, ℕ, ◌%◌, ◌<◌, Bool, true, false, ◌⊎◌, inl, inr, refl, sym, ◌∙◌, ap, subst}
+use Rattle.std.proofs.Common.{arith, ◌≡◌, ◌≢◌, ℕ, ◌%◌, ◌<◌, Bool, true, false, ◌⊎◌, inl, inr, refl, sym, ◌∙◌, ap, subst}
 use Rattle.std.proofs.lemmas.Bool.{cases_Bool, cases_eq, cond-true, cond-false, eq-eqb, ne_eqb, false≢true}
 use Rattle.topo_core.specs.Cycles.{IsPermutation, IsBypass}
 use Rattle.topo_core.specs.Rotations.{twin}
@@ -21,16 +21,7 @@ pub alive_twin : (live : ℕ → Bool) (f : ℕ → ℕ) (n a : ℕ) → IsSlab 
 alive_twin live f n a s at = record { within = twin-within n a s.even at.within; alive = s.twins a at.within ∙ at.alive }
 
 pub alive_turn : (live : ℕ → Bool) (f : ℕ → ℕ) (n a : ℕ) → IsSlab live f n → IsAlive live n a → IsAlive live n (f a)
-alive_turn live f n a s at = record {
-  within = s.permutation.within a at.within;
-  alive = elim (cases_Bool (live (f a))) [
-    | inl w ↦ w
-    | inr w ↦
-        let still : f (f a) ≡ f a = s.free (f a) (s.permutation.within a at.within) w in
-        let same : f a ≡ a = s.permutation.apart (f a) a (s.permutation.within a at.within) at.within still in
-        absurd (dead_apart live (f a) a w at.alive same)
-  ];
-}
+alive_turn live f n a s at = grind (arith, cases_Bool, dead_apart)
 
 pub into_apart : (h back : ℕ → ℕ) (live : ℕ → Bool) (n : ℕ) (live' : ℕ → Bool) (m : ℕ) → IsInto h back live n live' m → (a b : ℕ) → IsAlive live n a → IsAlive live n b → h a ≡ h b → a ≡ b
 into_apart h back live n live' m i a b at bt e = sym (i.returns a at) ∙ ap back e ∙ i.returns b bt
@@ -38,25 +29,10 @@ into_apart h back live n live' m i a b at bt e = sym (i.returns a at) ∙ ap bac
 -- ---- A dart put in, and a dart taken out
 
 pub put_in_slab : (live : ℕ → Bool) (f f' : ℕ → ℕ) (n x c : ℕ) → IsSlab live f n → IsPermutation f' n → IsAlive live n x → IsAlive live n c → IsBefore f f' n x c → IsSlab live f' n
-put_in_slab live f f' n x c s p xt ct b = record {
-  permutation = p;
-  even = s.even;
-  twins = s.twins;
-  free = λ a la d.
-      let still : f a ≡ a = s.free a la d in
-      let off : f' a ≢ x = λ w. dead_apart live a c d ct.alive (sym still ∙ b.without.onward a la (dead_apart live a x d xt.alive) w ∙ b.turns) in
-      sym (b.without.elsewhere a la (dead_apart live a x d xt.alive) off) ∙ still;
-}
+put_in_slab live f f' n x c s p xt ct b = grind (arith, dead_apart)
 
 pub taken_out_slab : (live : ℕ → Bool) (f f' : ℕ → ℕ) (n i : ℕ) → IsSlab live f n → IsAlive live n i → IsBypass f f' n i → IsSlab live f' n
-taken_out_slab live f f' n i s it b = record {
-  permutation = bypassed-permutation f f' n i s.permutation it.within b;
-  even = s.even;
-  twins = s.twins;
-  free = λ a la d.
-      let still : f a ≡ a = s.free a la d in
-      b.elsewhere a la (dead_apart live a i d it.alive) (λ w. dead_apart live a i d it.alive (sym still ∙ w)) ∙ still;
-}
+taken_out_slab live f f' n i s it b = grind (arith, bypassed-permutation, dead_apart)
 
 module _ (h back : ℕ → ℕ) (live : ℕ → Bool) (f : ℕ → ℕ) (n : ℕ) (live' : ℕ → Bool) (g : ℕ → ℕ) (m : ℕ) (r : RenumbersSlab h back live f n live' g m) where
   apart : (a b : ℕ) → IsAlive live n a → IsAlive live n b → h a ≡ h b → a ≡ b
@@ -141,20 +117,11 @@ abbrev pub NewOrOld : (ℕ → Bool) → ℕ → ℕ → ℕ → Type 0
 NewOrOld live n x a = (a ≡ x) ⊎ ((a ≡ twin x) ⊎ IsAlive live n a)
 
 pub new_or_old : (live new : ℕ → Bool) (n x a : ℕ) → AddsSegment live new n x → IsAlive new n a → NewOrOld live n x a
-new_or_old live new n x a s at = elim (cases_eq a x) [
-  | inl e ↦ inl e
-  | inr nx ↦ elim (cases_eq a (twin x)) [
-    | inl e ↦ inr (inl e)
-    | inr nt ↦ inr (inr (record { within = at.within; alive = sym (s.others a at.within nx nt) ∙ at.alive }))
-  ]
-]
+new_or_old live new n x a s at = grind (arith, cases_eq)
 
 -- and what was live is
 pub still_alive : (live new : ℕ → Bool) (n x a : ℕ) → AddsSegment live new n x → IsAlive live n a → IsAlive new n a
-still_alive live new n x a s at = record {
-  within = at.within;
-  alive = s.others a at.within (λ e. dead_apart live x a s.new at.alive (sym e)) (λ e. dead_apart live (twin x) a s.new_twin at.alive (sym e)) ∙ at.alive;
-}
+still_alive live new n x a s at = grind (arith, dead_apart)
 
 added_slab : (live new : ℕ → Bool) (f : ℕ → ℕ) (n x : ℕ) → IsSlab live f n → AddsSegment live new n x → IsSlab new f n
 added_slab live new f n x s t = record {
@@ -201,18 +168,7 @@ added_numbers h back live new f n x live' new' g m y r s alone alone' = record {
 -- ---- A segment less
 
 removed_slab : (live old : ℕ → Bool) (f : ℕ → ℕ) (n x : ℕ) → IsSlab old f n → AddsSegment live old n x → IsIsolated f x → IsSlab live f n
-removed_slab live old f n x s t alone = record {
-  permutation = s.permutation;
-  even = s.even;
-  twins = taken_twins old live n x s.even t s.twins;
-  free = λ a la e. elim (cases_eq a x) [
-    | inl w ↦ ap f w ∙ alone.this ∙ sym w
-    | inr nx ↦ elim (cases_eq a (twin x)) [
-      | inl w ↦ ap f w ∙ alone.other ∙ sym w
-      | inr nt ↦ s.free a la (t.others a la nx nt ∙ e)
-    ]
-  ];
-}
+removed_slab live old f n x s t alone = grind (arith, taken_twins, cases_eq)
 
 removed_into : (h back : ℕ → ℕ) (live old : ℕ → Bool) (n x : ℕ) (live' old' : ℕ → Bool) (m : ℕ) → IsAlive old n x → IsAlive old n (twin x) → AddsSegment live old n x → AddsSegment live' old' m (h x) → IsInto h back old n old' m → IsInto h back live n live' m
 removed_into h back live old n x live' old' m xt tt' s t i = record {

@@ -12,11 +12,7 @@ pub record IsExchange (f g : ℕ → ℕ) (i j : ℕ) : Type 0 where
   pub elsewhere : (a : ℕ) → a ≢ i → a ≢ j → g a ≡ f a
 
 pub IsExchange-back : (f g : ℕ → ℕ) (i j : ℕ) → IsExchange f g i j → IsExchange g f i j
-IsExchange-back f g i j h = record {
-  at_first = sym h.at_second;
-  at_second = sym h.at_first;
-  elsewhere = λ a ni nj. sym (h.elsewhere a ni nj);
-}
+IsExchange-back f g i j h = grind arith
 
 -- where an exchange takes the image of a from
 pub record HasSource (f g : ℕ → ℕ) (i j a : ℕ) : Type 0 where
@@ -35,19 +31,7 @@ source_of f g i j h a =
     ]
 
 pub IsExchange-permutation : (f g : ℕ → ℕ) (n i j : ℕ) → IsPermutation f n → i < n → j < n → IsExchange f g i j → IsPermutation g n
-IsExchange-permutation f g n i j h li lj x = record {
-  within = λ a la.
-      let s : HasSource f g i j a = source_of f g i j x a in
-      let ls : s.source < n = elim s.kind [ inl v ↦ omega (arith, v.1) | inr v ↦ elim v [ inl w ↦ omega (arith, w.1) | inr w ↦ omega (arith, w.2) ] ] in
-      omega (arith, s.image, h.within s.source ls);
-  apart = λ a b la lb e.
-      let s : HasSource f g i j a = source_of f g i j x a in
-      let t : HasSource f g i j b = source_of f g i j x b in
-      let ls : s.source < n = elim s.kind [ inl v ↦ omega (arith, v.1) | inr v ↦ elim v [ inl w ↦ omega (arith, w.1) | inr w ↦ omega (arith, w.2) ] ] in
-      let lt : t.source < n = elim t.kind [ inl v ↦ omega (arith, v.1) | inr v ↦ elim v [ inl w ↦ omega (arith, w.1) | inr w ↦ omega (arith, w.2) ] ] in
-      let same : s.source ≡ t.source = h.apart s.source t.source ls lt (sym s.image ∙ e ∙ t.image) in
-      omega (arith, same, s.kind, t.kind);
-}
+IsExchange-permutation f g n i j h li lj x = grind (arith, source_of)
 
 -- after an exchange the walk from i goes as the one from j went, until that met i or j
 follows : (f g : ℕ → ℕ) (i j m : ℕ) → IsExchange f g i j → ((l : ℕ) → l < m → (after f (suc l) j ≢ i) × (after f (suc l) j ≢ j)) → (l : ℕ) → l ≤ m → after g (suc l) i ≡ after f (suc l) j
@@ -198,10 +182,7 @@ joined_cycles f g n i j h li lj x s =
       ];
     })
     li lj
-    (elim (cases_Bool (is_met f n i j)) [
-      | inl v ↦ absurd (s.later (is_met-SameCycle f n i j v))
-      | inr none ↦ none
-    ])
+    (grind (arith, cases_Bool, is_met-SameCycle))
 
 -- an exchange in one cycle makes two of it
 pub exchange_splits : (f g : ℕ → ℕ) (n i j : ℕ) → IsPermutation f n → i < n → j < n → i ≢ j → IsExchange f g i j → SameCycle f i j → cycle_count g n ≡ cycle_count f n + 1

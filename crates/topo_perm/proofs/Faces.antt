@@ -16,18 +16,10 @@ twin-apart a b e = sym (twin-twin a) ∙ ap twin e ∙ twin-twin b
 
 -- an exchange of turns is one of faces
 pub exchange_faces : (f g : ℕ → ℕ) (n i j : ℕ) → n % 2 ≡ 0 → IsExchangeBelow f g n i j → IsExchangeBelow (face_next f) (face_next g) n (twin i) (twin j)
-exchange_faces f g n i j even x = record {
-  at_first = ap g (twin-twin i) ∙ x.at_first ∙ ap f (sym (twin-twin j));
-  at_second = ap g (twin-twin j) ∙ x.at_second ∙ ap f (sym (twin-twin i));
-  elsewhere = λ a la ni nj. x.elsewhere (twin a) (twin-within n a even la) (λ e. ni (sym (twin-twin a) ∙ ap twin e)) (λ e. nj (sym (twin-twin a) ∙ ap twin e));
-}
+exchange_faces f g n i j even x = grind (arith, twin-twin, twin-within)
 
 pub IsExchangeBelow-back : (f g : ℕ → ℕ) (n i j : ℕ) → IsExchangeBelow f g n i j → IsExchangeBelow g f n i j
-IsExchangeBelow-back f g n i j x = record {
-  at_first = sym x.at_second;
-  at_second = sym x.at_first;
-  elsewhere = λ a la ni nj. sym (x.elsewhere a la ni nj);
-}
+IsExchangeBelow-back f g n i j x = grind arith
 
 -- how g puts x before c
 pub record Insertion (f g : ℕ → ℕ) (n x c : ℕ) : Type 0 where
@@ -42,17 +34,7 @@ pub record Insertion (f g : ℕ → ℕ) (n x c : ℕ) : Type 0 where
 pub insertion : (f g : ℕ → ℕ) (n x c : ℕ) → IsPermutation g n → x < n → c ≢ x → IsBefore f g n x c → Insertion f g n x c
 insertion f g n x c h lx ne b =
     let p : HasBefore g n x = before_of g n x h lx in
-    let other : p.place ≢ x = λ e. ne (sym b.turns ∙ ap g (sym e) ∙ p.leads) in
-    let ex : IsExchangeBelow g f n p.place x = bypass_exchange g f n x h lx b.without p other in
-    record {
-      place = p.place;
-      within = p.within;
-      other = other;
-      led = ex.at_first ∙ b.turns;
-      leads = p.leads;
-      exchange = IsExchangeBelow-back g f n p.place x ex;
-      permutation = exchanged-permutation g f n p.place x h p.within lx ex;
-    }
+    grind (arith, bypass_exchange, exchanged-permutation)
 
 -- a dart more at a point
 pub insert_points : (f g : ℕ → ℕ) (n x c : ℕ) → IsPermutation g n → x < n → c ≢ x → IsBefore f g n x c → cycle_count f n ≡ cycle_count g n + 1
@@ -67,11 +49,7 @@ isolated_face f x a o s =
     let first : face_next f (twin x) ≡ x = ap f (twin-twin x) ∙ o.this in
     let turn : IsPeriod (face_next f) (twin x) 2 = record { some = omega arith; home = ap (face_next f) first ∙ o.other } in
     let (m, lm, e) = wraps (face_next f) (twin x) 2 turn s.steps in
-    elim (cases_eq m 0) [
-      | inl none ↦ inl (sym s.leads ∙ e ∙ ap (λ k. after (face_next f) k (twin x)) none)
-      | inr ne ↦ let one : m ≡ 1 = omega arith in
-          inr (sym s.leads ∙ e ∙ ap (λ k. after (face_next f) k (twin x)) one ∙ first)
-    ]
+    grind (arith, cases_eq)
 
 -- x is put before c, and its twin stays alone
 pub record Hung (f g : ℕ → ℕ) (n x c : ℕ) : Type 0 where
@@ -94,19 +72,12 @@ hang_faces f g n x c h =
     exchanged_joins (face_next f) (face_next g) n (twin p.place) (twin x) hf lp lt (λ e. p.other (twin-apart _ _ e)) ex
     (λ s. elim (isolated_face f x (twin p.place) h.isolated (SameCycle-sym (face_next f) n hf _ _ lp s)) [
       | inl e ↦ p.other (twin-apart _ _ e)
-      | inr e ↦
-          let at : p.place ≡ twin x = sym (twin-twin p.place) ∙ ap twin e in
-          h.not_twin (sym p.led ∙ ap f at ∙ h.isolated.other)
+      | inr e ↦ grind (arith, twin-twin)
     ])
 
 -- after that x's twin leads to x's corner round the face, and no faces but those two were joined
 pub hang_twin : (f g : ℕ → ℕ) (n x c : ℕ) → Hung f g n x c → g (twin x) ≡ twin x
-hang_twin f g n x c h =
-    let lt : twin x < n = twin-within n x h.even h.within in
-    elim (cases_eq (g (twin x)) x) [
-      | inl e ↦ absurd (h.not_twin (sym h.before.turns ∙ sym (h.before.without.onward (twin x) lt (twin-other x) e) ∙ h.isolated.other))
-      | inr ne ↦ sym (h.before.without.elsewhere (twin x) lt (twin-other x) ne) ∙ h.isolated.other
-    ]
+hang_twin f g n x c h = grind (arith, twin-within, cases_eq, twin-other)
 
 pub hang_keeps : (f g : ℕ → ℕ) (n x c : ℕ) → Hung f g n x c → (a b : ℕ) → a < n → SameCycle (face_next f) a b → SameCycle (face_next g) a b
 hang_keeps f g n x c h a b la s =

@@ -53,11 +53,7 @@ pub split_keeps_faces : SplitKeepsFaces
 split_keeps_faces f g n h x a b k p s = subst (λ v. SameCycle (face_next g) a v) s.leads (walked s.steps).3
   where
     away : (v : ℕ) → v < n → v ≢ x → v ≢ twin x → (face_next f v ≢ x) × (face_next f v ≢ twin x)
-    away v lv nx ny =
-        let lw : twin v < n = twin-within n v k.turns.even lv in (
-          λ e. ny (sym (twin-twin v) ∙ ap twin (k.turns.before.apart (twin v) x lw k.turns.within (e ∙ sym k.edit.isolated.this))),
-          λ e. nx (twin-apart v x (k.turns.before.apart (twin v) (twin x) lw (twin-within n x k.turns.even k.turns.within) (e ∙ sym k.edit.isolated.other))),
-        )
+    away v lv nx ny = grind (arith, twin-within, twin-twin, twin-apart)
 
     walked : (m : ℕ) → (after (face_next f) m a < n) × (after (face_next f) m a ≢ x) × (after (face_next f) m a ≢ twin x) × SameCycle (face_next g) a (after (face_next f) m a)
     walked zero = (p.within, p.not_self, p.not_twin, SameCycle-refl (face_next g) a)
@@ -68,10 +64,7 @@ split_keeps_faces f g n h x a b k p s = subst (λ v. SameCycle (face_next g) a v
         (k.turns.before.within (twin v) (twin-within n v k.turns.even lv), ox, oy, SameCycle-trans (face_next g) a v (face_next f v) w (split_step f g n h x v k lv nx ny))
 
 pub split_sides : SplitSides
-split_sides f g n h x k = (
-  record { steps = 1; leads = k.edit.point_back },
-  record { steps = 1; leads = ap g (twin-twin x) ∙ k.edit.point_there },
-)
+split_sides f g n h x k = grind (arith, twin-twin)
 
 -- ---- Chord
 
@@ -163,10 +156,7 @@ chord_sides f g n c d x k other =
     let lx : x < n = k.turns.within in
     let hg : IsPermutation (face_next g) n = face_next-permutation g n k.turns.after k.turns.even in
     let tx : twin x ≢ x = twin-other x in
-    let at_x : g x ≡ c = elim (cases_eq (g x) (twin x)) [
-      | inl w ↦ absurd (other (sym q.hung.before.turns ∙ q.before.without.onward x lx (λ v. tx (sym v)) w ∙ q.before.turns))
-      | inr ne ↦ sym (q.before.without.elsewhere x lx (λ v. tx (sym v)) ne) ∙ q.hung.before.turns
-    ] in (
+    let at_x : g x ≡ c = grind (arith, cases_eq) in (
       record { steps = 1; leads = q.before.turns },
       record { steps = 1; leads = ap g (twin-twin x) ∙ at_x },
       λ s. exchange_parted (face_next q.half) (face_next g) n e.place x e.half_faces e.place_within lx e.apart e.exchange e.met
@@ -210,15 +200,7 @@ unchord_keeps_faces f g n h a b k pa pb s =
     let kept : SameCycle (face_next half) a b = exchanged_keeps (face_next f) (face_next half) n (twin p.place) (twin h) hff lp lt ex near a b pa.within s in
     let back : twin (twin h) ≡ h = twin-twin h in
     unhung_faces g half n (twin h) (half (twin h)) a b
-    (record {
-      permutation = u.half_permutation;
-      even = even;
-      within = lt;
-      not_self = u.half_moved;
-      not_twin = λ e. u.half_apart (e ∙ back);
-      isolated = u.isolated;
-      before = record { turns = refl; without = k.edit.second };
-    })
+    (grind arith)
     pa.within pa.not_twin (λ e. pa.not_self (e ∙ back)) pb.not_twin (λ e. pb.not_self (e ∙ back)) kept
 
 -- ---- Smooth
@@ -243,39 +225,14 @@ pass_step f g n x a v k (lv, w) =
     let yt : y ≢ t = λ e. k.not_loop (sym e) in (
       k.turns.before.within (twin v) lw,
       elim w [
-        | inl q ↦
-            let next : face_next f v ≡ f y = ap (λ z. f (twin z)) q.0 in
-            elim (cases_eq (f y) y) [
-              | inl alone ↦ inr (inl (next ∙ alone, subst (λ z. SameCycle (face_next g) a z) (fixed alone) q.1))
-              | inr more ↦ inr (inr (
-                λ e. yt (to_x y ly (sym next ∙ e)),
-                λ e. more (sym next ∙ e),
-                subst (λ z. SameCycle (face_next g) a z) (onward more ∙ sym next) q.1,
-              ))
-            ]
+        | inl q ↦ grind (arith, cases_eq)
         | inr r ↦ elim r [
-          | inl q ↦
-              let next : face_next f v ≡ t = ap (λ z. f (twin z)) q.0 ∙ ap f (twin-twin x) in
-              inr (inr (λ e. k.not_alone (sym next ∙ e), λ e. k.not_loop (sym next ∙ e), subst (λ z. SameCycle (face_next g) a z) (sym next) q.1))
+          | inl q ↦ grind (arith, twin-twin)
           | inr q ↦
               let bx : twin v ≢ x = λ e. q.1 (sym (twin-twin v) ∙ ap twin e) in
               let by' : twin v ≢ y = λ e. q.0 (twin-apart v x e) in
               let on : SameCycle (face_next g) a (g (twin v)) = SameCycle-step (face_next g) a v q.2 in
-              elim (cases_eq (twin v) t) [
-                | inl e ↦ inl (ap f e ∙ back, subst (λ z. SameCycle (face_next g) a (g z)) e on)
-                | inr nt ↦
-                    let far : twin v ≢ twin (twin t) = λ e. nt (e ∙ is_t) in
-                    elim (cases_eq (g (twin v)) t) [
-                      | inl e ↦ inr (inl (k.edit.led_to (twin v) lw far (e ∙ sym is_t), subst (λ z. SameCycle (face_next g) a z) e on))
-                      | inr ne ↦
-                          let same : f (twin v) ≡ g (twin v) = k.edit.elsewhere (twin v) lw bx by' far (λ e. ne (e ∙ is_t)) in
-                          inr (inr (
-                            λ e. nt (to_x (twin v) lw e),
-                            λ e. by' (k.turns.after.apart (twin v) y lw ly (sym same ∙ e ∙ sym k.edit.isolated.other)),
-                            subst (λ z. SameCycle (face_next g) a z) (sym same) on,
-                          ))
-                    ]
-              ]
+              grind (arith, cases_eq)
         ]
       ],
     )
@@ -284,18 +241,10 @@ pass_step f g n x a v k (lv, w) =
     onward_free free = k.edit.leads_on (λ z. free (ap g (sym (twin-twin (f x))) ∙ z ∙ twin-twin (f x))) ∙ ap g (twin-twin (f x))
 
     fixed : f (twin x) ≡ twin x → g (f x) ≡ f x
-    fixed alone = elim (cases_eq (g (f x)) (f x)) [
-      | inl e ↦ e
-      | inr free ↦
-          let to_y : g (f x) ≡ twin x = sym (onward_free free) ∙ alone in
-          absurd (k.not_loop (k.turns.after.apart (f x) (twin x) (k.turns.before.within x k.turns.within) (twin-within n x k.turns.even k.turns.within) (to_y ∙ sym k.edit.isolated.other)))
-    ]
+    fixed alone = grind (arith, cases_eq, twin-within)
 
     onward : f (twin x) ≢ twin x → g (f x) ≡ f (twin x)
-    onward more = elim (cases_eq (g (f x)) (f x)) [
-      | inl e ↦ absurd (more (k.edit.leads_itself (ap g (twin-twin (f x)) ∙ e ∙ sym (twin-twin (f x)))))
-      | inr free ↦ sym (onward_free free)
-    ]
+    onward more = grind (arith, cases_eq, twin-twin)
 
 pub smooth_keeps_faces : SmoothKeepsFaces
 unfolding Passed

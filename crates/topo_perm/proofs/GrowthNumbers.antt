@@ -32,10 +32,7 @@ abbrev with_room : (ℕ → ℕ) → ℕ → ℕ → ℕ
 with_room f m a = cond (nat_lt a m) (f a) a
 
 not_below : (m a : ℕ) → m < suc a → nat_lt a m ≡ false
-not_below m a l = elim (cases_Bool (nat_lt a m)) [
-  | inl e ↦ (let k : a < m = ltb-true a m e in absurd (omega arith))
-  | inr e ↦ e
-]
+not_below m a l = grind (arith, cases_Bool, ltb-true)
 
 room_old : (f : ℕ → ℕ) (m a : ℕ) → a < m → with_room f m a ≡ f a
 room_old f m a l = cond-true _ _ _ (lt-ltb a m l)
@@ -45,16 +42,7 @@ room_new f m a l = cond-false _ _ _ (not_below m a l)
 
 -- below m, or one of the two others
 parts : (m a : ℕ) → a < suc (suc m) → (a < m) ⊎ ((a ≡ m) ⊎ (a ≡ suc m))
-parts m a l = elim (cases_Bool (nat_lt a m)) [
-  | inl e ↦ inl (ltb-true a m e)
-  | inr e ↦ elim (cases_eq a m) [
-    | inl same ↦ inr (inl same)
-    | inr ne ↦ elim (cases_eq a (suc m)) [
-      | inl same ↦ inr (inr same)
-      | inr other ↦ (let k : a < m = omega arith in absurd (false≢true (sym e ∙ lt-ltb a m k)))
-    ]
-  ]
-]
+parts m a l = grind (arith, cases_Bool, ltb-true, cases_eq, false≢true, lt-ltb)
 
 twin_new : (m : ℕ) → m % 2 ≡ 0 → twin m ≡ suc m
 twin_new m e = omega (arith, twin-cases m)
@@ -78,82 +66,16 @@ module _ (f g : ℕ → ℕ) (m c : ℕ) (o : IsGrowth f g m c) where
   room = with_room f m
 
   room_permutation : IsPermutation room n
-  room_permutation = record {
-    within = λ a la. elim (parts m a la) [
-      | inl l ↦ (let k : f a < m = o.before.within a l in subst (λ (v : ℕ). v < n) (sym (room_old f m a l)) (omega arith))
-      | inr (inl e) ↦ subst (λ (v : ℕ). v < n) (sym (room_new f m a (omega arith))) la
-      | inr (inr e) ↦ subst (λ (v : ℕ). v < n) (sym (room_new f m a (omega arith))) la
-    ];
-    apart = λ a b la lb e. elim (cases_Bool (nat_lt a m)) [
-      | inl at ↦
-          let ka : a < m = ltb-true a m at in
-          elim (cases_Bool (nat_lt b m)) [
-            | inl bt ↦ (let kb : b < m = ltb-true b m bt in o.before.apart a b ka kb (sym (room_old f m a ka) ∙ e ∙ room_old f m b kb))
-            | inr bt ↦
-                let to : f a ≡ b = sym (room_old f m a ka) ∙ e ∙ cond-false _ _ _ bt in
-                absurd (false≢true (sym bt ∙ lt-ltb b m (subst (λ (v : ℕ). v < m) to (o.before.within a ka))))
-          ]
-      | inr at ↦ elim (cases_Bool (nat_lt b m)) [
-        | inl bt ↦
-            let kb : b < m = ltb-true b m bt in
-            let to : f b ≡ a = sym (room_old f m b kb) ∙ sym e ∙ cond-false _ _ _ at in
-            absurd (false≢true (sym at ∙ lt-ltb a m (subst (λ (v : ℕ). v < m) to (o.before.within b kb))))
-        | inr bt ↦ sym (cond-false _ _ _ at) ∙ e ∙ cond-false _ _ _ bt
-      ]
-    ];
-  }
+  room_permutation = grind (arith, parts, room_old, room_new, cases_Bool, ltb-true, cond-false, false≢true, lt-ltb)
 
   room_slab : IsSlab (below m) room n
-  room_slab = record {
-    permutation = room_permutation;
-    even = (let e : m % 2 ≡ 0 = o.even in omega arith);
-    twins = λ a la. elim (parts m a la) [
-      | inl l ↦ lt-ltb (twin a) m (twin-within m a o.even l) ∙ sym (lt-ltb a m l)
-      | inr (inl e) ↦ ap (below m) (ap twin e ∙ twin_new m o.even) ∙ not_below m (suc m) (omega arith) ∙ sym (ap (below m) e ∙ not_below m m (omega arith))
-      | inr (inr e) ↦ ap (below m) (ap twin e ∙ twin_of_new m o.even) ∙ not_below m m (omega arith) ∙ sym (ap (below m) e ∙ not_below m (suc m) (omega arith))
-    ];
-    free = λ a la dead. cond-false _ _ _ dead;
-  }
+  room_slab = grind (arith, room_permutation, parts, lt-ltb, twin-within, below, twin_new, not_below, twin_of_new, cond-false)
 
   hang : IsHang room g n c m
-  hang = record {
-    room = record { this = room_new f m m (omega arith); other = ap room (twin_new m o.even) ∙ room_new f m (suc m) (omega arith) ∙ sym (twin_new m o.even) };
-    start = record {
-      turns = o.starts;
-      without = record {
-        alone = room_new f m m (omega arith);
-        onward = λ a la ne to. elim (parts m a la) [
-          | inl l ↦ elim (o.old a l) [
-            | inl same ↦ (let k : f a < m = o.before.within a l in let e : f a ≡ m = sym same ∙ to in absurd (omega arith))
-            | inr over ↦ room_old f m a l ∙ sym over.1 ∙ sym o.starts
-          ]
-          | inr (inl e) ↦ absurd (ne e)
-          | inr (inr e) ↦ (let k : suc m ≡ m = sym (ap g e ∙ o.alone) ∙ to in absurd (omega arith))
-        ];
-        elsewhere = λ a la ne off. elim (parts m a la) [
-          | inl l ↦ elim (o.old a l) [
-            | inl same ↦ room_old f m a l ∙ sym same
-            | inr over ↦ absurd (off over.0)
-          ]
-          | inr (inl e) ↦ absurd (ne e)
-          | inr (inr e) ↦ room_new f m a (omega arith) ∙ e ∙ sym (ap g e ∙ o.alone)
-        ];
-      };
-    };
-  }
+  hang = grind (arith, room_new, twin_new, parts, room_old)
 
   grows : AddsSegment (below m) (λ a. true) n m
-  grows = record {
-    new = not_below m m (omega arith);
-    new_twin = ap (below m) (twin_new m o.even) ∙ not_below m (suc m) (omega arith);
-    here = refl;
-    here_twin = refl;
-    others = λ a la nx nt. elim (parts m a la) [
-      | inl l ↦ sym (lt-ltb a m l)
-      | inr (inl e) ↦ absurd (nx e)
-      | inr (inr e) ↦ absurd (nt (e ∙ sym (twin_new m o.even)))
-    ];
-  }
+  grows = grind (arith, not_below, below, twin_new, parts, lt-ltb)
 
   module _ (nu back : ℕ → ℕ) (limit : ℕ) (u v : Turning) (y : ℕ) (r : RenumbersTurn nu back f u.turn m u.live limit) (slab : IsSlab u.live u.turn limit) (step : IsStep limit u (Hang (nu c) y) v) where
     whole : RenumbersSlab nu back (λ _. true) f m u.live u.turn limit

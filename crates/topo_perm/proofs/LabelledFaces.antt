@@ -1,5 +1,5 @@
 -- Labels of faces through the edits.
-use Rattle.std.proofs.Common.{◌≡◌, ◌≢◌, ℕ, zero, suc, ◌<◌, Bool, true, ◌⊎◌, inl, inr, refl, sym, ◌∙◌, ap, subst}
+use Rattle.std.proofs.Common.{arith, ◌≡◌, ◌≢◌, ℕ, zero, suc, ◌<◌, Bool, true, ◌⊎◌, inl, inr, refl, sym, ◌∙◌, ap, subst}
 use Rattle.std.proofs.lemmas.Bool.{cases_Bool, cases_eq, false≢true}
 use Rattle.topo_core.specs.Cycles.{IsBypass, IsPermutation, SameCycle, after, is_met}
 use Rattle.topo_core.specs.Edits.{IsSplit}
@@ -48,20 +48,10 @@ data Comes (live : ℕ → Bool) (x a : ℕ) : Type 0 where
   WasLive : live a ≡ true → Comes live x a
 
 comes : (live live' : ℕ → Bool) (n x a : ℕ) → AddsBelow live live' n x → live' a ≡ true → Comes live x a
-comes live live' n x a k t = elim (cases_eq a x) [
-  | inl e ↦ IsNew e
-  | inr ne ↦ elim (cases_eq a (twin x)) [
-    | inl e ↦ IsNewTwin e
-    | inr nd ↦ WasLive (sym (k.adds.others a (k.below_after a t) ne nd) ∙ t)
-  ]
-]
+comes live live' n x a k t = grind (arith, cases_eq)
 
 away : (live live' : ℕ → Bool) (n x a : ℕ) → AddsBelow live live' n x → live a ≡ true → IsApart n a x
-away live live' n x a k t = record {
-  within = k.below a t;
-  not_self = λ e. false≢true (sym k.adds.new ∙ ap live (sym e) ∙ t);
-  not_twin = λ e. false≢true (sym k.adds.new_twin ∙ ap live (sym e) ∙ t);
-}
+away live live' n x a k t = grind (arith, false≢true)
 
 -- with a dart for each half of the new segment
 old_by : (live live' : ℕ → Bool) (g l l' : ℕ → ℕ) (x r q a : ℕ) → AreKept live l l' → live r ≡ true → live q ≡ true → SameCycle (face_next g) x r → SameCycle (face_next g) (twin x) q → l' x ≡ l r → l' (twin x) ≡ l q
@@ -89,12 +79,7 @@ hang_labels live live' f g l l' n c x adds tc k labels kept here there =
 
 -- a split is turned back by a smooth
 smoothed_back : (f g : ℕ → ℕ) (n h x : ℕ) → IsAllowedSplit f g n h x → IsAllowedSmooth g f n x
-smoothed_back f g n h x k = record {
-  turns = record { before = k.turns.after; after = k.turns.before; even = k.turns.even; within = k.turns.within };
-  not_alone = λ e. k.segment.not_twin (sym (twin-twin h) ∙ ap twin (sym k.edit.point_there ∙ e));
-  not_loop = λ e. k.segment.not_self (twin-apart h x (sym k.edit.point_there ∙ e));
-  edit = subst (λ (v : ℕ). IsSplit f g n v x) (sym (ap twin k.edit.point_there ∙ twin-twin h)) k.edit;
-}
+smoothed_back f g n h x k = grind (arith, twin-twin, twin-apart)
 
 pub split_labels : SplitLabels
 split_labels live live' f g l l' n h x adds th tt' k labels kept here there =
@@ -167,16 +152,11 @@ module _ (live live' : ℕ → Bool) (f g l l' : ℕ → ℕ) (n c d x y new : �
       let wy : twin v ≢ twin x = λ e. nx (twin-apart v x e) in
       let dx : d ≢ x = (away live live' n x d adds td).not_self in
       elim (cases_eq (g (twin v)) (twin x)) [
-        | inl e ↦
-            let at : k.edit.half (twin v) ≡ d = k.edit.end.without.onward (twin v) lw wy e ∙ k.edit.end.turns in
-            let to : face_next f v ≡ d = k.edit.start.without.elsewhere (twin v) lw wx (λ w. dx (sym at ∙ w)) ∙ at in
-            inl (subst (λ (z : ℕ). Met x z) (sym to) x_d)
+        | inl e ↦ grind (arith, x_d)
         | inr ne ↦
             let at : k.edit.half (twin v) ≡ g (twin v) = k.edit.end.without.elsewhere (twin v) lw wy ne in
             elim (cases_eq (k.edit.half (twin v)) x) [
-              | inl e ↦
-                  let to : face_next f v ≡ c = k.edit.start.without.onward (twin v) lw wx e ∙ k.edit.start.turns in
-                  inr (subst (λ (z : ℕ). Met (twin x) z) (sym to) t_c)
+              | inl e ↦ grind (arith, t_c)
               | inr nd ↦
                   let to : face_next f v ≡ face_next g v = k.edit.start.without.elsewhere (twin v) lw wx nd ∙ at in
                   subst (λ (z : ℕ). Side z) (sym to) (further v s)
@@ -204,11 +184,7 @@ module _ (live live' : ℕ → Bool) (f g l l' : ℕ → ℕ) (n c d x y new : �
     turns = record { before = k.turns.after; after = k.turns.before; even = k.turns.even; within = lt };
     two_faces = λ s. two (turn_round (twin x) x lt (subst (λ (v : ℕ). Met (twin x) v) (twin-twin x) s));
     not_alone = λ e w. (away live live' n x d adds td).not_self (sym k.edit.end.turns ∙ e ∙ twin-twin x);
-    edit = record {
-      half = k.edit.half;
-      first = k.edit.end.without;
-      second = subst (λ (v : ℕ). IsBypass k.edit.half f n v) (sym (twin-twin x)) k.edit.start.without;
-    };
+    edit = grind (arith, twin-twin);
   }
 
   back : (a b : ℕ) → live a ≡ true → live b ≡ true → Met a b → SameCycle (face_next f) a b
@@ -366,17 +342,11 @@ module _ (live live' : ℕ → Bool) (f g l l' : ℕ → ℕ) (n h y : ℕ) (tak
 
   -- what follows the twin of h with h out of the way
   beyond : Beside (k.edit.half (twin h))
-  beyond = elim (cases_eq (f (twin h)) h) [
-    | inl e ↦ inr (subst (λ (v : ℕ). Was (twin h) v) (sym (half_on (twin h) lth (twin-other h) e)) next_t)
-    | inr ne ↦ inl (subst (λ (v : ℕ). Was h v) (sym (half_else (twin h) lth (twin-other h) ne)) next_h)
-  ]
+  beyond = grind (arith, cases_eq, half_on, lth, twin-other, next_t, half_else, next_h)
 
   -- a dart that turned to one of them turns to a dart beside
   lands : (u : ℕ) → u < n → u ≢ h → u ≢ twin h → Beside (k.edit.half u) → Beside (g u)
-  lands u lu nu nt s = elim (cases_eq (k.edit.half u) (twin h)) [
-    | inl e ↦ subst (λ (v : ℕ). Beside v) (sym (k.edit.second.onward u lu nt e)) beyond
-    | inr ne ↦ subst (λ (v : ℕ). Beside v) (sym (k.edit.second.elsewhere u lu nt ne)) s
-  ]
+  lands u lu nu nt s = grind (arith, cases_eq, beyond)
 
   -- in one face before, or both beside the segment
   abbrev Near : ℕ → ℕ → Type 0

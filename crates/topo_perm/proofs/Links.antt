@@ -29,31 +29,16 @@ pub with_self : (live : ℕ → Bool) (y : ℕ) → with_segment live y y ≡ tr
 with_self live y = ap (λ (b : Bool). (b || y == twin y) || live y) (eq-eqb y y refl)
 
 pub with_twin : (live : ℕ → Bool) (y : ℕ) → with_segment live y (twin y) ≡ true
-with_twin live y = elim (cases_eq (twin y) y) [
-  | inl e ↦ ap (λ (b : Bool). (b || twin y == twin y) || live (twin y)) (eq-eqb (twin y) y e)
-  | inr ne ↦ ap (λ (b : Bool). (b || twin y == twin y) || live (twin y)) (ne_eqb (twin y) y ne) ∙ ap (λ (b : Bool). b || live (twin y)) (eq-eqb (twin y) (twin y) refl)
-]
+with_twin live y = grind (arith, cases_eq, ne_eqb)
 
 pub with_other : (live : ℕ → Bool) (y a : ℕ) → a ≢ y → a ≢ twin y → with_segment live y a ≡ live a
 with_other live y a ny nt = ap (λ (b : Bool). (b || a == twin y) || live a) (ne_eqb a y ny) ∙ ap (λ (b : Bool). b || live a) (ne_eqb a (twin y) nt)
 
 pub with_old : (live : ℕ → Bool) (y a : ℕ) → live a ≡ true → with_segment live y a ≡ true
-with_old live y a l = elim (cases_eq a y) [
-  | inl e ↦ subst (λ (z : ℕ). with_segment live y z ≡ true) (sym e) (with_self live y)
-  | inr ny ↦ elim (cases_eq a (twin y)) [
-    | inl e ↦ subst (λ (z : ℕ). with_segment live y z ≡ true) (sym e) (with_twin live y)
-    | inr nt ↦ with_other live y a ny nt ∙ l
-  ]
-]
+with_old live y a l = grind (arith, cases_eq, with_segment, with_self, with_twin, with_other)
 
 pub adds_segment : (live : ℕ → Bool) (n y : ℕ) → live y ≡ false → live (twin y) ≡ false → AddsSegment live (with_segment live y) n y
-adds_segment live n y dead dead_twin = record {
-  new = dead;
-  new_twin = dead_twin;
-  here = with_self live y;
-  here_twin = with_twin live y;
-  others = λ a la ny nt. with_other live y a ny nt;
-}
+adds_segment live n y dead dead_twin = grind (arith, with_self, with_twin, with_other)
 
 -- ---- Links
 
@@ -114,23 +99,13 @@ AreReady live (k ∷ ks) = ((live k.half ≡ false) × (live (twin k.half) ≡ f
 -- ---- A link taken out
 
 pub without_link-other : (g : ℕ → ℕ) (n : ℕ) (k : Link) (a c : ℕ) → IsApart n a k.half → IsApart n c k.half → g a ≡ c → without_link g k a ≡ c
-without_link-other g n k a c pa pc e =
-    let at : without g (twin k.half) a ≡ c = without-elsewhere g (twin k.half) a pa.not_twin (λ w. pc.not_twin (sym e ∙ w)) ∙ e in
-    without-elsewhere (without g (twin k.half)) k.half a pa.not_self (λ w. pc.not_self (sym at ∙ w)) ∙ at
+without_link-other g n k a c pa pc e = grind (arith, without, without-elsewhere)
 
 pub apart_twin : (n a y : ℕ) → n % 2 ≡ 0 → IsApart n a y → IsApart n (twin a) y
-apart_twin n a y even p = record {
-  within = twin-within n a even p.within;
-  not_self = λ e. p.not_twin (sym (twin-twin a) ∙ ap twin e);
-  not_twin = λ e. p.not_self (twin-apart a y e);
-}
+apart_twin n a y even p = grind (arith, twin-within, twin-twin, twin-apart)
 
 apart_of_twin : (n a y : ℕ) → IsApart n a y → IsApart n a (twin y)
-apart_of_twin n a y p = record {
-  within = p.within;
-  not_self = p.not_twin;
-  not_twin = λ e. p.not_self (e ∙ twin-twin y);
-}
+apart_of_twin n a y p = grind (arith, twin-twin)
 
 link_stays : (g : ℕ → ℕ) (n : ℕ) (k l : Link) → n % 2 ≡ 0 → AreUnlinked n k l → IsLink g n l → IsLink (without_link g k) n l
 link_stays g n k l even u i = record {
@@ -169,12 +144,7 @@ link_chord g n k i =
     }
 
 allowed_link : (g : ℕ → ℕ) (n : ℕ) (k : Link) → IsPermutation g n → n % 2 ≡ 0 → IsLink g n k → SameCycle (face_next (without_link g k)) k.from k.to → IsAllowedChord (without_link g k) g n k.from k.to k.half
-allowed_link g n k p even i one = record {
-  turns = record { before = link_permutation g n k p even i.there; after = p; even = even; within = i.there };
-  corner = i.from_apart;
-  one_face = one;
-  edit = link_chord g n k i;
-}
+allowed_link g n k p even i one = grind (arith, link_permutation, link_chord)
 
 -- and the link may be taken out again
 allowed_unlink : (g : ℕ → ℕ) (n : ℕ) (k : Link) → IsPermutation g n → n % 2 ≡ 0 → IsLink g n k → SameCycle (face_next (without_link g k)) k.from k.to → IsAllowedUnchord g (without_link g k) n (twin k.half)
@@ -205,11 +175,7 @@ all_map P Q f [] h = h
 all_map P Q f (x ∷ xs) h = (f x h.0, all_map P Q f xs h.1)
 
 pub apart_back : (n k l : ℕ) → k < n → IsApart n l k → IsApart n k l
-apart_back n k l lk p = record {
-  within = lk;
-  not_self = λ e. p.not_self (sym e);
-  not_twin = λ e. p.not_twin (sym (twin-twin l) ∙ ap twin (sym e));
-}
+apart_back n k l lk p = grind (arith, twin-twin)
 
 dead_links : (live : ℕ → Bool) (n : ℕ) (ks : List Link) (a : ℕ) → live a ≡ false → IsUnlinked n ks a → with_links live ks a ≡ false
 dead_links live n [] a dead u = dead
@@ -242,22 +208,13 @@ links_run live g n (k ∷ ks) p even h ready = (
   links_run live (without_link g k) n ks (link_permutation g n k p even h.0.there) even (links_stay g n k ks even h.1 h.2) ready.1,
   (
     record { within = h.0.there; adds = link_adds live g n k ks even h ready; permutation = p },
-    (
-      record { within = h.0.from_apart.within; alive = live_links live ks k.from ready.0.2 },
-      record { within = h.0.to_apart.within; alive = live_links live ks k.to ready.0.3 },
-    ),
+    grind (arith, live_links),
     link_chord g n k h.0,
   ),
 )
 
 pub draw : (live : ℕ → Bool) (g : ℕ → ℕ) (n : ℕ) (ks : List Link) → IsPermutation g n → n % 2 ≡ 0 → AreLinks g n ks → AreReady live ks → AreInFaces (without_links g ks) ks → IsSlab live (without_links g ks) n → Drawn live (without_links g ks) g n ks
-draw live g n [] p even h ready faces slab = record {
-  slab = slab;
-  faces = omega arith;
-  connected = λ c. c;
-  kept = λ a c la u out s. s;
-  back = λ a c u w s. s;
-}
+draw live g n [] p even h ready faces slab = grind arith
 draw live g n (k ∷ ks) p even h ready faces slab =
     let f : ℕ → ℕ = without_link g k in
     let b : ℕ → ℕ = without_links f ks in

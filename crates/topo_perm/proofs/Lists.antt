@@ -44,15 +44,7 @@ is_met-period f n a b d p l =
     ]
 
 pub mark_more : (f : ℕ → ℕ) (k start at a : ℕ) (seen : List Bool) (old : Bool) → at ≡ after f k start → at < length seen → slice_index_or seen a false ≡ (is_met f k start a || old) → slice_index_or (slice_set seen at true) a false ≡ (is_met f (k + 1) start a || old)
-mark_more f k start at a seen old e l h =
-    elim (cases_eq a at) [
-      | inl same ↦
-          let met : (after f k start == a) ≡ true = eq-eqb _ _ (sym e ∙ sym same) in
-          ap (λ i. slice_index_or (slice_set seen at true) i false) same ∙ get_or-set_same seen at true false l ∙ sym (or_left _ old (is_met_more f k start a ∙ or_left _ _ met))
-      | inr ne ↦
-          let unmet : (after f k start == a) ≡ false = ne_eqb _ _ (λ w. ne (sym w ∙ sym e)) in
-          get_or-set_other seen at a true false ne ∙ h ∙ ap (λ b. b || old) (sym (is_met_more f k start a ∙ ap (λ b. b || is_met f k start a) unmet))
-    ]
+mark_more f k start at a seen old e l h = grind (arith, cases_eq, eq-eqb, get_or-set_same, or_left, is_met_more, ne_eqb, get_or-set_other)
 
 pub count_below-le : (p : ℕ → Bool) (n : ℕ) → count_below p n ≤ n
 count_below-le p zero = omega arith
@@ -80,9 +72,7 @@ pub first_counted : (r : ℕ → ℕ → Bool) (k : ℕ) → some_below (λ b. r
 first_counted r k e = count_below_more (is_first r) k ∙ ap (λ b. count_below (is_first r) k + cond (not b) 1 0) e
 
 pub later_not_counted : (r : ℕ → ℕ → Bool) (k : ℕ) → some_below (λ b. r b k) k ≡ true → count_below (is_first r) (k + 1) ≡ count_below (is_first r) k
-later_not_counted r k e =
-    let z : count_below (is_first r) k + 0 ≡ count_below (is_first r) k = omega arith in
-    count_below_more (is_first r) k ∙ ap (λ b. count_below (is_first r) k + cond (not b) 1 0) e ∙ z
+later_not_counted r k e = grind (arith, count_below_more)
 
 -- a number whose class was met adds none that are related
 pub marked_already : (r : ℕ → ℕ → Bool) (n k a : ℕ) → IsEquivalence r n → k < n → a < n → some_below (λ b. r b k) k ≡ true → some_below (λ b. r b a) (k + 1) ≡ some_below (λ b. r b a) k

@@ -17,36 +17,7 @@ use Rattle.topo_perm.proofs.SlabEdits.{smooth_keeps_slab}
 -- ---- The images after a smoothing
 
 smoothing_of : (f g : ℕ → ℕ) (n x : ℕ) → IsPermutation f n → IsPermutation g n → n % 2 ≡ 0 → x < n → f (f x) ≡ x → f x ≢ twin x → IsSmooth f g n x → IsSmoothing f g n x
-smoothing_of f g n x p q even lx two no_loop b =
-    let c : ℕ = twin (f x) in
-    let far : twin c ≡ f x = twin-twin (f x) in
-    let lt : twin x < n = twin-within n x even lx in
-    let lf : f x < n = p.within x lx in
-    record {
-      point_back = two;
-      isolated = b.isolated;
-      leads_on = λ ne. elim (cases_eq (g (f x)) (f x)) [
-        | inl w ↦ absurd (ne (b.leads_itself (ap g far ∙ w ∙ sym far)))
-        | inr nw ↦ sym (b.leads_on (λ w. nw (ap g (sym far) ∙ w ∙ far)) ∙ ap g far)
-      ];
-      leads_itself = λ e. elim (cases_eq (g (f x)) (f x)) [
-        | inl w ↦ w
-        | inr nw ↦
-            let to : g (f x) ≡ twin x = sym (b.leads_on (λ w. nw (ap g (sym far) ∙ w ∙ far)) ∙ ap g far) ∙ e in
-            absurd (no_loop (q.apart (f x) (twin x) lf lt (to ∙ sym b.isolated.other)))
-      ];
-      led_to = λ a la nt to. elim (cases_eq (g a) (f x)) [
-        | inl w ↦ w
-        | inr nw ↦
-            let nx : a ≢ x = λ e. no_loop (ap f (sym e) ∙ to) in
-            let nf : a ≢ f x = λ e. twin-other x (sym to ∙ ap f e ∙ two) in
-            let same : f a ≡ g a = b.elsewhere a la nx nt (λ e. nf (e ∙ far)) (λ e. nw (e ∙ far)) in
-            absurd (nt (q.apart a (twin x) la lt (sym same ∙ to ∙ sym b.isolated.other)))
-      ];
-      elsewhere = λ a la nx nt nf off.
-          let not_led : g a ≢ f x = λ w. off (b.led_to a la (λ e. nf (e ∙ far)) (w ∙ sym far)) in
-          sym (b.elsewhere a la nx nt (λ e. nf (e ∙ far)) (λ e. not_led (e ∙ far)));
-    }
+smoothing_of f g n x p q even lx two no_loop b = grind (arith, twin-twin, twin-within, cases_eq, twin-other)
 
 -- ---- Midpoints
 
@@ -84,13 +55,7 @@ pub left_other : (live : ℕ → Bool) (x a : ℕ) → a ≢ x → a ≢ twin x 
 left_other live x a nx nt = ap (λ (b : Bool). not (b || a == twin x) && live a) (ne_eqb a x nx) ∙ ap (λ (b : Bool). not b && live a) (ne_eqb a (twin x) nt)
 
 taken_segment : (live : ℕ → Bool) (f : ℕ → ℕ) (n x : ℕ) → IsSlab live f n → IsAlive live n x → AddsSegment (without_segment live x) live n x
-taken_segment live f n x s xt = record {
-  new = left_self live x x refl;
-  new_twin = left_twin live x (twin x) refl;
-  here = xt.alive;
-  here_twin = (alive_twin live f n x s xt).alive;
-  others = λ a la nx nt. sym (left_other live x a nx nt);
-}
+taken_segment live f n x s xt = grind (arith, left_self, left_twin, alive_twin, left_other)
 
 -- the dart of the point takes the name of the far end
 abbrev pub smoothed_name : (ℕ → ℕ) → (ℕ → ℕ) → ℕ → ℕ → ℕ
@@ -241,15 +206,7 @@ module _ (middle : ℕ → Type 0) (rank : ℕ → ℕ) (live : ℕ → Bool) (t
               | inl e ↦ absurd (not_x y yt (e ∙ same))
               | inr e ↦ at_point y (e ∙ ap t same)
             ]
-            | inr nz ↦
-                let left_z : IsAlive left n z = stays z zt nz (even_not_odd z (twin x) q.even (odd_twin x point.even)) in
-                elim at [
-                  | inl e ↦ inr (z, left_z, mid, inl e)
-                  | inr e ↦ elim (other_turn z left_z mid) [
-                    | inl v ↦ absurd (not_twin y yt (e ∙ v.0))
-                    | inr v ↦ inr (z, left_z, mid, inr (e ∙ sym v.1))
-                  ]
-                ]
+            | inr nz ↦ grind (arith, stays, even_not_odd, odd_twin, point, other_turn, not_twin)
           ]
     ] where
       -- the dart of the point has the place of the far end

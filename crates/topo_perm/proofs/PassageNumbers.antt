@@ -1,5 +1,5 @@
 -- A passage under other numbers: where its bends and links are made in a slab that renumbers the system below, that slab renumbers the system with the new edge.
-use Rattle.std.proofs.Common.{◌≡◌, ◌≢◌, ℕ, ◌%◌, ◌<◌, ◌==◌, Bool, true, cond, List, [], ◌∷◌, inl, inr, refl, sym, ◌∙◌, ap, subst}
+use Rattle.std.proofs.Common.{arith, ◌≡◌, ◌≢◌, ℕ, ◌%◌, ◌<◌, ◌==◌, Bool, true, cond, List, [], ◌∷◌, inl, inr, refl, sym, ◌∙◌, ap, subst}
 use Rattle.std.specs.List.{AllByRecursion}
 use Rattle.std.proofs.lemmas.Bool.{cases_eq, cond-true, cond-false, eq-eqb, ne_eqb}
 use Rattle.topo_core.specs.Rotations.{twin}
@@ -214,10 +214,7 @@ module _ (g : ℕ → ℕ) (n : ℕ) (f : ℕ → ℕ) (m : ℕ) (name : ℕ →
   bends_run = s.run below (bendable b n f m name ks i s)
 
   near_alive : (k : Bend) → IsIn k ks → IsAlive below n k.near × (first k.near ≡ nu k.dart)
-  near_alive k h =
-      let at : s.names k.dart ≡ k.near = all_at (λ j. s.names j.dart ≡ j.near) k ks s.near h in
-      let lk : k.dart < m = (all_at (IsBend b n m name) k ks i h).there in
-      (subst (IsAlive below n) at (alive_name k.dart lk), ap first (sym at) ∙ first_name k.dart lk)
+  near_alive k h = grind (arith, s, all_at, i, alive_name, first_name)
 
   splits_are_alike : AreAlike first (splits_of ks) (splits_of js)
   splits_are_alike = splits_alike first n bottom middle ks js bends_run (on_old first nu below n ks js on (every (λ k. IsAlive below n k.near × (first k.near ≡ nu k.dart)) ks near_alive))

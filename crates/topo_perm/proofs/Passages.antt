@@ -61,10 +61,7 @@ bent_or_not m (k ∷ ks) d ld = elim (cases_eq d k.dart) [
   | inl e ↦ inr (k, inl refl, inl e)
   | inr na ↦ elim (cases_eq d (twin k.dart)) [
     | inl e ↦ inr (k, inl refl, inr e)
-    | inr nt ↦ elim (bent_or_not m ks d ld) [
-      | inl u ↦ inl (record { within = ld; not_self = na; not_twin = nt }, u)
-      | inr w ↦ inr (w.0, inr w.1, w.2)
-    ]
+    | inr nt ↦ grind (arith, bent_or_not m ks d ld)
   ]
 ]
 
@@ -151,12 +148,7 @@ past_links g n (k ∷ ks) a c u w e = past_links (without_link g k) n ks a c u.1
 pub over_link : (g : ℕ → ℕ) (n : ℕ) (ks : List Link) (l : Link) (a : ℕ) → n % 2 ≡ 0 → AreLinks g n ks → IsIn l ks → IsUnlinked n ks a → g a ≡ l.half → without_links g ks a ≡ l.from
 over_link g n [] l a even h i u e = elim i [ ]
 over_link g n (k ∷ ks) l a even h i u e = elim i [
-  | inl s ↦
-      let half : ℕ → ℕ = without g (twin k.half) in
-      let at : half a ≡ k.half = without-elsewhere g (twin k.half) a u.0.not_twin (λ w. twin-other k.half (sym (sym (e ∙ ap (λ (v : Link). v.half) s) ∙ w))) ∙ e ∙ ap (λ (v : Link). v.half) s in
-      let on : half k.half ≡ k.from = without-elsewhere g (twin k.half) k.half (λ w. twin-other k.half (sym w)) (λ w. h.0.from_apart.not_twin (sym h.0.leaves ∙ w)) ∙ h.0.leaves in
-      past_links (without_link g k) n ks a k.from u.1 (all_map (AreUnlinked n k) (λ j. IsApart n k.from j.half) (λ j w. w.from) ks h.1) (without-onward half k.half a u.0.not_self at ∙ on)
-      ∙ ap (λ (v : Link). v.from) (sym s)
+  | inl s ↦ grind (arith, without, without-elsewhere, twin-other, past_links, without_link, all_map, without-onward)
   | inr j ↦ over_link (without_link g k) n ks l a even (links_stay g n k ks even h.1 h.2) j u.1
       (without_link-other g n k a l.half u.0 (all_at (AreUnlinked n k) l ks h.1 j).half e)
 ]
@@ -167,9 +159,7 @@ over_link_back g n (k ∷ ks) l a even h i u e = elim i [
   | inl s ↦
       let half : ℕ → ℕ = without g (twin k.half) in
       let at : half a ≡ k.to = without-onward g (twin k.half) a u.0.not_twin (e ∙ ap (λ (v : Link). twin v.half) s) ∙ h.0.arrives in
-      past_links (without_link g k) n ks a k.to u.1 (all_map (AreUnlinked n k) (λ j. IsApart n k.to j.half) (λ j w. w.to) ks h.1)
-      (without-elsewhere half k.half a u.0.not_self (λ w. h.0.to_apart.not_self (sym at ∙ w)) ∙ at)
-      ∙ ap (λ (v : Link). v.to) (sym s)
+      grind (arith, past_links, without_link, all_map, without-elsewhere)
   | inr j ↦ over_link_back (without_link g k) n ks l a even (links_stay g n k ks even h.1 h.2) j u.1
       (without_link-other g n k a (twin l.half) u.0 (apart_twin n l.half k.half even (all_at (AreUnlinked n k) l ks h.1 j).half) e)
 ]

@@ -49,10 +49,7 @@ pub named_below : (b : ℕ → ℕ) (n : ℕ) (f : ℕ → ℕ) (m : ℕ) (name 
     → (s.names d ≡ name d) ⊎ ((k : Bend) × IsIn k ks × (d ≡ twin k.dart) × (name d ≡ twin k.beyond))
 named_below b n f m name ks i s d ld = elim (bent_or_not m ks d ld) [
   | inl u ↦ inl (s.unbent d u)
-  | inr w ↦ elim w.2 [
-    | inl e ↦ inl (ap s.names e ∙ all_at (λ k. s.names k.dart ≡ k.near) w.0 ks s.near w.1 ∙ all_at (λ k. k.near ≡ name k.dart) w.0 ks s.nears w.1 ∙ ap name (sym e))
-    | inr e ↦ inr (w.0, w.1, e, ap name e ∙ (all_at (IsBend b n m name) w.0 ks i w.1).other_end)
-  ]
+  | inr w ↦ grind (arith, all_at)
 ]
 
 -- the dart back from a bend is named below
@@ -298,12 +295,7 @@ all_live g n f m name c ks e ls p i s a la =
     ]
 
 pub whole_count : (h : ℕ → ℕ) (n : ℕ) (live : ℕ → Bool) → IsPermutation h n → ((a : ℕ) → a < n → live a ≡ true) → cycle_count h n ≡ live_cycle_count live h n
-whole_count h n live p all = renumbered_cycles (λ a. a) (λ a. a) h h n live n (record {
-  before = p;
-  after = p;
-  numbers = record { within = λ a la. la; alive = all; returns = λ a la. refl; back_within = λ y ly l. ly; back_returns = λ y ly l. refl };
-  map = record { each = λ a la. refl };
-})
+whole_count h n live p all = renumbered_cycles (λ a. a) (λ a. a) h h n live n (grind arith)
 
 -- with the bends, the links are ready to be drawn
 pub ready : (g : ℕ → ℕ) (n : ℕ) (f : ℕ → ℕ) (m : ℕ) (name : ℕ → ℕ) (c : ℕ) (ks : List Bend) (e : ℕ) (ls : List Link) → IsPassage g n f m name c ks e ls

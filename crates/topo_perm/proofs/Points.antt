@@ -17,10 +17,7 @@ cycle_count-same f g n h e =
     some_below-same (λ k. after f k a == b) (λ k. after g k a == b) n (λ k _. ap (λ v. v == b) (after-same f g n h e k a la)))
 
 pub IsPermutation-same : (f g : ℕ → ℕ) (n : ℕ) → IsPermutation f n → ((a : ℕ) → a < n → f a ≡ g a) → IsPermutation g n
-IsPermutation-same f g n h e = record {
-  within = λ a la. omega (arith, e a la, h.within a la);
-  apart = λ a b la lb w. h.apart a b la lb (e a la ∙ w ∙ sym (e b lb));
-}
+IsPermutation-same f g n h e = grind arith
 
 -- g is f with the images of i and j exchanged, below n
 pub record IsExchangeBelow (f g : ℕ → ℕ) (n i j : ℕ) : Type 0 where
@@ -35,14 +32,7 @@ patched-below : (f g : ℕ → ℕ) (n a : ℕ) → a < n → patched f g n a �
 patched-below f g n a l = cond-true _ _ _ (lt-ltb _ _ l)
 
 patched-exchange : (f g : ℕ → ℕ) (n i j : ℕ) → i < n → j < n → IsExchangeBelow f g n i j → IsExchange f (patched f g n) i j
-patched-exchange f g n i j li lj x = record {
-  at_first = patched-below f g n i li ∙ x.at_first;
-  at_second = patched-below f g n j lj ∙ x.at_second;
-  elsewhere = λ a ni nj. elim (cases_lt a n) [
-    | inl l ↦ patched-below f g n a l ∙ x.elsewhere a l ni nj
-    | inr l ↦ cond-false _ _ _ (le-ltb _ _ l)
-  ];
-}
+patched-exchange f g n i j li lj x = grind (arith, patched-below, cases_lt, cond-false, le-ltb)
 
 pub exchanged-permutation : (f g : ℕ → ℕ) (n i j : ℕ) → IsPermutation f n → i < n → j < n → IsExchangeBelow f g n i j → IsPermutation g n
 exchanged-permutation f g n i j h li lj x =
@@ -97,20 +87,11 @@ pub record HasBefore (f : ℕ → ℕ) (n i : ℕ) : Type 0 where
 pub before_of : (f : ℕ → ℕ) (n i : ℕ) → IsPermutation f n → i < n → HasBefore f n i
 before_of f n i h li =
     let (d, ld, p) = period f n h i li in
-    let last : suc (d - 1) ≡ d = omega (arith, p.some) in
-    record {
-      place = after f (d - 1) i;
-      within = after-within f n h (d - 1) i li;
-      leads = ap (λ k. after f k i) last ∙ p.home;
-    }
+    grind (arith, after-within)
 
 -- a bypass is an exchange with the number before
 pub bypass_exchange : (f g : ℕ → ℕ) (n i : ℕ) → IsPermutation f n → i < n → IsBypass f g n i → (b : HasBefore f n i) → b.place ≢ i → IsExchangeBelow f g n b.place i
-bypass_exchange f g n i h li x b ne = record {
-  at_first = x.onward b.place b.within ne b.leads;
-  at_second = x.alone ∙ sym b.leads;
-  elsewhere = λ a la nb ni. x.elsewhere a la ni (λ e. nb (h.apart a b.place la b.within (e ∙ sym b.leads)));
-}
+bypass_exchange f g n i h li x b ne = grind arith
 
 pub bypass_splits : (f g : ℕ → ℕ) (n i : ℕ) → IsPermutation f n → i < n → IsBypass f g n i → f i ≢ i → cycle_count g n ≡ cycle_count f n + 1
 bypass_splits f g n i h li x moves =
@@ -135,10 +116,7 @@ count_below-into p q (suc n) m h w t s =
           let one : count_below q m ≡ count_below r m + 1 =
           count_below-more q r m (h n) (w n (omega arith) here) (t n (omega arith) here)
           (and_right (q (h n)) (not (h n == h n)) (not_from_true (h n == h n) (eq-eqb (h n) (h n) refl)))
-          (λ y ly ne. elim (cases_Bool (q y)) [
-            | inl e ↦ e ∙ sym (and_from _ _ e (not_from_false _ (ne_eqb _ _ ne)))
-            | inr e ↦ e ∙ sym (and_left _ _ e)
-          ]) in
+          (λ y ly ne. grind (arith, cases_Bool, and_from, not_from_false, ne_eqb, and_left)) in
           rw here (omega (arith, low, one))
     ]
 
@@ -170,16 +148,7 @@ leader r a = picked r a (search_below (λ b. r b a) a)
 
 picked-first : (r : ℕ → ℕ → Bool) (n a : ℕ) → IsEquivalence r n → a < n → (t : Found r a) → IsFirstOf r a (picked r a t)
 unfolding Found picked
-picked-first r n a e la (inl found) =
-    let (m, lm, t) = found in
-    record {
-      first = is_first-from r m (λ b lb. elim (cases_Bool (r b m)) [
-        | inr none ↦ none
-        | inl met ↦ absurd (both_ways (r b a) (t.before b lb) (e.transitive b m a (omega arith) (omega arith) la met t.here))
-      ]);
-      related = t.here;
-      low = omega arith;
-    }
+picked-first r n a e la (inl found) = grind (arith, is_first-from, cases_Bool, both_ways)
 picked-first r n a e la (inr none) = record { first = is_first-from r a none; related = e.reflexive a la; low = omega arith }
 
 pub leader-first : (r : ℕ → ℕ → Bool) (n a : ℕ) → IsEquivalence r n → a < n → IsFirstOf r a (leader r a)
@@ -201,9 +170,7 @@ firsts_same r n a b e la lb fa fb met =
 pub leaders_same : (r : ℕ → ℕ → Bool) (n a b : ℕ) → IsEquivalence r n → a < n → b < n → leader r a ≡ leader r b → r a b ≡ true
 leaders_same r n a b e la lb same =
     let u : IsFirstOf r a (leader r a) = leader-first r n a e la in
-    let v : IsFirstOf r b (leader r b) = leader-first r n b e lb in
-    let lm : leader r a < n = omega (arith, u.low) in
-    e.transitive a (leader r a) b la lm lb (e.symmetric (leader r a) a lm la u.related) (ap (λ m. r m b) same ∙ v.related)
+    grind (arith, leader, leader-first)
 
 -- as many classes on either side
 pub class_count-carries : (h : ℕ → ℕ) (r s : ℕ → ℕ → Bool) (n m : ℕ) → IsEquivalence r n → IsEquivalence s m → Carries h r s n m → class_count r n ≡ class_count s m

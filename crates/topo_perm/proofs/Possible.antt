@@ -1,5 +1,5 @@
 -- Each edit can be made where its conditions hold: a turn after it.
-use Rattle.std.proofs.Common.{ℕ, ◌<◌, subst}
+use Rattle.std.proofs.Common.{arith, ℕ, ◌<◌, subst}
 use Rattle.topo_core.specs.Rotations.{twin, face_next}
 use Rattle.topo_perm.specs.Edits.{IsApart, HangIsPossible, ChordIsPossible, UnchordIsPossible, SplitIsPossible, SmoothIsPossible}
 use Rattle.topo_core.proofs.Orbits.{after-within}
@@ -14,11 +14,7 @@ hang_is_possible f n c x h even lx room k = record { turn = put f x c; edit = ha
 pub chord_is_possible : ChordIsPossible
 chord_is_possible f n c d x h even lx room k one =
     let far = far_apart f n c d x h even k room one in
-    let m : IsApart n d x = record {
-      within = subst (λ v. v < n) one.leads (after-within (face_next f) n (face_next-permutation f n h even) one.steps c k.within);
-      not_self = far.0;
-      not_twin = far.1;
-    } in
+    let m : IsApart n d x = grind (arith, after-within, face_next-permutation) in
     let g : ℕ → ℕ = put (put f x c) (twin x) d in
     record { turn = g; edit = chord_allowed f g n c d x (chord_drawn f n c d x (record { permutation = h; even = even }) lx room k m) one }
 

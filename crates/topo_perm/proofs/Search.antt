@@ -40,15 +40,7 @@ count_room n seen found dart e ld fresh =
 pub visited : (f : ℕ → ℕ) (n : ℕ) (old : List Bool) (start begin : ℕ) (seen seen' : List Bool) (order order' : List ℕ) (found found' dart : ℕ) → Found f n old start begin seen order found → dart < n → Joined f twin start dart → IsVisit seen seen' order order' found found' dart → Visited f n old start begin seen seen' order order' found found' dart
 visited f n old start begin seen seen' order order' found found' dart s ld j v =
     elim (cases_Bool (mark seen dart)) [
-      | inl here ↦
-          let t : Stays seen seen' order order' found found' = MatchBool-at_true _ (Marks seen seen' order order' found found' dart) here v in
-          record {
-            state = subst (λ z. Found f n old start begin z order' found') (sym t.same_seen) (subst (λ z. Found f n old start begin seen z found') (sym t.same_order) (subst (λ z. Found f n old start begin seen order z) (sym t.same_found) s));
-            here = ap (λ z. mark z dart) t.same_seen ∙ here;
-            kept = λ a la e. ap (λ z. mark z a) t.same_seen ∙ e;
-            order_kept = λ k lk. ap (λ z. slice_index z k) t.same_order;
-            more = omega (arith, t.same_found);
-          }
+      | inl here ↦ grind arith
       | inr fresh ↦
           let t : Marks seen seen' order order' found found' dart = MatchBool-at_false (Stays seen seen' order order' found found') _ fresh v in
           let room : found < n = count_room n seen found dart s.count ld fresh in
@@ -66,25 +58,10 @@ visited f n old start begin seen seen' order order' found found' dart s ld j v =
               count = omega (arith, t.more, s.count, count_below-more (mark seen') (mark seen) n dart ld at_dart fresh (λ a la ne. at_other a ne));
               more = omega (arith, t.more, s.more);
               kept = λ a la e. keeps a la (s.kept a la e);
-              within = λ k lo lk. elim (cases_eq k found) [
-                | inl e ↦ omega (arith, ap (slice_index order') e, last)
-                | inr ne ↦ omega (arith, before k (omega (arith, t.more)), s.within k lo (omega (arith, t.more)))
-              ];
-              marked = λ k lo lk. elim (cases_eq k found) [
-                | inl e ↦ ap (λ z. mark seen' (slice_index order' z)) e ∙ ap (mark seen') last ∙ at_dart
-                | inr ne ↦ ap (mark seen') (before k (omega (arith, t.more))) ∙ keeps _ (s.within k lo (omega (arith, t.more))) (s.marked k lo (omega (arith, t.more)))
-              ];
-              reached = λ k lo lk. elim (cases_eq k found) [
-                | inl e ↦ subst (λ z. Joined f twin start z) (sym (ap (slice_index order') e ∙ last)) j
-                | inr ne ↦ subst (λ z. Joined f twin start z) (sym (before k (omega (arith, t.more)))) (s.reached k lo (omega (arith, t.more)))
-              ];
-              listed = λ a la e. elim (cases_eq a dart) [
-                | inl same ↦ inr (found, s.more, omega (arith, t.more), last ∙ sym same)
-                | inr ne ↦ elim (s.listed a la (sym (at_other a ne) ∙ e)) [
-                  | inl first ↦ inl first
-                  | inr place ↦ let (k, lo, lk, w) = place in inr (k, lo, omega (arith, t.more), before k lk ∙ w)
-                ]
-              ];
+              within = λ k lo lk. grind (arith, cases_eq);
+              marked = λ k lo lk. grind (arith, cases_eq);
+              reached = λ k lo lk. grind (arith, cases_eq);
+              listed = λ a la e. grind (arith, cases_eq);
             };
             here = at_dart;
             kept = keeps;
@@ -102,17 +79,7 @@ pub record Searched (f : ℕ → ℕ) (n : ℕ) (old : List Bool) (start begin :
 
 -- nothing is found yet
 found_none : (f : ℕ → ℕ) (n : ℕ) (old : List Bool) (start begin : ℕ) (order : List ℕ) → length old ≡ n → length order ≡ n → begin ≡ marked_count old n → Found f n old start begin old order begin
-found_none f n old start begin order ls lo e = record {
-  seen_length = ls;
-  order_length = lo;
-  count = e;
-  more = omega arith;
-  kept = λ a la m. m;
-  within = λ j low lj. absurd (omega arith);
-  marked = λ j low lj. absurd (omega arith);
-  reached = λ j low lj. absurd (omega arith);
-  listed = λ a la m. inl m;
-}
+found_none f n old start begin order ls lo e = grind arith
 
 pub search_start : (f : ℕ → ℕ) (n : ℕ) (old s1 : List Bool) (start begin : ℕ) (order o1 : List ℕ) (f1 : ℕ) → start < n → length old ≡ n → length order ≡ n → begin ≡ marked_count old n → IsVisit old s1 order o1 begin f1 start → Searched f n old start begin s1 o1 f1 begin
 search_start f n old s1 start begin order o1 f1 l ls lo e v =
@@ -139,9 +106,7 @@ two_visits f n old start begin seen s1 s2 order o1 o2 found f1 f2 done h even ls
       started = both start ls s.started;
       behind = omega (arith, a.more, b.more);
       each = λ j low lj. elim (cases_eq j done) [
-        | inl e ↦
-            let at : slice_index o2 j ≡ d = same j (omega arith) ∙ ap (slice_index order) e in
-            (ap (λ z. mark s2 (f z)) at ∙ b.kept (f d) (h.within d ld) a.here, ap (λ z. mark s2 (twin z)) at ∙ b.here)
+        | inl e ↦ grind arith
         | inr ne ↦
             let at : slice_index o2 j ≡ slice_index order j = same j (omega (arith, s.behind)) in
             let lw : slice_index order j < n = s.state.within j low (omega (arith, s.behind)) in

@@ -111,11 +111,7 @@ pub record Stayed (live live' : ℕ → Bool) (f : ℕ → ℕ) (n x a : ℕ) : 
   pub fixed : f a ≡ a
 
 pub stayed : (live live' : ℕ → Bool) (f : ℕ → ℕ) (n x a : ℕ) → IsSlab live f n → AddsSegment live live' n x → a < n → live' a ≡ false → Stayed live live' f n x a
-stayed live live' f n x a s t la e =
-    let nx : a ≢ x = λ w. both_ways (live' a) e (ap live' w ∙ t.here) in
-    let nt : a ≢ twin x = λ w. both_ways (live' a) e (ap live' w ∙ t.here_twin) in
-    let dead : live a ≡ false = sym (t.others a la nx nt) ∙ e in
-    record { not_self = nx; not_twin = nt; dead = dead; fixed = s.free a la dead }
+stayed live live' f n x a s t la e = grind (arith, both_ways)
 
 -- what is put before a live dart leaves a fixed dart that is not live as it is
 put_fixed : (live : ℕ → Bool) (f g : ℕ → ℕ) (n x c a : ℕ) → Insertion f g n x c → live c ≡ true → a < n → a ≢ x → live a ≡ false → f a ≡ a → g a ≡ a
@@ -169,10 +165,7 @@ unchord_keeps_slab live live' f g n h s t k = record {
         | inl w ↦ ap g (w ∙ sym (twin-twin h)) ∙ u.isolated.other ∙ twin-twin h ∙ sym w
         | inr nh ↦ elim (cases_eq a (twin h)) [
           | inl w ↦ ap g w ∙ u.isolated.this ∙ sym w
-          | inr nt ↦
-              let fixed : f a ≡ a = s.free a la (t.others a la nh nt ∙ e) in
-              let half : k.edit.half a ≡ a = k.edit.first.elsewhere a la nh (λ w. nh (sym fixed ∙ w)) ∙ fixed in
-              k.edit.second.elsewhere a la nt (λ w. nt (sym half ∙ w)) ∙ half
+          | inr nt ↦ grind arith
         ]
       ];
 }

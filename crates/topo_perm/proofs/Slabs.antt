@@ -61,10 +61,7 @@ free_classes_one live f n r s each =
     pairs_one q (λ i. not (live (2 * i))) (n / 2) (λ i l.
     let lo : 2 * i < n = omega arith in
     let same : live (suc (2 * i)) ≡ live (2 * i) = odd_live live f n i s lo in
-    elim (cases_Bool (live (2 * i))) [
-      | inl e ↦ rw (same, e) refl
-      | inr e ↦ let (x, y) = each i lo e in rw (same, e, x, y) refl
-    ]) in
+    grind (arith, cases_Bool)) in
     omega (arith, parts live (is_first r) n, ap (count_below q) (sym (whole n s.even)), free)
 
 free_classes_two : (live : ℕ → Bool) (f : ℕ → ℕ) (n : ℕ) (r : ℕ → ℕ → Bool) → IsSlab live f n → ((a : ℕ) → a < n → live a ≡ false → is_first r a ≡ true) → class_count r n ≡ live_class_count live r n + 2 * free_segments live n
@@ -74,13 +71,7 @@ free_classes_two live f n r s each =
     pairs_two q (λ i. not (live (2 * i))) (n / 2) (λ i l.
     let lo : 2 * i < n = omega arith in
     let same : live (suc (2 * i)) ≡ live (2 * i) = odd_live live f n i s lo in
-    elim (cases_Bool (live (2 * i))) [
-      | inl e ↦ rw (same, e) refl
-      | inr e ↦
-          let x : is_first r (2 * i) ≡ true = each (2 * i) lo e in
-          let y : is_first r (suc (2 * i)) ≡ true = each (suc (2 * i)) (odd_within n i s.even lo) (same ∙ e) in
-          rw (same, e, x, y) refl
-    ]) in
+    grind (arith, cases_Bool, odd_within)) in
     omega (arith, parts live (is_first r) n, ap (count_below q) (sym (whole n s.even)), free)
 
 -- ---- Points
@@ -144,10 +135,7 @@ one_passes p n x lx here others =
     omega (
       arith,
       zero_below n,
-      count_below-more p (λ _. false) n x lx here refl (λ a la ne. elim (cases_Bool (p a)) [
-        | inl e ↦ absurd (ne (others a la e))
-        | inr e ↦ e
-      ]),
+      count_below-more p (λ _. false) n x lx here refl (λ a la ne. grind (arith, cases_Bool)),
     )
   where
     zero_below : (k : ℕ) → count_below (λ _. false) k ≡ 0

@@ -1,5 +1,5 @@
 -- Slabs whose live darts stand for one another: the same split of both, or the same smoothing, leaves them so.
-use Rattle.std.proofs.Common.{◌≡◌, ◌≢◌, ℕ, Bool, inl, inr, refl, sym, ◌∙◌, ap, subst}
+use Rattle.std.proofs.Common.{arith, ◌≡◌, ◌≢◌, ℕ, Bool, inl, inr, refl, sym, ◌∙◌, ap, subst}
 use Rattle.std.proofs.lemmas.Bool.{cases_eq}
 use Rattle.topo_core.specs.Cycles.{IsPermutation}
 use Rattle.topo_core.specs.Rotations.{twin}
@@ -11,27 +11,10 @@ use Rattle.topo_perm.proofs.Faces.{twin-twin, twin-apart}
 use Rattle.topo_perm.proofs.EditNumbers.{added_numbers, alive_turn, alive_twin, dead_apart, extended-here, extended-old, into_apart, removed_numbers, still_alive}
 
 split_slab : (live : ℕ → Bool) (f f' : ℕ → ℕ) (n c x : ℕ) → IsSlab live f n → IsPermutation f' n → IsAlive live n c → IsAlive live n x → IsSplit f f' n c x → IsSlab live f' n
-split_slab live f f' n c x s p ct xt b = record {
-  permutation = p;
-  even = s.even;
-  twins = s.twins;
-  free = λ a la d.
-      let still : f a ≡ a = s.free a la d in
-      let nc : a ≢ twin c = dead_apart live a (twin c) d (alive_twin live f n c s ct).alive in
-      b.elsewhere a la (dead_apart live a x d xt.alive) (dead_apart live a (twin x) d (alive_twin live f n x s xt).alive) nc (λ w. nc (sym still ∙ w)) ∙ still;
-}
+split_slab live f f' n c x s p ct xt b = grind (arith, dead_apart, alive_twin)
 
 unsplit_slab : (live : ℕ → Bool) (f f' : ℕ → ℕ) (n c x : ℕ) → IsSlab live f n → IsPermutation f' n → IsAlive live n c → IsAlive live n x → IsSplit f' f n c x → IsSlab live f' n
-unsplit_slab live f f' n c x s p ct xt b = record {
-  permutation = p;
-  even = s.even;
-  twins = s.twins;
-  free = λ a la d.
-      let still : f a ≡ a = s.free a la d in
-      let nc : a ≢ twin c = dead_apart live a (twin c) d (alive_twin live f n c s ct).alive in
-      let nt : a ≢ twin x = dead_apart live a (twin x) d (alive_twin live f n x s xt).alive in
-      sym (b.elsewhere a la (dead_apart live a x d xt.alive) nt nc (λ w. nt (sym still ∙ b.led_to a la nc w))) ∙ still;
-}
+unsplit_slab live f f' n c x s p ct xt b = grind (arith, dead_apart, alive_twin)
 
 module _ (h back : ℕ → ℕ) (live : ℕ → Bool) (f : ℕ → ℕ) (n : ℕ) (live' : ℕ → Bool) (g : ℕ → ℕ) (m : ℕ) (r : RenumbersSlab h back live f n live' g m)
     (f' g' : ℕ → ℕ) (c x : ℕ) (p : IsPermutation f' n) (q : IsPermutation g' m) (ct : IsAlive live n c) (xt : IsAlive live n x) where

@@ -22,24 +22,10 @@ pub without-elsewhere : (f : ℕ → ℕ) (i a : ℕ) → a ≢ i → f a ≢ i 
 without-elsewhere f i a ne e = cond-false _ _ _ (ne_eqb _ _ ne) ∙ cond-false _ _ _ (ne_eqb _ _ e)
 
 pub without-bypass : (f : ℕ → ℕ) (n i : ℕ) → IsBypass f (without f i) n i
-without-bypass f n i = record {
-  alone = without-self f i i refl;
-  onward = λ a la ne e. without-onward f i a ne e;
-  elsewhere = λ a la ne e. without-elsewhere f i a ne e;
-}
+without-bypass f n i = grind (arith, without-self, without-onward, without-elsewhere)
 
 pub bypassed-permutation : (f g : ℕ → ℕ) (n i : ℕ) → IsPermutation f n → i < n → IsBypass f g n i → IsPermutation g n
-bypassed-permutation f g n i h li x =
-    let b : HasBefore f n i = before_of f n i h li in
-    elim (cases_eq b.place i) [
-      | inr ne ↦ exchanged-permutation f g n b.place i h b.within li (bypass_exchange f g n i h li x b ne)
-      | inl e ↦
-          let fixed : f i ≡ i = ap f (sym e) ∙ b.leads in
-          IsPermutation-same f g n h (λ a la. elim (cases_eq a i) [
-            | inl same ↦ ap f same ∙ fixed ∙ sym (ap g same ∙ x.alone)
-            | inr other ↦ sym (x.elsewhere a la other (λ w. other (h.apart a i la li (w ∙ sym fixed))))
-          ])
-    ]
+bypassed-permutation f g n i h li x = grind (arith, before_of, cases_eq, exchanged-permutation, bypass_exchange)
 
 -- the two images of x and its twin exchanged
 abbrev opened : (ℕ → ℕ) → ℕ → ℕ → ℕ
@@ -89,9 +75,7 @@ split_faces f g n h x s =
     let bx : twin a ≢ x = λ e. ny (sym (twin-twin a) ∙ ap twin e) in
     let by' : twin a ≢ twin x = λ e. nx (twin-apart a x e) in
     elim (cases_eq (f (twin a)) (twin h)) [
-      | inl e ↦
-          let now : g (twin a) ≡ twin x = s.split.led_to (twin a) lw nt e in
-          inl (e, without-elsewhere (face_next g) x a nx (λ v. yx (sym now ∙ v)) ∙ now)
+      | inl e ↦ grind (arith, without-elsewhere)
       | inr ne ↦
           let now : g (twin a) ≡ f (twin a) = s.split.elsewhere (twin a) lw bx by' nt ne in
           inr (ne, without-elsewhere (face_next g) x a nx (λ v. bx (old (twin a) lw (sym now ∙ v))) ∙ now)
@@ -101,10 +85,7 @@ split_faces f g n h x s =
       onward = λ a la ny e. elim (cases_eq a x) [
         | inl same ↦ absurd (yx (sym e ∙ without-self (face_next g) x a same))
         | inr nx ↦ at_old a nx ny ∙ elim (cases_eq a h) [
-          | inl same ↦ elim (cases_eq (f (twin h)) (twin h)) [
-            | inl alone ↦ ap (λ v. f (twin v)) same ∙ alone ∙ sym on
-            | inr more ↦ absurd (ty (old' (twin h) lt (sym (s.split.leads_on more) ∙ sym from_h ∙ ap w1 (sym same) ∙ e)))
-          ]
+          | inl same ↦ grind (arith, cases_eq)
           | inr nh ↦ elim (from_old a la nx ny nh) [
             | inl v ↦ v.0 ∙ sym on
             | inr v ↦ absurd (nx (twin-apart a x (old' (twin a) (twin-within n a s.even la) (sym v.1 ∙ e))))
@@ -126,10 +107,7 @@ split_faces f g n h x s =
       ];
     } in
     let first : cycle_count w1 n ≡ cycle_count (face_next g) n + 1 =
-    bypass_splits (face_next g) w1 n x hg s.x_within b1 (λ e. elim (cases_eq (f (twin h)) (twin h)) [
-      | inl alone ↦ yx (sym (s.split.leads_itself alone) ∙ e)
-      | inr more ↦ tx (old (twin h) lt (sym (s.split.leads_on more) ∙ e))
-    ]) in
+    bypass_splits (face_next g) w1 n x hg s.x_within b1 (λ e. grind (arith, cases_eq)) in
     let second : cycle_count w n ≡ cycle_count w1 n + 1 = bypass_splits w1 w n (twin x) h1 ly b2 (λ e. ty (sym on ∙ e)) in
     let parted : cycle_count w n ≡ cycle_count (face_next f) n + 1 =
     exchanged_splits (face_next f) w n x (twin x) hf s.x_within ly (λ e. yx (sym e)) ex (record { steps = 1; leads = s.split.isolated.other }) in

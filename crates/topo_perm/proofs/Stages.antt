@@ -53,10 +53,7 @@ all_segments n = (let w : n / 2 ≡ live_segments (λ a. true) n + free_segments
 -- which darts are left
 left_out : (h : ℕ → ℕ) (i a : ℕ) → (a ≡ h i) ⊎ (a ≡ twin (h i)) → left_after h (suc i) a ≡ false
 left_out h i a (inl e) = ap (λ (b : Bool). not (b || a == twin (h i)) && left_after h i a) (eq-eqb a (h i) e)
-left_out h i a (inr e) = elim (cases_eq a (h i)) [
-  | inl w ↦ ap (λ (b : Bool). not (b || a == twin (h i)) && left_after h i a) (eq-eqb a (h i) w)
-  | inr w ↦ ap (λ (b : Bool). not (b || a == twin (h i)) && left_after h i a) (ne_eqb a (h i) w) ∙ ap (λ (b : Bool). not b && left_after h i a) (eq-eqb a (twin (h i)) e)
-]
+left_out h i a (inr e) = grind (arith, cases_eq, ne_eqb)
 
 pub left_stays : (h : ℕ → ℕ) (i a : ℕ) → a ≢ h i → a ≢ twin (h i) → left_after h (suc i) a ≡ left_after h i a
 left_stays h i a nh nt = ap (λ (b : Bool). not (b || a == twin (h i)) && left_after h i a) (ne_eqb a (h i) nh) ∙ ap (λ (b : Bool). not b && left_after h i a) (ne_eqb a (twin (h i)) nt)
@@ -96,12 +93,7 @@ stage t n h count o (suc i) li two =
     let live : ℕ → Bool = left_after h i in
     let live' : ℕ → Bool = left_after h (suc i) in
     let adds : AddsSegment live' live n (h i) = step_adds t n h count o i lc in
-    let allowed : IsAllowedUnchord (t i) (t (suc i)) n (h i) = record {
-      turns = record { before = o.permutation i; after = o.permutation (suc i); even = o.even; within = o.there i lc };
-      two_faces = two i (omega arith);
-      not_alone = λ e. absurd (o.no_loop i lc e);
-      edit = o.unchord i lc;
-    } in
+    let allowed : IsAllowedUnchord (t i) (t (suc i)) n (h i) = grind arith in
     let after : IsSlab live' (t (suc i)) n = unchord_keeps_slab live live' (t i) (t (suc i)) n (h i) before.slab adds allowed in
     let shrinks : ShrinksSlab live live' (t i) (t (suc i)) n (h i) = record { before = before.slab; after = after; within = o.there i lc; takes = adds } in
     let grows : GrowsSlab live' live (t (suc i)) (t i) n (h i) = record { before = after; after = before.slab; within = o.there i lc; adds = adds } in

@@ -48,11 +48,7 @@ keeps_label g l n h e a b la s = walked s.steps ∙ ap l s.leads
     walked (suc k) = walked k ∙ e (after g k a) (after-within g n h k a la)
 
 pub twin-within : (n a : ℕ) → n % 2 ≡ 0 → a < n → twin a < n
-twin-within n a even la =
-    elim (cases_Bool (a % 2 == 0)) [
-      | inl e ↦ omega (arith, cond-true (a % 2 == 0) (a + 1) (a - 1) e, eqb-true (a % 2) 0 e)
-      | inr e ↦ omega (arith, cond-false (a % 2 == 0) (a + 1) (a - 1) e)
-    ]
+twin-within n a even la = grind (arith, cases_Bool, cond-true, eqb-true, cond-false)
 
 pub Joined-turned : (f o : ℕ → ℕ) (a b : ℕ) → Joined f o a b → Joined f o a (f b)
 Joined-turned f o a b j = record { moves = Turn ∷ j.moves; leads = ap f j.leads }
@@ -70,33 +66,15 @@ pub kept_joined : (f o : ℕ → ℕ) (P : ℕ → Type 0) → ((v : ℕ) → P 
 kept_joined f o P t c a b j h = subst P j.leads (kept_along f o P t c j.moves a h)
 
 pub twin-cases : (a : ℕ) → ((a % 2 ≡ 0) × (twin a ≡ a + 1)) ⊎ ((a % 2 ≢ 0) × (twin a ≡ a - 1))
-twin-cases a =
-    elim (cases_Bool (a % 2 == 0)) [
-      | inl e ↦ inl (eqb-true _ _ e, cond-true _ _ _ e)
-      | inr e ↦ inr (eqb-false _ _ e, cond-false _ _ _ e)
-    ]
+twin-cases a = grind (arith, cases_Bool, eqb-true, cond-true, eqb-false, cond-false)
 
 pub face_next-permutation : (f : ℕ → ℕ) (n : ℕ) → IsPermutation f n → n % 2 ≡ 0 → IsPermutation (face_next f) n
-face_next-permutation f n h even = record {
-  within = λ a la. h.within (twin a) (twin-within n a even la);
-  apart = λ a b la lb e.
-      let same : twin a ≡ twin b = h.apart (twin a) (twin b) (twin-within n a even la) (twin-within n b even lb) e in
-      omega (arith, same, twin-cases a, twin-cases b);
-}
+face_next-permutation f n h even = grind (arith, twin-within, twin-cases)
 
 -- a list that has the turns of the faces has as many cycles as there are faces
 pub faces_of-list : (p q : List ℕ) → IsPermutationList p → length p % 2 ≡ 0 → length q ≡ length p → ((a : ℕ) → a < length p → slice_index q a ≡ face_next (map_of p) a) → cycles_of q ≡ faces_of p
-faces_of-list p q h even same e =
-    ap (λ n. cycle_count (map_of q) n) same
-    ∙ sym (cycle_count-same (face_next (map_of p)) (map_of q) (length p) (face_next-permutation (map_of p) (length p) h even) (λ a la. sym (e a la)))
+faces_of-list p q h even same e = grind (arith, cycle_count-same, face_next-permutation)
 
 -- a relation has one number of classes
 pub IsClassCount-unique : (R : ℕ → ℕ → Type 0) (n c d : ℕ) → IsClassCount R n c → IsClassCount R n d → c ≡ d
-IsClassCount-unique R n c d g h =
-    sym g.count ∙ class_count-same g.test h.test n (λ a b la lb. elim (cases_Bool (g.test a b)) [
-      | inl here ↦ here ∙ sym (h.complete a b la lb (g.sound a b la lb here))
-      | inr none ↦ none ∙ sym (elim (cases_Bool (h.test a b)) [
-        | inr absent ↦ absent
-        | inl there ↦ absurd (both_ways (g.test a b) none (g.complete a b la lb (h.sound a b la lb there)))
-      ])
-    ]) ∙ h.count
+IsClassCount-unique R n c d g h = grind (arith, class_count-same, cases_Bool, both_ways)

@@ -15,13 +15,7 @@ loop-start-preserved c =
     let k = c.loop-start.start in
     let at_start = c.loop-start.invariant.marked k c.loop-start-test.true in
     elim c.if-not-seen-start.branch [
-      | then-not-seen-start w ↦
-          let new : some_below (λ b. r b k) k ≡ false = sym at_start ∙ w.if-not-seen-start.true in
-          record {
-            counted = w.count-is ∙ ap (λ v. v + 1) c.loop-start.invariant.counted ∙ sym (first_counted r k new);
-            marked = λ a la. ap (λ s. slice_index_or s a false) w.seen-is ∙ w.mark_cycle.ensures a la
-                ∙ ap (λ v. r k a || v) (c.loop-start.invariant.marked a la) ∙ sym (some_below_more (λ b. r b a) k);
-          }
+      | then-not-seen-start w ↦ grind (arith, first_counted, some_below_more)
       | else-not-seen-start w ↦
           let met : some_below (λ b. r b k) k ≡ true = sym at_start ∙ w.if-not-seen-start.false in
           record {

@@ -20,9 +20,4 @@ returns-then-at-a c =
 
 -- as many steps as there are numbers, and no b
 pub returns : goal.returns
-returns c =
-    let f = map_of c.args.images.now in
-    let all : c.loop-steps._steps ≡ length c.args.images.now = omega arith in
-    let whole : is_met f (length c.args.images.now) c.args.a c.args.b ≡ false =
-    ap (λ k. is_met f k c.args.a c.args.b) (sym all) ∙ c.loop-steps.invariant.unmet in
-    (λ w. absurd (cc w), λ s. absurd (unmet_apart f (length c.args.images.now) c.args.a c.args.b c.requires.permutation c.requires.a_within whole s))
+returns c = grind (arith, unmet_apart)

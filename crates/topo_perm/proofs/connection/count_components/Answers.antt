@@ -15,17 +15,7 @@ reach-found-requires-clause-closed c =
     counted_closed (map_of c.args.images.now) (length c.args.images.now) _ _ _ _ c.requires.permutation c.requires.even (omega arith) c.loop-start.invariant
 
 pub loop-start-preserved : goal.loop-start-preserved
-loop-start-preserved c =
-    let f = map_of c.args.images.now in
-    let n = length c.args.images.now in
-    elim c.if-not-seen-start.branch [
-      | then-not-seen-start w ↦
-          rw (w.seen-is, w.found-is, w.count-is)
-          (counted_new f n _ _ _ _ _ _ c.loop-start.invariant c.loop-start-test.true w.if-not-seen-start.true w.reach-found.ensures.counted w.reach-found.ensures.reached)
-      | else-not-seen-start w ↦
-          rw (w.seen-is, w.found-is, w.count-is)
-          (counted_old f n _ _ _ _ c.requires.permutation c.requires.even c.loop-start.invariant c.loop-start-test.true w.if-not-seen-start.false)
-    ]
+loop-start-preserved c = grind (arith, then-not-seen-start, counted_new, else-not-seen-start, counted_old)
 
 pub returns : goal.returns
 returns c = counted_all (map_of c.args.images.now) (length c.args.images.now) _ _ _ _ c.loop-start.invariant (omega arith)
