@@ -101,13 +101,7 @@ past_new first s x (y ∷ new) path high =
 
 -- an old crossing before the place counts
 past_old : (first s x y : ℕ) (path : List ℕ) → nat_lt y first ≡ true → crossed_path first (suc s) x (y ∷ path) ≡ y ∷ crossed_path first s x path
-past_old first s x y path low =
-    let more : 0 < suc s = omega arith in
-    let same : suc s - 1 ≡ s = omega arith in
-    ap (λ (b : Bool). insert (y ∷ path) (cond b (cond (suc s == 0) 0 (segment_end first (suc s - 1) path + 1)) (segment_end first (suc s) path + 1)) x) low
-    ∙ ap (λ (b : Bool). insert (y ∷ path) (cond b 0 (segment_end first (suc s - 1) path + 1)) x) (eqb_more (suc s) 0 more)
-    ∙ ap (λ m. insert (y ∷ path) (segment_end first m path + 1) x) same
-    ∙ insert_next y path (segment_end first s path) x
+past_old first s x y path low = grind (arith, eqb_more, insert_next)
 
 at_old : (first x y : ℕ) (path : List ℕ) → nat_lt y first ≡ true → crossed_path first 0 x (y ∷ path) ≡ x ∷ y ∷ path
 at_old first x y path low = ap (λ (b : Bool). insert (y ∷ path) (cond b 0 (segment_end first 0 path + 1)) x) low
@@ -140,14 +134,10 @@ crossed_woven new first (suc s) x t g (y ∷ path) at on old high =
 -- ---- A walk along a path
 
 pub ends_here : (first s x : ℕ) (path : List ℕ) → x < first → s ≡ 0 → segment_end first s (x ∷ path) ≡ 0
-ends_here first s x path low none =
-    ap (λ (b : Bool). cond {A = ℕ} b (cond {A = ℕ} (s == 0) 0 (segment_end first (s - 1) path + 1)) (segment_end first s path + 1)) (lt-ltb x first low)
-    ∙ ap (λ (b : Bool). cond {A = ℕ} b 0 (segment_end first (s - 1) path + 1)) (eq-eqb s 0 none)
+ends_here first s x path low none = grind (arith, lt-ltb, eq-eqb)
 
 pub counts : (first s x : ℕ) (path : List ℕ) → x < first → 0 < s → segment_end first s (x ∷ path) ≡ segment_end first (s - 1) path + 1
-counts first s x path low some =
-    ap (λ (b : Bool). cond {A = ℕ} b (cond {A = ℕ} (s == 0) 0 (segment_end first (s - 1) path + 1)) (segment_end first s path + 1)) (lt-ltb x first low)
-    ∙ ap (λ (b : Bool). cond {A = ℕ} b 0 (segment_end first (s - 1) path + 1)) (eqb_more s 0 some)
+counts first s x path low some = grind (arith, lt-ltb, eqb_more)
 
 pub goes_past : (first s x : ℕ) (path : List ℕ) → first ≤ x → segment_end first s (x ∷ path) ≡ segment_end first s path + 1
 goes_past first s x path high = ap (λ (b : Bool). cond {A = ℕ} b (cond {A = ℕ} (s == 0) 0 (segment_end first (s - 1) path + 1)) (segment_end first s path + 1)) (le-ltb x first high)
@@ -163,9 +153,7 @@ within first s (x ∷ path) = bounded (nat_lt x first) (s == 0) (within first (s
 
 -- it ends within the path
 pub ends_within : (first s n : ℕ) (xs path : List ℕ) → n ≡ segment_end first s xs → xs ≡ path → n ≤ length path
-ends_within first s n xs path is same =
-    let inside = within first s xs in
-    let long = ap length same in omega arith
+ends_within first s n xs path is same = grind (arith, within)
 
 -- ---- A rotation with a new edge
 
@@ -176,10 +164,7 @@ put_out p e around old = by_place p where
   low = λ x. nat_lt x e
 
   apart : (xs ys : List ℕ) → filter low (xs ++ e ∷ ys) ≡ filter low (xs ++ ys)
-  apart xs ys =
-      filter-append low xs (e ∷ ys)
-      ∙ ap (λ (b : Bool). filter low xs ++ cond b (e ∷ filter low ys) (filter low ys)) (le-ltb e e (omega arith))
-      ∙ sym (filter-append low xs ys)
+  apart xs ys = grind (arith, filter-append, le-ltb)
 
   kept : filter low around ≡ around
   kept = filter_whole low around (λ x h. test_of_each low x around old h)

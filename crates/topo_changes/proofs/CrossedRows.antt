@@ -34,10 +34,7 @@ map_map_same f g h (x ∷ xs) same =
 
 -- another edge keeps its path
 pub repathed_other : (e : ℕ) (change : List ℕ → List ℕ) (row : EdgeRow) → row.id ≢ e → repathed e change row ≡ row
-repathed_other e change row other = elim (cases_Bool (row.id == e)) [
-  | inl same ↦ absurd (other (eqb-true row.id e same))
-  | inr differs ↦ ap (λ (b : Bool). record row { crossings = cond b (change row.crossings) row.crossings }) differs
-]
+repathed_other e change row other = grind (arith, cases_Bool, eqb-true)
 
 -- where there is no such edge nothing changes
 pub none_repathed : (e : ℕ) (change : List ℕ → List ℕ) (edges : List EdgeRow) → find (λ row. row.id == e) edges ≡ None → map (repathed e change) edges ≡ edges
@@ -53,10 +50,7 @@ none_repathed e change (row ∷ edges) none = elim (cases_Bool (row.id == e)) [
 pub repathed_at : (limit e i : ℕ) (change : List ℕ → List ℕ) (d : EdgeRow) (edges : List EdgeRow) → rises_below limit (map (λ row. row.id) edges) ≡ true → i < length edges → (get_or edges i d).id ≡ e
     → set edges i (record (get_or edges i d) { crossings = change (get_or edges i d).crossings }) ≡ map (repathed e change) edges
 repathed_at limit e i change d [] rise inside here = absurd (omega arith)
-repathed_at limit e zero change d (row ∷ edges) rise inside here =
-    ap (λ (b : Bool). record row { crossings = cond b (change row.crossings) row.crossings } ∷ edges) (sym (eq-eqb row.id e here))
-    ∙ ap (λ rest. repathed e change row ∷ rest) (sym (map_whole (repathed e change) edges (λ other h.
-    repathed_other e change other (λ same. let above = ids_above limit row.id (map (λ row. row.id) edges) rise other.id (in_map (λ row. row.id) other edges h) in omega arith))))
+repathed_at limit e zero change d (row ∷ edges) rise inside here = grind (arith, eq-eqb, map_whole, repathed_other, ids_above, in_map)
 repathed_at limit e (suc i) change d (row ∷ edges) rise inside here =
     let at = in_at edges i d (omega arith) in
     let above = ids_above limit row.id (map (λ row. row.id) edges) rise (get_or edges i d).id (in_map (λ row. row.id) (get_or edges i d) edges at) in
@@ -120,9 +114,7 @@ module _ (first : ℕ) (darts : List Dart) (d : Dart) where
 
   path_less : (e : ℕ) (path : List ℕ) → list_all (λ y. nat_lt y first) path ≡ true → (b : Bool) → (e == d.edge) ≡ b
       → cond b (filter low (woven (more e) 0 path)) (woven (more e) 0 path) ≡ woven (before e) 0 path
-  path_less e path old true is =
-      filter_woven low (more e) 0 path (λ y h. let old_one = lt_of_test y first (test_of_each (λ z. nat_lt z first) y path old h) in lt-ltb y (first + length darts) (omega arith))
-      ∙ woven_same (λ i. filter low (more e i)) (before e) 0 path (λ i h. taken e i)
+  path_less e path old true is = grind (arith, filter_woven, lt_of_test, test_of_each, lt-ltb, woven_same, taken)
   path_less e path old false is = woven_same (more e) (before e) 0 path (λ i h. elsewhere e i is)
 
   -- a crossing put on its path

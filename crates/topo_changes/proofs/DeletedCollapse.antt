@@ -123,10 +123,7 @@ module _ (q : Rows) (e : ℕ) (p : Rows) (hq : IsWellFormed q) (hp : IsWellForme
       let same : d ≡ record { edge = e; seg = d.seg; way = d.way } = ap (λ (c : ℕ). (let r : Dart = record { edge = c; seg = d.seg; way = d.way } in r)) on_e in
       let at : a ≡ num (record { edge = e; seg = d.seg; way = d.way }) = sym (number_of q hq a la) ∙ ap num same in
       let away = left_away half count a w d.seg less in
-      elim (on_segment d.seg d.way less) [
-        | inl v ↦ away.0 (at ∙ v)
-        | inr v ↦ away.1 (at ∙ v)
-      ]
+      grind (arith, on_segment)
 
   -- ---- How the others turn
 
@@ -137,9 +134,7 @@ module _ (q : Rows) (e : ℕ) (p : Rows) (hq : IsWellFormed q) (hp : IsWellForme
   size = images_length q
 
   steps : (i : ℕ) → i < count → IsUnchord (opened_turn q e i) (opened_turn q e (i + 1)) (length (darts q)) (half i)
-  steps i li =
-      let row = some_of (edge_row q e) known in
-      opening.unchords row.0 row.1 i (subst (λ (r : EdgeRow). i < length r.crossings + 1) (edge_at_row q e row.0 row.1) li)
+  steps i li = grind (arith, some_of, opening, edge_at_row)
 
   below : (d : Dart) → Is d → num d < length (darts q)
   below d h = subst (λ (v : ℕ). num d < v) size (number_less q hq d h)
@@ -165,11 +160,7 @@ module _ (q : Rows) (e : ℕ) (p : Rows) (hq : IsWellFormed q) (hp : IsWellForme
       (off d h ne) (off_before k way lk) (off z z_in z_other) (on_segment k way lk)
 
   over_turn : (d b z : Dart) → Is d → d.edge ≢ e → Is z → z.edge ≢ e → turn (system q) d ≡ b → b.edge ≡ e → turn (system q) b ≡ z → t (num d) ≡ num z
-  over_turn d b z h ne z_in z_other to on_e from =
-      let b_in : Is b = subst Is to (turn_in d h) in
-      let inside : b.seg ≤ length (edge_at q e).crossings = subst (λ (c : ℕ). b.seg ≤ length (edge_at q c).crossings) on_e (segment_of_dart q hq b b_in) in
-      let same : b ≡ record { edge = e; seg = b.seg; way = b.way } = ap (λ (c : ℕ). (let r : Dart = record { edge = c; seg = b.seg; way = b.way } in r)) on_e in
-      over_segment b.seg b.way (omega (arith, inside)) d z h ne z_in z_other (to ∙ same) (ap (turn (system q)) (sym same) ∙ from)
+  over_turn d b z h ne z_in z_other to on_e from = grind (arith, turn_in, segment_of_dart, over_segment)
 
   old_turn_in : (d : Dart) → Was d → Was (turn (system p) d)
   old_turn_in d w = turn_stays p hp.paths hp.crossings hp.rotations d w
@@ -424,10 +415,7 @@ module _ (q : Rows) (e : ℕ) (p : Rows) (hq : IsWellFormed q) (hp : IsWellForme
         off = λ b lb.
             let d : Dart = dart_of p hp b in
             let was : Was d = dart_here p hp b lb in
-            let (not_on, not_back) = s.gone_points c x d is was in (
-              numbers_apart q hq (lifted p q d) on (s.lifts d was) here.ahead_in not_on,
-              λ w. numbers_apart q hq (lifted p q d) back (s.lifts d was) here.behind_in not_back (w ∙ here.from_ahead),
-            );
+            let (not_on, not_back) = s.gone_points c x d is was in grind (arith, numbers_apart);
       }
 
   -- a part at a crossing is the dart ahead of it, or the one to which that turns

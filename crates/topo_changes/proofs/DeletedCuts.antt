@@ -240,10 +240,7 @@ module _ (q : Rows) (e : ℕ) (row : EdgeRow) (good : IsWellFormed q) (known : e
             ((joins (j + 1)).joined b d bq bs dq ds).1 (st.connected (index_of q b) (index_of q d) (number_less q good b bq) (number_less q good d dq) (left_number (j + 1) (omega (arith, hi, lj)) b bq bs) (left_number (j + 1) (omega (arith, hi, lj)) d dq ds));
       } where
         kept_last : (j : ℕ) → j < final → is_opened e (j + 1) (seg final Back) ≡ false
-        kept_last j less = elim (cases_Bool (nat_lt final (j + 1))) [
-          | inl t ↦ absurd (let l : final < j + 1 = ltb-true final (j + 1) t in omega (arith, less, l))
-          | inr u ↦ ap (λ (b : Bool). b && nat_lt final (j + 1)) (eq-eqb e e refl) ∙ u
-        ]
+        kept_last j less = grind (arith, cases_Bool, ltb-true, eq-eqb)
 
         left_number : (i : ℕ) → i ≤ final + 1 → (d : Dart) → has_dart (darts q) d ≡ true → is_opened e i d ≡ false → left_after half i (index_of q d) ≡ true
         left_number i hi d h stays = left_dart q e row good known p hides i hi d h stays

@@ -97,14 +97,7 @@ module _ (rows : Rows) (good : IsWellFormed rows) (e : ℕ) (row : EdgeRow) (kno
         let after : sum_by segment_count (without rows e).edges ≡ length (without rows e).edges + 2 * length (without rows e).crossings = segments_total (without rows e) good_p small in
         let edges = edges_without rows good e row known in
         let crossings = crossings_without rows good e row known in
-        let vertices = vertices_without rows e in
-        let path : length (edge_at rows e).crossings ≡ length row.crossings = ap (λ (r : EdgeRow). length r.crossings) (edge_at_row rows e row known) in
-        let euler : length rows.rotations + length rows.crossings + face_count rows ≡ sum_by segment_count rows.edges + 2 = zero_genus in
-        let faces = w.faces in
-        record {
-          embedding = record { well_formed = good_p; connected = w.connected_without };
-          genus_zero = omega (arith, before, after, edges, crossings, vertices, path, euler, faces);
-        }
+        grind (arith, vertices_without, edge_at_row, good_p)
 
     pub no_cut : ((i : ℕ) → i ≤ length (edge_at rows e).crossings → HasOneFace rows e i → ⊥) → (i : ℕ) → IsCut rows e i → ⊥
     no_cut none i cut = cut.falls_apart (whole rows e row good known (without rows e) good_p hides ends connected genus name onto collapses none).connected_without

@@ -83,10 +83,7 @@ across-second leads t b f e = cond-false _ _ _ e
 
 -- under other numbers, of which it is known as well which lead along their edges
 pub carried_across : (leads leads' : ℕ → Bool) (nu t g : ℕ → ℕ) (b f : ℕ) → g (nu b) ≡ nu (t b) → g (nu f) ≡ nu (t f) → leads' (nu (t b)) ≡ leads (t b) → across leads' g (nu b) (nu f) ≡ nu (across leads t b f)
-carried_across leads leads' nu t g b f first second same = elim (cases_Bool (leads (t b))) [
-  | inl e ↦ across-first leads' g (nu b) (nu f) (ap leads' first ∙ same ∙ e) ∙ first ∙ ap nu (sym (across-first leads t b f e))
-  | inr e ↦ across-second leads' g (nu b) (nu f) (ap leads' first ∙ same ∙ e) ∙ second ∙ ap nu (sym (across-second leads t b f e))
-]
+carried_across leads leads' nu t g b f first second same = grind (arith, cases_Bool, across-first, across-second)
 
 module _ (rows : Rows) (good : IsWellFormed rows) (e : ℕ) (row : EdgeRow) (known : edge_row rows e ≡ Some row) where
   abbrev num : Dart → ℕ
@@ -138,12 +135,8 @@ module _ (rows : Rows) (good : IsWellFormed rows) (e : ℕ) (row : EdgeRow) (kno
         is = is;
         found = found ∙ ap Some (sym id);
         at = elim (two_orders rows e (without rows e) hidden c x is) [
-          | inl r ↦
-              let to : t (num (back e i)) ≡ num (ahead rows c x.id) = off_turn ∙ ap num r.from_second in
-              across-first is_even t (num (back e i)) (num (forward e (i + 1))) (ap is_even to ∙ eq-eqb (num (ahead rows c x.id) % 2) 0 (index_forward rows (ahead rows c x.id) ahead_in refl)) ∙ to
-          | inr r ↦
-              let to : t (num (back e i)) ≡ num (behind rows c x.id) = off_turn ∙ ap num r.from_first in
-              across-second is_even t (num (back e i)) (num (forward e (i + 1))) (ap is_even to ∙ ne_eqb (num (behind rows c x.id) % 2) 0 (λ w. absurd (let odd = odd_back (behind rows c x.id) behind_in refl in omega arith))) ∙ on_turn ∙ ap num r.from_second
+          | inl r ↦ grind (arith, across-first, is_even, eq-eqb, index_forward)
+          | inr r ↦ grind (arith, across-second, is_even, ne_eqb, odd_back)
         ];
       }
 

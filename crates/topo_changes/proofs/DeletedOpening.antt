@@ -94,14 +94,8 @@ module _ (q : Rows) (e : ℕ) (row : EdgeRow) (good : IsWellFormed q) (known : e
       let on_at : segment (i + 1) Forward ≡ ahead q e w.id = sym on ∙ ap (ahead q e) (sym id) in
       let back_at : segment i Back ≡ behind q e w.id = sym back ∙ ap (behind q e) (sym id) in
       elim (two_orders q e p hides c w is) [
-        | inl r ↦ record {
-          onward = off_behind c w (segment (i + 1) Forward) is (ap (turn (system q)) on_at ∙ r.from_first);
-          back = off_ahead c w (segment i Back) is (ap (turn (system q)) back_at ∙ r.from_second);
-        }
-        | inr r ↦ record {
-          onward = off_ahead c w (segment (i + 1) Forward) is (ap (turn (system q)) on_at ∙ r.from_second);
-          back = off_behind c w (segment i Back) is (ap (turn (system q)) back_at ∙ r.from_first);
-        }
+        | inl r ↦ grind (arith, off_behind, off_ahead)
+        | inr r ↦ grind (arith, off_ahead, off_behind)
       ]
 
   -- a dart of e turns to another edge, or is alone at an end of e

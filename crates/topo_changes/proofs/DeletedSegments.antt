@@ -28,9 +28,7 @@ rising : (g : ℕ → ℕ) (n : ℕ) → ((i : ℕ) → i + 1 < n → g i < g (i
 rising g n up zero i j e lj = (let same : j ≡ i = omega arith in let w : g j ≡ g i = ap g same in omega arith)
 rising g n up (suc d) i j e lj =
     let low : g i ≤ g (i + d) = rising g n up d i (i + d) refl (omega arith) in
-    let step : g (i + d) < g (i + d + 1) = up (i + d) (omega arith) in
-    let last : j ≡ i + d + 1 = omega arith in
-    let w : g j ≡ g (i + d + 1) = ap g last in omega arith
+    grind arith
 
 -- where the first k numbers pass and no others, k pass
 first_pass : (p : ℕ → Bool) (k n : ℕ) → k ≤ n → ((i : ℕ) → i < k → p i ≡ true) → ((i : ℕ) → k ≤ i → i < n → p i ≡ false) → count_below p n ≡ k
@@ -55,13 +53,7 @@ run_places q c d [] b r = (let at : d.seg ≡ b.seg = ap (λ (y : Dart). y.seg) 
 run_places q c d (x ∷ xs) b r =
     let at : d.seg ≡ place_on q c x = ap (λ (y : Dart). y.seg) r.0 in
     let rest = run_places q c (ahead q c x) xs b r.1 in
-    let low : place_on q c x + 1 ≤ b.seg = rest.0 in (
-      omega arith,
-      λ i k. elim k [
-        | inl same ↦ subst (λ (v : ℕ). (d.seg ≤ place_on q c v) × (place_on q c v + 1 ≤ b.seg)) (sym same) (omega arith, low)
-        | inr later ↦ let (from, to) : (place_on q c x + 1 ≤ place_on q c i) × (place_on q c i + 1 ≤ b.seg) = rest.1 i later in (omega arith, to)
-      ],
-    )
+    grind arith
 
 -- ---- Parts of segments
 
@@ -97,10 +89,7 @@ module _ (q : Rows) (e : ℕ) (p : Rows) (hp : IsWellFormed p) (s : HidesTurns q
   ends c k = last_part (path c) (edge_at q c).crossings k
 
   begins_at : (c i : ℕ) → begins c (suc i) ≡ stands c i + 1
-  begins_at c i =
-      let same : suc i - 1 ≡ i = omega arith in
-      ap (λ (t : Bool). cond {A = ℕ} t 0 (stands c (suc i - 1) + 1)) (eqb_more (suc i) 0 (omega arith))
-      ∙ ap (λ k. stands c k + 1) same
+  begins_at c i = grind (arith, eqb_more)
 
   ends_at : (c i : ℕ) → i < length (path c) → ends c i ≡ stands c i
   ends_at c i h = ap (λ (t : Bool). cond {A = ℕ} t (length (edge_at q c).crossings) (stands c i)) (eqb_less i (length (path c)) h)
@@ -110,16 +99,12 @@ module _ (q : Rows) (e : ℕ) (p : Rows) (hp : IsWellFormed p) (s : HidesTurns q
       → (begins c k ≤ ends c k) × ((i : ℕ) → IsIn i (crossings_between q e c k) → (begins c k ≤ place_on q c i) × (place_on q c i + 1 ≤ ends c k))
   span c k there inside =
       let run : RunsOver q c (lifted p q (forward c k)) (crossings_between q e c k) (lifted p q (back c k)) = s.segments (forward c k) (dart_of_segment p hp c k Forward there inside) refl in
-      run_places q c (forward c (begins c k)) (crossings_between q e c k) (back c (ends c k))
-      (subst (λ b. RunsOver q c (forward c (begins c k)) (crossings_between q e c k) b) (lifted_back p q c k)
-      (subst (λ d. RunsOver q c d (crossings_between q e c k) (lifted p q (back c k))) (lifted_forward p q c k) run))
+      grind (arith, run_places, lifted_back, lifted_forward)
 
   stands_rise : (c : ℕ) → is_some (edge_row p c) ≡ true → (i : ℕ) → i + 1 < length (path c) → stands c i < stands c (i + 1)
   stands_rise c there i less =
       let next : begins c (i + 1) ≤ ends c (i + 1) = (span c (i + 1) there (omega arith)).0 in
-      let same : i + 1 ≡ suc i = omega arith in
-      let from : begins c (i + 1) ≡ stands c i + 1 = ap (begins c) same ∙ begins_at c i in
-      let to : ends c (i + 1) ≡ stands c (i + 1) = ends_at c (i + 1) less in omega arith
+      grind (arith, begins_at, ends_at)
 
   stands_ordered : (c : ℕ) → is_some (edge_row p c) ≡ true → (i j : ℕ) → i ≤ j → j < length (path c) → stands c i ≤ stands c j
   stands_ordered c there i j h less = rising (stands c) (length (path c)) (stands_rise c there) (j - i) i j (omega arith) less

@@ -78,16 +78,8 @@ module _ (rows : Rows) (good : IsWellFormed rows) (e : ℕ) (row : EdgeRow) (kno
     shut_slab = record {
       before = record { permutation = permutes rows e row good known after (hides rows good e row known) 0; even = even_count rows good; twins = λ a la. refl; free = λ a la w. absurd (false≢true (sym w)) };
       after = slab;
-      into = record {
-        there = λ a at. whole.into.there a (record { within = at.within; alive = refl });
-        returns = λ a at. whole.into.returns a (record { within = at.within; alive = refl });
-        twins = λ a at. whole.into.twins a (record { within = at.within; alive = refl });
-      };
-      from = record {
-        there = λ y yt. record { within = (whole.from.there y yt).within; alive = refl };
-        returns = λ y yt. whole.from.returns y yt;
-        twins = λ y yt. whole.from.twins y yt;
-      };
+      into = grind (arith, there, whole);
+      from = grind (arith, there, whole);
       turns = λ a at. whole.turns a (record { within = at.within; alive = refl }) ∙ ap nu (sym (shut rows e row good known after (hides rows good e row known) a at.within));
     }
 

@@ -54,10 +54,7 @@ module _ (rows : Rows) (good : IsWellFormed rows) (e : ℕ) (row : EdgeRow) (kno
   left_at i k way lk inside = left_dart rows e row good known (without rows e) hidden i (omega arith) (record { edge = e; seg = k; way = way }) (hidden.edge_there k way inside)
       (ap (λ (b : Bool). b && nat_lt k i) (eq-eqb e e refl) ∙ not_less) where
         not_less : nat_lt k i ≡ false
-        not_less = elim (cases_Bool (nat_lt k i)) [
-          | inl less ↦ absurd (let l : k < i = ltb-true k i less in omega arith)
-          | inr same ↦ same
-        ]
+        not_less = grind (arith, cases_Bool, ltb-true)
 
   module _ (nu home : ℕ → ℕ) (limit : ℕ) (u : Turning) (r : RenumbersTurn nu home (map_of (turn_images rows)) u.turn many u.live limit) (slab : IsSlab u.live u.turn limit) where
     pub stage_numbers : (i : ℕ) → i ≤ last + 1 → (w : Turning) → IsRun limit u (unchords_of (λ j. nu (num (forward e j))) i) w → RenumbersSlab nu home (left_after h i) (t i) many w.live w.turn limit
@@ -91,16 +88,10 @@ module _ (rows : Rows) (good : IsWellFormed rows) (e : ℕ) (row : EdgeRow) (kno
       over_number li = left_turn rows e row good known (without rows e) hidden i i Back (omega arith) (omega arith)
 
       back_left : i < last → IsAlive (left_after h i) many (num (back e i))
-      back_left li = record {
-        within = number_less rows good (back e i) (hidden.edge_there i Back (omega arith));
-        alive = left_at i i Back (omega arith) (omega arith);
-      }
+      back_left li = grind (arith, number_less, hidden, left_at)
 
       forward_left : i < last → IsAlive (left_after h i) many (num (forward e (i + 1)))
-      forward_left li = record {
-        within = there (i + 1) (omega arith);
-        alive = left_at i (i + 1) Forward (omega arith) (omega arith);
-      }
+      forward_left li = grind (arith, there, left_at)
 
       pub back_alive : i < last → IsAlive w.live limit (nu (num (back e i)))
       back_alive li = (stage_numbers i (omega arith) w run).into.there (num (back e i)) (back_left li)

@@ -14,10 +14,7 @@ left_away h (suc i) a w j lj =
     let here : not (a == h i || a == twin (h i)) ≡ true = left_true (not (a == h i || a == twin (h i))) (left_after h i a) w in
     let later : left_after h i a ≡ true = right_true (not (a == h i || a == twin (h i))) (left_after h i a) w in
     elim (cases_eq j i) [
-      | inl same ↦ subst (λ (k : ℕ). (a ≢ h k) × (a ≢ twin (h k))) (sym same) (
-        λ e. false≢true (sym (ap not (or_left (a == h i) (a == twin (h i)) (eq-eqb a (h i) e))) ∙ here),
-        λ e. false≢true (sym (ap not (or_right (a == h i) (a == twin (h i)) (eq-eqb a (twin (h i)) e))) ∙ here),
-      )
+      | inl same ↦ subst (λ (k : ℕ). (a ≢ h k) × (a ≢ twin (h k))) (sym same) grind (arith, false≢true, or_left, eq-eqb, or_right)
       | inr ne ↦ left_away h i a later j (omega arith)
     ]
 
@@ -27,21 +24,14 @@ module _ (t : ℕ → ℕ → ℕ) (n : ℕ) (h : ℕ → ℕ) (count : ℕ) (st
   IsOff a j = (a ≢ h j) × (a ≢ twin (h j))
 
   one_step : (i a : ℕ) → i < count → a < n → IsOff a i → IsOff (t i a) i → t (i + 1) a ≡ t i a
-  one_step i a li la off next =
-      let u : IsUnchord (t i) (t (i + 1)) n (h i) = steps i li in
-      let half : u.half a ≡ t i a = u.first.elsewhere a la off.0 next.0 in
-      u.second.elsewhere a la off.1 (λ e. next.1 (sym half ∙ e)) ∙ half
+  one_step i a li la off next = grind arith
 
   -- from i on to k segments taken out: what is on none of them turns as before where it turns to none of them
   steady : (d i k a : ℕ) → i + d ≡ k → k ≤ count → a < n → ((j : ℕ) → i ≤ j → j < k → IsOff a j × IsOff (t i a) j) → t k a ≡ t i a
   steady zero i k a e lk la off = (let same : k ≡ i = omega arith in ap (λ (v : ℕ). t v a) same)
   steady (suc d) i k a e lk la off =
       let before : t (i + d) a ≡ t i a = steady d i (i + d) a refl (omega arith) la (λ j ij lj. off j ij (omega arith)) in
-      let at : IsOff a (i + d) × IsOff (t i a) (i + d) = off (i + d) (omega arith) (omega arith) in
-      let last : k ≡ i + d + 1 = omega arith in
-      ap (λ (v : ℕ). t v a) last
-      ∙ one_step (i + d) a (omega arith) la at.0 (λ w. at.1.0 (sym before ∙ w), λ w. at.1.1 (sym before ∙ w))
-      ∙ before
+      grind (arith, one_step)
 
   pub straight : (a : ℕ) → a < n → ((j : ℕ) → j < count → IsOff a j × IsOff (t 0 a) j) → t count a ≡ t 0 a
   straight a la off = steady count 0 count a (omega arith) (omega arith) la (λ j ij lj. off j lj)
@@ -56,16 +46,8 @@ module _ (t : ℕ → ℕ → ℕ) (n : ℕ) (h : ℕ → ℕ) (count : ℕ) (st
     b_before = steady k 0 k b (omega arith) (omega arith) lb (λ j ij lj. (off_b j lj, subst (λ (v : ℕ). IsOff v j) (sym to_c) (off_c j (omega arith)))) ∙ to_c
 
     led_over : (b ≡ h k) ⊎ (b ≡ twin (h k)) → t (k + 1) a ≡ c
-    led_over (inl e) =
-        let u : IsUnchord (t k) (t (k + 1)) n (h k) = steps k lk in
-        let half : u.half a ≡ c = u.first.onward a la (off_a k lk).0 (a_before ∙ e) ∙ ap (t k) (sym e) ∙ b_before in
-        u.second.elsewhere a la (off_a k lk).1 (λ w. (off_c k lk).1 (sym half ∙ w)) ∙ half
-    led_over (inr e) =
-        let u : IsUnchord (t k) (t (k + 1)) n (h k) = steps k lk in
-        let other : b ≢ h k = λ w. twin-other (h k) (sym e ∙ w) in
-        let half : u.half a ≡ b = u.first.elsewhere a la (off_a k lk).0 (λ w. other (sym a_before ∙ w)) ∙ a_before in
-        let half_b : u.half b ≡ c = u.first.elsewhere b lb other (λ w. (off_c k lk).0 (sym b_before ∙ w)) ∙ b_before in
-        u.second.onward a la (off_a k lk).1 (half ∙ e) ∙ ap u.half (sym e) ∙ half_b
+    led_over (inl e) = grind (arith, a_before, b_before)
+    led_over (inr e) = grind (arith, twin-other, a_before, b_before)
 
     pub over : (b ≡ h k) ⊎ (b ≡ twin (h k)) → t count a ≡ c
     over on =

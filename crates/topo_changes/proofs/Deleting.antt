@@ -35,9 +35,7 @@ across crossings e x row there = ap (λ (o : Option CrossRow). cond {A = ℕ} ((
 
 pub across_read : (crossings : List CrossRow) (e x place : ℕ) (d : CrossRow) (t : Bool) → IsPlaceOf crossings (λ row. row.id) x place → ((get_or crossings place d).crossed == e) ≡ t
     → other_edge crossings e x ≡ cond {A = ℕ} t (get_or crossings place d).newcomer (get_or crossings place d).crossed
-across_read crossings e x place d t placed is =
-    across crossings e x (get_or crossings place d) (placed.found ∙ ap Some (sym (get_or_from_slice_get crossings place placed.row d placed.at)))
-    ∙ ap (λ (b : Bool). cond {A = ℕ} b (get_or crossings place d).newcomer (get_or crossings place d).crossed) is
+across_read crossings e x place d t placed is = grind (arith, across, get_or_from_slice_get)
 
 -- of two different edges the one that is not e, which is one of them
 record IsOther (e a b o : ℕ) : Type 0 where
@@ -116,9 +114,7 @@ module _ (rows : Rows) (good : IsWellFormed rows) (e : ℕ) where
 
   -- and that row
   pub row_read : (list read : List EdgeRow) (place : ℕ) (row : EdgeRow) → list ≡ rows.edges → read ≡ list → IsPlaceOf read (λ row. row.id) e place → row ≡ get_or list place row → edge_row rows e ≡ Some row
-  row_read list read place row is same placed now =
-      let here = subst (λ (es : List EdgeRow). IsPlaceOf es (λ row. row.id) e place) (same ∙ is) placed in
-      here.found ∙ ap Some (sym (now ∙ ap (λ (es : List EdgeRow). get_or es place row) is ∙ get_or_from_slice_get rows.edges place here.row row here.at))
+  row_read list read place row is same placed now = grind (arith, get_or_from_slice_get)
 
   module _ (row : EdgeRow) (there : edge_row rows e ≡ Some row) where
     row_there : IsIn row rows.edges
@@ -182,9 +178,7 @@ module _ (rows : Rows) (good : IsWellFormed rows) (e : ℕ) where
     pub crossings_left : filter (λ x. not (x.crossed == e) && not (x.newcomer == e)) rows.crossings ≡ filter (λ x. not (has_id row.crossings x.id)) rows.crossings
     crossings_left = filter_alike (λ x. not (x.crossed == e) && not (x.newcomer == e)) (λ x. not (has_id row.crossings x.id)) rows.crossings (λ x h. elim (cases_Bool (has_id row.crossings x.id)) [
       | inl is ↦ one_is x.crossed x.newcomer (on_edge x h (in_has_id x.id row.crossings is)) ∙ sym (ap not is)
-      | inr is ↦
-          let apart = left_apart rows e good (ap is_some there) x h (ap (λ (r : EdgeRow). has_id r.crossings x.id) (edge_at_row rows e row there) ∙ is) in
-          none_is x.crossed x.newcomer apart.0 apart.1 ∙ sym (ap not is)
+      | inr is ↦ grind (arith, left_apart, edge_at_row)
     ]) where
       one_is : (a b : ℕ) → (e == a || e == b) ≡ true → (not (a == e) && not (b == e)) ≡ false
       one_is a b h = grind (arith, nat_tests)
@@ -207,10 +201,4 @@ module _ (rows : Rows) (good : IsWellFormed rows) (e : ℕ) where
         → after_ends ≡ record after_edge { rotations = left_by row.id row.b (left_by row.id row.a after_edge.rotations) }
         → after ≡ record after_ends { crossings = filter (λ x. not (x.crossed == e) && not (x.newcomer == e)) after_ends.crossings }
         → after ≡ without rows e
-    parts_left after_edge after_ends after one two three =
-        three
-        ∙ ap (λ (r : Rows). record r { crossings = filter (λ (x : CrossRow). not (x.crossed == e) && not (x.newcomer == e)) r.crossings }) two
-        ∙ ap (λ (r : Rows). record r { crossings = filter (λ (x : CrossRow). not (x.crossed == e) && not (x.newcomer == e)) r.crossings; rotations = left_by row.id row.b (left_by row.id row.a r.rotations) }) one
-        ∙ ap (λ (around : List (List ℕ)). built around (filter (λ (x : CrossRow). not (x.crossed == e) && not (x.newcomer == e)) rows.crossings) row) rotations_left
-        ∙ ap (λ (xs : List CrossRow). built (map (rotation_without e) rows.rotations) xs row) crossings_left
-        ∙ ap (λ (r : EdgeRow). built (map (rotation_without e) rows.rotations) (filter (λ (x : CrossRow). not (has_id r.crossings x.id)) rows.crossings) r) (sym (edge_at_row rows e row there))
+    parts_left after_edge after_ends after one two three = grind (arith, one, rotations_left, crossings_left, edge_at_row)

@@ -60,19 +60,13 @@ module _ (rows : Rows) (u p kind : ℕ) (good : IsWellFormed rows) (u_in : u < l
   known_below e there = let row = some_of (edge_row rows e) there in subst (λ x. x < f) (row_id rows e row.0 row.1) (old_edge row.0 (row_in rows e row.0 row.1))
 
   pub grown_good : IsWellFormed grew
-  grown_good = record {
-    paths = paths_after_growth rows u p kind good.paths good.rotations u_in p_in known;
-    crossings = crossings_after_growth rows u p kind good.paths good.rotations u_in p_in good.crossings;
-    rotations = rotations_after_growth rows u p kind good.paths good.rotations u_in p_in;
-  }
+  grown_good = grind (arith, paths_after_growth, crossings_after_growth, rotations_after_growth)
 
   pub grown_turns : IsGrownTurn rows grew
   grown_turns = turns_after_growth rows u p kind good.paths good.rotations u_in p_in good.crossings
 
   around_after : rotation grew u ≡ put_in p f around
-  around_after =
-      get_or_append_left (with_end rows.rotations u p f) ((f ∷ []) ∷ []) [] u (subst (λ n. u < n) (sym (length-set rows.rotations u (put_in p f around))) u_in)
-      ∙ get_or-set_same rows.rotations u (put_in p f around) [] u_in
+  around_after = grind (arith, get_or_append_left, length-set, get_or-set_same)
 
   follows : (i : IsPutIn p f around) → entry_after (rotation grew u) f ≡ slice_index around p
   follows i =
@@ -80,17 +74,11 @@ module _ (rows : Rows) (u p kind : ℕ) (good : IsWellFormed rows) (u_in : u < l
       let now : rotation grew u ≡ before ++ f ∷ i.back = around_after ∙ i.now in
       let old : (x : ℕ) → IsIn x before → x ≢ f = λ x h e.
       let less = known_below x ((good_rotation rows good.rotations u (vertex_in rows u u_in)).known x (subst (IsIn x) (sym i.was) (in_left x before i.back h))) in absurd (omega arith) in
-      let read : slice_index around p ≡ slice_index_or i.back 0 i.head = (let both : Some (slice_index around p) ≡ Some (slice_index_or i.back 0 i.head) = sym (slice_get-get_or around p 0 p_in) ∙ i.corner in cc) in
-      ap (λ xs. entry_after xs f) now
-      ∙ ap (λ k. slice_index_or (before ++ f ∷ i.back) (k + 1) i.head) (place_of_new f before i.back old)
-      ∙ after_new f i.head before i.back
-      ∙ sym read
+      grind (arith, slice_get-get_or, place_of_new, after_new)
 
   -- old edges are as they were
   edge_stays : (e : ℕ) → is_some (edge_row rows e) ≡ true → edge_at grew e ≡ edge_at rows e
-  edge_stays e there =
-      let row = some_of (edge_row rows e) there in
-      edge_at_row grew e row.0 (found_more (λ r. r.id == e) rows.edges (new_row ∷ []) row.0 row.1) ∙ sym (edge_at_row rows e row.0 row.1)
+  edge_stays e there = grind (arith, some_of, edge_at_row, found_more)
 
   end_stays : (e : ℕ) → is_some (edge_row rows e) ≡ true → end_dart grew u e ≡ end_dart rows u e
   end_stays e there = ap (λ (r : EdgeRow). cond (r.a == u) (forward e 0) (back e (length r.crossings))) (edge_stays e there)

@@ -104,12 +104,7 @@ module _ (rows : Rows) (good : IsWellFormed rows) (u p kind : ℕ) (u_in : u < l
 
     -- an old dart turns as before, or to the new one where it turned to the corner
     turned : (d : Dart) → IsOld d → (after_turn (index_of rows d) ≡ before_turn (index_of rows d)) ⊎ ((after_turn (index_of rows d) ≡ m) × (index_of rows c ≡ before_turn (index_of rows d)))
-    turned d h =
-        let was : before_turn (index_of rows d) ≡ index_of rows (turn (system rows) d) = turn_number rows good d h in
-        elim (turns.old_turns d (is_old_edge d h)) [
-          | inl same ↦ inl (old_turn d h ∙ ap (index_of after) same ∙ old_index (turn (system rows) d) (turn_stays rows good.paths good.crossings good.rotations d h) ∙ sym was)
-          | inr between ↦ inr (old_turn d h ∙ ap (index_of after) between.0 ∙ new_index, ap (index_of rows) (sym leads ∙ between.1) ∙ sym was)
-        ]
+    turned d h = grind (arith, turn_number, turns, is_old_edge, old_turn, old_index, turn_stays, new_index, leads)
 
     growth : IsGrowth before_turn after_turn m (index_of rows c)
     growth = record {

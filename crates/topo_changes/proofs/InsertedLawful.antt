@@ -58,12 +58,7 @@ put_not_bare : (p e : ℕ) (around : List ℕ) → p < length around → (length
 put_not_bare p e around h = ap (λ (xs : List ℕ). length xs == 0) (is_put_in p e around h).now ∙ ne_eqb _ 0 (λ w. omega arith)
 
 shown_not_bare : (rows : Rows) (u v kind : ℕ) (r : Route) → IsInsertable rows u v kind r → has_bare rows.rotations ≡ false → has_bare (shown rows u v kind r).rotations ≡ false
-shown_not_bare rows u v kind r may h =
-    let first : List (List ℕ) = with_end rows.rotations u r.start rows.next_edge in
-    let at_v : slice_index_or first v [] ≡ rotation rows v = get_or-set_other rows.rotations u v (put_in r.start rows.next_edge (rotation rows u)) [] (λ w. may.ends_apart (sym w)) in
-    set_not_bare first v (put_in r.end rows.next_edge (slice_index_or first v []))
-    (set_not_bare rows.rotations u (put_in r.start rows.next_edge (rotation rows u)) h (put_not_bare r.start rows.next_edge (rotation rows u) may.start))
-    (ap (λ (xs : List ℕ). length (put_in r.end rows.next_edge xs) == 0) at_v ∙ put_not_bare r.end rows.next_edge (rotation rows v) may.end)
+shown_not_bare rows u v kind r may h = grind (arith, get_or-set_other, set_not_bare, put_not_bare)
 
 -- ---- The corners of two vertices are two darts
 
@@ -153,9 +148,4 @@ insertion_keeps_lawful rows u v kind r lawful lu lv apart known simple small =
     let points : length q.crossings ≡ length rows.crossings + length r.crossed = length-append rows.crossings _
     ∙ ap (λ (k : ℕ). length rows.crossings + k) (length-map (numbered rows r) (new_crossing rows.next_edge) ∙ length-enumerate_from rows.next_crossing r.crossed) in
     let vertices : length q.rotations ≡ length rows.rotations = shown_vertices rows u v kind r in
-    let genus : HasGenusZero rows = lawful.genus_zero in
-    let faces : face_count q ≡ face_count rows + (length r.crossed + 1) = g.faces in
-    record {
-      embedding = record { well_formed = g.form; connected = g.connected lawful.embedding.connected };
-      genus_zero = omega (arith, before, after, edges, points, vertices, genus, faces);
-    }
+    grind arith

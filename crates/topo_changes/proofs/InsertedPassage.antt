@@ -169,16 +169,7 @@ module _ (p q : Rows) (f u v : ℕ) (r : Route) (hp : IsWellFormed p) (hq : IsWe
   last_link x z e h t =
       let le : x - p.next_crossing ≤ length r.crossed = index_least x [] h in
       let at : x - p.next_crossing ≡ length r.crossed = (let k = h.from in let l : x + 0 ≡ p.next_crossing + length r.crossed = h.size in omega arith) in
-      let half : Dart = newcomer (x - p.next_crossing) Forward in
-      record {
-        there = number_less q hq half (newcomer_in (x - p.next_crossing) Forward le);
-        from_apart = strange z t.z_in t.z_other (x - p.next_crossing) le;
-        to_apart = strange e t.e_in t.e_other (x - p.next_crossing) le;
-        ends_apart = numbers_apart q hq z e t.z_in t.e_in t.not_end;
-        leaves = turn_number q hq half (newcomer_in (x - p.next_crossing) Forward le) ∙ ap num t.leaves;
-        arrives = ap g (twin_half (x - p.next_crossing) le) ∙ turn_number q hq (newcomer (x - p.next_crossing) Back) (newcomer_in (x - p.next_crossing) Back le)
-            ∙ ap num (ap (λ (j : ℕ). turn (system q) (newcomer j Back)) at ∙ t.arrives);
-      }
+      grind (arith, number_less, newcomer_in, strange, numbers_apart, turn_number, twin_half)
 
   inner_link : (x : ℕ) (z e d : Dart) (ds : List Dart) → IsRest x (d ∷ ds) → IsStart x z e → IsLink g n (link_of x (num z) (num (onward q x d)))
   inner_link x z e d ds h t =
@@ -389,13 +380,7 @@ module _ (p q : Rows) (f u v : ℕ) (r : Route) (hp : IsWellFormed p) (hq : IsWe
     on_new_edge : (d : Dart) → Is d → d.edge ≡ f → d.seg ≤ length r.crossed
     on_new_edge d hd ed = elim (s.no_others d hd) [
       | inl w ↦ w.1
-      | inr w ↦ elim w [
-        | inl v ↦ absurd (lifted_other v.0 v.1 (sym (ap (λ (c : Dart). c.edge) v.2) ∙ ed))
-        | inr v ↦ absurd (elim v.3 [
-          | inl at ↦ s.old_edges v.1 (crossed_was v.0 v.1 v.2) (sym (onward_edge q v.0 v.1.edge v.1.way) ∙ sym (ap (λ (c : Dart). c.edge) at) ∙ ed)
-          | inr at ↦ s.old_edges v.1 (crossed_was v.0 v.1 v.2) (sym (onward_edge q v.0 v.1.edge (reversed v.1.way)) ∙ sym (ap (λ (c : Dart). c.edge) at) ∙ ed)
-        ])
-      ]
+      | inr w ↦ grind (arith, lifted_other, onward_edge)
     ] where
       crossed_was : (x : ℕ) (d : Dart) → IsIn (x, d) (numbered p r) → Was d
       crossed_was x d i = all_at (λ c. has_dart (darts p) c ≡ true) d r.crossed h.rest.was (numbered_in p.next_crossing x d r.crossed i)
@@ -426,9 +411,7 @@ module _ (p q : Rows) (f u v : ℕ) (r : Route) (hp : IsWellFormed p) (hq : IsWe
               over_at (turn (system q) up) up up_in (lifted_other d was) refl over.0 t_in ∙ ap num over.1 ∙ goal
         ] where
           over_at : (t a : Dart) → Is a → a.edge ≢ f → turn (system q) a ≡ t → t.edge ≡ f → Is t → below z e (num a) ≡ num (turn (system q) t)
-          over_at t a ha na at et ht =
-              let same : t ≡ newcomer t.seg t.way = ap (λ (i : ℕ). (let c : Dart = record { edge = i; seg = t.seg; way = t.way } in c)) et in
-              over_newcomer z e h a ha na t.seg t.way (on_new_edge t ht et) (at ∙ same) ∙ ap (λ (c : Dart). num (turn (system q) c)) (sym same)
+          over_at t a ha na at et ht = grind (arith, over_newcomer, on_new_edge)
 
     named : IsNamed (below z e) n old m name
     named = record {
@@ -451,10 +434,7 @@ module _ (p q : Rows) (f u v : ℕ) (r : Route) (hp : IsWellFormed p) (hq : IsWe
     unbent_segments a la x (c ∷ cs) was u = (
       elim (cases_Bool (same_segment c (dart_of p hp a))) [
         | inr apart ↦ apart
-        | inl one ↦ absurd (elim (same_or_twins c (dart_of p hp a) one) [
-          | inl same ↦ u.0.not_self (sym (number_of p hp a la) ∙ ap (index_of p) same)
-          | inr twins ↦ u.0.not_twin (sym (number_of p hp a la) ∙ ap (index_of p) (sym (twin-twin (dart_of p hp a)) ∙ ap dart_twin twins) ∙ index_twin p c was.0)
-        ])
+        | inl one ↦ absurd (grind (arith, same_or_twins, dart_of, number_of, twin-twin, index_twin))
       ],
       unbent_segments a la (x + 1) cs was.1 u.1,
     )

@@ -50,6 +50,4 @@ pub rows_made : (rows : Rows) (u v kind : ℕ) (r : Route) (rotations : List (Li
     → crossings ≡ rows.crossings ++ map (new_crossing rows.next_edge) (enumerate_from rows.next_crossing r.crossed)
     → n ≡ length r.crossed
     → let made : Rows = record { rotations = rotations; edges = edges; crossings = crossings; next_edge = rows.next_edge + 1; next_crossing = rows.next_crossing + n } in made ≡ shown rows u v kind r
-rows_made rows u v kind r rotations edges crossings path n p is_rotations is_edges is_crossings is_n =
-    let with_path = is_edges ∙ ap (λ path. map (crossed_by rows.next_crossing r.crossed) rows.edges ++ record { id = rows.next_edge; a = u; b = v; kind = kind; crossings = path } ∷ []) p in
-    rw (is_rotations, with_path, is_crossings, is_n) refl
+rows_made rows u v kind r rotations edges crossings path n p is_rotations is_edges is_crossings is_n = cc

@@ -103,10 +103,7 @@ out_of_one x ys = filter_alike (λ y. not (y == x)) (λ y. not (has_id (x ∷ []
 
 -- a path without the crossing stays as it is
 pub unchanged : (x : ℕ) (row : EdgeRow) → has_id row.crossings x ≡ false → uncrossed_row (x ∷ []) row ≡ row
-unchanged x row none = ap (λ (path : List ℕ). record row { crossings = path }) (sym (out_of_one x row.crossings) ∙ filter_whole (λ y. not (y == x)) row.crossings (λ y h. elim (cases_Bool (y == x)) [
-  | inl e ↦ absurd (false≢true (sym none ∙ has_id_in x row.crossings (subst (λ z. IsIn z row.crossings) (eqb-true y x e) h)))
-  | inr e ↦ ap not e
-]))
+unchanged x row none = ap (λ (path : List ℕ). record row { crossings = path }) (sym (out_of_one x row.crossings) ∙ filter_whole (λ y. not (y == x)) row.crossings (λ y h. grind (arith, cases_Bool, false≢true, has_id_in, eqb-true)))
 
 -- the crossing is taken out of the one path on which it stands
 pub path_left : (edges : List EdgeRow) (i x other : ℕ) (row : EdgeRow) → IsStrictlyIncreasing (map (λ row. row.id) edges) → i < length edges → slice_index (map (λ row. row.id) edges) i ≡ other → row ≡ get_or edges i row
@@ -117,9 +114,7 @@ path_left (z ∷ zs) zero x other row up inside at read elsewhere =
     let rest : map (uncrossed_row (x ∷ [])) zs ≡ zs = map_whole (uncrossed_row (x ∷ [])) zs (λ y h.
     let less = above_first z.id (map (λ row. row.id) zs) up y.id (in_map (λ row. row.id) y zs h) in
     unchanged x y (elsewhere y (inr h) (λ same. (let e = same in omega arith)))) in
-    ap (λ (row : EdgeRow). record row { crossings = filter (λ y. not (y == x)) row.crossings } ∷ zs) read
-    ∙ ap (λ (path : List ℕ). record z { crossings = path } ∷ zs) (out_of_one x z.crossings)
-    ∙ ap (λ zs. uncrossed_row (x ∷ []) z ∷ zs) (sym rest)
+    grind (arith, out_of_one)
 path_left (z ∷ zs) (suc i) x other row up inside at read elsewhere =
     let as_many = length-map zs (λ (row : EdgeRow). row.id) in
     let less = above_first z.id (map (λ row. row.id) zs) up other (subst (λ y. IsIn y (map (λ row. row.id) zs)) at (in_at (map (λ row. row.id) zs) i 0 (omega arith))) in
@@ -167,9 +162,7 @@ more_out path i x was edges after inside is before now =
 still_found : (o : ℕ) (gone : List ℕ) (was : List EdgeRow) → is_some (find (λ row. row.id == o) (map (uncrossed_row gone) was)) ≡ is_some (find (λ row. row.id == o) was)
 still_found o gone [] = refl
 still_found o gone (row ∷ was) = elim (cases_Bool (row.id == o)) [
-  | inl is ↦
-      ap (λ (b : Bool). is_some (cond b (Some (uncrossed_row gone row)) (find (λ row. row.id == o) (map (uncrossed_row gone) was)))) is
-      ∙ sym (ap (λ (b : Bool). is_some (cond b (Some row) (find (λ row. row.id == o) was))) is)
+  | inl is ↦ cc
   | inr other ↦
       ap (λ (b : Bool). is_some (cond b (Some (uncrossed_row gone row)) (find (λ row. row.id == o) (map (uncrossed_row gone) was)))) other
       ∙ still_found o gone was
@@ -188,7 +181,4 @@ crossed_still crossings e x gone was edges is h = subst (λ edges. IsCrossed cro
       );
 }) where
   fewer : (p : ℕ → Bool) (x : ℕ) (xs : List ℕ) → has_id xs x ≡ false → has_id (filter p xs) x ≡ false
-  fewer p x xs none = elim (cases_Bool (has_id (filter p xs) x)) [
-    | inl e ↦ absurd (false≢true (sym none ∙ has_id_in x xs (in_filter p x xs (in_has_id x (filter p xs) e))))
-    | inr e ↦ e
-  ]
+  fewer p x xs none = grind (arith, cases_Bool, false≢true, has_id_in, in_filter, in_has_id)

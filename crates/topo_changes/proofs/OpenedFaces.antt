@@ -104,10 +104,7 @@ module _ (rows : Rows) (good : IsWellFormed rows) (e : ℕ) where
     passes_more out start next passed h gone = record {
       here = turned_here next h.here;
       place = turned_number next h.here ∙ ap whole_turn h.place;
-      over = λ j some few. elim (cases_eq j (suc passed)) [
-        | inl last ↦ ap (λ i. is_gone out (after whole_turn i start)) last ∙ ap (is_gone out) (sym h.place) ∙ gone_number out next h.here ∙ gone
-        | inr before ↦ h.over j some (omega arith)
-      ];
+      over = λ j some few. grind (arith, cases_eq, gone_number);
     }
 
     module _ (out : ℕ) (few : out ≤ segment_count row) (from : Dart) (here : has_dart (darts rows) from ≡ true) (left : is_opened e out from ≡ false) where
@@ -123,10 +120,7 @@ module _ (rows : Rows) (good : IsWellFormed rows) (e : ℕ) where
       pub passes_to : (next : Dart) (passed : ℕ) → Passes out (index_of rows other) next passed → is_opened e out next ≡ false → index_of rows next ≡ face_next (opened_turn rows e out) (index_of rows from)
       passes_to next passed h stays =
           let less = place_less (darts rows) other other_here in
-          let is_left : is_gone out (after whole_turn (suc passed) (index_of rows other)) ≡ false = ap (is_gone out) (sym h.place) ∙ gone_number out next h.here ∙ stays in
-          h.place
-          ∙ sym (skips_here whole_turn (is_gone out) (index_of rows other) (opened_turn rows e out (index_of rows other)) passed (opened_skips out few (index_of rows other) less other_left) h.over is_left)
-          ∙ ap (opened_turn rows e out) (index_twin rows from here)
+          grind (arith, gone_number, skips_here, opened_skips, other_left, index_twin)
 
       pub passes_few : (next : Dart) (passed : ℕ) → Passes out (index_of rows other) next passed → length (darts rows) ≤ passed → ⊥
       passes_few next passed h many =
@@ -176,10 +170,7 @@ module _ (rows : Rows) (good : IsWellFormed rows) (e : ℕ) where
         unlike d here differ same = differ (index_apart rows good.paths d goal here goal_here same)
 
         pub walks_none : from ≢ goal → Walks from 0
-        walks_none differ = record {
-          stands = refl;
-          unmet = λ j few same. unlike from from_here differ (let none : j ≡ 0 = omega arith in ap (λ k. after face k (index_of rows from)) (sym none) ∙ same);
-        }
+        walks_none differ = grind (arith, unlike)
 
         module _ (d next : Dart) (steps : ℕ) (h : Walks d steps) (is : index_of rows next ≡ face (index_of rows d)) where
           stands_next : index_of rows next ≡ after face (suc steps) (index_of rows from)

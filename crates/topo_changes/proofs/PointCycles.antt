@@ -41,11 +41,7 @@ equal_classes : (n : ℕ) → class_count (λ a b. a == b) n ≡ n
 equal_classes n = all_counted (is_first (λ a b. a == b)) n (λ a. is_first-from (λ a b. a == b) a (λ b below. eqb_less b a below))
 
 equality_equivalence : (n : ℕ) → IsEquivalence (λ a b. a == b) n
-equality_equivalence n = record {
-  reflexive = λ a la. eq-eqb a a refl;
-  symmetric = λ a b la lb e. eq-eqb b a (sym (eqb-true a b e));
-  transitive = λ a b c la lb lc e k. eq-eqb a c (eqb-true a b e ∙ eqb-true b c k);
-}
+equality_equivalence n = grind (arith, eq-eqb, eqb-true)
 
 -- ---- Steps round a point
 
@@ -53,9 +49,7 @@ equality_equivalence n = record {
 follower_at : (first : Dart) (ds : List Dart) (k : ℕ) (c d : Dart) → IsDistinct ds → slice_get ds k ≡ Some c → slice_get ds (suc k) ≡ Some d → follower first ds c ≡ d
 follower_at first [] k c d distinct e h = cc
 follower_at first (b ∷ []) zero c d distinct e h = cc
-follower_at first (b ∷ a ∷ ds) zero c d distinct e h =
-    let here : b ≡ c = cc in
-    let next : a ≡ d = cc in ap (λ (t : Bool). cond t a (follower first (a ∷ ds) c)) (ap (same_dart c) here ∙ same_dart_self c) ∙ next
+follower_at first (b ∷ a ∷ ds) zero c d distinct e h = grind (arith, same_dart_self)
 follower_at first (b ∷ ds) (suc k) c d distinct e h =
     let apart : same_dart c b ≡ false = elim (cases_Bool (same_dart c b)) [
       | inl is ↦ absurd (false≢true (sym (head_not_later b ds distinct) ∙ ap (has_dart ds) (sym (same_dart_true c b is)) ∙ has_at ds k c e))
@@ -125,9 +119,7 @@ point_numbered : (s : System) (d : Dart) → stands_in s d ≡ true → (point_n
 unfolding point_number
 point_numbered [] d h = cc
 point_numbered (around ∷ s) d h = elim (cases_Bool (has_dart around d)) [
-  | inl e ↦
-      let first : point_number (around ∷ s) d ≡ 0 = ap (λ (t : Bool). cond {A = ℕ} t 0 (suc (point_number s d))) e in
-      (omega arith, ap (λ i. has_dart (point (around ∷ s) i) d) first ∙ e)
+  | inl e ↦ grind (arith, point_number, point)
   | inr e ↦
       let later : point_number (around ∷ s) d ≡ suc (point_number s d) = ap (λ (t : Bool). cond {A = ℕ} t 0 (suc (point_number s d))) e in
       let rest = point_numbered s d (or_second (has_dart around d) (stands_in s d) e (sym (has_dart-append around (darts_in s) d) ∙ h)) in

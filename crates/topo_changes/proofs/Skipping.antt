@@ -30,13 +30,7 @@ module _ (f g h : ℕ → ℕ) (n : ℕ) (out : ℕ → Bool) (y : ℕ) (inside 
   elsewhere : (a : ℕ) → a < n → out a ≡ false → a ≢ y → g a ≢ y → Skips f (or_at out y) a (h a)
   elsewhere a l e ne away =
       let s = skips a l e in
-      let same : h a ≡ g a = taken.elsewhere a l ne away in
-      record {
-        passed = s.passed;
-        lands = same ∙ s.lands;
-        stays = subst (λ b. or_at out y b ≡ false) (sym same) (stays_left (g a) s.stays away);
-        over = λ j some few. or_left (out (after f j a)) (after f j a == y) (s.over j some few);
-      }
+      grind (arith, or_at, stays_left, or_left)
 
   -- what led there leads on
   onward : (a : ℕ) → a < n → out a ≡ false → a ≢ y → g a ≡ y → Skips f (or_at out y) a (h a)
@@ -67,13 +61,7 @@ module _ (f g h : ℕ → ℕ) (n : ℕ) (out : ℕ → Bool) (y : ℕ) (inside 
         beyond (suc k) m over few = or_left (out (after f (suc k) y)) (after f (suc k) y == y) (over (suc k) (omega arith) few)
 
   pub bypass_skips : (a : ℕ) → a < n → or_at out y a ≡ false → Skips f (or_at out y) a (h a)
-  bypass_skips a l e =
-      let still : out a ≡ false = or_left_false (out a) (a == y) e in
-      let ne : a ≢ y = λ k. false≢true (sym (or_right_false (out a) (a == y) e) ∙ ap (λ b. b == y) k ∙ eqb_self y) in
-      elim (cases_eq (g a) y) [
-        | inl leads ↦ onward a l still ne leads
-        | inr away ↦ elsewhere a l still ne away
-      ]
+  bypass_skips a l e = grind (arith, or_left_false, false≢true, or_right_false, eqb_self, cases_eq, onward, elsewhere)
 
 -- a segment is taken out
 pub unchord_skips : (f g h : ℕ → ℕ) (n : ℕ) (out : ℕ → Bool) (d : ℕ) → d < n → twin d < n → d ≢ twin d → IsPermutation g n → out d ≡ false → out (twin d) ≡ false → IsUnchord g h n d
@@ -85,12 +73,7 @@ unchord_skips f g h n out d inside other apart perm left other_left taken skips 
 
 -- another test with the same answers
 pub skips_alike : (f : ℕ → ℕ) (n : ℕ) → IsPermutation f n → (out gone : ℕ → Bool) → ((b : ℕ) → b < n → out b ≡ gone b) → (a b : ℕ) → a < n → Skips f out a b → Skips f gone a b
-skips_alike f n perm out gone same a b l s = record {
-  passed = s.passed;
-  lands = s.lands;
-  stays = sym (same b (subst (λ k. k < n) (sym s.lands) (after-within f n perm (suc s.passed) a l))) ∙ s.stays;
-  over = λ j some few. sym (same (after f j a) (after-within f n perm j a l)) ∙ s.over j some few;
-}
+skips_alike f n perm out gone same a b l s = grind (arith, after-within)
 
 -- where all so far are out and the next is not, it is the one
 pub skips_here : (f : ℕ → ℕ) (out : ℕ → Bool) (a b k : ℕ) → Skips f out a b → ((j : ℕ) → 0 < j → j ≤ k → out (after f j a) ≡ true) → out (after f (suc k) a) ≡ false → b ≡ after f (suc k) a

@@ -35,9 +35,7 @@ edges_without rows good e row there =
     let rise = left_true (rises_below rows.next_edge (map (λ row. row.id) rows.edges)) (list_all (has_good_path rows) rows.edges) good.paths in
     let once : count_by (λ row. row.id == e) rows.edges ≡ 1 = sum_found (λ (row : EdgeRow). row.id) (λ row. 1) rows.next_edge e rows.edges rise ∙ ap (λ o. unwrap_or (option_map (λ row. 1) o) 0) there in
     let found = length-filter (λ (row : EdgeRow). row.id == e) rows.edges in
-    let both = length-filter_both (λ (row : EdgeRow). row.id == e) (is_left rows e) (λ row. refl) rows.edges in
-    let images = length-map (filter (is_left rows e) rows.edges) (uncrossed_row (gone rows e)) in
-    omega arith
+    grind (arith, length-filter_both, is_left, length-map, gone)
 
 -- the ids that pass, of the items or of themselves
 ids_passing : {X : Type 0} (id : X → ℕ) (q : ℕ → Bool) (xs : List X) → map id (filter (λ x. q (id x)) xs) ≡ filter q (map id xs)
@@ -74,9 +72,7 @@ crossings_without rows good e row there =
     sym (length-map (filter (λ (x : CrossRow). has_id row.crossings x.id) rows.crossings) (λ (x : CrossRow). x.id))
     ∙ ap length (ids_passing (λ (x : CrossRow). x.id) (has_id row.crossings) rows.crossings)
     ∙ same_length (filter (has_id row.crossings) (map (λ (x : CrossRow). x.id) rows.crossings)) row.crossings same in
-    let both = length-filter_both (λ (x : CrossRow). has_id row.crossings x.id) (λ x. not (has_id row.crossings x.id)) (λ x. refl) rows.crossings in
-    let left : length (without rows e).crossings ≡ length (filter (λ (x : CrossRow). not (has_id row.crossings x.id)) rows.crossings) = ap (λ path. length (filter (λ (x : CrossRow). not (has_id path x.id)) rows.crossings)) path in
-    omega arith
+    grind (arith, length-filter_both)
 
 -- ---- Bare vertices
 
@@ -85,9 +81,7 @@ nothing_joined [] ys h = (refl, h)
 nothing_joined (x ∷ xs) ys h = cc
 
 nothing_rotated : {before after : List ℕ} → IsRotated before after → after ≡ [] → before ≡ []
-nothing_rotated {before} {after} r h =
-    let parts = nothing_joined r.back r.front (sym r.now ∙ h) in
-    r.was ∙ ap (λ xs. xs ++ r.back) parts.1 ∙ parts.0
+nothing_rotated {before} {after} r h = grind (arith, nothing_joined)
 
 -- an edge stands at most once round a vertex
 at_most_once : (rows : Rows) → IsWellFormed rows → (e v : ℕ) → v < length rows.rotations → occurrences e (rotation rows v) ≤ 1
@@ -105,18 +99,13 @@ pub bare_without : (rows : Rows) → IsWellFormed rows → (e v : ℕ) → v < l
 bare_without rows good e v inside some bare =
     let empty : filter (λ f. not (f == e)) (rotation rows v) ≡ [] = nothing_rotated (without_rotated rows e v) bare in
     elim (taken_out e (rotation rows v) (at_most_once rows good e v inside)) [
-      | inl out ↦
-          let parts = nothing_joined out.front out.back (sym out.now ∙ empty) in
-          out.was ∙ ap (λ xs. xs ++ e ∷ out.back) parts.0 ∙ ap (λ xs. e ∷ xs) parts.1
+      | inl out ↦ grind (arith, nothing_joined)
       | inr same ↦ absurd (some (sym same ∙ empty))
     ]
 
 -- and a vertex that had the edge alone becomes bare
 pub without_bare : (rows : Rows) (e v : ℕ) → rotation rows v ≡ e ∷ [] → rotation (without rows e) v ≡ []
-without_bare rows e v alone =
-    without_rotation rows e v
-    ∙ ap (λ around. from_least (filter (λ f. not (f == e)) around)) alone
-    ∙ ap (λ (t : Bool). from_least (cond (not t) (e ∷ []) [])) (eq-eqb e e refl)
+without_bare rows e v alone = grind (arith, without_rotation, eq-eqb)
 
 none_empty : (lists : List (List ℕ)) → ((v : ℕ) → v < length lists → slice_index_or lists v [] ≢ []) → list_any (λ around. length around == 0) lists ≡ false
 none_empty [] full = refl

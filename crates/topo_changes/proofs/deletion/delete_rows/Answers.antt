@@ -7,14 +7,10 @@ use Rattle.topo_changes.proofs.UncrossedEdges.{parts_left_uncrossed}
 use Rattle.topo_changes.proofs.deletion.delete_rows.Goals as goal
 
 pub leave_ends-requires-clause-a : goal.leave_ends-requires-clause-a
-leave_ends-requires-clause-a c =
-    let facts = path_facts c.args.rows.now c.requires.well_formed.paths c.delete_edge-row.result (row_in c.args.rows.now c.args.e c.delete_edge-row.result c.delete_edge-row.ensures.row) in
-    let inside = facts.a_in in let as_many = ap (λ (r : Rows). length r.rotations) c.delete_edge-row.ensures.rows in omega arith
+leave_ends-requires-clause-a c = grind (arith, path_facts, row_in)
 
 pub leave_ends-requires-clause-b : goal.leave_ends-requires-clause-b
-leave_ends-requires-clause-b c =
-    let facts = path_facts c.args.rows.now c.requires.well_formed.paths c.delete_edge-row.result (row_in c.args.rows.now c.args.e c.delete_edge-row.result c.delete_edge-row.ensures.row) in
-    let inside = facts.b_in in let as_many = ap (λ (r : Rows). length r.rotations) c.delete_edge-row.ensures.rows in omega arith
+leave_ends-requires-clause-b c = grind (arith, path_facts, row_in)
 
 pub returns-then-is_empty : goal.returns-then-is_empty
 returns-then-is_empty c =

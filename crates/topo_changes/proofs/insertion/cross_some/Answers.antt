@@ -28,6 +28,4 @@ loop-i-preserved c =
     ∙ ap (λ (d : Dart). map (repathed d.edge (crossed_path first d.seg (first + i))) edges) c.index-darts-i.is)
 
 pub returns-clause-crossed : goal.returns-clause-crossed
-returns-clause-crossed c =
-    let darts = c.args.darts.now in
-    c.loop-i.invariant ∙ ap (λ darts. map (crossed_by c.args.first darts) c.args.edges.now) (take_all c.loop-i.i darts c.loop-i-test.false ∙ sym (take_all (length darts) darts (omega arith)))
+returns-clause-crossed c = grind (arith, take_all)

@@ -1,4 +1,4 @@
-use Rattle.std.proofs.Common.{◌∙◌, ◌+◌, ◌∷◌, ◌++◌, [], ap, sym}
+use Rattle.std.proofs.Common.{arith, ◌∙◌, ◌+◌, ◌∷◌, ◌++◌, [], ap, sym}
 use Rattle.std.specs.Prelude.{map}
 use Rattle.std.specs.List.{enumerate_from}
 use Rattle.std.proofs.lemmas.List.{take_all}
@@ -17,7 +17,4 @@ loop-i-preserved c =
     ∙ sym (numbered_step (λ x. x.0) c.args.first c.args.darts.now c.loop-i.i any_dart c.loop-i-test.true)
 
 pub returns : goal.returns
-returns c =
-    c.from_vec.ensures
-    ∙ c.loop-i.invariant
-    ∙ ap (λ darts. map (λ x. x.0) (enumerate_from c.args.first darts)) (take_all c.loop-i.i c.args.darts.now c.loop-i-test.false)
+returns c = grind (arith, take_all)

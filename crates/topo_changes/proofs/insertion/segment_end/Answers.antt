@@ -16,14 +16,7 @@ pub loop-i-preserved : goal.loop-i-preserved
 loop-i-preserved c =
     let path = c.args.path.now in
     let next = at_drop_more (segment_end c.args.first c.loop-i.left) path c.loop-i.i 0 c.loop-i-test.true in
-    elim c.if-x-first.branch [
-      | then-x-first+else-left-eq0 w ↦
-          let here = counts c.args.first c.loop-i.left (get_or path c.loop-i.i 0) (drop (c.loop-i.i + 1) path) w.if-x-first.true (omega arith) in
-          let same = ap (λ left. segment_end c.args.first left (drop (c.loop-i.i + 1) path)) w.left-is in omega arith
-      | else-x-first w ↦
-          let here = goes_past c.args.first c.loop-i.left (get_or path c.loop-i.i 0) (drop (c.loop-i.i + 1) path) w.if-x-first.false in
-          let same = ap (λ left. segment_end c.args.first left (drop (c.loop-i.i + 1) path)) w.left-is in omega arith
-    ]
+    grind (arith, then-x-first+else-left-eq0, counts, else-x-first, goes_past)
 
 pub returns : goal.returns
 returns c =
