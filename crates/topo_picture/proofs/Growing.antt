@@ -13,12 +13,7 @@ use Rattle.topo_core.proofs.Connection.{seed_is_embedding}
 use Rattle.topo_core.proofs.GrownFaces.{growth_keeps_lawful}
 
 pub seed_is_picture : (limits : Limits) → IsPicture limits seed
-seed_is_picture limits = record {
-  lawful = record { embedding = seed_is_embedding; genus_zero = refl };
-  vertices = limits.two_vertices;
-  edges = limits.one_edge;
-  crossings = omega arith;
-}
+seed_is_picture limits = grind (arith, seed_is_embedding)
 
 -- what holds where a growth is not refused
 pub record IsGrowable (limits : Limits) (rows : Rows) (u p kind : ℕ) : Type 0 where
@@ -39,15 +34,7 @@ passes true true true true false h = cc
 passes true true true true true h = (refl, refl, refl, refl, refl)
 
 pub growable : (limits : Limits) (rows : Rows) (u p kind : ℕ) → grow_refusal limits rows u p kind ≡ None → IsGrowable limits rows u p kind
-growable limits rows u p kind h =
-    let all = passes (has_vertex rows u) (nat_lt p (length (rotation rows u))) (nat_lt kind 64) (nat_lt (length rows.rotations) limits.vertices) (nat_lt rows.next_edge limits.edges) h in
-    record {
-      vertex = ltb-true _ _ all.0;
-      position = ltb-true _ _ all.1;
-      known = ltb-true _ _ all.2;
-      vertex_left = ltb-true _ _ all.3;
-      edge_left = ltb-true _ _ all.4;
-    }
+growable limits rows u p kind h = grind (arith, passes, ltb-true)
 
 pub grown_is_picture : (limits : Limits) (rows : Rows) (u p kind : ℕ) → IsPicture limits rows → grow_refusal limits rows u p kind ≡ None → IsPicture limits (grown rows u p kind)
 grown_is_picture limits rows u p kind was accepted =

@@ -34,15 +34,7 @@ none_refuses true true false true false h = cc
 none_refuses true true false true true h = (refl, refl, refl, refl, refl)
 
 pub admitted : (limits : Limits) (rows : Rows) (u v kind : ℕ) → insert_refusal limits rows u v kind ≡ None → IsAdmitted limits rows u v kind
-admitted limits rows u v kind h =
-    let all = none_refuses (has_vertex rows u) (has_vertex rows v) (u == v) (nat_lt kind 64) (nat_lt rows.next_edge limits.edges) h in
-    record {
-      u_there = ltb-true _ _ all.0;
-      v_there = ltb-true _ _ all.1;
-      apart = λ same. false≢true (sym all.2 ∙ eq-eqb u v same);
-      known = ltb-true _ _ all.3;
-      edge_left = ltb-true _ _ all.4;
-    }
+admitted limits rows u v kind h = grind (arith, none_refuses, ltb-true, false≢true, eq-eqb)
 
 module _ (limits : Limits) (rows : Rows) (u v kind : ℕ) (r : Route) (was : IsPicture limits rows) (may : insert_refusal limits rows u v kind ≡ None) (simple : IsSimpleRoute rows u v r) where
   -- a route that meets no face twice can be shown

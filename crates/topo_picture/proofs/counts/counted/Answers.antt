@@ -5,57 +5,37 @@ use Rattle.topo_picture.proofs.counts.counted.Goals as goal
 pub overflow_cast-crossings : goal.overflow_cast-crossings
 overflow_cast-crossings c =
     let size = counted c.requires.0 c.args.rows.now c.requires.1 in
-    let v = ap length c.as_slice.ensures in
-    let x = ap length c.as_slice-2.ensures in
-    omega arith
+    grind arith
 
 pub overflow_cast-edges : goal.overflow_cast-edges
 overflow_cast-edges c =
     let size = counted c.requires.0 c.args.rows.now c.requires.1 in
-    let v = ap length c.as_slice.ensures in
-    let x = ap length c.as_slice-2.ensures in
-    let e = ap length c.as_slice-3.ensures in
-    omega arith
+    grind arith
 
 pub overflow_mul-segments : goal.overflow_mul-segments
 overflow_mul-segments c =
     let size = counted c.requires.0 c.args.rows.now c.requires.1 in
-    let v = ap length c.as_slice.ensures in
-    let x = ap length c.as_slice-2.ensures in
-    let e = ap length c.as_slice-3.ensures in
-    omega arith
+    grind arith
 
 pub overflow_add-segments : goal.overflow_add-segments
 overflow_add-segments c =
     let size = counted c.requires.0 c.args.rows.now c.requires.1 in
-    let v = ap length c.as_slice.ensures in
-    let x = ap length c.as_slice-2.ensures in
-    let e = ap length c.as_slice-3.ensures in
-    omega arith
+    grind arith
 
 pub overflow_add-result : goal.overflow_add-result
 overflow_add-result c =
     let size = counted c.requires.0 c.args.rows.now c.requires.1 in
-    let v = ap length c.as_slice.ensures in
-    let x = ap length c.as_slice-2.ensures in
-    let e = ap length c.as_slice-3.ensures in
-    omega arith
+    grind arith
 
 pub overflow_add-result-2 : goal.overflow_add-result-2
 overflow_add-result-2 c =
     let size = counted c.requires.0 c.args.rows.now c.requires.1 in
-    let v = ap length c.as_slice.ensures in
-    let x = ap length c.as_slice-2.ensures in
-    let e = ap length c.as_slice-3.ensures in
-    omega arith
+    grind arith
 
 pub overflow_sub-result : goal.overflow_sub-result
 overflow_sub-result c =
     let size = counted c.requires.0 c.args.rows.now c.requires.1 in
-    let v = ap length c.as_slice.ensures in
-    let x = ap length c.as_slice-2.ensures in
-    let e = ap length c.as_slice-3.ensures in
-    omega arith
+    grind arith
 
 pub returns : goal.returns
 returns c =

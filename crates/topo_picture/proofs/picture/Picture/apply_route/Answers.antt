@@ -1,4 +1,4 @@
-use Rattle.std.proofs.Common.{◌≡◌, ℕ, None, OnErr, OnOk, Result, subst, sym}
+use Rattle.std.proofs.Common.{arith, ◌≡◌, ℕ, None, OnErr, OnOk, Result, subst, sym}
 use Rattle.topo_core.specs.declared.rows.Rows.{Rows}
 use Rattle.topo_core.specs.declared.limits.Limits.{Limits}
 use Rattle.topo_core.specs.declared.routes.Route.{Route}
@@ -31,8 +31,7 @@ insert-requires-clause-insertable c =
     insertable_inside c.self.inside.limits c.self.inside.embedded.rows c.args.self.now c.args.u c.args.v c.args.kind c.args.route.now c.self.invariant c.self.view_is c.requires.admitted c.requires.simple
 
 pub insert-requires-clause-simple : goal.insert-requires-clause-simple
-insert-requires-clause-simple c =
-    simple_inside c.self.inside.limits c.self.inside.embedded.rows c.args.self.now c.args.u c.args.v c.args.kind c.args.route.now c.self.invariant c.self.view_is c.requires.admitted c.requires.simple
+insert-requires-clause-simple c = grind (arith, simple_inside)
 
 pub invariant_of-self : goal.invariant_of-self
 invariant_of-self c =

@@ -1,4 +1,4 @@
-use Rattle.std.proofs.Common.{◌≡◌, ◌≤◌, ℕ, true, is_some, length, subst, sym}
+use Rattle.std.proofs.Common.{arith, ◌≡◌, ◌≤◌, ℕ, true, is_some, length, subst, sym}
 use Rattle.topo_core.specs.declared.limits.Limits.{Limits}
 use Rattle.topo_core.specs.declared.rows.Rows.{Rows}
 use Rattle.topo_core.specs.Changes.{HasOneFace, IsCut, without}
@@ -20,8 +20,7 @@ module _ (limits : Limits) (rows : Rows) (s : Shown) (e : ℕ) (was : IsPicture 
   lawful_after new same = deletion_of_picture limits rows e was there_inside new same faces_inside
 
 pub delete-requires-clause-there : goal.delete-requires-clause-there
-delete-requires-clause-there c =
-    there_inside c.self.inside.limits c.self.inside.embedded.rows c.args.self.now c.args.edge c.self.invariant c.self.view_is c.requires.there c.requires.whole
+delete-requires-clause-there c = grind (arith, there_inside)
 
 pub invariant_of-self : goal.invariant_of-self
 invariant_of-self c =
