@@ -1,5 +1,5 @@
 -- Which points have no dart left when an edge is opened.
-use Rattle.std.proofs.Common.{◌≡◌, ◌≢◌, ◌&&◌, ◌≤◌, ◌<◌, ◌||◌, ap, arith, Bool, cond, eqb, false, inl, inr, length, List, not, refl, subst, sym, true, ℕ, [], ◌∙◌, ◌∷◌}
+use Rattle.std.proofs.Common.{◌≡◌, ◌≢◌, ◌&&◌, ◌≤◌, ◌<◌, ◌||◌, ap, arith, Bool, cond, eqb, false, inl, inr, length, List, not, refl, sym, true, ℕ, [], ◌∙◌, ◌∷◌}
 use Rattle.std.specs.Prelude.{filter, map, nat_lt, ◌==◌, ◌⊎◌}
 use Rattle.std.specs.List.{list_any}
 use Rattle.std.proofs.lemmas.Bool.Decides.{nat_tests}

@@ -1,5 +1,5 @@
 -- For each picture and call there is one reply and one next picture.
-use Rattle.std.proofs.Common.{◌≡◌, ℕ, ◌≤◌, ◌<◌, true, length, Option, Some, None, sym, ap, ◌∙◌, arith, inl, inr}
+use Rattle.std.proofs.Common.{◌≡◌, ℕ, ◌≤◌, ◌<◌, true, Option, Some, None, sym, ap, ◌∙◌, arith, inl, inr}
 use Rattle.std.specs.Prelude.{is_some}
 use Rattle.topo_core.specs.declared.rows.Rows.{Rows}
 use Rattle.topo_core.specs.declared.limits.Limits.{Limits}
@@ -13,7 +13,7 @@ use Rattle.topo_core.specs.declared.routes.Inserted.{Inserted}
 use Rattle.topo_core.specs.declared.routes.Route.{Route}
 use Rattle.topo_core.specs.Picture.{edge_row}
 use Rattle.topo_core.specs.Routes.{IsFirst, Pricing}
-use Rattle.topo_core.specs.Changes.{IsCut, shown}
+use Rattle.topo_core.specs.Changes.{IsCut}
 use Rattle.topo_core.specs.Steps.{HasRoomFor, IsRefused, Step, insert_refusal}
 use Rattle.topo_core.proofs.RouteOrder.{one_first, one_least}
 use Rattle.topo_core.proofs.Certificates.{same_some}

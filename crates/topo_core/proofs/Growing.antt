@@ -13,7 +13,7 @@ use Rattle.std.proofs.lemmas.Bool.{and_from, cases_Bool, eq-eqb, eqb-true, or_le
 use Rattle.topo_core.specs.declared.rows.Rows.{Rows}
 use Rattle.topo_core.specs.declared.rows.EdgeRow.{EdgeRow}
 use Rattle.topo_core.specs.Items.{IsIn, occurrences, rises_below}
-use Rattle.topo_core.specs.Picture.{around_crossing, around_vertex, clockwise, cross_row, darts, edge_at, edge_row, end_dart, place_on, rotation, segment_count, system, vertices}
+use Rattle.topo_core.specs.Picture.{around_crossing, around_vertex, darts, edge_at, edge_row, end_dart, place_on, rotation, segment_count, system, vertices}
 use Rattle.topo_core.specs.Pictures.{back, forward}
 use Rattle.topo_core.specs.Systems.{Connected, darts_in, has_dart, System, turn}
 use Rattle.topo_core.specs.Darts.{same_dart}

@@ -1,5 +1,5 @@
 -- A growth keeps the number of faces, and so the genus.
-use Rattle.std.proofs.Common.{◌≡◌, ◌≢◌, ◌+◌, ◌<◌, ap, arith, false, inl, inr, length, List, refl, subst, suc, sym, true, ℕ, [], ◌++◌, ◌∙◌, ◌∷◌}
+use Rattle.std.proofs.Common.{◌≡◌, ◌≢◌, ◌+◌, ◌<◌, ap, arith, false, inl, inr, length, List, subst, suc, sym, true, ℕ, [], ◌++◌, ◌∙◌, ◌∷◌}
 use Rattle.std.specs.Prelude.{◌⊎◌}
 use Rattle.std.proofs.lemmas.List.{length-append}
 use Rattle.std.proofs.lemmas.List.Concat.{flat_map-append}

@@ -1,5 +1,5 @@
 -- A permutation whose cycle takes in two numbers more has as many cycles.
-use Rattle.std.proofs.Common.{◌≡◌, ◌+◌, ◌<◌, ◌⊎◌, ap, arith, Bool, cond, false, inl, inr, not, refl, subst, suc, sym, true, zero, ℕ, ◌==◌, ◌∙◌}
+use Rattle.std.proofs.Common.{◌≡◌, ◌<◌, ◌⊎◌, ap, arith, Bool, cond, false, inl, inr, not, refl, subst, suc, sym, true, zero, ℕ, ◌==◌, ◌∙◌}
 use Rattle.std.proofs.lemmas.Bool.{eq-eqb}
 use Rattle.topo_core.specs.Cycles.{after, count_below, cycle_count, is_first, is_met, IsPermutation, SameCycle}
 use Rattle.topo_core.proofs.Orbits.{SameCycle-is_met, SameCycle-refl, SameCycle-step, SameCycle-trans, count_below-same, is_met-SameCycle, some_below-same, some_below-true}

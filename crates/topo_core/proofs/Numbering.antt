@@ -7,11 +7,11 @@ use Rattle.std.proofs.lemmas.List.{length-map}
 use Rattle.std.proofs.lemmas.List.Sums.{sum_by-cons}
 use Rattle.std.proofs.lemmas.Bool.{cases_Bool, false≢true, or_left, or_right}
 use Rattle.topo_core.specs.declared.darts.Dart.{Dart}
-use Rattle.topo_core.specs.declared.darts.Way.TheVariants.{Forward, Back}
+use Rattle.topo_core.specs.declared.darts.Way.TheVariants.{Forward}
 use Rattle.topo_core.specs.declared.rows.EdgeRow.{EdgeRow}
 use Rattle.topo_core.specs.declared.rows.Rows.{Rows}
 use Rattle.topo_core.specs.Cycles.{IsPermutationList, map_of}
-use Rattle.topo_core.specs.Darts.{both_ways, dart_twin, reversed, same_dart}
+use Rattle.topo_core.specs.Darts.{both_ways, dart_twin, same_dart}
 use Rattle.topo_core.specs.Lawful.{has_good_crossings, has_good_paths, has_good_rotations}
 use Rattle.topo_core.specs.Picture.{darts, darts_of, index_of, segment_count, system, turn_images}
 use Rattle.topo_core.specs.Rotations.{twin}

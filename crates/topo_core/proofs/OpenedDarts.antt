@@ -3,12 +3,12 @@ use Rattle.std.proofs.Common.{arith, ◌≡◌, ◌&&◌, ap, Bool, false, inl, 
 use Rattle.std.proofs.lemmas.Bool.{cases_Bool, false≢true}
 use Rattle.topo_core.specs.declared.darts.Dart.{Dart}
 use Rattle.topo_core.specs.declared.rows.Rows.{Rows}
-use Rattle.topo_core.specs.Cycles.{after, SameCycle}
+use Rattle.topo_core.specs.Cycles.{SameCycle}
 use Rattle.topo_core.specs.Darts.{dart_twin}
 use Rattle.topo_core.specs.Lawful.{has_good_crossings, has_good_paths, has_good_rotations}
 use Rattle.topo_core.specs.Openings.{is_opened, JoinsOpened, turn_without}
 use Rattle.topo_core.specs.Picture.{darts, index_of, system}
-use Rattle.topo_core.specs.Rotations.{along, face_next, Joined, twin}
+use Rattle.topo_core.specs.Rotations.{face_next, Joined, twin}
 use Rattle.topo_core.specs.Systems.{bypassed, darts_in, face_step, has_dart, SameFace, System, turn}
 use Rattle.topo_core.proofs.Bypassing.{left_passes, left_stood, passing_left}
 use Rattle.topo_core.proofs.Numbering.{distinct_system, index_apart, index_twin, twin_in}

@@ -1,5 +1,5 @@
 -- The turn round one point of a system, and lists of darts under maps and tests.
-use Rattle.std.proofs.Common.{◌≡◌, ◌≤◌, ◌||◌, ap, arith, Bool, cond, false, inl, inr, List, refl, subst, sym, true, [], ◌++◌, ◌∙◌, ◌∷◌}
+use Rattle.std.proofs.Common.{◌≡◌, ◌≤◌, ◌||◌, ap, arith, Bool, cond, false, inl, inr, List, refl, sym, true, [], ◌++◌, ◌∙◌, ◌∷◌}
 use Rattle.std.specs.Prelude.{count_by, filter, map, slice_index_or}
 use Rattle.std.proofs.lemmas.List.{map-append}
 use Rattle.std.proofs.Math.ListN.{get_or-map}

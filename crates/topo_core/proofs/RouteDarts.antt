@@ -1,13 +1,13 @@
 -- The faces and corners of an embedding stay among its darts, so a certificate bounds its routes.
-use Rattle.std.proofs.Common.{◌≡◌, ℕ, zero, suc, ◌≤◌, Bool, true, false, ◌||◌, List, [], ◌∷◌, length, Some, None, slice_get, refl, sym, ap, ◌∙◌, arith, inl, inr}
-use Rattle.std.specs.Prelude.{nat_lt, map, slice_index_or}
+use Rattle.std.proofs.Common.{◌≡◌, ℕ, zero, suc, ◌≤◌, Bool, true, false, ◌||◌, List, [], ◌∷◌, length, Some, slice_get, refl, sym, ap, ◌∙◌, arith, inl, inr}
+use Rattle.std.specs.Prelude.{nat_lt, slice_index_or}
 use Rattle.std.proofs.Math.Bool.{or-true}
 use Rattle.topo_core.specs.declared.darts.Dart.{Dart}
 use Rattle.topo_core.specs.declared.rows.Rows.{Rows}
 use Rattle.topo_core.specs.Darts.{dart_twin, same_dart}
 use Rattle.topo_core.specs.Items.{IsIn}
 use Rattle.topo_core.specs.Systems.{darts_in, has_dart}
-use Rattle.topo_core.specs.Picture.{darts, corner, around_vertex, end_dart, rotation, system}
+use Rattle.topo_core.specs.Picture.{darts, corner, around_vertex, system}
 use Rattle.topo_core.specs.Lawful.{IsWellFormed}
 use Rattle.topo_core.specs.Routes.{Pricing, IsCertificate}
 use Rattle.topo_core.proofs.Certificates.{Certified}

@@ -12,8 +12,7 @@ use Rattle.topo_core.specs.declared.rows.EdgeRow.{EdgeRow}
 use Rattle.topo_core.specs.declared.rows.CrossRow.{CrossRow}
 use Rattle.topo_core.specs.declared.routes.Route.{Route}
 use Rattle.topo_core.specs.Items.{IsIn, occurrences, rises_below}
-use Rattle.topo_core.specs.Picture.{cross_row, darts, edge_row, rotation, segment_count, vertices}
-use Rattle.topo_core.specs.Systems.{has_dart}
+use Rattle.topo_core.specs.Picture.{cross_row, edge_row, rotation, segment_count, vertices}
 use Rattle.topo_core.specs.Lawful.{has_good_crossings, has_good_path, has_good_paths, has_good_rotation, has_good_rotations, is_good_crossing, IsWellFormed}
 use Rattle.topo_core.specs.Changes.{crossed_row, new_crossing, new_on, numbered, put_in, shown, woven}
 use Rattle.topo_core.specs.Insertions.{IsInsertable}

@@ -1,5 +1,5 @@
 -- The rows of a picture that shows a new edge along a route: each edge, each crossing and each rotation by those before.
-use Rattle.std.proofs.Common.{◌≡◌, ◌≢◌, ℕ, ◌+◌, ◌<◌, ◌≤◌, append_assoc, append-nil, Bool, true, false, cond, List, [], ◌∷◌, ◌++◌, length, get_or, refl, sym, ap, subst, ◌∙◌, arith, inl, inr}
+use Rattle.std.proofs.Common.{◌≡◌, ◌≢◌, ℕ, ◌+◌, ◌<◌, ◌≤◌, append_assoc, append-nil, Bool, true, false, cond, List, [], ◌∷◌, ◌++◌, length, refl, sym, ap, subst, ◌∙◌, arith, inl, inr}
 use Rattle.std.specs.Prelude.{◌⊎◌, ◌==◌, Some, None, map, find, is_some, option_map}
 use Rattle.std.specs.Option.{option_or}
 use Rattle.std.specs.List.{list_all, enumerate_from}
@@ -14,7 +14,7 @@ use Rattle.topo_core.specs.declared.routes.Route.{Route}
 use Rattle.topo_core.specs.Items.{IsIn, rises_below}
 use Rattle.topo_core.specs.Picture.{cross_row, edge_at, edge_row, rotation}
 use Rattle.topo_core.specs.Lawful.{has_good_crossings, has_good_path, has_good_paths, is_good_crossing}
-use Rattle.topo_core.specs.Changes.{crossed_row, new_crossing, numbered, put_in, shown, with_end}
+use Rattle.topo_core.specs.Changes.{crossed_row, new_crossing, numbered, put_in, shown}
 use Rattle.topo_core.proofs.Counting.{eqb_less, ids_above}
 use Rattle.topo_core.proofs.Growing.{below_limit, in_append, none_found, rises_push, some_found_more}
 use Rattle.topo_core.proofs.Members.{found, in_map, left_true, right_true}

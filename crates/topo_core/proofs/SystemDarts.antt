@@ -1,7 +1,6 @@
 -- What the tests of rows say of one row, and the points of the system.
 use Rattle.std.proofs.Common.{◌≡◌, ℕ, zero, suc, ◌<◌, Bool, true, false, not, ◌&&◌, List, [], ◌∷◌, length, Some, None, eqb, refl, sym, ap, arith, inl, inr}
 use Rattle.std.specs.Prelude.{◌==◌, nat_lt, Option, map, slice_get, is_some, unwrap_or}
-use Rattle.std.specs.List.{list_all}
 use Rattle.std.proofs.lemmas.Bool.Decides.{nat_tests}
 use Rattle.std.proofs.lemmas.Bool.{eqb-true}
 use Rattle.topo_core.specs.declared.darts.Dart.{Dart}
@@ -9,9 +8,9 @@ use Rattle.topo_core.specs.declared.rows.CrossRow.{CrossRow}
 use Rattle.topo_core.specs.declared.rows.Rows.{Rows}
 use Rattle.topo_core.specs.declared.rows.EdgeRow.{EdgeRow}
 use Rattle.topo_core.specs.Picture.{edge_row, edge_at, cross_row, vertices, around_vertex, around_crossing, system}
-use Rattle.topo_core.specs.Items.{IsIn, rises_below}
+use Rattle.topo_core.specs.Items.{IsIn}
 use Rattle.topo_core.specs.Systems.{darts_in}
-use Rattle.topo_core.specs.Lawful.{has_good_paths, has_good_path}
+use Rattle.topo_core.specs.Lawful.{has_good_paths}
 use Rattle.topo_core.proofs.Members.{found, in_joined, in_left, in_map, in_range, in_right, right_true, test_of_each}
 
 -- ---- What the tests say of one row

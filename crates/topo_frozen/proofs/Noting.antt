@@ -1,5 +1,5 @@
 -- The numbers of the darts ahead of crossings, as they are noted path by path.
-use Rattle.std.proofs.Common.{◌≡◌, ◌≢◌, ◌&&◌, ◌+◌, ◌*◌, ◌<◌, ap, arith, Bool, cond, drop, eqb, false, get_or, inl, inr, length, List, not, refl, Some, subst, suc, sym, true, zero, ℕ, [], ◌∙◌, ◌∷◌}
+use Rattle.std.proofs.Common.{◌≡◌, ◌≢◌, ◌&&◌, ◌+◌, ◌*◌, ◌<◌, ap, arith, Bool, cond, drop, eqb, false, get_or, inr, length, List, not, refl, Some, subst, suc, sym, true, zero, ℕ, [], ◌∙◌, ◌∷◌}
 use Rattle.std.specs.Prelude.{count_by, map, slice_get, slice_index, slice_set, sum_by, ◌==◌}
 use Rattle.std.specs.List.{list_all, position_or_len}
 use Rattle.std.proofs.lemmas.Bool.Decides.{nat_tests}

@@ -1,5 +1,5 @@
 -- How often a pair of an edge and what it meets stands in the lists of pairs.
-use Rattle.std.proofs.Common.{◌≡◌, ◌&&◌, ◌+◌, ◌<◌, ◌≤◌, ap, append_assoc, get_or, length-take, take, append-nil, arith, Bool, cond, eqb, false, inl, inr, length, List, refl, suc, sym, true, zero, ℕ, [], ◌++◌, ◌∙◌, ◌∷◌}
+use Rattle.std.proofs.Common.{◌≡◌, ◌&&◌, ◌+◌, ◌<◌, ◌≤◌, ap, append_assoc, get_or, length-take, take, append-nil, arith, Bool, cond, eqb, false, length, List, refl, suc, sym, true, zero, ℕ, [], ◌++◌, ◌∙◌, ◌∷◌}
 use Rattle.std.specs.Prelude.{find, map, option_map, slice_index_or, unwrap_or, ◌==◌}
 use Rattle.std.proofs.lemmas.Bool.{cases_Bool, eq-eqb, eqb-true, false≢true}
 use Rattle.std.proofs.lemmas.List.{take_more}

@@ -1,5 +1,5 @@
 -- The numbers of the darts at crossings and vertices, as the code finds them.
-use Rattle.std.proofs.Common.{append-nil, drop, take, set, ◌≡◌, ◌&&◌, ◌||◌, ◌+◌, ◌-◌, ◌*◌, ◌<◌, ◌≤◌, ap, arith, Bool, cond, eqb, false, get_or, inl, inr, length, List, not, refl, Some, subst, suc, sym, true, zero, ℕ, [], ◌++◌, ◌∙◌, ◌∷◌}
+use Rattle.std.proofs.Common.{append-nil, drop, take, set, ◌≡◌, ◌&&◌, ◌||◌, ◌+◌, ◌*◌, ◌<◌, ◌≤◌, ap, arith, Bool, cond, eqb, false, get_or, inl, inr, length, List, not, refl, Some, subst, suc, sym, true, zero, ℕ, [], ◌++◌, ◌∙◌, ◌∷◌}
 use Rattle.std.specs.Prelude.{count_by, find, is_some, map, Option, flat_map, option_map, slice_get, slice_index, sum_by, unwrap_or, ◌==◌}
 use Rattle.std.specs.List.{list_all, position_or_len, range_with_len}
 use Rattle.std.proofs.lemmas.Bool.Decides.{nat_tests}

@@ -1,8 +1,8 @@
 -- What the last tests of rows rest on: few darts, and Euler's formula on their numbers.
-use Rattle.std.proofs.Common.{◌≡◌, ◌&&◌, ◌||◌, ◌+◌, ◌*◌, ◌/◌, ◌<◌, ◌≤◌, ap, arith, Bool, eqb, false, length, List, refl, subst, suc, sym, true, ℕ, [], ◌∙◌, ◌∷◌}
+use Rattle.std.proofs.Common.{◌≡◌, ◌&&◌, ◌||◌, ◌+◌, ◌*◌, ◌/◌, ◌<◌, ◌≤◌, ap, arith, Bool, eqb, false, length, List, refl, suc, sym, true, ℕ, [], ◌∙◌, ◌∷◌}
 use Rattle.std.specs.Bool.{IsTrue}
 use Rattle.std.specs.Prelude.{flat_map, map, nat_le, slice_index_or, sum_by, ◌==◌, ◌↔◌}
-use Rattle.std.specs.List.{list_all, list_any, range_with_len}
+use Rattle.std.specs.List.{list_any, range_with_len}
 use Rattle.std.proofs.lemmas.Bool.Decides.{nat_tests}
 use Rattle.std.proofs.lemmas.Bool.{eq-eqb, eqb-true, false≢true}
 use Rattle.std.proofs.lemmas.List.{length-append, length-map}
@@ -16,7 +16,7 @@ use Rattle.topo_core.specs.declared.rows.CrossRow.{CrossRow}
 use Rattle.topo_core.specs.declared.rows.EdgeRow.{EdgeRow}
 use Rattle.topo_core.specs.declared.rows.Rows.{Rows}
 use Rattle.topo_core.specs.Cycles.{is_first, is_met, map_of}
-use Rattle.topo_core.specs.Lawful.{has_good_crossings, has_good_path, has_good_paths, HasGenusZero, is_good_crossing, IsWellFormed}
+use Rattle.topo_core.specs.Lawful.{has_good_crossings, has_good_paths, HasGenusZero, IsWellFormed}
 use Rattle.topo_core.specs.Picture.{around_crossing, around_vertex, clockwise, darts_of, end_dart, rotation, segment_count, system, turn_images, vertices}
 use Rattle.topo_core.specs.Rotations.{face_next, faces_of, IsConnected}
 use Rattle.topo_core.specs.Systems.{Connected}

@@ -1,5 +1,5 @@
 -- Components counted at their least darts.
-use Rattle.std.proofs.Common.{◌≡◌, ◌≢◌, ℕ, zero, suc, ◌+◌, ◌*◌, ◌/◌, ◌%◌, ◌<◌, ◌≤◌, Bool, true, false, cond, ◌||◌, ◌↔◌, ◌⊎◌, eqb, List, inl, inr, refl, sym, ◌∙◌, ap, arith}
+use Rattle.std.proofs.Common.{◌≡◌, ◌≢◌, ℕ, zero, suc, ◌+◌, ◌*◌, ◌/◌, ◌%◌, ◌<◌, ◌≤◌, Bool, true, false, cond, ◌↔◌, ◌⊎◌, eqb, List, inl, inr, refl, sym, ◌∙◌, arith}
 use Rattle.std.proofs.lemmas.Bool.{cases_Bool, cases_eq, eq-eqb, ne_eqb, cond-true, cond-false, both_ways, or_left, or_right, or_cases}
 use Rattle.topo_core.specs.Cycles.{IsPermutation, count_below, some_below, is_first, cycle_count}
 use Rattle.topo_core.specs.Rotations.{twin, face_next, Joined, IsClassCount}

@@ -1,7 +1,7 @@
 -- What edits of the turn do to points and faces.
 use Rattle.std.proofs.Common.{◌≡◌, ◌≢◌, ℕ, ◌+◌, ◌%◌, ◌<◌, ◌⊎◌, inl, inr, sym, ◌∙◌, ap, subst, arith}
 use Rattle.std.proofs.lemmas.Bool.{cases_eq}
-use Rattle.topo_core.specs.Cycles.{IsPermutation, SameCycle, after, cycle_count}
+use Rattle.topo_core.specs.Cycles.{IsPermutation, SameCycle, cycle_count}
 use Rattle.topo_core.specs.Rotations.{twin, face_next}
 use Rattle.topo_perm.proofs.Points.{IsExchangeBelow, HasBefore, before_of, bypass_exchange, bypass_splits, exchanged_splits, exchanged_joins, exchanged_keeps, exchanged-permutation}
 use Rattle.topo_perm.proofs.Walks.{twin-within, twin-cases, face_next-permutation}

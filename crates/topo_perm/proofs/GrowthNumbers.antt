@@ -1,5 +1,5 @@
 -- A growth under other numbers: where a segment is hung in a slab that renumbers the system, it renumbers the system with one segment more.
-use Rattle.std.proofs.Common.{◌≡◌, ℕ, suc, ◌%◌, ◌<◌, nat_lt, Bool, true, false, cond, ◌⊎◌, inl, inr, refl, sym, ◌∙◌, ap, subst, arith}
+use Rattle.std.proofs.Common.{◌≡◌, ℕ, suc, ◌%◌, ◌<◌, nat_lt, Bool, true, false, cond, ◌⊎◌, refl, sym, ◌∙◌, ap, arith}
 use Rattle.std.proofs.lemmas.Bool.{cases_Bool, cases_eq, cond-true, cond-false, false≢true, lt-ltb, ltb-true}
 use Rattle.topo_core.specs.Cycles.{IsPermutation}
 use Rattle.topo_core.specs.Rotations.{twin}

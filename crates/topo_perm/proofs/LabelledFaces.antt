@@ -1,8 +1,7 @@
 -- Labels of faces through the edits.
 use Rattle.std.proofs.Common.{arith, ◌≡◌, ◌≢◌, ℕ, zero, suc, ◌<◌, Bool, true, ◌⊎◌, inl, inr, refl, sym, ◌∙◌, ap, subst}
 use Rattle.std.proofs.lemmas.Bool.{cases_Bool, cases_eq, false≢true}
-use Rattle.topo_core.specs.Cycles.{IsBypass, IsPermutation, SameCycle, after, is_met}
-use Rattle.topo_core.specs.Edits.{IsSplit}
+use Rattle.topo_core.specs.Cycles.{IsPermutation, SameCycle, after, is_met}
 use Rattle.topo_core.specs.Rotations.{twin, face_next}
 use Rattle.topo_core.proofs.Orbits.{SameCycle-refl, SameCycle-trans, SameCycle-sym, SameCycle-step, SameCycle-is_met, is_met-SameCycle}
 use Rattle.topo_perm.specs.Edits.{IsAllowedChord, IsAllowedUnchord, IsAllowedSplit, IsAllowedSmooth, IsApart}

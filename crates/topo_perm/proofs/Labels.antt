@@ -1,5 +1,5 @@
 -- Classes by labels: a relabelling joins two classes.
-use Rattle.std.proofs.Common.{arith, ◌≡◌, ◌≢◌, ℕ, ◌+◌, ◌<◌, ◌==◌, Bool, cond, ◌⊎◌, inl, inr, refl, sym, ◌∙◌, ap}
+use Rattle.std.proofs.Common.{arith, ◌≡◌, ◌≢◌, ℕ, ◌+◌, ◌<◌, ◌==◌, Bool, cond, ◌⊎◌, inl, inr, sym, ◌∙◌, ap}
 use Rattle.std.proofs.lemmas.Bool.{cases_eq, eqb-true, eq-eqb, ne_eqb, cond-true, cond-false}
 use Rattle.topo_core.specs.Cycles.{class_count}
 use Rattle.topo_perm.proofs.Classes.{IsEquivalence, IsJoin, class_count-join, class_count-same}

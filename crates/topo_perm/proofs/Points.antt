@@ -1,5 +1,5 @@
 -- Changes of a permutation at a few points below n, and counts carried from one set of numbers to another.
-use Rattle.std.proofs.Common.{◌≡◌, ◌≢◌, ℕ, zero, suc, ◌+◌, ◌-◌, ◌<◌, ◌≤◌, ◌==◌, Bool, true, false, cond, ◌&&◌, ◌⊎◌, not, inl, inr, refl, sym, ◌∙◌, ap, arith, ltb}
+use Rattle.std.proofs.Common.{◌≡◌, ◌≢◌, ℕ, zero, suc, ◌+◌, ◌<◌, ◌≤◌, ◌==◌, Bool, true, false, cond, ◌&&◌, ◌⊎◌, not, inl, inr, refl, sym, ◌∙◌, ap, arith, ltb}
 use Rattle.std.proofs.lemmas.Bool.{cases_Bool, cases_eq, cases_lt, cond-true, cond-false, lt-ltb, le-ltb, both_ways, eq-eqb, ne_eqb, and_from, and_left, and_right, not_from_true, not_from_false}
 use Rattle.topo_core.specs.Cycles.{IsPermutation, IsBypass, after, SameCycle, is_met, is_first, count_below, class_count, cycle_count}
 use Rattle.topo_core.proofs.Orbits.{after-within, period, search_below, FirstAt}

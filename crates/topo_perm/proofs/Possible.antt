@@ -1,6 +1,6 @@
 -- Each edit can be made where its conditions hold: a turn after it.
-use Rattle.std.proofs.Common.{arith, ℕ, ◌<◌, subst}
-use Rattle.topo_core.specs.Rotations.{twin, face_next}
+use Rattle.std.proofs.Common.{arith, ℕ}
+use Rattle.topo_core.specs.Rotations.{twin}
 use Rattle.topo_perm.specs.Edits.{IsApart, HangIsPossible, ChordIsPossible, UnchordIsPossible, SplitIsPossible, SmoothIsPossible}
 use Rattle.topo_core.proofs.Orbits.{after-within}
 use Rattle.topo_perm.proofs.Walks.{face_next-permutation}

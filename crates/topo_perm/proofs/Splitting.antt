@@ -3,7 +3,7 @@ use Rattle.std.proofs.Common.{◌≡◌, ◌≢◌, ℕ, ◌+◌, ◌%◌, ◌<�
 use Rattle.std.proofs.lemmas.Bool.{cases_eq, cond-true, cond-false, eq-eqb, ne_eqb}
 use Rattle.topo_core.specs.Cycles.{IsPermutation, IsBypass, cycle_count}
 use Rattle.topo_core.specs.Rotations.{twin, face_next}
-use Rattle.topo_perm.proofs.Points.{IsExchangeBelow, HasBefore, before_of, bypass_exchange, bypass_splits, exchanged_splits, exchanged-permutation, cycle_count-same, IsPermutation-same}
+use Rattle.topo_perm.proofs.Points.{IsExchangeBelow, before_of, bypass_exchange, bypass_splits, exchanged_splits, exchanged-permutation, cycle_count-same}
 use Rattle.topo_perm.proofs.Walks.{twin-within, face_next-permutation}
 use Rattle.topo_core.specs.Edits.{IsSplit}
 use Rattle.topo_perm.proofs.Faces.{twin-twin, twin-apart, twin-other}

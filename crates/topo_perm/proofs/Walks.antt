@@ -1,7 +1,7 @@
 -- Walks by turns and along segments, and the two darts of a segment.
-use Rattle.std.proofs.Common.{◌≡◌, ◌≢◌, ℕ, zero, suc, ◌+◌, ◌-◌, ◌%◌, ◌<◌, ◌==◌, ◌⊎◌, List, [], ◌∷◌, ◌++◌, inl, inr, refl, sym, ◌∙◌, ap, subst, arith, length, slice_index}
+use Rattle.std.proofs.Common.{◌≡◌, ◌≢◌, ℕ, zero, suc, ◌+◌, ◌-◌, ◌%◌, ◌<◌, ◌⊎◌, List, [], ◌∷◌, ◌++◌, refl, ◌∙◌, ap, subst, arith, length, slice_index}
 use Rattle.std.proofs.lemmas.Bool.{cases_Bool, eqb-true, eqb-false, both_ways, cond-true, cond-false}
-use Rattle.topo_core.specs.Cycles.{IsPermutation, IsPermutationList, cycles_of, map_of, after, SameCycle, cycle_count}
+use Rattle.topo_core.specs.Cycles.{IsPermutation, IsPermutationList, cycles_of, map_of, after, SameCycle}
 use Rattle.topo_core.specs.Rotations.{twin, face_next, faces_of, Move, moved, along, Joined, IsClassCount}
 use Rattle.topo_core.specs.Rotations.Move.{Turn, Cross}
 use Rattle.topo_core.proofs.Orbits.{after-within}

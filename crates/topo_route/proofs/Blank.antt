@@ -1,5 +1,5 @@
 -- Sheets that are blank, and numbers written on them.
-use Rattle.std.proofs.Common.{◌≡◌, ◌∙◌, ◌<◌, ◌≤◌, ◌+◌, ◌∷◌, ◌++◌, [], ℕ, suc, zero, Bool, List, ap, arith, eq-eqb, ne_eqb, inl, inr, length, refl, replicate, take}
+use Rattle.std.proofs.Common.{◌≡◌, ◌∙◌, ◌<◌, ◌≤◌, ◌+◌, ◌∷◌, ◌++◌, [], ℕ, suc, zero, Bool, List, ap, arith, eq-eqb, ne_eqb, length, refl, replicate, take}
 use Rattle.std.proofs.Math.ListN.{set}
 use Rattle.std.proofs.lemmas.Bool.{cases_eq}
 use Rattle.std.specs.Prelude.{cond, slice_index}

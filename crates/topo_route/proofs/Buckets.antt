@@ -1,7 +1,6 @@
 -- Chains of entries: one entry more, and one less.
 use Rattle.std.proofs.Common.{◌≡◌, ℕ, zero, suc, ◌+◌, ◌-◌, ◌<◌, ◌≤◌, ◌||◌, ◌==◌, Bool, true, false, List, [], ◌∷◌, ◌++◌, length, refl, sym, ap, ◌∙◌, arith, get_or, length-append, inl, inr}
 use Rattle.std.specs.Prelude.{flat_map, slice_index, slice_index_or}
-use Rattle.std.specs.List.{list_any}
 use Rattle.std.proofs.Math.ListN.{replicate, set, get_or-append}
 use Rattle.std.proofs.Math.Seq.{get_or-append_seam}
 use Rattle.std.proofs.lemmas.Bool.{cases_eq, cases_lt}

@@ -7,7 +7,7 @@ use Rattle.topo_core.specs.declared.darts.Dart.{Dart}
 use Rattle.topo_core.specs.declared.rows.Rows.{Rows}
 use Rattle.topo_core.specs.Darts.{dart_twin}
 use Rattle.topo_core.specs.Lawful.{Lawful}
-use Rattle.topo_core.specs.Picture.{around_vertex, corner, darts, end_dart, index_of, rotation, system}
+use Rattle.topo_core.specs.Picture.{corner, darts, index_of, rotation, system}
 use Rattle.topo_core.specs.Rotations.{twin}
 use Rattle.topo_core.specs.Routes.{Price, Pricing, unreached}
 use Rattle.topo_core.specs.Systems.{face_step}

@@ -1,16 +1,11 @@
 -- A route that crosses nothing costs nothing, and the first of them is the first of the least.
-use Rattle.std.proofs.Common.{◌≡◌, ◌≢◌, ℕ, ◌<◌, ◌≤◌, List, [], ◌∷◌, Some, inl, inr, refl, sym, ap, subst, ◌∙◌, arith}
-use Rattle.std.specs.Ordering.{nat_cmp, ordering_then}
-use Rattle.std.specs.Cmp.Lexicographic.{slice_cmp}
-use Rattle.std.specs.declared.cmp.Ordering.TheVariants.{Equal, Greater}
+use Rattle.std.proofs.Common.{◌≡◌, ◌≢◌, ℕ, ◌≤◌, List, [], ◌∷◌, Some, refl, arith}
+use Rattle.std.specs.declared.cmp.Ordering.TheVariants.{Greater}
 use Rattle.std.proofs.lemmas.Bool.{cases_eq, cases_lt}
 use Rattle.topo_core.specs.declared.darts.Dart.{Dart}
 use Rattle.topo_core.specs.declared.routes.Route.{Route}
 use Rattle.topo_core.specs.declared.rows.Rows.{Rows}
-use Rattle.topo_core.specs.Darts.{dart_cmp}
-use Rattle.topo_core.specs.Picture.{corner, system}
-use Rattle.topo_core.specs.Routes.{Costs, Crosses, IsFirst, IsPricedRoute, KeepsPromise, Pricing, route_cmp}
-use Rattle.topo_core.specs.Systems.{SameFace}
+use Rattle.topo_core.specs.Routes.{Costs, IsFirst, KeepsPromise, Pricing, route_cmp}
 use Rattle.topo_core.proofs.DartOrder.{nat_cmp_self}
 use Rattle.topo_core.proofs.Certificates.{start_before, not_above}
 use Rattle.topo_route.specs.Direct.{IsFirstDirect}

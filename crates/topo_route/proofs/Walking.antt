@@ -12,7 +12,7 @@ use Rattle.topo_core.specs.Lawful.{Lawful}
 use Rattle.topo_core.specs.Picture.{corner, darts, index_of, system}
 use Rattle.topo_core.specs.Rotations.{twin}
 use Rattle.topo_core.specs.RouteLaws.{IsTight, TakesFirstDarts, arrival}
-use Rattle.topo_core.specs.Routes.{Costs, Crosses, IsPricedRoute, Price, Pricing}
+use Rattle.topo_core.specs.Routes.{Crosses, IsPricedRoute, Price, Pricing}
 use Rattle.topo_core.specs.Systems.{SameFace, face_step, has_dart}
 use Rattle.topo_core.specs.declared.routes.Route.{Route}
 use Rattle.topo_route.specs.Numbers.{CannotCross, Crossing, HasTightBefore, Payment, Walks, dart_of, next_of}

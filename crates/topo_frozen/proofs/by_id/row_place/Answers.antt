@@ -1,4 +1,4 @@
-use Rattle.std.proofs.Common.{arith, ◌∙◌, ap, sym}
+use Rattle.std.proofs.Common.{arith}
 use Rattle.topo_frozen.proofs.Finding.{placed_read}
 use Rattle.topo_frozen.proofs.by_id.row_place.Goals as goal
 

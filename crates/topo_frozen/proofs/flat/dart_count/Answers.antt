@@ -1,6 +1,4 @@
-use Rattle.std.proofs.Common.{ap, arith, length, ◌∙◌}
-use Rattle.std.specs.Prelude.{slice_index}
-use Rattle.topo_frozen.specs.Flats.{begins_from}
+use Rattle.std.proofs.Common.{arith}
 use Rattle.topo_frozen.proofs.Begins.{begins_last, begins_length}
 use Rattle.topo_frozen.proofs.flat.dart_count.Goals as goal
 

@@ -1,4 +1,4 @@
-use Rattle.std.proofs.Common.{◌≡◌, ◌+◌, ap, arith, eqb, false, is_some, length, ℕ, ◌∙◌, List}
+use Rattle.std.proofs.Common.{◌≡◌, ◌+◌, ap, arith, eqb, false, is_some, ℕ, ◌∙◌, List}
 use Rattle.std.specs.Prelude.{find, slice_index, ◌==◌}
 use Rattle.std.proofs.lemmas.Bool.{eq-eqb}
 use Rattle.std.proofs.lemmas.Bool.Decides.{nat_tests}

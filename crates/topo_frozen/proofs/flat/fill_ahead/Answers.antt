@@ -1,10 +1,9 @@
-use Rattle.std.proofs.Common.{◌≡◌, ◌*◌, ap, arith, length, List, subst, sym, take, drop, ◌++◌, ◌∙◌}
+use Rattle.std.proofs.Common.{ap, arith, List, ◌∙◌}
 use Rattle.std.specs.Prelude.{find, is_some, ◌==◌}
 use Rattle.std.specs.List.{list_all}
 use Rattle.topo_core.specs.declared.rows.CrossRow.{CrossRow}
 use Rattle.topo_core.specs.declared.rows.EdgeRow.{EdgeRow}
 use Rattle.std.proofs.lemmas.Grind.{common_steps}
-use Rattle.topo_frozen.specs.Flats.{AreAhead, notes_from, written}
 use Rattle.topo_frozen.proofs.Finding.{crossings_rise}
 use Rattle.topo_frozen.proofs.Rounds.{are_ahead, paths_known}
 use Rattle.topo_frozen.proofs.flat.fill_ahead.Goals as goal

@@ -1,8 +1,7 @@
-use Rattle.std.proofs.Common.{ℕ, Bool, false, ◌≡◌, ◌<◌, arith, length, refl, sym, ◌∙◌}
+use Rattle.std.proofs.Common.{ℕ, Bool, false, ◌≡◌, ◌<◌, arith, length, sym, ◌∙◌}
 use Rattle.std.specs.Prelude.{◌==◌}
 use Rattle.std.proofs.lemmas.Bool.Decides.{nat_tests}
 use Rattle.std.proofs.lemmas.List.{length-set}
-use Rattle.topo_frozen.specs.Flats.{vertex_round}
 use Rattle.topo_frozen.proofs.Rounds.{edge_known, rotation_read, round_ends, round_goes_on, round_length, round_number, round_starts, round_within}
 use Rattle.topo_frozen.proofs.flat.link_vertex.Goals as goal
 

@@ -1,7 +1,4 @@
-use Rattle.std.proofs.Common.{arith, ap, sym, ◌∙◌}
-use Rattle.std.specs.Prelude.{flat_map}
-use Rattle.std.specs.List.{range_with_len}
-use Rattle.topo_frozen.specs.Flats.{links, vertex_round, written}
+use Rattle.std.proofs.Common.{arith}
 use Rattle.topo_frozen.proofs.Rounds.{linked_more, range_push_zero}
 use Rattle.topo_frozen.proofs.flat.link_vertices.Goals as goal
 

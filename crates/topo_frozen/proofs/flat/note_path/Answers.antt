@@ -1,7 +1,6 @@
-use Rattle.std.proofs.Common.{arith, ◌+◌, ◌*◌, ap, drop, set, sym, ◌∙◌}
+use Rattle.std.proofs.Common.{arith}
 use Rattle.std.specs.Prelude.{find, is_some, ◌==◌}
 use Rattle.topo_core.specs.declared.rows.CrossRow.{CrossRow}
-use Rattle.topo_frozen.specs.Flats.{path_notes, written}
 use Rattle.topo_frozen.proofs.Noting.{all_number_at, path_step}
 use Rattle.topo_frozen.proofs.flat.note_path.Goals as goal
 

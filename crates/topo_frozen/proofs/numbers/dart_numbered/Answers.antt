@@ -1,8 +1,6 @@
-use Rattle.std.proofs.Common.{◌/◌, ◌-◌, ap, arith, get_or, length, sym, Some, ◌≡◌, ◌∙◌, ℕ}
-use Rattle.std.specs.Prelude.{slice_index}
+use Rattle.std.proofs.Common.{arith, Some, ◌≡◌, ℕ}
 use Rattle.topo_core.specs.declared.darts.Dart.{Dart}
 use Rattle.topo_core.specs.declared.darts.Way.{Way}
-use Rattle.topo_core.specs.declared.darts.Way.TheVariants.{Forward, Back}
 use Rattle.topo_frozen.proofs.Begins.{begins_length}
 use Rattle.topo_frozen.proofs.Places.{back_told, begin_below, forward_told, place_within}
 use Rattle.topo_frozen.proofs.numbers.dart_numbered.Goals as goal

@@ -1,4 +1,4 @@
-use Rattle.std.proofs.Common.{ap, arith, get_or, length, ◌∙◌}
+use Rattle.std.proofs.Common.{arith}
 use Rattle.topo_frozen.proofs.Lookups.{edge_told}
 use Rattle.topo_frozen.proofs.Places.{place_within}
 use Rattle.topo_frozen.proofs.numbers.edge_under.Goals as goal

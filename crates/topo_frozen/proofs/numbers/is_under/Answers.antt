@@ -1,7 +1,5 @@
-use Rattle.std.proofs.Common.{◌≡◌, ◌<◌, ◌+◌, List, ap, arith, length, ltb-true, suc}
-use Rattle.std.specs.Prelude.{slice_index}
+use Rattle.std.proofs.Common.{List, ap, arith, length, ltb-true}
 use Rattle.topo_core.specs.declared.rows.EdgeRow.{EdgeRow}
-use Rattle.topo_frozen.specs.Flats.{begins_from}
 use Rattle.topo_frozen.proofs.Begins.{begins_length}
 use Rattle.topo_frozen.proofs.Places.{place_between}
 use Rattle.topo_frozen.proofs.numbers.is_under.Goals as goal

@@ -1,4 +1,4 @@
-use Rattle.std.proofs.Common.{ap, arith, false, true, ◌≤◌, get_or, length, sym, None, Some, ◌≡◌, ◌∙◌, ◌+◌, ◌<◌, Bool, List, ℕ}
+use Rattle.std.proofs.Common.{ap, arith, false, true, get_or, length, sym, None, Some, ◌≡◌, ◌∙◌, ◌+◌, ◌<◌, Bool, List, ℕ}
 use Rattle.std.specs.Prelude.{if◌then◌else◌, slice_index}
 use Rattle.topo_core.specs.declared.rows.EdgeRow.{EdgeRow}
 use Rattle.topo_core.specs.declared.rows.Rows.{Rows}

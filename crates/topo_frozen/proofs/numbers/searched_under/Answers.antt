@@ -1,7 +1,4 @@
-use Rattle.std.proofs.Common.{◌≡◌, List, ap, arith, length, suc}
-use Rattle.std.specs.Prelude.{slice_index}
-use Rattle.topo_core.specs.declared.rows.EdgeRow.{EdgeRow}
-use Rattle.topo_frozen.specs.Flats.{begins_from}
+use Rattle.std.proofs.Common.{arith}
 use Rattle.topo_frozen.proofs.Begins.{begins_head, begins_last}
 use Rattle.topo_frozen.proofs.Places.{place_between, place_within}
 use Rattle.topo_frozen.proofs.numbers.searched_under.Goals as goal

@@ -1,6 +1,4 @@
-use Rattle.std.proofs.Common.{ap, arith, sym, Some, ◌≡◌, ◌∙◌}
-use Rattle.topo_core.specs.declared.darts.Dart.{Dart}
-use Rattle.topo_core.specs.Picture.{edge_row, start_place}
+use Rattle.std.proofs.Common.{arith}
 use Rattle.topo_frozen.proofs.Lookups.{seg_told, some_and, tail_told}
 use Rattle.topo_frozen.proofs.numbers.tail_numbered.Goals as goal
 use Rattle.topo_frozen.proofs.numbers.tail_numbered.Goals.{in-Forward, in-Back}

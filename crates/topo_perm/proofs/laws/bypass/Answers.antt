@@ -1,5 +1,4 @@
-use Rattle.std.proofs.Common.{arith, ◌≢◌, ap, sym, ◌∙◌}
-use Rattle.topo_core.specs.Cycles.{map_of}
+use Rattle.std.proofs.Common.{arith}
 use Rattle.topo_perm.proofs.Lists.{cycles_of-swap_together}
 use Rattle.topo_perm.proofs.laws.bypass.Goals as goal
 

@@ -1,5 +1,5 @@
-use Rattle.std.proofs.Common.{◌≡◌, ◌≢◌, ◌∙◌, arith, sym}
-use Rattle.topo_route.specs.Names.{dart_named, height_of}
+use Rattle.std.proofs.Common.{◌≡◌, ◌≢◌, ◌∙◌, arith}
+use Rattle.topo_route.specs.Names.{height_of}
 use Rattle.topo_route.proofs.Names.{height_named}
 use Rattle.topo_route.proofs.Tests.{before_all, before_some, before_past}
 use Rattle.topo_route.proofs.descent.corner_of_height.Goals as goal

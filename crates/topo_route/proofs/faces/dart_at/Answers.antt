@@ -1,4 +1,4 @@
-use Rattle.std.proofs.Common.{arith, ◌∙◌}
+use Rattle.std.proofs.Common.{arith}
 use Rattle.topo_route.proofs.Canonical.{dart_is_number, number_is}
 use Rattle.topo_route.proofs.faces.dart_at.Goals as goal
 

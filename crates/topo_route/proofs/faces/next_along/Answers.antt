@@ -1,4 +1,4 @@
-use Rattle.std.proofs.Common.{arith, ◌∙◌}
+use Rattle.std.proofs.Common.{arith}
 use Rattle.topo_route.proofs.Canonical.{is_number, next_is_number, number_is}
 use Rattle.topo_route.proofs.faces.next_along.Goals as goal
 

@@ -1,7 +1,4 @@
-use Rattle.std.proofs.Common.{◌≡◌, ◌*◌, ◌-◌, ◌/◌, ◌∙◌, None, ap, arith, subst, sym}
-use Rattle.std.specs.Prelude.{slice_index_or}
-use Rattle.topo_price.specs.Prices.{prices_of}
-use Rattle.topo_route.specs.Numbers.{IsPriceAt}
+use Rattle.std.proofs.Common.{arith}
 use Rattle.topo_route.proofs.Segments.{price_of_edge}
 use Rattle.topo_route.proofs.graph.segment_price.Goals as goal
 

@@ -1,7 +1,7 @@
-use Rattle.std.proofs.Common.{◌≡◌, ◌/◌, ◌+◌, arith, length, subst, sym}
+use Rattle.std.proofs.Common.{◌≡◌, ◌/◌, arith, length, subst, sym}
 use Rattle.topo_core.specs.Picture.{darts}
 use Rattle.topo_price.specs.Prices.{prices_of}
-use Rattle.topo_route.specs.Settling.{ArePrices, ArePricesOf}
+use Rattle.topo_route.specs.Settling.{ArePrices}
 use Rattle.topo_route.proofs.Canonical.{lawful_shown}
 use Rattle.topo_route.proofs.Segments.{all_prices, next_price}
 use Rattle.topo_route.proofs.graph.segment_prices.Goals as goal

@@ -1,7 +1,5 @@
-use Rattle.std.proofs.Common.{arith, ◌≢◌, ◌∙◌, sym}
+use Rattle.std.proofs.Common.{arith}
 use Rattle.std.proofs.lemmas.Bool.{false≢true}
-use Rattle.topo_route.specs.Numbers.{dart_of}
-use Rattle.topo_route.specs.Plans.{height_in}
 use Rattle.topo_route.proofs.Canonical.{lawful_shown}
 use Rattle.topo_route.proofs.Tests.{before_some, before_past, height_at}
 use Rattle.topo_route.proofs.heights.has_first_start.Goals as goal

@@ -1,6 +1,5 @@
-use Rattle.std.proofs.Common.{◌<◌, ◌∙◌, ap, arith, get_or, length, refl}
+use Rattle.std.proofs.Common.{arith}
 use Rattle.std.proofs.lemmas.Bool.{false≢true}
-use Rattle.topo_core.specs.Picture.{darts}
 use Rattle.topo_route.proofs.Canonical.{lawful_shown}
 use Rattle.topo_route.proofs.Tests.{even_darts, even_numbers}
 use Rattle.topo_route.proofs.heights.is_even.Goals as goal

@@ -1,6 +1,5 @@
-use Rattle.std.proofs.Common.{◌≡◌, ◌∙◌, arith, refl, sym}
+use Rattle.std.proofs.Common.{◌≡◌, ◌∙◌, arith, refl}
 use Rattle.std.proofs.lemmas.Bool.{false≢true}
-use Rattle.topo_route.specs.Numbers.{dart_of}
 use Rattle.topo_route.specs.Plans.{height_in}
 use Rattle.topo_route.proofs.Canonical.{lawful_shown}
 use Rattle.topo_route.proofs.Tests.{before_some, before_past, before_all, height_at}

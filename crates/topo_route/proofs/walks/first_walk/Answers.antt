@@ -1,10 +1,9 @@
-use Rattle.std.proofs.Common.{arith, ◌≡◌, ◌+◌, ◌∷◌, ◌∙◌, ℕ, true, List, sym, ap, subst, drop}
+use Rattle.std.proofs.Common.{arith, ◌≡◌, ◌+◌, ◌∷◌, ◌∙◌, List, sym, ap, subst, drop}
 use Rattle.std.proofs.lemmas.Bool.{false≢true}
 use Rattle.topo_core.specs.declared.darts.Dart.{Dart}
-use Rattle.topo_core.specs.Picture.{darts, system}
+use Rattle.topo_core.specs.Picture.{system}
 use Rattle.topo_core.specs.RouteLaws.{TakesFirstDarts, arrival}
 use Rattle.topo_core.specs.Routes.{Crosses}
-use Rattle.topo_core.specs.Systems.{has_dart}
 use Rattle.topo_price.specs.Prices.{prices_of}
 use Rattle.topo_route.specs.Numbers.{HasTightBefore, dart_of}
 use Rattle.topo_route.specs.Plans.{height_in}

@@ -1,7 +1,6 @@
-use Rattle.std.proofs.Common.{arith, ◌≡◌, ◌+◌, [], ◌∷◌, List, sym, subst, drop}
+use Rattle.std.proofs.Common.{arith, ◌≡◌, [], drop}
 use Rattle.std.proofs.lemmas.Bool.{false≢true}
 use Rattle.std.proofs.lemmas.List.{drop_all}
-use Rattle.topo_core.specs.declared.darts.Dart.{Dart}
 use Rattle.topo_price.specs.Prices.{prices_of}
 use Rattle.topo_route.specs.Numbers.{Walks, dart_of}
 use Rattle.topo_route.proofs.Canonical.{lawful_shown}

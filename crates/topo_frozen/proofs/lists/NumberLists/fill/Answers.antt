@@ -1,8 +1,5 @@
-use Rattle.std.proofs.Common.{◌%◌, ◌∙◌, ap, arith, length, List, subst, sym, ℕ}
-use Rattle.topo_core.specs.Cycles.{IsPermutationList}
+use Rattle.std.proofs.Common.{◌%◌, ◌∙◌, ap, arith, length, List, ℕ}
 use Rattle.topo_core.proofs.Numbering.{even_images, turn_permutes}
-use Rattle.topo_frozen.specs.FaceLabels.{AreFaceLabels}
-use Rattle.topo_frozen.specs.Flats.{begins_from}
 use Rattle.topo_frozen.proofs.Verdicts.{images_total}
 use Rattle.topo_frozen.proofs.lists.NumberLists.fill.Goals as goal
 

@@ -1,14 +1,12 @@
 use Rattle.std.proofs.Common.{◌≡◌, ap, arith, length, List, subst, sym, ℕ}
 use Rattle.std.proofs.lemmas.Bool.{eq-eqb, eqb-true}
 use Rattle.topo_core.specs.declared.rows.Rows.{Rows}
-use Rattle.topo_core.specs.Picture.{system}
-use Rattle.topo_core.specs.Systems.{SameFace}
 use Rattle.topo_core.proofs.Numbering.{images_length}
 use Rattle.topo_frozen.specs.FaceLabels.{AreFaceLabels}
 use Rattle.topo_frozen.specs.Flats.{LawfulRows}
 use Rattle.topo_frozen.specs.Recovering.{lawful_again}
 use Rattle.topo_frozen.proofs.Labelling.{told_by_labels}
-use Rattle.topo_route.specs.Names.{IsName, canonical, dart_named}
+use Rattle.topo_route.specs.Names.{IsName, canonical}
 use Rattle.topo_route.proofs.Canonical.{canonical_below, canonical_face}
 use Rattle.topo_frozen.proofs.numbered.NumberedWalked.same_face.Goals as goal
 

@@ -1,6 +1,4 @@
-use Rattle.std.proofs.Common.{◌≡◌, ◌≤◌, ◌∙◌, ap, arith, length, replicate, subst, sym}
-use Rattle.topo_core.specs.Routes.{unreached}
-use Rattle.topo_route.specs.Sheets.{AreAtMost, AreWritten}
+use Rattle.std.proofs.Common.{arith}
 use Rattle.topo_route.proofs.Blank.{all_blank, none_above, resized}
 use Rattle.topo_route.proofs.sheet.Sheet.clear.Goals as goal
 use Rattle.topo_route.proofs.sheet.Sheet.clear.Goals.{then-self, else-self, then-len+in_ok-resize, else-len}

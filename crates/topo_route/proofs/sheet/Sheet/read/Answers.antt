@@ -1,6 +1,5 @@
-use Rattle.std.proofs.Common.{◌≡◌, ◌∙◌, ◌<◌, List, ℕ, ap, arith, length, sym}
+use Rattle.std.proofs.Common.{arith}
 use Rattle.std.proofs.lemmas.Grind.{get_or_default_zero}
-use Rattle.std.specs.Prelude.{slice_index}
 use Rattle.topo_route.proofs.Blank.{all_long, read_at, reads_blank, reads_itself}
 use Rattle.topo_route.proofs.sheet.Sheet.read.Goals as goal
 

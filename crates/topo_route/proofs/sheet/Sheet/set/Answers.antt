@@ -1,4 +1,4 @@
-use Rattle.std.proofs.Common.{◌≡◌, ◌∙◌, List, ℕ, ap, arith, length, sym}
+use Rattle.std.proofs.Common.{◌∙◌, List, ℕ, ap, arith}
 use Rattle.std.proofs.Math.ListN.{set}
 use Rattle.topo_route.proofs.Blank.{all_long, written_number}
 use Rattle.topo_route.proofs.sheet.Sheet.set.Goals as goal

@@ -1,5 +1,4 @@
-use Rattle.std.proofs.Common.{arith, ◌∙◌, ap}
-use Rattle.std.specs.Prelude.{slice_index}
+use Rattle.std.proofs.Common.{arith}
 use Rattle.topo_route.proofs.Buckets.{all_empty, all_zero}
 use Rattle.topo_route.proofs.waiting.Waiting.clear.Goals as goal
 

@@ -1,7 +1,6 @@
-use Rattle.std.proofs.Common.{◌≡◌, ◌<◌, ◌-◌, ◌∙◌, arith, ap, sym, length}
+use Rattle.std.proofs.Common.{◌∙◌, arith, ap, sym, length}
 use Rattle.std.proofs.lemmas.List.{get_or_default}
-use Rattle.std.specs.Prelude.{slice_index, slice_index_or}
-use Rattle.topo_route.specs.Chains.{no_entry}
+use Rattle.std.specs.Prelude.{slice_index}
 use Rattle.topo_route.proofs.Buckets.{all_empty, popped_length, popped_waits}
 use Rattle.topo_route.proofs.waiting.Waiting.pop.Goals as goal
 

@@ -1,10 +1,6 @@
-use Rattle.std.proofs.Common.{◌≡◌, ◌<◌, ◌+◌, ◌%◌, ◌∙◌, ◌||◌, ◌==◌, ◌++◌, ◌∷◌, [], List, arith, ap, length}
+use Rattle.std.proofs.Common.{arith}
 use Rattle.std.proofs.lemmas.List.{get_or_default}
 use Rattle.std.proofs.Math.ListN.{set}
-use Rattle.std.specs.Prelude.{slice_index}
-use Rattle.topo_route.specs.declared.waiting.Entry.{Entry}
-use Rattle.topo_route.specs.Chains.{all_chained}
-use Rattle.topo_route.specs.Settling.{is_waiting}
 use Rattle.topo_route.proofs.Buckets.{pushed_length, pushed_waits}
 use Rattle.topo_route.proofs.waiting.Waiting.push.Goals as goal
 
