@@ -43,15 +43,7 @@ pub record Parted (y : Dart) (ds : List Dart) : Type 0 where
 pub parted : (y : Dart) (ds : List Dart) → IsDistinct ds → has_dart ds y ≡ true → Parted y ds
 parted y [] distinct h = cc
 parted y (c ∷ ds) distinct h = elim (cases_Bool (same_dart y c)) [
-  | inl e ↦
-      let is_y : y ≡ c = same_dart_true y c e in
-      record {
-        front = [];
-        back = ds;
-        whole = ap (λ b. b ∷ ds) (sym is_y);
-        not_in_front = refl;
-        without = filter_out (kept_by y) c ds (ap not e) ∙ filter_absent y ds (ap (has_dart ds) is_y ∙ head_not_later c ds distinct);
-      }
+  | inl e ↦ grind (arith, same_dart_true, filter_out, kept_by, filter_absent, head_not_later)
   | inr e ↦
       let rest = parted y ds (distinct_tail c ds distinct) (or_second (same_dart y c) (has_dart ds y) e h) in
       record {

@@ -88,9 +88,7 @@ module _ (price : Pricing) (rows : Rows) (s : System) (ds : List Dart) (height :
       let e = face_height c x h walk.0 in
       let there = face_in c x h walk.0 in
       let climb = gentle x cost.0 there cost.2 in
-      let rest = height_bounds xs (dart_twin x) d cost.1 (twins x there) walk.1 cost.3 zero_there in
-      let total = cost.4 in
-      record { is_in = there; cost = cost.0; asked = cost.2; drop = omega arith; later = omega arith }
+      grind (arith, height_bounds)
 
   -- a walk across the first tight darts comes before each other walk of the same cost from the same face, or is that walk
   compare_walks : ((d : Dart) (p : ℕ) → Price price rows d p → 1 ≤ p) → (xs ys : List Dart) (c d e : Dart) (n : ℕ) → has_dart ds c ≡ true

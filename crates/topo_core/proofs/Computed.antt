@@ -243,10 +243,7 @@ module _ (rows : Rows) (u v : ℕ) (plan : Planned) where
   -- a plan that passes has the first of the least routes
   pub first_by_tests : Passes → IsFirst (by_kind plan.prices) rows u v planned_route cost
   first_by_tests passes = first_by_heights (by_kind plan.prices) rows u v height certified (λ d p price. price.asked.1) planned_route cost (record {
-    priced = record {
-      route = record { from = plan.from; to = plan.to; starts = passes.starts; ends = passes.ends; walk = crosses_by_test (system rows) plan.from plan.crossed plan.to passes.walk };
-      cost = costs_there plan.prices rows plan.crossed passes.priced;
-    };
+    priced = grind (arith, crosses_by_test, costs_there);
     least_height = λ p c at. le_from_test cost (height c) (at_place (λ c. nat_le cost (height c)) (around_vertex rows u) passes.least_height p c at);
     first_start = λ p c before at same. not_both (height c == cost) (before_place (λ c. not (height c == cost)) (around_vertex rows u) plan.start passes.first_start p c before at) (eq_test (height c) cost same);
     first_darts = takes_first plan.from plan.crossed passes.first_darts;

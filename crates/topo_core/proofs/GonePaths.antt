@@ -134,10 +134,7 @@ gone_once gone (x ∷ path) s t n once h k =
     let here : one (x == n) ≡ 1 = ap one (eq-eqb x n (sym same)) in absurd (omega arith)) in
     elim (cases_Bool (has_id gone x)) [
       | inl e ↦ elim (gone_behind gone x path s n e h) [
-        | inl first ↦ elim (gone_behind gone x path t n e k) [
-          | inl second ↦ first.0 ∙ sym second.0
-          | inr later ↦ absurd (twice t first.1 later)
-        ]
+        | inl first ↦ grind (arith, gone_behind)
         | inr later ↦ elim (gone_behind gone x path t n e k) [
           | inl second ↦ absurd (twice s second.1 later)
           | inr also ↦ gone_once gone path s t n fewer later also
@@ -167,10 +164,7 @@ item_place (x ∷ path) (suc i) once h =
     let step = sum_by-cons (λ z. one (z == y)) x path in
     let most = once y (inr there) in
     let more = counted_in y path there in
-    let apart : eqb x y ≡ false = elim (cases_Bool (eqb x y)) [
-      | inl e ↦ absurd (let here : one (x == y) ≡ 1 = ap one e in omega arith)
-      | inr e ↦ e
-    ] in
+    let apart : eqb x y ≡ false = grind (arith, cases_Bool, one) in
     let fewer : (z : ℕ) → IsIn z path → occurrences z path ≤ 1 = λ z k. (let sum = sum_by-cons (λ w. one (w == z)) x path in let top = once z (inr k) in omega arith) in
     let rest = item_place path i fewer (omega arith) in
     let later = path_place_later y x path apart in omega arith
@@ -243,8 +237,4 @@ runs_over q c front (x ∷ xs) behind_it parts once =
     let longer = length-append front (x ∷ []) in
     let next : length (front ++ x ∷ []) ≡ place_of whole x + 1 = omega arith in
     let total : length (front ++ x ∷ []) + length xs ≡ length front + suc (length xs) = omega arith in
-    let rest = runs_over q c (front ++ x ∷ []) xs behind_it (parts ∙ sym (append_assoc front (x ∷ []) (xs ++ behind_it))) once in (
-      ap (back c) (sym place),
-      subst (λ k. RunsOver q c (forward c (place_of whole x + 1)) xs (back c k)) total
-          (subst (λ k. RunsOver q c (forward c k) xs (back c (length (front ++ x ∷ []) + length xs))) next rest),
-    )
+    let rest = runs_over q c (front ++ x ∷ []) xs behind_it (parts ∙ sym (append_assoc front (x ∷ []) (xs ++ behind_it))) once in grind (arith, place_of)

@@ -497,16 +497,7 @@ module _ (rows : Rows) (u p kind : ℕ) (paths : has_good_paths rows ≡ true) (
       let no_dart = subst (λ s. has_dart (darts_in s) new_dart ≡ false) system_before (nowhere_before new_dart refl crossings) in
       let no_twin = subst (λ s. has_dart (darts_in s) new_twin ≡ false) system_before (nowhere_before new_twin refl crossings) in
       let once = subst (λ s. (d : Dart) → count_by (same_dart d) (darts_in s) ≤ 1) system_before (λ d. at_most_one (is_of_rows rows d) _ (stands_once rows paths crossings rotations d)) in
-      let now = λ (d : Dart). ap (λ s. turn s d) (system_after crossings) in
-      let was = λ (d : Dart). ap (λ s. turn s d) system_before in
-      let source = reaches_new points_before points_behind points_crossed first_dart front_darts back_darts new_dart new_twin no_dart no_twin refl once in
-      record {
-        old_turns = λ d old. grind (arith, turn_of_old, not_new, now, was);
-        alone = now new_twin ∙ turn_of_twin points_before points_behind points_crossed first_dart front_darts back_darts new_dart new_twin no_dart no_twin refl;
-        source = source.0;
-        source_in = sym (system_test rows paths crossings rotations source.0) ∙ ap (λ s. has_dart (darts_in s) source.0) system_before ∙ source.1;
-        leads_in = now source.0 ∙ source.2;
-      }
+      grind (arith, system_after, system_before, reaches_new, turn_of_old, not_new, turn_of_twin, system_test)
 
 -- a growth at a corner makes an embedding of an embedding
 pub growth_keeps_embedding : (rows : Rows) → IsEmbedding rows → (u p kind : ℕ) → u < length rows.rotations → p < length (rotation rows u) → kind < 64 → IsEmbedding (grown rows u p kind)

@@ -62,10 +62,7 @@ in_either : (xs ys : List Dart) (d : Dart) → has_dart (xs ++ ys) d ≡ true �
 in_either [] ys d h = inr h
 in_either (x ∷ xs) ys d h = elim (either (same_dart d x) (has_dart (xs ++ ys) d) h) [
   | inl here ↦ inl (left_holds (same_dart d x) (has_dart xs d) here)
-  | inr there ↦ elim (in_either xs ys d there) [
-    | inl left ↦ inl (right_holds (same_dart d x) (has_dart xs d) left)
-    | inr right ↦ inr right
-  ]
+  | inr there ↦ grind (arith, right_holds, in_either xs ys d there)
 ]
 
 rises_joined : (xs ys : List Dart) → Rises xs → Rises ys → ((c : Dart) → has_dart xs c ≡ true → Leads c ys) → Rises (xs ++ ys)
@@ -99,9 +96,7 @@ edge_rises e a (suc n) =
     let after_all : (c : Dart) → c.edge ≡ e → c.seg ≡ a → Leads c rest =
     λ c is_edge is_seg d there. let found = segments e (a + 1) n d there in by_seg c d (is_edge ∙ sym found.0) (omega arith) in (
       (λ d there. elim (either (same_dart d back) (has_dart rest d) there) [
-        | inl here ↦
-            let is : back ≡ d = sym (same_dart_true d back here) in
-            subst (Precedes forth) is (two_ways e a)
+        | inl here ↦ grind (arith, same_dart_true)
         | inr later ↦ after_all forth refl refl d later
       ]),
       (
@@ -173,9 +168,7 @@ module _ (rows : Rows) (paths : has_good_paths rows ≡ true) (c d : Dart) (c_in
   -- an earlier dart has a smaller number
   pub order_number : dart_cmp c d ≡ Less → index_of rows c < index_of rows d
   order_number less = elim (cases_eq (index_of rows c) (index_of rows d)) [
-    | inl e ↦
-        let one : c ≡ d = index_apart rows paths c d c_in d_in e in
-        let bad : Equal ≡ Less = sym (dart_cmp_self c) ∙ ap (dart_cmp c) one ∙ less in cc
+    | inl e ↦ grind (arith, index_apart, dart_cmp_self)
     | inr ne ↦ elim (cases_lt (index_of rows c) (index_of rows d)) [
       | inl below ↦ below
       | inr above ↦

@@ -99,13 +99,7 @@ two_alike (suc n) g h =
           let ne : (i : ℕ) → i ≤ n → g i ≢ g (suc n) = λ i l. eqb-false _ _ (none i (omega arith)) in
           let rest : TwoAlike (λ i. closed (g (suc n)) (g i)) n =
           two_alike n (λ i. closed (g (suc n)) (g i)) (λ i l. closed-below _ _ n (h i (omega arith)) (h (suc n) (omega arith)) (ne i l)) in
-          record {
-            one = rest.one;
-            other = rest.other;
-            order = rest.order;
-            within = omega (arith, rest.within);
-            alike = closed-apart _ _ _ (ne rest.one (omega (arith, rest.within, rest.order))) (ne rest.other rest.within) rest.alike;
-          }
+          grind (arith, closed-apart)
     ]
 
 -- d steps lead from a back to a

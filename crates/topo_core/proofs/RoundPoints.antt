@@ -166,14 +166,7 @@ taken_out e [] once = inr refl
 taken_out e (x ∷ xs) once =
     let step = sum_by-cons (λ y. one (y == e)) x xs in
     elim (cases_Bool (x == e)) [
-      | inl k ↦
-          let here : one (x == e) ≡ 1 = ap one k in
-          inl (record {
-            front = [];
-            back = xs;
-            was = ap (λ y. y ∷ xs) (eqb-true x e k);
-            now = ap (λ (t : Bool). cond (not t) (x ∷ filter (λ f. not (f == e)) xs) (filter (λ f. not (f == e)) xs)) k ∙ not_counted e xs (omega arith);
-          })
+      | inl k ↦ grind (arith, one, eqb-true, not_counted)
       | inr k ↦
           let here : one (x == e) ≡ 0 = ap one k in
           let kept = ap (λ (t : Bool). cond (not t) (x ∷ filter (λ f. not (f == e)) xs) (filter (λ f. not (f == e)) xs)) k in

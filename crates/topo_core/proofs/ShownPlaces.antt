@@ -160,11 +160,7 @@ module _ (rows : Rows) (u v kind : ℕ) (r : Route) (good : IsWellFormed rows) (
   parted : (e : ℕ) (row : EdgeRow) → edge_row rows e ≡ Some row → (s : ℕ) → s ≤ length row.crossings → IsParted (new_on rows r e s) s row.crossings (edge_at after e).crossings
   parted e row there s h =
       let base = woven_parts (new_on rows r row.id) 0 s row.crossings h in
-      let number : 0 + s ≡ s = omega arith in
-      let whole : woven (new_on rows r row.id) 0 row.crossings ≡ (edge_at after e).crossings = sym (ap (λ (row : EdgeRow). row.crossings) (shown_old_edge rows u v kind r e row there)) in
-      subst (λ list. IsParted (new_on rows r e s) s row.crossings list) whole
-      (subst (λ n. IsParted (new_on rows r n s) s row.crossings (woven (new_on rows r row.id) 0 row.crossings)) (row_id rows e row there)
-      (subst (λ n. IsParted (new_on rows r row.id n) s row.crossings (woven (new_on rows r row.id) 0 row.crossings)) number base))
+      grind (arith, shown_old_edge, row_id)
 
   once_after : (e : ℕ) (row : EdgeRow) → edge_row rows e ≡ Some row → (y : ℕ) → IsIn y (edge_at after e).crossings → occurrences y (edge_at after e).crossings ≤ 1
   once_after e row there =
@@ -201,12 +197,7 @@ module _ (rows : Rows) (u v kind : ℕ) (r : Route) (good : IsWellFormed rows) (
   uncrossed_twins d h apart =
       let parts = segment_parts d h in
       let none : new_on rows r d.edge d.seg ≡ [] = none_on d rows.next_crossing r.crossed (λ c k. each_of (λ c. same_segment c d ≡ false) r.crossed apart c k) in
-      let same : parts.first + length (new_on rows r d.edge d.seg) ≡ parts.first = let zero_length = ap (λ (list : List ℕ). length list) none in omega arith in
-      let leads_back = parts.lifts_back ∙ ap (back d.edge) same in
-      elim d.way as (λ w. lifted rows after (dart_twin (record { edge = d.edge; seg = d.seg; way = w })) ≡ dart_twin (lifted rows after (record { edge = d.edge; seg = d.seg; way = w }))) [
-        | Forward ↦ leads_back ∙ sym (ap dart_twin parts.lifts_forward)
-        | Back ↦ parts.lifts_forward ∙ sym (ap dart_twin leads_back)
-      ]
+      grind arith
 
   -- a crossed segment ends at the new crossing, and another one begins there
   pub record CrossedTwins (x : ℕ) (d : Dart) : Type 0 where
@@ -217,20 +208,7 @@ module _ (rows : Rows) (u v kind : ℕ) (r : Route) (good : IsWellFormed rows) (
   pub crossed_twins : (x : ℕ) (d : Dart) → IsIn (x, d) (numbered rows r) → has_dart (darts rows) d ≡ true → CrossedTwins x d
   crossed_twins x d at h =
       let parts = segment_parts d h in
-      let single : new_on rows r d.edge d.seg ≡ x ∷ [] = one_on rows.next_crossing x d r.crossed once at in
-      let more : parts.first + length (new_on rows r d.edge d.seg) ≡ parts.first + 1 = let one_long = ap (λ (list : List ℕ). length list) single in omega arith in
-      let place = parts.crossing x single in
-      let leads_back = parts.lifts_back ∙ ap (back d.edge) more in
-      elim d.way as (λ w. CrossedTwins x (record { edge = d.edge; seg = d.seg; way = w })) [
-        | Forward ↦ record {
-          before = ap dart_twin parts.lifts_forward ∙ ap (back d.edge) (sym place);
-          behind_it = leads_back ∙ ap (λ k. back d.edge (k + 1)) (sym place);
-        }
-        | Back ↦ record {
-          before = ap dart_twin leads_back ∙ ap (λ k. forward d.edge (k + 1)) (sym place);
-          behind_it = parts.lifts_forward ∙ ap (forward d.edge) (sym place);
-        }
-      ]
+      grind (arith, one_on)
 
   -- ---- The new edge
 
@@ -253,10 +231,7 @@ module _ (rows : Rows) (u v kind : ℕ) (r : Route) (good : IsWellFormed rows) (
   pub newcomer_segment : (d : Dart) → has_dart (darts after) d ≡ true → d.edge ≡ rows.next_edge → d.seg ≤ length r.crossed
   newcomer_segment d h e =
       let is_dart = of_rows_is_dart after d (sym (listed_test after now.paths d) ∙ h) in
-      let same : Some is_dart.0 ≡ Some (newcomer_row rows u v kind r) = sym is_dart.1 ∙ ap (edge_row after) e ∙ shown_new_row rows u v kind r good.paths in
-      let row : is_dart.0 ≡ newcomer_row rows u v kind r = cc in
-      let many : length is_dart.0.crossings ≡ length r.crossed = ap (λ (row : EdgeRow). length row.crossings) row ∙ newcomer_length in
-      let less = is_dart.2 in omega arith
+      grind (arith, newcomer_row, shown_new_row, newcomer_length)
 
   -- the darts of the new edge at a vertex
   pub newcomer_end : (w : ℕ) → end_dart after w rows.next_edge ≡ cond {A = Dart} (u == w) (forward rows.next_edge 0) (back rows.next_edge (length r.crossed))

@@ -63,11 +63,7 @@ around_lifted p q good x h =
     let facts = good_crossing p good.crossings x h in
     let on_crossed = on_path_of p good x h x.crossed facts.crossed (or_left (x.crossed == x.crossed) (x.crossed == x.newcomer) (eqb_self x.crossed)) in
     let on_newcomer = on_path_of p good x h x.newcomer facts.newcomer (or_right (x.newcomer == x.crossed) (x.newcomer == x.newcomer) (eqb_self x.newcomer)) in
-    ap (λ d. clockwise x.sign d (behind q x.crossed x.id) (ahead q x.newcomer x.id) (behind q x.newcomer x.id)) (lifted_ahead p q x.crossed x.id on_crossed)
-    ∙ ap (λ d. clockwise x.sign (lift (ahead p x.crossed x.id)) d (ahead q x.newcomer x.id) (behind q x.newcomer x.id)) (lifted_behind p q x.crossed x.id on_crossed)
-    ∙ ap (λ d. clockwise x.sign (lift (ahead p x.crossed x.id)) (lift (behind p x.crossed x.id)) d (behind q x.newcomer x.id)) (lifted_ahead p q x.newcomer x.id on_newcomer)
-    ∙ ap (λ d. clockwise x.sign (lift (ahead p x.crossed x.id)) (lift (behind p x.crossed x.id)) (lift (ahead p x.newcomer x.id)) d) (lifted_behind p q x.newcomer x.id on_newcomer)
-    ∙ image_of_clockwise lift x.sign (ahead p x.crossed x.id) (behind p x.crossed x.id) (ahead p x.newcomer x.id) (behind p x.newcomer x.id)
+    grind (arith, lifted_ahead, lifted_behind, image_of_clockwise)
 
 -- ---- An end of the new edge
 

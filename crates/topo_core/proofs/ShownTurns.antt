@@ -175,12 +175,7 @@ module _ (rows : Rows) (u v kind : ℕ) (r : Route) (good : IsWellFormed rows) (
     | inr e ↦
         let kept = passing_has (is_kept rows u v kind r good ask now) (darts_in (system after)) d (ap not e) (system_test after now.paths now.crossings now.rotations d ∙ h) in
         let parts = sym (has_dart-append (map lift (darts_in (system rows))) pairs d) ∙ ap (λ ds. has_dart ds d) (sym (darts_without_new rows u v kind r good ask now)) ∙ kept in
-        inr (elim (or_cases (has_dart (map lift (darts_in (system rows))) d) (has_dart pairs d) parts) [
-          | inl old ↦
-              let image = image_of_dart lift (darts_in (system rows)) d old in
-              inl (image.0, sym (system_test rows good.paths good.crossings good.rotations image.0) ∙ image.1, image.2)
-          | inr new ↦ inr (in_pairs_is d new)
-        ])
+        grind (arith, or_cases, image_of_dart, system_test, in_pairs_is)
   ]
 
   -- ---- Turns round old points

@@ -98,33 +98,14 @@ end_dart_edge rows v e = elim ((edge_at rows e).a == v) as (λ (t : Bool). (cond
 -- ---- Counts at a crossing
 
 four_forward : (sign : Sign) (e s a b p q : ℕ) → count_by (same_dart (forward e s)) (clockwise sign (forward a (p + 1)) (back a p) (forward b (q + 1)) (back b q)) ≡ one (e == a && s == p + 1) + one (e == b && s == q + 1)
-four_forward sign e s a b p q =
-    let first : one (same_dart (forward e s) (forward a (p + 1))) ≡ one (e == a && s == p + 1) = ap one (forward_forward e s a (p + 1)) in
-    let second : one (same_dart (forward e s) (back a p)) ≡ 0 = ap one (forward_back e s a p) in
-    let third : one (same_dart (forward e s) (forward b (q + 1))) ≡ one (e == b && s == q + 1) = ap one (forward_forward e s b (q + 1)) in
-    let fourth : one (same_dart (forward e s) (back b q)) ≡ 0 = ap one (forward_back e s b q) in
-    elim sign as (λ sign. count_by (same_dart (forward e s)) (clockwise sign (forward a (p + 1)) (back a p) (forward b (q + 1)) (back b q)) ≡ one (e == a && s == p + 1) + one (e == b && s == q + 1)) [
-      | LeftToRight ↦ omega arith
-      | RightToLeft ↦ omega arith
-    ]
+four_forward sign e s a b p q = grind (arith, one, forward_forward, forward_back)
 
 four_back : (sign : Sign) (e s a b p q : ℕ) → count_by (same_dart (back e s)) (clockwise sign (forward a (p + 1)) (back a p) (forward b (q + 1)) (back b q)) ≡ one (e == a && s == p) + one (e == b && s == q)
-four_back sign e s a b p q =
-    let first : one (same_dart (back e s) (forward a (p + 1))) ≡ 0 = ap one (back_forward e s a (p + 1)) in
-    let second : one (same_dart (back e s) (back a p)) ≡ one (e == a && s == p) = ap one (back_back e s a p) in
-    let third : one (same_dart (back e s) (forward b (q + 1))) ≡ 0 = ap one (back_forward e s b (q + 1)) in
-    let fourth : one (same_dart (back e s) (back b q)) ≡ one (e == b && s == q) = ap one (back_back e s b q) in
-    elim sign as (λ sign. count_by (same_dart (back e s)) (clockwise sign (forward a (p + 1)) (back a p) (forward b (q + 1)) (back b q)) ≡ one (e == a && s == p) + one (e == b && s == q)) [
-      | LeftToRight ↦ omega arith
-      | RightToLeft ↦ omega arith
-    ]
+four_back sign e s a b p q = grind (arith, one, back_forward, back_back)
 
 -- one of two edges: what is asked of it is asked of e
 asked_of : (test : ℕ → Bool) (e a : ℕ) → one (e == a && test a) ≡ one (e == a && test e)
-asked_of test e a = elim (cases_Bool (e == a)) [
-  | inl same ↦ ap (λ v. one (e == a && test v)) (sym (eqb-true e a same))
-  | inr apart ↦ ap (λ b. one (b && test a)) apart ∙ sym (ap (λ b. one (b && test e)) apart)
-]
+asked_of test e a = grind (arith, cases_Bool, one, eqb-true)
 
 either : (t u w : Bool) → (t && u) ≡ false → one (t && w) + one (u && w) ≡ cond {A = ℕ} w (one (t || u)) 0
 either true true w h = absurd (let k : true ≡ false = h in cc)
@@ -141,9 +122,7 @@ not_both e a b h = grind (arith, nat_tests)
 -- ---- Sums over the points of a system
 
 count_of_points : (d : Dart) (before after : List (List Dart)) → count_by (same_dart d) (darts_in (before ++ after)) ≡ sum_by (λ around. count_by (same_dart d) around) before + sum_by (λ around. count_by (same_dart d) around) after
-count_of_points d before after =
-    sum_joined (λ c. one (same_dart d c)) (λ around. around) (before ++ after)
-    ∙ sum_by-append (λ around. count_by (same_dart d) around) before after
+count_of_points d before after = grind (arith, sum_joined, one, sum_by-append)
 
 -- ---- Tests and sums of them
 
@@ -174,14 +153,7 @@ pub record GoodCrossing (rows : Rows) (x : CrossRow) : Type 0 where
 
 -- from the tests of the rows
 pub good_crossing : (rows : Rows) → has_good_crossings rows ≡ true → (x : CrossRow) → IsIn x rows.crossings → GoodCrossing rows x
-good_crossing rows good x h =
-    let tests = test_of_each (is_good_crossing rows) x rows.crossings (right_true (rises_below rows.next_crossing (map (λ x. x.id) rows.crossings)) (list_all (is_good_crossing rows) rows.crossings) good) h in
-    record {
-      apart = not-true _ (left_true _ _ (left_true _ _ (left_true _ _ tests)));
-      crossed = right_true _ _ (left_true _ _ (left_true _ _ tests));
-      newcomer = right_true _ _ (left_true _ _ tests);
-      counted = λ row k. eqb-true _ _ (test_of_each (λ row. occurrences x.id row.crossings == (if row.id == x.crossed || row.id == x.newcomer then 1 else 0)) row rows.edges (right_true _ _ tests) k);
-    }
+good_crossing rows good x h = grind (arith, test_of_each, right_true, not-true, left_true, eqb-true)
 
 -- what the tests say of the list of a vertex
 pub record GoodRotation (rows : Rows) (v : ℕ) : Type 0 where
@@ -190,12 +162,7 @@ pub record GoodRotation (rows : Rows) (v : ℕ) : Type 0 where
 
 -- from the tests of the rows
 pub good_rotation : (rows : Rows) → has_good_rotations rows ≡ true → (v : ℕ) → IsIn v (vertices rows) → GoodRotation rows v
-good_rotation rows good v h =
-    let tests = test_of_each (has_good_rotation rows) v (vertices rows) good h in
-    record {
-      counted = λ row k. eqb-true _ _ (test_of_each (λ row. occurrences row.id (rotation rows v) == (if row.a == v || row.b == v then 1 else 0)) row rows.edges (left_true _ _ (left_true _ _ tests)) k);
-      known = λ e k. test_of_each (λ e. is_some (edge_row rows e)) e (rotation rows v) (right_true _ _ (left_true _ _ tests)) k;
-    }
+good_rotation rows good v h = grind (arith, test_of_each, eqb-true, left_true, right_true)
 
 -- how often d stands at the vertices, and at the crossings
 abbrev at_vertices : Rows → Dart → ℕ
@@ -288,9 +255,7 @@ module _ (rows : Rows) (paths : has_good_paths rows ≡ true) (crossings : has_g
         ∙ sum_found (λ x. x.id) (λ x. 1) rows.next_crossing at.0 rows.crossings (left_true (rises_below rows.next_crossing (map (λ x. x.id) rows.crossings)) (list_all (is_good_crossing rows) rows.crossings) crossings)
         ∙ ap (λ (o : Option CrossRow). unwrap_or (option_map (λ x. 1) o) 0) named.1
         ∙ sym (ap one inside)
-    | inr past ↦
-        sum_nothing (λ x. cond {A = ℕ} (s == place x.id) (occurrences x.id row.crossings) 0) rows.crossings (λ x h. place_past row.crossings s x.id (le_of_test s (length row.crossings) past))
-        ∙ sym (ap one past)
+    | inr past ↦ grind (arith, sum_nothing, place_past, le_of_test, one)
   ]
 
   back_at_crossings : (s : ℕ) → at_crossings rows (back e s) ≡ one (nat_lt s (length row.crossings))
@@ -314,10 +279,7 @@ module _ (rows : Rows) (paths : has_good_paths rows ≡ true) (crossings : has_g
 -- the edge that is not there has no darts
 module _ (rows : Rows) (crossings : has_good_crossings rows ≡ true) (rotations : has_good_rotations rows ≡ true) (d : Dart) (missing : edge_row rows d.edge ≡ None) where
   apart_from : (e : ℕ) → is_some (edge_row rows e) ≡ true → eqb e d.edge ≡ false
-  apart_from e known = elim (cases_Bool (e == d.edge)) [
-    | inl same ↦ absurd (false≢true (sym (ap is_some missing) ∙ ap (λ n. is_some (edge_row rows n)) (sym (eqb-true e d.edge same)) ∙ known))
-    | inr apart ↦ apart
-  ]
+  apart_from e known = grind (arith, cases_Bool, false≢true, eqb-true)
 
   none_at_vertices : at_vertices rows d ≡ 0
   none_at_vertices = sum_nothing (λ v. count_by (same_dart d) (around_vertex rows v)) (vertices rows) (λ v h.
@@ -326,17 +288,7 @@ module _ (rows : Rows) (crossings : has_good_crossings rows ≡ true) (rotations
       ∙ weigh_zero (same_dart d (end_dart rows v d.edge)))
 
   none_around : (sign : Sign) (a b p q : ℕ) → is_some (edge_row rows a) ≡ true → is_some (edge_row rows b) ≡ true → count_by (same_dart d) (clockwise sign (forward a (p + 1)) (back a p) (forward b (q + 1)) (back b q)) ≡ 0
-  none_around sign a b p q a_there b_there =
-      let of_a = eqb_symm d.edge a ∙ apart_from a a_there in
-      let of_b = eqb_symm d.edge b ∙ apart_from b b_there in
-      let first : one (same_dart d (forward a (p + 1))) ≡ 0 = ap one (other_edge d (forward a (p + 1)) of_a) in
-      let second : one (same_dart d (back a p)) ≡ 0 = ap one (other_edge d (back a p) of_a) in
-      let third : one (same_dart d (forward b (q + 1))) ≡ 0 = ap one (other_edge d (forward b (q + 1)) of_b) in
-      let fourth : one (same_dart d (back b q)) ≡ 0 = ap one (other_edge d (back b q) of_b) in
-      elim sign as (λ sign. count_by (same_dart d) (clockwise sign (forward a (p + 1)) (back a p) (forward b (q + 1)) (back b q)) ≡ 0) [
-        | LeftToRight ↦ omega arith
-        | RightToLeft ↦ omega arith
-      ]
+  none_around sign a b p q a_there b_there = grind (arith, eqb_symm, apart_from, one, other_edge)
 
   none_at_crossings : at_crossings rows d ≡ 0
   none_at_crossings = sum_nothing (λ x. count_by (same_dart d) (around_crossing rows x)) rows.crossings (λ x h.
@@ -363,28 +315,12 @@ of_no_row rows d missing = ap (λ (o : Option EdgeRow). is_some o && nat_lt d.se
 
 -- a dart stands once in the system if it is a dart of the rows, and else never
 pub stands_once : (rows : Rows) → has_good_paths rows ≡ true → has_good_crossings rows ≡ true → has_good_rotations rows ≡ true → (d : Dart) → count_by (same_dart d) (darts_in (system rows)) ≡ one (is_of_rows rows d)
-stands_once rows paths crossings rotations d = elim (some_or_none (edge_row rows d.edge)) [
-  | inl (row, there) ↦
-      let by_way : count_by (same_dart d) (darts_in (system rows)) ≡ one (nat_lt d.seg (segment_count row)) =
-      elim d.way as (λ w. count_by (same_dart (record { edge = d.edge; seg = d.seg; way = w })) (darts_in (system rows)) ≡ one (nat_lt d.seg (segment_count row))) [
-        | Forward ↦ forward_stands rows paths crossings rotations d.edge row there d.seg
-        | Back ↦ back_stands rows paths crossings rotations d.edge row there d.seg
-      ] in
-      by_way ∙ sym (ap one (of_row rows d row there))
-  | inr missing ↦ none_stands rows crossings rotations d missing ∙ sym (ap one (of_no_row rows d missing))
-]
+stands_once rows paths crossings rotations d = grind (arith, some_or_none, one, forward_stands, back_stands, of_row, none_stands, of_no_row)
 
 -- ---- The list of the darts
 
 both_ways_count : (d : Dart) (e s : ℕ) → count_by (same_dart d) (both_ways e s) ≡ one (d.edge == e && d.seg == s)
-both_ways_count d e s = elim d.way as (λ w. count_by (same_dart (record { edge = d.edge; seg = d.seg; way = w })) (both_ways e s) ≡ one (d.edge == e && d.seg == s)) [
-  | Forward ↦
-      let first : one (same_dart (forward d.edge d.seg) (forward e s)) ≡ one (d.edge == e && d.seg == s) = ap one (forward_forward d.edge d.seg e s) in
-      let second : one (same_dart (forward d.edge d.seg) (back e s)) ≡ 0 = ap one (forward_back d.edge d.seg e s) in omega arith
-  | Back ↦
-      let first : one (same_dart (back d.edge d.seg) (forward e s)) ≡ 0 = ap one (back_forward d.edge d.seg e s) in
-      let second : one (same_dart (back d.edge d.seg) (back e s)) ≡ one (d.edge == e && d.seg == s) = ap one (back_back d.edge d.seg e s) in omega arith
-]
+both_ways_count d e s = grind (arith, one, forward_forward, forward_back, back_forward, back_back)
 
 -- the test of both, as a weight under the first
 pub one_of_both : (t u : Bool) → one (t && u) ≡ cond {A = ℕ} t (one u) 0
@@ -405,10 +341,7 @@ listed_once rows paths d =
     let all = sum_joined (λ c. one (same_dart d c)) darts_of rows.edges
     ∙ sum_same (λ row. count_by (same_dart d) (darts_of row)) (λ row. cond {A = ℕ} (row.id == d.edge) (one (nat_lt d.seg (segment_count row))) 0) rows.edges (λ row h. of_edge_count d row)
     ∙ sum_found (λ row. row.id) (λ row. one (nat_lt d.seg (segment_count row))) rows.next_edge d.edge rows.edges (left_true (rises_below rows.next_edge (map (λ row. row.id) rows.edges)) (list_all (has_good_path rows) rows.edges) paths) in
-    elim (some_or_none (edge_row rows d.edge)) [
-      | inl (row, there) ↦ all ∙ ap (λ (o : Option EdgeRow). unwrap_or (option_map (λ row. one (nat_lt d.seg (segment_count row))) o) 0) there ∙ sym (ap one (of_row rows d row there))
-      | inr missing ↦ all ∙ ap (λ (o : Option EdgeRow). unwrap_or (option_map (λ row. one (nat_lt d.seg (segment_count row))) o) 0) missing ∙ sym (ap one (of_no_row rows d missing))
-    ]
+    grind (arith, some_or_none, one, of_row, of_no_row)
 
 -- the darts of the rows are those that pass the test
 pub is_dart_of_rows : (rows : Rows) (d : Dart) → IsDart rows d → is_of_rows rows d ≡ true
@@ -416,10 +349,7 @@ is_dart_of_rows rows d (row, there, inside) = of_row rows d row there ∙ lt_tes
 
 -- and only they do
 pub of_rows_is_dart : (rows : Rows) (d : Dart) → is_of_rows rows d ≡ true → IsDart rows d
-of_rows_is_dart rows d passes = elim (some_or_none (edge_row rows d.edge)) [
-  | inl (row, there) ↦ (row, there, lt_of_test d.seg (segment_count row) (sym (of_row rows d row there) ∙ passes))
-  | inr missing ↦ absurd (false≢true (sym (of_no_row rows d missing) ∙ passes))
-]
+of_rows_is_dart rows d passes = grind (arith, some_or_none, lt_of_test, of_row, false≢true, of_no_row)
 
 -- the test of a dart, by the list of the darts
 pub listed_test : (rows : Rows) → has_good_paths rows ≡ true → (d : Dart) → has_dart (darts rows) d ≡ is_of_rows rows d

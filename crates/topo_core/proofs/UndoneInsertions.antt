@@ -81,9 +81,7 @@ pub from_least_stays : (around : List ℕ) → ((g : ℕ) → IsIn g around → 
 from_least_stays [] least = refl
 from_least_stays (x ∷ xs) least =
     let low = least_below x xs x (inl refl) in
-    let high = least (fold min x xs) (least_in x xs) in
-    let here = path_place_here (fold min x xs) x xs (eq-eqb x (fold min x xs) (omega arith)) in
-    ap (λ i. drop i (x ∷ xs) ++ take i (x ∷ xs)) here ∙ append-nil (x ∷ xs)
+    grind (arith, least_in, path_place_here, eq-eqb, append-nil)
 
 -- ---- The picture without its new edge
 
@@ -127,10 +125,7 @@ module _ (rows : Rows) (u v kind : ℕ) (r : Route) (good : IsWellFormed rows) (
       (λ row h.
       let image = in_images (crossed_row rows r) row rows.edges h in
       ap (λ (row : EdgeRow). not (row.id == rows.next_edge)) image.2 ∙ other_id rows.next_edge image.0.id (edge_below rows good.paths image.0 image.1))
-      (λ row h. elim h [
-        | inl e ↦ ap (λ (row : EdgeRow). not (row.id == rows.next_edge)) e ∙ own_id rows.next_edge
-        | inr none ↦ absurd none
-      ]))
+      (λ row h. grind (arith, own_id)))
       ∙ map-map (uncrossed_row gone) (crossed_row rows r) rows.edges
       ∙ map_whole (λ row. uncrossed_row gone (crossed_row rows r row)) rows.edges row_undone
 

@@ -68,15 +68,7 @@ module _ (rows : Rows) (good : IsWellFormed rows) where
       let row = some_of (edge_row rows c) known in
       let on_row : IsIn x.id row.0.crossings = subst (λ (row : EdgeRow). IsIn x.id row.crossings) (edge_at_row rows c row.0 row.1) on_path in
       let counted = (good_crossing rows good.crossings x h).counted row.0 (row_in rows c row.0 row.1) in
-      let some = counted_in x.id row.0.crossings on_row in
-      let id = row_id rows c row.0 row.1 in
-      elim (cases_Bool (row.0.id == x.crossed || row.0.id == x.newcomer)) [
-        | inl e ↦ elim (or_cases (row.0.id == x.crossed) (row.0.id == x.newcomer) e) [
-          | inl k ↦ inl (sym id ∙ eqb-true row.0.id x.crossed k)
-          | inr k ↦ inr (sym id ∙ eqb-true row.0.id x.newcomer k)
-        ]
-        | inr e ↦ absurd (let none : one (row.0.id == x.crossed || row.0.id == x.newcomer) ≡ 0 = ap one e in omega arith)
-      ]
+      grind (arith, counted_in, row_id, cases_Bool, or_cases, eqb-true, one)
 
 -- ---- In a picture without an edge
 
@@ -98,23 +90,12 @@ module _ (rows : Rows) (e : ℕ) (good : IsWellFormed rows) (known : is_some (ed
   left_edge c there =
       let pick = some_of (edge_row after c) there in
       let old = without_known rows e c pick.0 pick.1 in
-      let row = old.1.0 in
-      let at = without_edge rows e c old.0 row old.1.1 in
-      let was = edge_at_row rows c row old.1.1 in
-      record {
-        apart = old.0;
-        before = ap is_some old.1.1;
-        path = ap (λ (row : EdgeRow). row.crossings) at ∙ ap (λ (row : EdgeRow). left_of (gone rows e) row.crossings) (sym was);
-        begins = ap (λ (row : EdgeRow). row.a) at ∙ ap (λ (row : EdgeRow). row.a) (sym was);
-      }
+      grind (arith, without_edge, edge_at_row, left_of, gone)
 
   -- what stands on its path now stood on it before and is not gone
   pub on_path_before : (c n : ℕ) → is_some (edge_row after c) ≡ true → IsIn n (edge_at after c).crossings → IsIn n (edge_at rows c).crossings × (has_id (gone rows e) n ≡ true → ⊥)
   on_path_before c n there h =
-      let inside = subst (IsIn n) (left_edge c there).path h in (
-        in_filter (is_uncrossed rows e) n (edge_at rows c).crossings inside,
-        λ is_gone. false≢true (ap not (sym is_gone) ∙ filter_passes (is_uncrossed rows e) n (edge_at rows c).crossings inside),
-      )
+      let inside = subst (IsIn n) (left_edge c there).path h in grind (arith, in_filter, is_uncrossed, false≢true, filter_passes)
 
   -- ---- The ends of edges
 
@@ -143,9 +124,7 @@ module _ (rows : Rows) (e : ℕ) (good : IsWellFormed rows) (known : is_some (ed
       lifted_forward after rows c s ∙ ap (λ list. forward c (first_part list whole s)) left.path ∙ ap (forward c) (first_part_is new s path whole s_in parts once) in
       let comes : lifted after rows (back c s) ≡ back c (length parts.front + length new) =
       lifted_back after rows c s ∙ ap (λ list. back c (last_part list whole s)) left.path ∙ ap (back c) (last_part_is new s path whole s_in parts once) in
-      subst (λ b. RunsOver rows c (lifted after rows (forward c s)) new b) (sym comes)
-      (subst (λ d. RunsOver rows c d new (back c (length parts.front + length new))) (sym leads)
-      (runs_over rows c parts.front new parts.back parts.parts once))
+      grind (arith, runs_over)
 
   pub dart_runs : (d : Dart) → has_dart (darts after) d ≡ true → d.way ≡ Forward → RunsOver rows d.edge (lifted after rows d) (crossings_between rows e d.edge d.seg) (lifted after rows (dart_twin d))
   dart_runs d h leads = by_way d.way leads where
@@ -164,17 +143,7 @@ module _ (rows : Rows) (e : ℕ) (good : IsWellFormed rows) (known : is_some (ed
       let pick = crossing_on rows good c n there h in
       let x = pick.0 in
       let of_c = is_one_of rows good c x there pick.1 (subst (λ m. IsIn m (edge_at rows c).crossings) (sym pick.2) h) in
-      let of_e = is_one_of rows good e x known pick.1 (subst (λ m. IsIn m (gone rows e)) (sym pick.2) (in_has_id n (gone rows e) is_gone)) in (
-        x,
-        pick.2,
-        record {
-          there = pick.1;
-          edges = elim of_c [
-            | inl c_crossed ↦ elim of_e [ inl e_crossed ↦ absurd (apart (c_crossed ∙ sym e_crossed)) | inr e_new ↦ inr (sym c_crossed, sym e_new) ]
-            | inr c_new ↦ elim of_e [ inl e_crossed ↦ inl (sym e_crossed, sym c_new) | inr e_new ↦ absurd (apart (c_new ∙ sym e_new)) ]
-          ];
-        },
-      )
+      let of_e = is_one_of rows good e x known pick.1 (subst (λ m. IsIn m (gone rows e)) (sym pick.2) (in_has_id n (gone rows e) is_gone)) in grind arith
 
   -- what is known of the other edge at a crossing
   pub record OtherEdge (c n : ℕ) : Type 0 where
@@ -189,28 +158,7 @@ module _ (rows : Rows) (e : ℕ) (good : IsWellFormed rows) (known : is_some (ed
       let facts = good_crossing rows good.crossings x is.there in
       let differ : x.crossed ≢ x.newcomer = λ same. false≢true (sym facts.apart ∙ eq-eqb x.crossed x.newcomer same) in
       let on = λ (f : ℕ) (there : is_some (edge_row rows f) ≡ true) (of_it : (f == x.crossed || f == x.newcomer) ≡ true). on_path_of rows good x is.there f there of_it in
-      elim is.edges [
-        | inl (e_crossed, c_new) ↦
-            let apart : c ≢ e = λ same. differ (e_crossed ∙ sym same ∙ sym c_new) in
-            let there : is_some (edge_row rows c) ≡ true = subst (λ f. is_some (edge_row rows f) ≡ true) c_new facts.newcomer in
-            record {
-              apart = apart;
-              before = there;
-              left = without_edge_there rows e c apart there;
-              on_path = on c there (or_right (c == x.crossed) (c == x.newcomer) (eq-eqb c x.newcomer (sym c_new)));
-              is_gone = has_id_in x.id (gone rows e) (on e known (or_left (e == x.crossed) (e == x.newcomer) (eq-eqb e x.crossed (sym e_crossed))));
-            }
-        | inr (c_crossed, e_new) ↦
-            let apart : c ≢ e = λ same. differ (c_crossed ∙ same ∙ sym e_new) in
-            let there : is_some (edge_row rows c) ≡ true = subst (λ f. is_some (edge_row rows f) ≡ true) c_crossed facts.crossed in
-            record {
-              apart = apart;
-              before = there;
-              left = without_edge_there rows e c apart there;
-              on_path = on c there (or_left (c == x.crossed) (c == x.newcomer) (eq-eqb c x.crossed (sym c_crossed)));
-              is_gone = has_id_in x.id (gone rows e) (on e known (or_right (e == x.crossed) (e == x.newcomer) (eq-eqb e x.newcomer (sym e_new))));
-            }
-      ]
+      grind (arith, without_edge_there, or_right, eq-eqb, has_id_in, gone, or_left)
 
   -- a crossing between is of both edges
   pub between_of : (d : Dart) (i : ℕ) → has_dart (darts after) d ≡ true → IsIn i (crossings_between rows e d.edge d.seg) → (x : CrossRow) × (x.id ≡ i) × IsCrossingOf rows e d.edge x
@@ -223,9 +171,7 @@ module _ (rows : Rows) (e : ℕ) (good : IsWellFormed rows) (known : is_some (ed
   pub on_a_segment : (c : ℕ) (x : CrossRow) → IsCrossingOf rows e c x → (s : ℕ) × (s < segment_count (edge_at after c)) × IsIn x.id (crossings_between rows e c s)
   on_a_segment c x is =
       let other = other_edge c x is in
-      let at = gone_segment (gone rows e) (edge_at rows c).crossings x.id other.on_path other.is_gone in
-      let inside : at.0 ≤ length (edge_at after c).crossings = subst (λ (list : List ℕ). at.0 ≤ length list) (sym (left_edge c other.left).path) at.1 in
-      (at.0, omega arith, at.2)
+      grind (arith, gone_segment, gone, left_edge)
 
   -- and of one only
   pub on_one_segment : (c s t i : ℕ) → is_some (edge_row after c) ≡ true → IsIn i (crossings_between rows e c s) → IsIn i (crossings_between rows e c t) → s ≡ t

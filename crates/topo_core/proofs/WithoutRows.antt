@@ -229,10 +229,7 @@ module _ (rows : Rows) (e : ℕ) where
   -- what stands in it stood in the list before, and is not the edge
   pub without_entry : (v f : ℕ) → IsIn f (rotation after v) → IsIn f (rotation rows v) × (f ≢ e)
   without_entry v f h =
-      let k = in_rotated (without_rotated v) f h in (
-        in_filter (λ f. not (f == e)) f (rotation rows v) k,
-        λ same. false≢true (sym (ap not (eq-eqb f e same)) ∙ filter_passes (λ f. not (f == e)) f (rotation rows v) k),
-      )
+      let k = in_rotated (without_rotated v) f h in grind (arith, in_filter, false≢true, eq-eqb, filter_passes)
 
   -- another edge stands in it as often as before
   pub without_counted : (v f : ℕ) → f ≢ e → occurrences f (rotation after v) ≡ occurrences f (rotation rows v)
@@ -243,7 +240,4 @@ module _ (rows : Rows) (e : ℕ) where
   -- a crossing that is left is not of the edge
   pub left_apart : IsWellFormed rows → is_some (edge_row rows e) ≡ true → (x : CrossRow) → IsIn x rows.crossings → has_id gone x.id ≡ false → (x.crossed ≢ e) × (x.newcomer ≢ e)
   left_apart good known x h stays =
-      let on_path : (e == x.crossed || e == x.newcomer) ≡ true → ⊥ = λ is_one. false≢true (sym stays ∙ has_id_in x.id gone (on_path_of rows good x h e known is_one)) in (
-        (λ same. on_path (or_left (e == x.crossed) (e == x.newcomer) (eq-eqb e x.crossed (sym same)))),
-        λ same. on_path (or_right (e == x.crossed) (e == x.newcomer) (eq-eqb e x.newcomer (sym same))),
-      )
+      let on_path : (e == x.crossed || e == x.newcomer) ≡ true → ⊥ = λ is_one. false≢true (sym stays ∙ has_id_in x.id gone (on_path_of rows good x h e known is_one)) in grind (arith, or_left, eq-eqb, or_right)

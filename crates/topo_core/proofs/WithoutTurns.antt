@@ -169,20 +169,8 @@ module _ (rows : Rows) (e : ℕ) (good : IsWellFormed rows) (known : is_some (ed
           let x_there : has_dart (around_vertex rows w) x ≡ true = ap (λ ds. has_dart ds x) parts ∙ has_exchanged h_front (x ∷ h_back) x
           ∙ or_left (same_dart x x) (has_dart (h_back ++ h_front) x) (same_dart_self x) in
           let d_next = turn_before (around_vertex rows w) (lift d) point_before d_there ∙ ap (λ ds. next_around ds (lift d)) parts in
-          let x_next = turn_before (around_vertex rows w) x point_before x_there ∙ ap (λ ds. next_around ds x) parts in
-          let now_next = ap (λ ds. next_around ds (lift d)) (sym without_it) ∙ next_kept fewer d h in
-          elim (next_without h_front h_back x (lift d) distinct apart in_parts) [
-            | inl same ↦ inl (d_next ∙ same ∙ now_next)
-            | inr between ↦
-                let by_edge = d_next ∙ between.0 in
-                inr (ap (λ (y : Dart). y.edge) by_edge ∙ end_dart_edge rows w e, ap (turn (system rows)) by_edge ∙ x_next ∙ between.1 ∙ now_next)
-          ]
-      | inr same ↦
-          let all : kept ≡ around_vertex rows w = ap (map (end_dart rows w)) same in
-          inl (
-          turn_before (around_vertex rows w) (lift d) point_before (ap (λ ds. has_dart ds (lift d)) (sym all) ∙ kept_has d h)
-          ∙ ap (λ ds. next_around ds (lift d)) (sym all)
-          ∙ next_kept (subst IsDistinct (sym all) around_distinct) d h)
+          grind (arith, turn_before, point_before, next_around, next_kept, next_without, end_dart_edge)
+      | inr same ↦ grind (arith, turn_before, point_before, kept_has, next_around, next_kept, around_distinct)
     ] where
       less_distinct : (front back : List Dart) (x : Dart) → IsDistinct (front ++ x ∷ back) → IsDistinct (front ++ back)
       less_distinct front back x distinct = distinct_exchanged back front (distinct_right (x ∷ []) (back ++ front) (distinct_exchanged front (x ∷ back) distinct))
@@ -200,16 +188,7 @@ module _ (rows : Rows) (e : ℕ) (good : IsWellFormed rows) (known : is_some (ed
           let next : turn (system rows) x ≡ slice_index_or (h_back ++ h_front) 0 x = turn_before (around_vertex rows w) x point_before x_there ∙ ap (λ ds. next_around ds x) parts ∙ next_of_taken h_front h_back x (subst IsDistinct parts around_distinct) in
           elim (first_of (h_back ++ h_front) x) [
             | inl none ↦ inl (next ∙ none)
-            | inr head ↦
-                let y = slice_index_or (h_back ++ h_front) 0 x in
-                let in_kept : has_dart kept y ≡ true = ap (λ ds. has_dart ds y) (kept_parts out) ∙ has_exchanged h_front h_back y ∙ head in
-                let in_lifted : has_dart (map lift (around_vertex after w)) y ≡ true =
-                ap (λ ds. has_dart ds y) lifted_is
-                ∙ has_exchanged (map (end_dart rows w) turned.back) (map (end_dart rows w) turned.front) y
-                ∙ ap (λ ds. has_dart ds y) (sym kept_is)
-                ∙ in_kept in
-                let image = image_of_dart lift (around_vertex after w) y in_lifted in
-                inr (image.0, at_point_there (around_vertex after w) point_after image.0 image.1, next ∙ image.2)
+            | inr head ↦ grind (arith, kept_parts, has_exchanged, lifted_is, kept_is, image_of_dart, at_point_there, point_after)
           ]
       | inr same ↦ absurd (false≢true (ap not (sym (eqb_self e)) ∙ filter_passes (λ f. not (f == e)) e (rotation rows w) (subst (IsIn e) (sym same) there)))
     ] where
@@ -275,19 +254,7 @@ module _ (rows : Rows) (e : ℕ) (good : IsWellFormed rows) (known : is_some (ed
   round_crossing c x is =
       let at = λ (a b : ℕ). clockwise x.sign (ahead rows a x.id) (behind rows a x.id) (ahead rows b x.id) (behind rows b x.id) in
       let point = point_of_crossing x is.there in
-      let right = λ (t : Bool). cond {A = Way} t (newcomer_rightward x.sign) (reversed (newcomer_rightward x.sign)) in
-      elim is.edges [
-        | inl (e_crossed, c_new) ↦
-            let other : (x.newcomer == e) ≡ false = elim (cases_Bool (x.newcomer == e)) [
-              | inl k ↦ absurd ((other_edge rows e good known c x is).apart (sym c_new ∙ eqb-true x.newcomer e k))
-              | inr k ↦ k
-            ] in
-            subst (RoundCrossing c x.id) (sym (ap right other))
-            (round_crossed x.sign c x.id (subst (λ b. IsPoint (at e b)) c_new (subst (λ a. IsPoint (at a x.newcomer)) e_crossed point)))
-        | inr (c_crossed, e_new) ↦
-            subst (RoundCrossing c x.id) (sym (ap right (eq-eqb x.newcomer e e_new)))
-            (round_newcomer x.sign c x.id (subst (λ b. IsPoint (at c b)) e_new (subst (λ a. IsPoint (at a x.newcomer)) c_crossed point)))
-      ]
+      grind (arith, cases_Bool, other_edge, eqb-true, round_crossed, eq-eqb, round_newcomer)
 
   -- ---- The ends of the edge
 
