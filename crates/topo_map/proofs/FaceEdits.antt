@@ -167,28 +167,7 @@ some-apart a b e = cc
 
 -- one segment, whose halves lie in one face
 pub seed_labels : (s s' : Slab Segment) (x : ℕ) → ((a : ℕ) → holds s a ≡ true → ⊥) → IsStart s s' x → AddsFaces (holds s) (face_in s) (face_in s') x 0 0 → AreLabels s' (Some 1)
-seed_labels s s' x none st f = record {
-  known = λ bound d.
-      let one : 1 ≡ bound = some-apart 1 bound d in
-      let i : IsInserted s s' x = st.inserted in
-      let zero : (a : ℕ) → holds s' a ≡ true → face_in s' a ≡ 0 = blank_more s s' x (blank_none s none) i f in
-      record {
-        labels = record {
-          same_face = λ a b ha hb e. elim (which a ha) [
-            | inl u ↦ elim (which b hb) [
-              | inl v ↦ record { steps = 0; leads = u ∙ sym v }
-              | inr v ↦ record { steps = 1; leads = ap (face_next (next_in s')) u ∙ twin_alone s s' x st ∙ sym v }
-            ]
-            | inr u ↦ elim (which b hb) [
-              | inl v ↦ record { steps = 1; leads = ap (face_next (next_in s')) u ∙ ap (next_in s') (twin-twin x) ∙ alone s s' x st ∙ sym v }
-              | inr v ↦ record { steps = 0; leads = u ∙ sym v }
-            ]
-          ];
-          same_label = λ a b ha hb m. zero a ha ∙ sym (zero b hb);
-        };
-        below = λ a h. (let z : face_in s' a ≡ 0 = zero a h in omega arith);
-      };
-}
+seed_labels s s' x none st f = grind (arith, some-apart, blank_more, blank_none, twin_alone, twin-twin, alone)
   where
     which : (a : ℕ) → holds s' a ≡ true → (a ≡ x) ⊎ (a ≡ twin x)
     which a h = grind (arith, cases_eq)

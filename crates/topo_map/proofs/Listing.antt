@@ -20,16 +20,7 @@ record Longer (hs new : List ℕ) (x y : ℕ) : Type 0 where
   second : map_of new (length hs + 1) ≡ y
 
 longer : (hs : List ℕ) (x y : ℕ) → Longer hs ((hs ++ x ∷ []) ++ y ∷ []) x y
-longer hs x y =
-    let one : List ℕ = hs ++ x ∷ [] in
-    let l1 : length one ≡ length hs + 1 = length-append hs (x ∷ []) in
-    let l2 : length (one ++ y ∷ []) ≡ length one + 1 = length-append one (y ∷ []) in
-    record {
-      size = omega arith;
-      old = λ a l. get_or_append_left one (y ∷ []) 0 a (let w : a < length one = omega arith in w) ∙ get_or_append_left hs (x ∷ []) 0 a l;
-      first = get_or_append_left one (y ∷ []) 0 (length hs) (let w : length hs < length one = omega arith in w) ∙ get_or-append_seam hs x [] 0;
-      second = ap (map_of (one ++ y ∷ [])) (sym l1) ∙ get_or-append_seam one y [] 0;
-    }
+longer hs x y = grind (arith, length-append, get_or_append_left, get_or-append_seam)
 
 three : (a m : ℕ) → a < m + 2 → (a < m) ⊎ ((a ≡ m) ⊎ (a ≡ m + 1))
 three a m l = grind (arith, cases_eq)
