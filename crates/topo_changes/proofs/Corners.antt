@@ -1,5 +1,5 @@
 -- Corners of vertices, and their darts.
-use Rattle.std.proofs.Common.{◌≡◌, ◌<◌, length, List, refl, Some, sym, true, ℕ, [], ◌∙◌}
+use Rattle.std.proofs.Common.{◌≡◌, ◌<◌, length, List, refl, Some, sym, true, ℕ, ◌∙◌}
 use Rattle.std.specs.Prelude.{is_some, slice_get, slice_index}
 use Rattle.std.proofs.lemmas.Option.{slice_get-get_or}
 use Rattle.topo_core.specs.declared.darts.Dart.{Dart}

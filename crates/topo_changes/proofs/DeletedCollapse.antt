@@ -5,7 +5,6 @@ use Rattle.topo_core.specs.declared.darts.Dart.{Dart}
 use Rattle.topo_core.specs.declared.darts.Way.{Way}
 use Rattle.topo_core.specs.declared.darts.Way.TheVariants.{Forward, Back}
 use Rattle.topo_core.specs.declared.rows.CrossRow.{CrossRow}
-use Rattle.topo_core.specs.declared.rows.EdgeRow.{EdgeRow}
 use Rattle.topo_core.specs.declared.rows.Rows.{Rows}
 use Rattle.topo_core.specs.Cycles.{SameCycle, map_of}
 use Rattle.topo_core.specs.Rotations.{face_next, twin}

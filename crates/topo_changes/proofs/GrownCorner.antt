@@ -8,7 +8,7 @@ use Rattle.std.proofs.lemmas.Option.{slice_get-get_or}
 use Rattle.topo_core.specs.declared.darts.Dart.{Dart}
 use Rattle.topo_core.specs.declared.rows.EdgeRow.{EdgeRow}
 use Rattle.topo_core.specs.declared.rows.Rows.{Rows}
-use Rattle.topo_core.specs.Changes.{grown, put_in, with_end}
+use Rattle.topo_core.specs.Changes.{grown, put_in}
 use Rattle.topo_core.specs.Items.{has_id, IsIn}
 use Rattle.topo_core.specs.Lawful.{has_good_path, IsWellFormed}
 use Rattle.topo_core.specs.Picture.{corner, edge_at, edge_row, end_dart, rotation, system}

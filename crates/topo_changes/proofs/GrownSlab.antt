@@ -1,5 +1,5 @@
 -- A growth in a slab that renumbers the rows: with a segment hung before the corner's half it renumbers the grown rows.
-use Rattle.std.proofs.Common.{◌≡◌, ◌≢◌, ℕ, suc, ◌<◌, true, [], ◌∷◌, ◌++◌, length, length-append, sym, ◌∙◌, ap, subst, arith, ◌⊎◌, inl, inr, Some}
+use Rattle.std.proofs.Common.{◌≡◌, ◌≢◌, ℕ, suc, ◌<◌, true, [], ◌∷◌, ◌++◌, length, length-append, sym, ◌∙◌, ap, subst, arith, ◌⊎◌, Some}
 use Rattle.std.specs.Prelude.{slice_get}
 use Rattle.std.proofs.lemmas.List.Concat.{flat_map-append}
 use Rattle.topo_core.specs.declared.darts.Dart.{Dart}

@@ -1,6 +1,6 @@
 -- A picture that shows a new edge along a route that meets no face twice is lawful.
 use Rattle.std.proofs.Common.{◌≡◌, ◌≢◌, ℕ, zero, suc, ◌+◌, ◌*◌, ◌<◌, ◌≤◌, ◌==◌, Bool, true, false, ◌||◌, List, [], ◌∷◌, length, inl, inr, refl, sym, ◌∙◌, ap, subst, arith}
-use Rattle.std.specs.Prelude.{Some, map, slice_index_or, slice_set, sum_by}
+use Rattle.std.specs.Prelude.{Some, map, slice_set, sum_by}
 use Rattle.std.specs.List.{list_any}
 use Rattle.std.proofs.lemmas.Bool.{cases_Bool, ne_eqb}
 use Rattle.std.proofs.lemmas.Grind.{flat_map-append}
@@ -11,9 +11,9 @@ use Rattle.topo_core.specs.declared.rows.Rows.{Rows}
 use Rattle.topo_core.specs.declared.routes.Route.{Route}
 use Rattle.topo_core.specs.Cycles.{map_of}
 use Rattle.topo_core.specs.Systems.{Connected, darts_in, has_dart}
-use Rattle.topo_core.specs.Picture.{around_crossing, around_vertex, corner, darts, face_count, index_of, rotation, segment_count, system, turn_images, vertices}
-use Rattle.topo_core.specs.Lawful.{HasGenusZero, IsWellFormed, Lawful}
-use Rattle.topo_core.specs.Changes.{crossed_row, new_crossing, numbered, put_in, shown, with_end}
+use Rattle.topo_core.specs.Picture.{around_crossing, around_vertex, corner, darts, face_count, index_of, segment_count, system, turn_images, vertices}
+use Rattle.topo_core.specs.Lawful.{IsWellFormed, Lawful}
+use Rattle.topo_core.specs.Changes.{crossed_row, new_crossing, numbered, put_in, shown}
 use Rattle.topo_core.specs.Routes.{IsSimpleRoute}
 use Rattle.topo_core.specs.Insertions.{IsInsertable, ShowsTurns, backward, lifted}
 use Rattle.topo_core.proofs.Growing.{is_put_in}

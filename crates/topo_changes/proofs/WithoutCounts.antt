@@ -9,7 +9,7 @@ use Rattle.std.proofs.lemmas.Bool.{cases_Bool, eq-eqb, false≢true, or_from}
 use Rattle.topo_core.specs.declared.rows.CrossRow.{CrossRow}
 use Rattle.topo_core.specs.declared.rows.EdgeRow.{EdgeRow}
 use Rattle.topo_core.specs.declared.rows.Rows.{Rows}
-use Rattle.topo_core.specs.Changes.{from_least, uncrossed_row, without}
+use Rattle.topo_core.specs.Changes.{without}
 use Rattle.topo_core.specs.Items.{has_id, occurrences, rises_below}
 use Rattle.topo_core.specs.Lawful.{has_good_path, is_good_crossing, IsWellFormed}
 use Rattle.topo_core.specs.Picture.{cross_row, edge_row, rotation}

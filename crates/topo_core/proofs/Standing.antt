@@ -1,20 +1,18 @@
 -- How often a dart stands in the rotation system of good rows: once if it is theirs, and else never.
 use Rattle.std.proofs.Common.{◌≡◌, ◌&&◌, ◌+◌, ◌≤◌, ◌||◌, ap, arith, Bool, cond, eqb, false, inl, inr, length, List, None, refl, Some, subst, suc, sym, true, zero, ℕ, [], ◌++◌, ◌∙◌, ◌∷◌}
-use Rattle.std.specs.Prelude.{count_by, if◌then◌else◌, is_some, map, nat_lt, Option, option_map, sum_by, unwrap_or, ◌==◌, ◌⊎◌}
+use Rattle.std.specs.Prelude.{count_by, is_some, map, nat_lt, Option, option_map, sum_by, unwrap_or, ◌==◌, ◌⊎◌}
 use Rattle.std.specs.List.{list_all, position_or_len, range_with_len}
 use Rattle.std.proofs.lemmas.Bool.Decides.{nat_tests}
 use Rattle.std.proofs.lemmas.List.Sums.{sum_by-append, sum_by-cons}
 use Rattle.std.proofs.lemmas.Bool.{cases_Bool, eqb-true, false≢true, not-true}
 use Rattle.topo_core.specs.declared.darts.Dart.{Dart}
 use Rattle.topo_core.specs.declared.darts.Sign.{Sign}
-use Rattle.topo_core.specs.declared.darts.Sign.TheVariants.{LeftToRight, RightToLeft}
-use Rattle.topo_core.specs.declared.darts.Way.TheVariants.{Forward, Back}
 use Rattle.topo_core.specs.declared.rows.CrossRow.{CrossRow}
 use Rattle.topo_core.specs.declared.rows.EdgeRow.{EdgeRow}
 use Rattle.topo_core.specs.declared.rows.Rows.{Rows}
 use Rattle.topo_core.specs.Darts.{both_ways, same_dart, same_way}
 use Rattle.topo_core.specs.Items.{IsIn, occurrences, rises_below}
-use Rattle.topo_core.specs.Lawful.{has_good_crossings, has_good_path, has_good_paths, has_good_rotation, has_good_rotations, is_good_crossing}
+use Rattle.topo_core.specs.Lawful.{has_good_crossings, has_good_path, has_good_paths, has_good_rotations, is_good_crossing}
 use Rattle.topo_core.specs.Picture.{around_crossing, around_vertex, clockwise, cross_row, darts, darts_of, edge_at, edge_row, end_dart, IsDart, place_on, rotation, segment_count, system, vertices}
 use Rattle.topo_core.specs.Pictures.{back, forward}
 use Rattle.topo_core.specs.Systems.{darts_in, has_dart}

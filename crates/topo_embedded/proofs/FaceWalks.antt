@@ -1,5 +1,5 @@
 -- Walks on the embedding beside an edge that is opened: what the halves are that they read, and what they tell.
-use Rattle.std.proofs.Common.{◌≡◌, ◌≢◌, ◌+◌, ◌<◌, ◌≤◌, ◌↔◌, ◌%◌, ◌&&◌, ◌==◌, ap, arith, false, inl, inr, length, List, [], refl, Some, subst, suc, sym, true, ℕ, ◌∙◌}
+use Rattle.std.proofs.Common.{◌≡◌, ◌≢◌, ◌+◌, ◌<◌, ◌≤◌, ◌↔◌, ◌%◌, ◌&&◌, ◌==◌, ap, arith, false, length, List, [], refl, subst, suc, sym, true, ℕ, ◌∙◌}
 use Rattle.std.specs.Prelude.{nat_lt, slice_index_or}
 use Rattle.std.specs.List.{position_or_len}
 use Rattle.std.proofs.lemmas.Bool.{cases_eq}
@@ -8,14 +8,13 @@ use Rattle.std.proofs.lemmas.List.{get_or_default}
 use Rattle.topo_core.specs.declared.darts.Dart.{Dart}
 use Rattle.topo_core.specs.declared.darts.Way.{Way}
 use Rattle.topo_core.specs.declared.darts.Way.TheVariants.{Back, Forward}
-use Rattle.topo_core.specs.declared.rows.EdgeRow.{EdgeRow}
 use Rattle.topo_core.specs.declared.rows.Rows.{Rows}
 use Rattle.topo_core.specs.Changes.{HasOneFace}
 use Rattle.topo_core.specs.Cycles.{IsPermutation, SameCycle, map_of}
 use Rattle.topo_core.specs.Darts.{dart_twin}
 use Rattle.topo_core.specs.Lawful.{IsWellFormed}
 use Rattle.topo_core.specs.Openings.{is_opened, opened_turn}
-use Rattle.topo_core.specs.Picture.{darts, edge_at, edge_row, index_of, segment_count, system, turn_images}
+use Rattle.topo_core.specs.Picture.{darts, edge_at, index_of, segment_count, system, turn_images}
 use Rattle.topo_core.specs.Pictures.{back, forward}
 use Rattle.topo_core.specs.Rotations.{face_next, twin}
 use Rattle.topo_core.specs.Systems.{has_dart, turn as dart_turn}
@@ -33,7 +32,7 @@ use Rattle.topo_map.proofs.Stored.{limit-is}
 use Rattle.topo_changes.specs.Cuts.{IsLeft, IsNextLeft}
 use Rattle.topo_changes.proofs.OpenedFaces.{face_told, forth_of_face, not_opened, one_face_forth, one_face_round, Passes, passes_few, passes_more, passes_none, passes_to, round_of_face, Walks, walks_home, walks_met, walks_more, walks_never, walks_none}
 use Rattle.topo_embedded.specs.Cutting.{IsOpenedOn}
-use Rattle.topo_embedded.specs.Halves.{Drawn, by_way, half_at, half_in, path_of}
+use Rattle.topo_embedded.specs.Halves.{Drawn, by_way, half_at, half_in}
 use Rattle.topo_embedded.specs.Walking.{IsOnPath}
 use Rattle.topo_embedded.proofs.Apart.{darts_limited, halves_apart, twin_in_path}
 use Rattle.topo_embedded.proofs.Numbers.{face_half, half_alive, half_of_number, stands_at, StandsAt, turned_half}

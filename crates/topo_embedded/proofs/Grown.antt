@@ -15,7 +15,7 @@ use Rattle.topo_core.specs.Cycles.{map_of}
 use Rattle.topo_core.specs.Edits.{IsHang}
 use Rattle.topo_core.specs.Items.{IsIn}
 use Rattle.topo_core.specs.Lawful.{IsWellFormed}
-use Rattle.topo_core.specs.Picture.{corner, darts, darts_of, end_dart, index_of, rotation, segment_count, turn_images}
+use Rattle.topo_core.specs.Picture.{corner, darts, darts_of, end_dart, index_of, rotation, turn_images}
 use Rattle.topo_core.specs.Pictures.{back, forward}
 use Rattle.topo_core.specs.Rotations.{twin}
 use Rattle.topo_core.specs.Systems.{has_dart}
@@ -26,14 +26,14 @@ use Rattle.topo_perm.specs.Runs.{IsStep}
 use Rattle.topo_perm.specs.Runs.Edit.{Hang}
 use Rattle.topo_perm.proofs.GrowthNumbers.{IsGrowthUnder}
 use Rattle.topo_perm.proofs.Walks.{twin-cases}
-use Rattle.topo_map.specs.Rotation.{AddsLabel, Grows, IsEmbedding, Rotation, Slot, edge_in, edge_of, half_limit, is_live, live_in, turn, turn_in, turning_of}
+use Rattle.topo_map.specs.Rotation.{AddsLabel, Grows, IsEmbedding, Rotation, edge_of, half_limit, is_live, turn, turning_of}
 use Rattle.topo_map.proofs.EditSteps.{hang_step}
 use Rattle.topo_changes.proofs.Corners.{corner_is}
 use Rattle.topo_changes.proofs.GrownCorner.{grown_good, new_row, old_edge}
 use Rattle.topo_changes.proofs.GrownSlab.{grown_slab}
 use Rattle.topo_changes.proofs.InsertedNumbers.{even_count}
 use Rattle.topo_core.proofs.RouteDarts.{corner_in}
-use Rattle.topo_embedded.specs.Halves.{Drawn, ShowsRows, by_way, half_at, half_in, path_of}
+use Rattle.topo_embedded.specs.Halves.{Drawn, ShowsRows, half_at, half_in, path_of}
 use Rattle.topo_embedded.proofs.Made.{agreeing_numbers}
 use Rattle.topo_embedded.proofs.Numbers.{StandsAt, half_alive, half_of_number, stands_at}
 

@@ -1,5 +1,5 @@
 -- The labels of the halves along edges, while crossed halves are split and the new edge is drawn.
-use Rattle.std.proofs.Common.{◌≡◌, ◌<◌, ap, arith, inl, inr, length, List, [], ◌∷◌, ◌++◌, refl, subst, suc, sym, zero, ℕ, ◌∙◌, ◌⊎◌}
+use Rattle.std.proofs.Common.{◌≡◌, ◌<◌, ap, arith, inl, inr, length, List, [], ◌∷◌, ◌++◌, refl, suc, sym, zero, ℕ, ◌∙◌, ◌⊎◌}
 use Rattle.std.specs.Prelude.{flat_map, map, None, slice_get, slice_index_or, Some}
 use Rattle.std.proofs.lemmas.Bool.{cases_eq, cond-false, cond-true, eq-eqb, ne_eqb}
 use Rattle.std.proofs.lemmas.List.{get_or_append_left, get_or_at, length-map}

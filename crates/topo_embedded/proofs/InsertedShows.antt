@@ -1,6 +1,6 @@
 -- The embedding after an insertion shows the rows with the new edge.
-use Rattle.std.proofs.Common.{◌≡◌, ◌<◌, ◌+◌, ap, arith, inl, inr, length, List, [], ◌∷◌, refl, subst, sym, true, ℕ, ◌∙◌}
-use Rattle.std.specs.Prelude.{◌==◌, map, Option, slice_get, slice_index_or, Some, unwrap_or}
+use Rattle.std.proofs.Common.{◌≡◌, ◌<◌, ◌+◌, ap, arith, inl, inr, length, List, [], refl, subst, sym, true, ℕ, ◌∙◌}
+use Rattle.std.specs.Prelude.{◌==◌, Option, slice_get, slice_index_or, Some, unwrap_or}
 use Rattle.std.specs.List.{position_or_len}
 use Rattle.std.proofs.lemmas.List.{length-append, length-map}
 use Rattle.std.proofs.lemmas.List.FromFn.{length-enumerate_from}
@@ -10,7 +10,7 @@ use Rattle.topo_core.specs.declared.darts.Way.TheVariants.{Forward}
 use Rattle.topo_core.specs.declared.rows.EdgeRow.{EdgeRow}
 use Rattle.topo_core.specs.declared.rows.Rows.{Rows}
 use Rattle.topo_core.specs.declared.routes.Route.{Route}
-use Rattle.topo_core.specs.Changes.{crossed_row, numbered, shown}
+use Rattle.topo_core.specs.Changes.{numbered, shown}
 use Rattle.topo_core.specs.Cycles.{map_of}
 use Rattle.topo_core.specs.Insertions.{CrossesOnce, ShowsTurns}
 use Rattle.topo_core.specs.Lawful.{IsWellFormed}
@@ -26,7 +26,6 @@ use Rattle.topo_frozen.specs.Ids.{IsPlaceOf}
 use Rattle.topo_frozen.proofs.Finding.{edges_rise, placed_here}
 use Rattle.topo_embedded.specs.Crossing.{AreCrossedAt}
 use Rattle.topo_embedded.specs.Halves.{Drawn, ShowsRows, by_way, half_at, half_in, path_of}
-use Rattle.topo_embedded.specs.Inserting.{put_halves}
 use Rattle.topo_embedded.proofs.Inserted.{AreInserted, all_have, inserted, path_new, path_old}
 use Rattle.topo_embedded.proofs.Made.{agreeing_numbers}
 use Rattle.topo_embedded.proofs.Numbers.{StandsAt, stands_at}

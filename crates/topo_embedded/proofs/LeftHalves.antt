@@ -1,6 +1,5 @@
 -- The halves along a path, when those ahead of some of its crossings go.
 use Rattle.std.proofs.Common.{◌≡◌, ◌+◌, ◌<◌, ◌≤◌, ap, arith, Bool, cond, false, get_or, inl, inr, length, List, [], ◌∷◌, not, refl, sym, suc, true, zero, ℕ, ◌∙◌}
-use Rattle.std.specs.Prelude.{◌-◌}
 use Rattle.std.proofs.lemmas.Bool.{cases_Bool, ne_eqb}
 use Rattle.topo_core.specs.Items.{has_id, IsIn, occurrences}
 use Rattle.topo_core.proofs.GonePaths.{item_place, left_of, left_taken, left_kept}

@@ -1,5 +1,5 @@
 -- The halves of darts, and how they turn.
-use Rattle.std.proofs.Common.{◌≡◌, ◌<◌, ◌≤◌, ◌+◌, ap, arith, Bool, cond, inl, inr, length, List, [], ◌∷◌, not, subst, sym, suc, true, ℕ, ◌∙◌}
+use Rattle.std.proofs.Common.{◌≡◌, ◌<◌, ◌+◌, ap, arith, Bool, cond, inl, inr, length, List, [], ◌∷◌, not, subst, sym, suc, true, ℕ, ◌∙◌}
 use Rattle.std.specs.Prelude.{◌==◌, find, Option, slice_get, slice_index_or, Some, unwrap_or}
 use Rattle.std.specs.List.{position_or_len}
 use Rattle.std.proofs.lemmas.Bool.{cases_Bool}
@@ -10,7 +10,7 @@ use Rattle.topo_core.specs.declared.rows.EdgeRow.{EdgeRow}
 use Rattle.topo_core.specs.declared.rows.Rows.{Rows}
 use Rattle.topo_core.specs.Darts.{dart_twin}
 use Rattle.topo_core.specs.Lawful.{IsWellFormed}
-use Rattle.topo_core.specs.Picture.{darts, edge_at, edge_row, index_of, segment_count, system, turn_images}
+use Rattle.topo_core.specs.Picture.{darts, edge_row, index_of, segment_count, system, turn_images}
 use Rattle.topo_core.specs.Rotations.{face_next, twin}
 use Rattle.topo_core.specs.Systems.{face_step, has_dart, turn as dart_turn}
 use Rattle.topo_core.proofs.Numbering.{get_index, image_of, index_less, index_twin, turn_stays, twin_in}

@@ -1,5 +1,5 @@
 -- Lists of halves with room at their ends, and a half more in one of them.
-use Rattle.std.proofs.Common.{◌≡◌, ◌≢◌, ◌<◌, ◌+◌, ap, append-nil, append_assoc, arith, drop, get_or, inl, inr, length, length-append, List, [], ◌∷◌, ◌++◌, refl, set, subst, suc, sym, take, ℕ, ◌∙◌}
+use Rattle.std.proofs.Common.{◌≡◌, ◌≢◌, ◌<◌, ◌+◌, ap, append-nil, append_assoc, arith, drop, get_or, inl, inr, length, length-append, List, [], ◌∷◌, ◌++◌, refl, set, suc, sym, take, ℕ, ◌∙◌}
 use Rattle.std.specs.Prelude.{◌==◌, cond, slice_index_or}
 use Rattle.std.proofs.lemmas.Bool.{cases_eq, cond-false, cond-true, eq-eqb, ne_eqb}
 use Rattle.std.proofs.lemmas.Grind.{flat_map-append}

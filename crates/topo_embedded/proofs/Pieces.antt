@@ -1,6 +1,6 @@
 -- One segment of an edge that a route crosses or not: the halves that are along it then.
-use Rattle.std.proofs.Common.{arith, ◌≡◌, ◌≢◌, ◌+◌, ◌⊎◌, ap, append-nil, Bool, false, inl, inr, List, [], ◌∷◌, ◌++◌, refl, subst, sym, true, ℕ, ◌∙◌}
-use Rattle.std.specs.Prelude.{◌&&◌, ◌==◌, flat_map}
+use Rattle.std.proofs.Common.{arith, ◌≡◌, ◌≢◌, ◌+◌, ◌⊎◌, ap, append-nil, false, inl, inr, List, [], ◌∷◌, ◌++◌, refl, subst, sym, true, ℕ, ◌∙◌}
+use Rattle.std.specs.Prelude.{◌==◌, flat_map}
 use Rattle.std.specs.List.{AllByRecursion, enumerate_from}
 use Rattle.std.proofs.lemmas.Bool.{and_from, cases_Bool, cond-false, cond-true, eq-eqb, eqb-true, false≢true, ne_eqb}
 use Rattle.std.proofs.lemmas.Grind.{flat_map-append}

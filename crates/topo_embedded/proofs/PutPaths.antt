@@ -1,5 +1,5 @@
 -- The halves along an edge once the crossed ones are split: at the places where the darts of its segments stand then.
-use Rattle.std.proofs.Common.{◌≡◌, ◌<◌, ◌+◌, ◌-◌, ◌⊎◌, ap, arith, drop, inl, inr, length, List, [], ◌∷◌, ◌++◌, refl, suc, sym, take, true, zero, ℕ, ◌∙◌}
+use Rattle.std.proofs.Common.{◌≡◌, ◌<◌, ◌+◌, ◌⊎◌, ap, arith, drop, inl, inr, length, List, [], ◌∷◌, ◌++◌, suc, sym, take, true, zero, ℕ, ◌∙◌}
 use Rattle.std.specs.Prelude.{◌==◌, slice_index_or, Some}
 use Rattle.std.proofs.Math.Seq.{drop-cons}
 use Rattle.std.proofs.lemmas.Bool.{cond-false, cond-true, eq-eqb, ne_eqb}

@@ -1,6 +1,6 @@
 -- Edges and their paths as they are read.
-use Rattle.std.proofs.Common.{◌≡◌, ◌<◌, ◌≤◌, ap, arith, Bool, cond, false, inl, inr, length, List, [], refl, subst, sym, true, ℕ, ◌∙◌}
-use Rattle.std.specs.Prelude.{◌==◌, find, is_some, slice_get, slice_index, slice_index_or, Some, sum_by}
+use Rattle.std.proofs.Common.{◌≡◌, ◌<◌, ◌≤◌, ap, arith, Bool, cond, false, length, List, [], refl, sym, true, ℕ, ◌∙◌}
+use Rattle.std.specs.Prelude.{◌==◌, is_some, slice_get, slice_index, slice_index_or, Some, sum_by}
 use Rattle.std.specs.List.{position_or_len}
 use Rattle.std.proofs.lemmas.Bool.{cases_lt}
 use Rattle.std.proofs.lemmas.List.{get_or_default, get_or_past}

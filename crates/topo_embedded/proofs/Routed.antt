@@ -7,7 +7,7 @@ use Rattle.topo_core.specs.declared.darts.Dart.{Dart}
 use Rattle.topo_core.specs.declared.rows.Rows.{Rows}
 use Rattle.topo_core.specs.declared.routes.Route.{Route}
 use Rattle.topo_core.specs.Changes.{shown}
-use Rattle.topo_core.specs.Insertions.{CrossesOnce, IsInsertable}
+use Rattle.topo_core.specs.Insertions.{IsInsertable}
 use Rattle.topo_core.specs.Lawful.{IsWellFormed}
 use Rattle.topo_core.specs.Picture.{darts, index_of}
 use Rattle.topo_core.specs.Systems.{has_dart}

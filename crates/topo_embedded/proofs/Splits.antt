@@ -1,5 +1,5 @@
 -- One crossed segment more is split.
-use Rattle.std.proofs.Common.{◌≡◌, ◌≢◌, ◌<◌, ◌+◌, ap, append-nil, append_assoc, arith, Bool, drop, false, get_or, inl, inr, length, length-set, List, [], ◌∷◌, ◌++◌, refl, set, subst, suc, sym, take, true, zero, ℕ, ◌∙◌}
+use Rattle.std.proofs.Common.{◌≡◌, ◌≢◌, ◌<◌, ◌+◌, ap, append-nil, append_assoc, arith, Bool, drop, false, get_or, length, length-set, List, [], ◌∷◌, ◌++◌, refl, set, subst, suc, sym, take, true, zero, ℕ, ◌∙◌}
 use Rattle.std.specs.Prelude.{◌&&◌, ◌==◌, map, slice_get, slice_index_or, Some}
 use Rattle.std.specs.List.{All, AllByRecursion, position_or_len}
 use Rattle.std.proofs.lemmas.Bool.{false≢true, cases_Bool}

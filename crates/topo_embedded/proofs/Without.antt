@@ -1,5 +1,5 @@
 -- The embedding without an edge shows the rows without it.
-use Rattle.std.proofs.Common.{arith, ◌≡◌, ◌<◌, ◌%◌, ap, length, List, [], subst, sym, true, ℕ, ◌∙◌, Bool}
+use Rattle.std.proofs.Common.{arith, ◌≡◌, ◌<◌, ◌%◌, ap, length, List, subst, sym, true, ℕ, ◌∙◌, Bool}
 use Rattle.std.specs.Prelude.{is_some, Option, slice_get, Some, unwrap_or}
 use Rattle.topo_core.specs.declared.darts.Dart.{Dart}
 use Rattle.topo_core.specs.declared.darts.Way.{Way}

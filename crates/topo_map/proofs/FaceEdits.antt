@@ -14,7 +14,7 @@ use Rattle.topo_perm.proofs.Faces.{twin-twin, isolated_face}
 use Rattle.topo_perm.proofs.Splitting.{without-self}
 use Rattle.topo_perm.proofs.LabelledFaces.{hang_labels, split_labels, smooth_labels}
 use Rattle.topo_map.specs.Rotation.{half_limit, live_in, turn_in, KeepsLabels, Slot}
-use Rattle.topo_map.specs.Segments.{put, without, holds, next_in, before_in, face_in, nexts, befores, sides, AddsFaces, AreInverse, IsKept, IsInserted, IsRemoved, IsTurned, Repaints}
+use Rattle.topo_map.specs.Segments.{put, without, holds, next_in, before_in, face_in, nexts, AddsFaces, IsKept, IsInserted, IsRemoved, IsTurned, Repaints}
 use Rattle.topo_map.specs.Building.{AreBlank, IsJoined, IsListed}
 use Rattle.topo_map.specs.Labels.{AreLabels, IsLabelled, IsSound}
 use Rattle.topo_map.specs.declared.segments.Segment.{Segment}

@@ -1,9 +1,9 @@
 -- Labels of faces on maps of numbers: a face that is painted anew, and faces that an exchange parts or joins.
-use Rattle.std.proofs.Common.{◌≡◌, ◌≢◌, ℕ, ◌+◌, ◌<◌, ◌==◌, Bool, true, false, cond, ◌||◌, ◌⊎◌, inl, inr, refl, sym, ◌∙◌, ap, subst, arith}
+use Rattle.std.proofs.Common.{◌≡◌, ◌≢◌, ℕ, ◌+◌, ◌<◌, Bool, true, ◌⊎◌, inl, inr, sym, ◌∙◌, subst, arith}
 use Rattle.std.proofs.lemmas.Bool.{cases_Bool, cases_eq, cond-true, cond-false, eq-eqb, ne_eqb, false≢true, or_left}
 use Rattle.topo_core.specs.Cycles.{IsPermutation, SameCycle, after, is_met}
 use Rattle.topo_core.specs.Rotations.{twin, face_next}
-use Rattle.topo_core.proofs.Orbits.{IsPeriod, SameCycle-refl, SameCycle-trans, SameCycle-sym, SameCycle-is_met, is_met-SameCycle}
+use Rattle.topo_core.proofs.Orbits.{SameCycle-refl, SameCycle-trans, SameCycle-sym, SameCycle-is_met, is_met-SameCycle}
 use Rattle.topo_perm.specs.FaceLabels.{LabelsFaces}
 use Rattle.topo_perm.proofs.Exchange.{IsExchange, IsExchange-back, IsExchange-permutation, Together, exchange_parts, kept, spread}
 use Rattle.topo_perm.proofs.Faces.{twin-twin}

@@ -1,5 +1,5 @@
 -- The slab along each edit: from an embedding to an embedding.
-use Rattle.std.proofs.Common.{◌≡◌, ◌≢◌, ℕ, ◌+◌, ◌-◌, ◌*◌, ◌%◌, ◌<◌, ◌≤◌, Bool, true, cond, nat_le, min, is_some, inl, inr, refl, sym, ◌∙◌, ap, subst, arith}
+use Rattle.std.proofs.Common.{◌≡◌, ◌≢◌, ℕ, ◌+◌, ◌-◌, ◌*◌, ◌<◌, ◌≤◌, Bool, true, cond, nat_le, min, is_some, inl, inr, refl, sym, ◌∙◌, ap, subst, arith}
 use Rattle.std.proofs.lemmas.Bool.{cases_Bool}
 use Rattle.slab.specs.Slab.{Slab, get, slab_len}
 use Rattle.topo_core.specs.Rotations.{twin}
@@ -13,7 +13,7 @@ use Rattle.topo_perm.proofs.Allowed.{AreDarts, IsDrawn, hang_allowed, chord_allo
 use Rattle.topo_perm.proofs.SlabEdits.{segments_grow}
 use Rattle.topo_perm.proofs.Bypassing.{twin-half}
 use Rattle.topo_map.specs.Rotation.{half_limit, AddsLabel, CountsFewer, CountsMore, IsOneFace, IsWhole, KeepsLabels, Grows, PartsFaces, Shrinks}
-use Rattle.topo_map.specs.Segments.{put, without, holds, next_in, before_in, nexts, label_in, limit_of, room_of, view_of, IsKept, IsTurned, IsInserted, IsRemoved}
+use Rattle.topo_map.specs.Segments.{put, without, holds, next_in, nexts, label_in, limit_of, room_of, view_of, IsKept, IsTurned, IsInserted, IsRemoved}
 use Rattle.topo_map.specs.declared.segments.Segment.{Segment}
 use Rattle.topo_map.proofs.Slots.{live_at}
 use Rattle.topo_map.proofs.Kept.{free_turn, live_next}

@@ -5,7 +5,7 @@ use Rattle.topo_core.specs.Cycles.{after}
 use Rattle.topo_core.specs.Rotations.{twin, face_next}
 use Rattle.topo_perm.proofs.Lists.{after_more}
 use Rattle.topo_map.specs.Rotation.{half_limit}
-use Rattle.topo_map.specs.Segments.{written, holds, next_in, before_in, face_in, AreInverse, IsKept, Repaints}
+use Rattle.topo_map.specs.Segments.{written, holds, next_in, face_in, IsKept, Repaints}
 use Rattle.topo_map.specs.Labels.{painted, IsPainted}
 use Rattle.topo_map.specs.declared.segments.Segment.{Segment}
 use Rattle.topo_map.proofs.Kept.{live_next}

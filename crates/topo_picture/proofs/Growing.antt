@@ -1,5 +1,5 @@
 -- What a growth that is not refused makes of a picture is a picture.
-use Rattle.std.proofs.Common.{◌≡◌, ℕ, ◌<◌, nat_lt, Bool, true, false, cond, not, ◌&&◌, length, Some, None, refl, sym, arith, length-append, length-set, subst, Result, Ok, Err, OnOk, OnErr}
+use Rattle.std.proofs.Common.{◌≡◌, ℕ, ◌<◌, Bool, true, false, cond, not, ◌&&◌, length, Some, None, refl, sym, arith, length-append, length-set, subst, Result, Ok, Err, OnOk, OnErr}
 use Rattle.std.proofs.lemmas.Bool.{ltb-true}
 use Rattle.topo_core.specs.declared.rows.Rows.{Rows}
 use Rattle.topo_core.specs.declared.limits.Limits.{Limits}
@@ -7,7 +7,7 @@ use Rattle.topo_core.specs.declared.calls.Refusal.TheVariants.{NoVertex, NoPosit
 use Rattle.topo_core.specs.Picture.{rotation}
 use Rattle.topo_core.specs.Pictures.{seed}
 use Rattle.topo_core.specs.Changes.{grown}
-use Rattle.topo_core.specs.Steps.{grow_refusal, has_vertex}
+use Rattle.topo_core.specs.Steps.{grow_refusal}
 use Rattle.topo_frozen.specs.Shown.{IsPicture}
 use Rattle.topo_core.proofs.Connection.{seed_is_embedding}
 use Rattle.topo_core.proofs.GrownFaces.{growth_keeps_lawful}

@@ -1,13 +1,13 @@
 -- What an insertion makes of a picture.
-use Rattle.std.proofs.Common.{◌≡◌, ◌≢◌, ℕ, ◌<◌, Bool, true, false, cond, not, length, refl, sym, subst, ◌∙◌, arith, Result, Ok, Err, OnOk, OnErr}
-use Rattle.std.specs.Prelude.{◌==◌, ◌&&◌, nat_lt, Some, None}
+use Rattle.std.proofs.Common.{◌≡◌, ◌≢◌, ℕ, ◌<◌, Bool, true, false, cond, not, length, refl, sym, subst, arith, Result, Ok, Err, OnOk, OnErr}
+use Rattle.std.specs.Prelude.{◌&&◌, Some, None}
 use Rattle.std.proofs.lemmas.Bool.{eq-eqb, false≢true, ltb-true}
 use Rattle.topo_core.specs.declared.rows.Rows.{Rows}
 use Rattle.topo_core.specs.declared.routes.Route.{Route}
 use Rattle.topo_core.specs.declared.limits.Limits.{Limits}
 use Rattle.topo_core.specs.declared.calls.Refusal.TheVariants.{NoVertex, SameEnds, BadKind, Full}
 use Rattle.topo_core.specs.Routes.{IsSimpleRoute}
-use Rattle.topo_core.specs.Steps.{HasRoomFor, has_vertex, insert_refusal}
+use Rattle.topo_core.specs.Steps.{HasRoomFor, insert_refusal}
 use Rattle.topo_core.specs.Changes.{shown}
 use Rattle.topo_core.specs.Insertions.{IsInsertable}
 use Rattle.topo_core.proofs.ShownRows.{shown_vertices}

@@ -1,14 +1,9 @@
 -- What a picture's size rests on: each crossing stands on two paths, and Euler's formula.
-use Rattle.std.proofs.Common.{◌≡◌, ◌+◌, ◌-◌, ◌*◌, ◌≤◌, arith, length, true, ℕ}
-use Rattle.std.specs.Prelude.{map, sum_by}
-use Rattle.std.specs.List.{list_all}
+use Rattle.std.proofs.Common.{◌≡◌, ◌+◌, ◌-◌, ◌*◌, ◌≤◌, arith, length, ℕ}
+use Rattle.std.specs.Prelude.{sum_by}
 use Rattle.std.proofs.lemmas.List.{length-map}
 use Rattle.topo_core.specs.declared.limits.Limits.{Limits}
-use Rattle.topo_core.specs.declared.rows.CrossRow.{CrossRow}
-use Rattle.topo_core.specs.declared.rows.EdgeRow.{EdgeRow}
 use Rattle.topo_core.specs.declared.rows.Rows.{Rows}
-use Rattle.topo_core.specs.Items.{rises_below}
-use Rattle.topo_core.specs.Lawful.{has_good_path, is_good_crossing}
 use Rattle.topo_core.specs.Picture.{face_count, segment_count}
 use Rattle.topo_core.proofs.Members.{left_true}
 use Rattle.topo_frozen.specs.Shown.{IsPicture}

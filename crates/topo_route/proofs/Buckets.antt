@@ -15,10 +15,6 @@ or_last true true c = refl
 or_last true false c = refl
 or_last false b c = refl
 
-or_first : (a b c : Bool) → ((a || b) || c) ≡ (a || (b || c))
-or_first true b c = refl
-or_first false b c = refl
-
 -- ---- Lists in places
 
 module _ {X : Type 0} (f : X → List ℕ) where

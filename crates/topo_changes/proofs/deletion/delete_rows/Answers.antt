@@ -1,6 +1,5 @@
 use Rattle.std.proofs.Common.{◌∙◌, ap, arith, length, sym}
 use Rattle.std.proofs.lemmas.Bool.{eqb-true}
-use Rattle.topo_core.specs.declared.rows.Rows.{Rows}
 use Rattle.topo_core.proofs.SystemDarts.{path_facts, row_in}
 use Rattle.topo_changes.proofs.Deleting.{parts_left}
 use Rattle.topo_changes.proofs.UncrossedEdges.{parts_left_uncrossed}

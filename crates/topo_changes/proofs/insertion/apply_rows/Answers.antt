@@ -1,12 +1,8 @@
-use Rattle.std.proofs.Common.{arith, ◌≡◌, ◌∙◌, ◌∷◌, ◌++◌, [], List, ap, length, rules, subst, sym, true}
-use Rattle.std.specs.Prelude.{map, nat_lt, slice_index_or}
-use Rattle.std.specs.List.{enumerate_from, list_all}
-use Rattle.std.specs.Vec.{vec_len}
+use Rattle.std.proofs.Common.{arith, ◌≡◌, [], rules, subst, sym, true}
+use Rattle.std.specs.Prelude.{nat_lt, slice_index_or}
+use Rattle.std.specs.List.{list_all}
 use Rattle.std.proofs.lemmas.List.{take_at}
-use Rattle.topo_core.specs.declared.darts.Dart.{Dart}
-use Rattle.topo_core.specs.declared.rows.EdgeRow.{EdgeRow}
-use Rattle.topo_core.specs.Changes.{new_crossing, with_end}
-use Rattle.topo_changes.specs.Inserting.{AreOnPaths, crossed_by, paths_below}
+use Rattle.topo_changes.specs.Inserting.{AreOnPaths}
 use Rattle.topo_changes.proofs.Inserting.{crossings_old, darts_there, rotation_old, rows_made}
 use Rattle.topo_changes.proofs.insertion.apply_rows.Goals as goal
 

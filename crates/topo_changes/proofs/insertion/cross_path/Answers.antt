@@ -1,4 +1,4 @@
-use Rattle.std.proofs.Common.{◌∙◌, ap, arith, length}
+use Rattle.std.proofs.Common.{arith}
 use Rattle.topo_changes.proofs.CrossedPaths.{ends_within}
 use Rattle.topo_changes.proofs.insertion.cross_path.Goals as goal
 

@@ -1,8 +1,8 @@
-use Rattle.std.proofs.Common.{◌+◌, ◌∙◌, ap, arith, length, subst, sym, take}
+use Rattle.std.proofs.Common.{◌+◌, ◌∙◌, ap, arith, subst, sym, take}
 use Rattle.std.specs.Prelude.{map}
 use Rattle.std.proofs.lemmas.List.{take_all}
 use Rattle.topo_core.specs.declared.darts.Dart.{Dart}
-use Rattle.topo_changes.specs.Inserting.{EdgesRise, crossed_by, crossed_path, repathed}
+use Rattle.topo_changes.specs.Inserting.{EdgesRise, crossed_path, repathed}
 use Rattle.topo_changes.proofs.CrossedRows.{crossed_by_none, crossed_rise, one_more, when_err, when_ok}
 use Rattle.topo_changes.proofs.insertion.cross_some.Goals as goal
 

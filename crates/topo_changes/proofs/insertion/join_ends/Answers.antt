@@ -1,7 +1,5 @@
-use Rattle.std.proofs.Common.{arith, ◌<◌, ◌∙◌, [], ap, length, length-set, set, sym}
-use Rattle.std.specs.Prelude.{filter, nat_lt}
+use Rattle.std.proofs.Common.{arith, length-set}
 use Rattle.std.proofs.lemmas.List.{get_or_default}
-use Rattle.topo_core.specs.Changes.{put_in}
 use Rattle.topo_changes.proofs.CrossedPaths.{taken_back}
 use Rattle.topo_changes.proofs.CrossedRows.{when_err}
 use Rattle.topo_changes.proofs.insertion.join_ends.Goals as goal

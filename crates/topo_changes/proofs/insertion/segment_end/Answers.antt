@@ -1,4 +1,4 @@
-use Rattle.std.proofs.Common.{◌+◌, ap, arith, drop, get_or}
+use Rattle.std.proofs.Common.{◌+◌, arith, drop, get_or}
 use Rattle.std.proofs.lemmas.List.{at_drop_all, at_drop_more}
 use Rattle.topo_changes.specs.Inserting.{segment_end}
 use Rattle.topo_changes.proofs.CrossedPaths.{counts, ends_here, goes_past}

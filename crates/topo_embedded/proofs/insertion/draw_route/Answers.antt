@@ -1,8 +1,6 @@
-use Rattle.std.proofs.Common.{arith, ap, ◌∙◌}
+use Rattle.std.proofs.Common.{arith}
 use Rattle.topo_embedded.proofs.Draws.{bent_alive, route_alive}
 use Rattle.topo_embedded.proofs.Splits.{alive_still}
-use Rattle.topo_embedded.specs.Crossing.{bends_of}
-use Rattle.topo_map.specs.Rotation.{is_live}
 use Rattle.topo_embedded.proofs.insertion.draw_route.Goals as goal
 
 pub draw-requires-clause-start : goal.draw-requires-clause-start

@@ -2,10 +2,9 @@ use Rattle.std.proofs.Common.{arith, ◌≡◌, ◌++◌, ◌∷◌, [], Bool, L
 use Rattle.std.specs.Prelude.{if◌then◌else◌, is_ok}
 use Rattle.std.specs.Vec.{vec_len}
 use Rattle.std.proofs.lemmas.List.{take_at}
-use Rattle.topo_core.specs.declared.rows.Rows.{Rows}
 use Rattle.topo_core.specs.Changes.{shown}
 use Rattle.topo_changes.proofs.CrossedRows.{when_err, when_ok}
-use Rattle.topo_embedded.specs.Halves.{Drawn, ShowsRows}
+use Rattle.topo_embedded.specs.Halves.{Drawn}
 use Rattle.topo_embedded.specs.Padding.{ArePadded}
 use Rattle.topo_embedded.proofs.Grown.{kept_shows}
 use Rattle.topo_embedded.proofs.Routed.{end_alive, inserted_drawn, ready_now, start_alive}

@@ -1,10 +1,6 @@
-use Rattle.std.proofs.Common.{◌≡◌, ◌+◌, ℕ, List, ap, arith, length, subst, sym, ◌∙◌}
-use Rattle.std.specs.Prelude.{Some, slice_get, slice_index}
+use Rattle.std.proofs.Common.{ap, arith, length}
 use Rattle.std.proofs.lemmas.Option.{slice_get-get_or}
-use Rattle.topo_core.specs.declared.rows.EdgeRow.{EdgeRow}
-use Rattle.topo_core.specs.Picture.{segment_count}
 use Rattle.topo_frozen.proofs.Begins.{begins_length}
-use Rattle.topo_embedded.specs.Making.{IsPathOf}
 use Rattle.topo_embedded.proofs.Listing.{path_fits, paths_more}
 use Rattle.topo_embedded.proofs.making.paths_of.Goals as goal
 

@@ -1,4 +1,4 @@
-use Rattle.std.proofs.Common.{◌≡◌, ◌<◌, ℕ, sym, ◌∙◌, subst, arith}
+use Rattle.std.proofs.Common.{arith}
 use Rattle.topo_map.proofs.Stored.{below_limit}
 use Rattle.topo_map.proofs.LabelledAll.{blank_all}
 use Rattle.topo_map.proofs.faces.unlabel.Goals as goal

@@ -1,11 +1,7 @@
-use Rattle.std.proofs.Common.{◌<◌, ◌∙◌, List, Some, ap, arith, length, refl, ℕ, subst, sym}
-use Rattle.std.specs.Prelude.{is_some, option_map, slice_index_or}
+use Rattle.std.proofs.Common.{arith}
 use Rattle.std.proofs.lemmas.List.{length-map}
 use Rattle.std.proofs.lemmas.Option.{slice_get_past}
-use Rattle.topo_core.specs.declared.rows.Rows.{Rows}
-use Rattle.topo_core.specs.Picture.{around_vertex, corner, edge_row, end_dart, rotation}
 use Rattle.topo_frozen.proofs.Lookups.{corner_told}
-use Rattle.topo_embedded.specs.Halves.{Drawn, half_in}
 use Rattle.topo_embedded.proofs.Reading.{around_read, entry_known, vertex_there}
 use Rattle.topo_embedded.proofs.embedded.Embedded.corner.Goals as goal
 

@@ -1,8 +1,4 @@
-use Rattle.std.proofs.Common.{arith, ◌≡◌, subst, sym, true, ◌∙◌}
-use Rattle.topo_core.specs.declared.darts.Dart.{Dart}
-use Rattle.topo_core.specs.Picture.{darts, system}
-use Rattle.topo_core.specs.Systems.{face_step, has_dart}
-use Rattle.topo_embedded.specs.Halves.{Drawn, IsHalf, half_in}
+use Rattle.std.proofs.Common.{arith}
 use Rattle.topo_embedded.proofs.Numbers.{face_half, half_alive}
 use Rattle.topo_embedded.proofs.embedded.Embedded.face_next.Goals as goal
 

@@ -1,12 +1,9 @@
-use Rattle.std.proofs.Common.{arith, ◌≡◌, subst, sym, true}
+use Rattle.std.proofs.Common.{arith, ◌≡◌, subst, true}
 use Rattle.std.specs.Prelude.{◌↔◌, IsTrue}
 use Rattle.topo_core.specs.declared.darts.Dart.{Dart}
-use Rattle.topo_core.specs.Cycles.{SameCycle}
 use Rattle.topo_core.specs.Picture.{darts, system}
-use Rattle.topo_core.specs.Rotations.{face_next}
 use Rattle.topo_core.specs.Systems.{SameFace, has_dart}
-use Rattle.topo_map.specs.Rotation.{turn}
-use Rattle.topo_embedded.specs.Halves.{Drawn, IsHalf, half_in}
+use Rattle.topo_embedded.specs.Halves.{Drawn, half_in}
 use Rattle.topo_embedded.proofs.Numbers.{half_alive}
 use Rattle.topo_embedded.proofs.SameFaces.{same_faces}
 use Rattle.topo_embedded.proofs.embedded.Embedded.same_face.Goals as goal

@@ -1,4 +1,4 @@
-use Rattle.std.proofs.Common.{◌<◌, ◌≤◌, arith, length, sym, ◌∙◌}
+use Rattle.std.proofs.Common.{◌≤◌, arith, length, sym, ◌∙◌}
 use Rattle.std.proofs.lemmas.List.Sums.{position_or_len_is}
 use Rattle.topo_embedded.specs.Halves.{on_segment}
 use Rattle.topo_embedded.proofs.path.Path.place_of.Goals as goal

@@ -1,6 +1,5 @@
-use Rattle.std.proofs.Common.{arith, ap, length, ◌∙◌}
+use Rattle.std.proofs.Common.{arith}
 use Rattle.topo_core.specs.declared.rows.Rows.{Rows}
-use Rattle.topo_core.specs.Picture.{rotation}
 use Rattle.topo_frozen.specs.Recovering.{well_formed_again}
 use Rattle.topo_frozen.proofs.RowCounts.{degree_most}
 use Rattle.topo_frozen.proofs.Verdicts.{darts_total}

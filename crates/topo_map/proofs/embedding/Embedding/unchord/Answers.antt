@@ -1,4 +1,4 @@
-use Rattle.std.proofs.Common.{arith, ap, ◌∙◌, subst, Bool, ℕ}
+use Rattle.std.proofs.Common.{arith, ap, ◌∙◌, subst}
 use Rattle.topo_core.specs.Edits.{IsUnchord}
 use Rattle.topo_map.specs.Rotation.{KeepsLabels, edge_of, CountsFewer, PartsFaces, Rotation, Shrinks, half_limit, turn, is_live}
 use Rattle.topo_map.specs.Segments.{holds, label_in, view_of}

@@ -1,4 +1,4 @@
-use Rattle.std.proofs.Common.{◌≡◌, ◌≢◌, sym, ◌∙◌, ap, arith, ◌<◌, false, true}
+use Rattle.std.proofs.Common.{◌≡◌, ◌≢◌, sym, ◌∙◌, arith, ◌<◌, false, true}
 use Rattle.topo_core.specs.Rotations.{face_next}
 use Rattle.topo_perm.proofs.Walks.{face_next-permutation}
 use Rattle.std.proofs.lemmas.Bool.{eq-eqb, eqb-true}
