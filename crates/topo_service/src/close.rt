@@ -54,7 +54,7 @@ impl Unopened {
 fn writer_of<F: Asks + Drop, K: Naming<F>>(
     alloc: Global,
     book: &Book<F>,
-    front: &Front<K>,
+    front: &Front<F, K>,
     places: u32,
 ) -> Result<StoreWriter<F, K>, AllocError>
     requires start { (book.now.start ≡ K.start) × (book.now.history ≡ []) }
@@ -86,7 +86,7 @@ fn book_with_store<F: Asks + Drop, K: Naming<F>>(
     alloc: Global,
     start: Picture,
     tariff: &Arc<Tariff<F>>,
-    front: &Front<K>,
+    front: &Front<F, K>,
     places: u32,
 ) -> Result<(Book<F>, StoreWriter<F, K>), AllocError>
     requires start { start ≡ K.start }
@@ -106,7 +106,7 @@ fn book_with_store<F: Asks + Drop, K: Naming<F>>(
 fn desk_of<F: Asks + Drop, K: Naming<F>>(
     alloc: Global,
     head: Head<K>,
-    front: Front<K>,
+    front: Front<F, K>,
     calls: Tally<K>,
     start: Picture,
     tariff: &Arc<Tariff<F>>,
@@ -167,14 +167,14 @@ impl<F: Asks + Drop, K: Naming<F>> Service<F, K> {
     {
         let Unopened { blank, opened } = unopened;
         let (calls, rest) = blank.open::<K>();
-        let (head, front) = opened.named::<K>();
+        let (head, front) = opened.named::<F, K>();
         let nothing = front.again();
         let desk = desk_of(alloc, head, front, calls, start, &tariff, places)?;
         Ok(ServiceOver {
             alloc,
             tariff,
             desk: Mutex::new(desk),
-            seats: Mutex::new(Seats::new(rest)),
+            seats: Seats::new(rest),
             nothing,
             places,
             given: 0,
@@ -220,11 +220,10 @@ impl<F: Asks + Drop, K: Naming<F>, W: Shelf<F, K>> ServiceOver<F, K, W> {
             places: _,
             given,
         } = self;
-        let seats = seats.into_inner();
-        if seats.given() != given {
+        let (parts, rest) = seats.into_parts();
+        if parts != given {
             wait_forever(rt);
         }
-        let rest = seats.into_rest();
         let mut desk = desk.into_inner();
         if let Some(fault) = first_fault(given, passes.as_slice(), desk.history()) {
             return Err(CloseFault {

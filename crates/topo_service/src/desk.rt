@@ -33,7 +33,7 @@ pub struct Desk<F: Asks, K: Naming<F>, W: Shelf<F, K>> {
     calls: Tally<K>,
     head: Head<K>,
     // The accepted entries.
-    front: Front<K>,
+    front: Front<F, K>,
     writer: W,
 }
 
@@ -87,7 +87,7 @@ fn make_ready<F: Asks>(
 fn show<F: Asks, K: Naming<F>, W: Shelf<F, K>, R: Wait>(
     rt: &R,
     head: &Head<K>,
-    front: &mut Front<K>,
+    front: &mut Front<F, K>,
     writer: &mut W,
     next: &Next,
 ) -> Result<(), AllocError>
@@ -115,7 +115,7 @@ fn answer_ready<F: Asks, K: Naming<F>, W: Shelf<F, K>, R: Wait>(
     rt: &R,
     alloc: Global,
     head: &Head<K>,
-    front: &mut Front<K>,
+    front: &mut Front<F, K>,
     writer: &mut W,
     next: &Next,
 ) -> Result<Answer, AllocError>
@@ -137,7 +137,7 @@ impl<F: Asks, K: Naming<F>, W: Shelf<F, K>> Desk<F, K, W> {
         book: Book<F>,
         calls: Tally<K>,
         head: Head<K>,
-        front: Front<K>,
+        front: Front<F, K>,
         writer: W,
     ) -> Desk<F, K, W>
         requires book { (book.start ≡ K.start) × (book.history ≡ []) }
@@ -213,7 +213,7 @@ impl<F: Asks, K: Naming<F>, W: Shelf<F, K>> Desk<F, K, W> {
     }
 
     /// The accepted entries.
-    pub(crate) fn front(&self) -> &Front<K>
+    pub(crate) fn front(&self) -> &Front<F, K>
         ensures now { result.now ≡ versions self.now.history }
         ensures replayed { IsVersion (prices_named F.answers K.closure) K.start.limits K.start.rows result.now self.now.picture.rows }
     {

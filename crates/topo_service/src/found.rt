@@ -29,7 +29,7 @@ pub struct FoundRoute<F: Asks, K: Naming<F>> {
     v: u32,
     first: PricedRoute,
     // The accepted entries that lead to that version.
-    front: Front<K>,
+    front: Front<F, K>,
     of: PhantomData<F>,
 }
 
@@ -63,7 +63,7 @@ impl<F: Asks, K: Naming<F>> FoundRoute<F, K> {
     }
 
     /// Whether it leads between these and was found on the version after these entries.
-    pub(crate) fn is_of(&self, u: u32, v: u32, front: &Front<K>) -> bool
+    pub(crate) fn is_of(&self, u: u32, v: u32, front: &Front<F, K>) -> bool
         ensures u { result ≡ true → self.now.u ≡ u }
         ensures v { result ≡ true → self.now.v ≡ v }
         ensures entries { result ≡ true → self.now.entries ≡ front.now }

@@ -6,7 +6,7 @@ ghost use Rattle.topo_price.specs.Prices.{prices_of};
 ghost use Rattle.topo_route.specs.Plans.{IsPlan};
 ghost use Rattle.topo_frozen.specs.Shown.{Shown};
 ghost use Rattle.topo_versions.specs.Names.{prices_named};
-ghost use Rattle.topo_versions.specs.Versions.{IsVersionFrom};
+ghost use Rattle.topo_versions.specs.Versions.{AreLegal, IsVersionFrom};
 ghost use Rattle.topo_service.specs.Faults.{HasVertices, IsPlanFault, IsPlanRefusal};
 
 use crate::faults::PassFault;
@@ -38,7 +38,7 @@ pub struct PassOver<F: Asks, K: Naming<F>, G: Glass<F, K>> {
     pub(crate) share: Share<K>,
     pub(crate) reader: G,
     // The accepted entries that it has seen.
-    pub(crate) front: Front<K>,
+    pub(crate) front: Front<F, K>,
     // What its searches write on, once there was one.
     pub(crate) work: Option<Workspace>,
     pub(crate) of: PhantomData<F>,
@@ -117,9 +117,10 @@ impl<F: Asks, K: Naming<F>, G: Glass<F, K>> PassOver<F, K, G> {
         self.receipts.as_slice()
     }
 
-    /// How many accepted entries it has seen.
+    /// How many accepted entries it has seen: they lead by steps from the start to some picture.
     pub fn seen(&self) -> u64
-        ensures { result ≡ length self.now.seen }
+        ensures count { result ≡ length self.now.seen }
+        ensures legal { AreLegal (prices_named F.answers K.closure) K.start self.now.seen }
     {
         self.front.len()
     }

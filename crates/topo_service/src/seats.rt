@@ -1,57 +1,87 @@
 //! The parts of the ledger that were not given out.
-ghost use Rattle.std.specs.Prelude.{◌≡◌, ◌+◌, ◌<◌};
+ghost use Rattle.std.specs.Prelude.{◌≡◌, ◌+◌, ◌<◌, IfSome};
 
 use std::marker::Model;
+use std::sync::Mutex;
 use std::sync::ledger::Share;
 use topo_versions::Logged;
 
-/// Contracts see how many parts were given out.
+/// What is left, and how many parts were given out.
 #[derive(Drop)]
-pub struct Seats<K: Logged> {
-    rest: Share<K>,
+struct Rest<K: Logged> {
+    share: Share<K>,
     given: u32,
 }
 
-impl<K: Logged> Model for Seats<K> {
+impl<K: Logged> Model for Rest<K> {
     ghost use Rattle.std.specs.Prelude.{◌≡◌, ◌+◌, ℕ};
 
     ghost Value = { ℕ };
 
-    ghost view = { λ s. s.given };
+    ghost view = { λ r. r.given };
 
-    ghost invariant = { λ s. (s.rest.parts + s.given ≡ 16) × (s.rest.amount ≡ 0) };
+    ghost invariant = { λ r. (r.share.parts + r.given ≡ 16) × (r.share.amount ≡ 0) };
+}
+
+impl<K: Logged> Rest<K> {
+    /// None was given out.
+    fn new(share: Share<K>) -> Rest<K>
+        requires { (share.parts ≡ 16) × (share.amount ≡ 0) }
+        ensures { result ≡ 0 }
+    {
+        Rest { share, given: 0 }
+    }
+
+    /// One part, if one is left.
+    fn take(&mut self) -> Option<Share<K>>
+        ensures { IfSome result (λ share. (share.parts ≡ 1) × (share.amount ≡ 0)) }
+    {
+        if self.given >= 16 {
+            return None;
+        }
+        self.given += 1;
+        Some(self.share.split_off(1, 0))
+    }
+
+    /// How many were given out, and what is left.
+    fn into_parts(self) -> (u32, Share<K>)
+        ensures { (result.1.parts + result.0 ≡ 16) × (result.1.amount ≡ 0) }
+    {
+        let Rest { share, given } = self;
+        (given, share)
+    }
+}
+
+/// The parts that were not given out. They lie in a lock that nobody takes: threads share the service, and
+/// a share of a ledger may not be shared. Only the owner of a pool takes parts from it: a reference to it,
+/// which is what the calls of a service have, gives nothing.
+#[derive(Drop)]
+pub struct Seats<K: Logged> {
+    rest: Mutex<Rest<K>>,
 }
 
 impl<K: Logged> Seats<K> {
     /// None was given out.
-    pub fn new(rest: Share<K>) -> Seats<K>
-        requires { (rest.parts ≡ 16) × (rest.amount ≡ 0) }
-        ensures { result ≡ 0 }
+    pub fn new(share: Share<K>) -> Seats<K>
+        requires { (share.parts ≡ 16) × (share.amount ≡ 0) }
     {
-        Seats { rest, given: 0 }
+        Seats {
+            rest: Mutex::new(Rest::new(share)),
+        }
     }
 
-    /// How many were given out.
-    pub fn given(&self) -> u32
-        ensures { result ≡ self.now }
+    /// One part, if one is left.
+    pub fn take(&mut self) -> Option<Share<K>>
+        ensures { IfSome result (λ share. (share.parts ≡ 1) × (share.amount ≡ 0)) }
     {
-        self.given
+        self.rest.get_mut().take()
     }
 
-    /// One part.
-    pub fn take(&mut self) -> Share<K>
-        requires { self.old < 16 }
-        ensures { (result.parts ≡ 1) × (result.amount ≡ 0) × (self.new ≡ self.old + 1) }
+    /// How many were given out, and all that is left.
+    pub fn into_parts(self) -> (u32, Share<K>)
+        ensures { (result.1.parts + result.0 ≡ 16) × (result.1.amount ≡ 0) }
     {
-        self.given += 1;
-        self.rest.split_off(1, 0)
-    }
-
-    /// All that is left.
-    pub fn into_rest(self) -> Share<K>
-        ensures { (result.parts + self ≡ 16) × (result.amount ≡ 0) }
-    {
-        let Seats { rest, given: _ } = self;
-        rest
+        let Seats { rest } = self;
+        rest.into_inner().into_parts()
     }
 }

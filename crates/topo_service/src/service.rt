@@ -6,6 +6,7 @@ ghost use Rattle.topo_core.specs.declared.calls.Call.TheVariants.{Grow, Insert, 
 ghost use Rattle.topo_core.specs.declared.calls.Refusal.TheVariants.{Memory};
 ghost use Rattle.topo_core.specs.declared.calls.Reply.TheVariants.{Refused};
 ghost use Rattle.topo_versions.specs.Names.{prices_named};
+ghost use Rattle.topo_versions.specs.Versions.{AreLegal};
 ghost use Rattle.topo_service.specs.Answers.{HasSeenOwn, IsDueAfter};
 ghost use Rattle.topo_service.specs.Passes.{receipt_of};
 
@@ -29,9 +30,10 @@ pub struct ServiceOver<F: Asks, K: Naming<F>, W: Shelf<F, K>> {
     pub(crate) alloc: Global,
     pub(crate) tariff: Arc<Tariff<F>>,
     pub(crate) desk: Mutex<Desk<F, K, W>>,
-    pub(crate) seats: Mutex<Seats<K>>,
+    // Out of the reach of calls, which have a shared reference to the service.
+    pub(crate) seats: Seats<K>,
     // What a new pass has seen.
-    pub(crate) nothing: Front<K>,
+    pub(crate) nothing: Front<F, K>,
     pub(crate) places: u32,
     pub(crate) given: u32,
 }
@@ -76,11 +78,9 @@ impl<F: Asks, K: Naming<F>, W: Shelf<F, K>> ServiceOver<F, K, W> {
         let Ok(reader) = self.desk.get_mut().reader() else {
             return Err(ServiceFault::NoSeat);
         };
-        let seats = self.seats.get_mut();
-        if seats.given() >= 16 {
+        let Some(share) = self.seats.take() else {
             return Err(ServiceFault::NoSeat);
-        }
-        let share = seats.take();
+        };
         let number = self.given;
         self.given += 1;
         Ok(PassOver {
@@ -111,6 +111,7 @@ impl<F: Asks, K: Naming<F>, W: Shelf<F, K>> ServiceOver<F, K, W> {
         ensures later { IsPrefix pass.old.seen pass.new.seen }
         ensures accepted { IfOk result (λ reply. is_accepted reply ≡ true → HasSeenOwn pass.old pass.new (Insert u v kind) reply) }
         ensures refused { IfOk result (λ reply. is_accepted reply ≡ false → IsDueAfter (prices_named F.answers K.closure) K.start pass.new.seen (Insert u v kind) reply) }
+        ensures legal { AreLegal (prices_named F.answers K.closure) K.start pass.new.seen }
         ensures no_memory { IfOk result (λ reply. reply ≢ Refused Memory) }
         ensures unchanged { OnErr result (pass.new ≡ pass.old) }
     {
@@ -133,6 +134,7 @@ impl<F: Asks, K: Naming<F>, W: Shelf<F, K>> ServiceOver<F, K, W> {
         ensures later { IsPrefix pass.old.seen pass.new.seen }
         ensures accepted { IfOk result (λ reply. is_accepted reply ≡ true → HasSeenOwn pass.old pass.new (Insert u v kind) reply) }
         ensures refused { IfOk result (λ reply. is_accepted reply ≡ false → IsDueAfter (prices_named F.answers K.closure) K.start pass.new.seen (Insert u v kind) reply) }
+        ensures legal { AreLegal (prices_named F.answers K.closure) K.start pass.new.seen }
         ensures no_memory { IfOk result (λ reply. reply ≢ Refused Memory) }
         ensures unchanged { OnErr result (pass.new ≡ pass.old) }
     {
@@ -153,6 +155,7 @@ impl<F: Asks, K: Naming<F>, W: Shelf<F, K>> ServiceOver<F, K, W> {
         ensures later { IsPrefix pass.old.seen pass.new.seen }
         ensures accepted { IfOk result (λ reply. is_accepted reply ≡ true → HasSeenOwn pass.old pass.new (Insert found.now.u found.now.v kind) reply) }
         ensures refused { IfOk result (λ reply. is_accepted reply ≡ false → IsDueAfter (prices_named F.answers K.closure) K.start pass.new.seen (Insert found.now.u found.now.v kind) reply) }
+        ensures legal { AreLegal (prices_named F.answers K.closure) K.start pass.new.seen }
         ensures no_memory { IfOk result (λ reply. reply ≢ Refused Memory) }
         ensures unchanged { OnErr result (pass.new ≡ pass.old) }
     {
@@ -172,6 +175,7 @@ impl<F: Asks, K: Naming<F>, W: Shelf<F, K>> ServiceOver<F, K, W> {
         ensures later { IsPrefix pass.old.seen pass.new.seen }
         ensures accepted { IfOk result (λ reply. is_accepted reply ≡ true → HasSeenOwn pass.old pass.new (Delete edge) reply) }
         ensures refused { IfOk result (λ reply. is_accepted reply ≡ false → IsDueAfter (prices_named F.answers K.closure) K.start pass.new.seen (Delete edge) reply) }
+        ensures legal { AreLegal (prices_named F.answers K.closure) K.start pass.new.seen }
         ensures no_memory { IfOk result (λ reply. reply ≢ Refused Memory) }
         ensures unchanged { OnErr result (pass.new ≡ pass.old) }
     {
@@ -193,6 +197,7 @@ impl<F: Asks, K: Naming<F>, W: Shelf<F, K>> ServiceOver<F, K, W> {
         ensures later { IsPrefix pass.old.seen pass.new.seen }
         ensures accepted { IfOk result (λ reply. is_accepted reply ≡ true → HasSeenOwn pass.old pass.new (Grow u position kind) reply) }
         ensures refused { IfOk result (λ reply. is_accepted reply ≡ false → IsDueAfter (prices_named F.answers K.closure) K.start pass.new.seen (Grow u position kind) reply) }
+        ensures legal { AreLegal (prices_named F.answers K.closure) K.start pass.new.seen }
         ensures no_memory { IfOk result (λ reply. reply ≢ Refused Memory) }
         ensures unchanged { OnErr result (pass.new ≡ pass.old) }
     {
@@ -212,9 +217,11 @@ impl<F: Asks, K: Naming<F>, W: Shelf<F, K>> ServiceOver<F, K, W> {
         ensures later { IsPrefix pass.old.seen pass.new.seen }
         ensures accepted { IfOk result (λ reply. is_accepted reply ≡ true → HasSeenOwn pass.old pass.new call reply) }
         ensures refused { IfOk result (λ reply. is_accepted reply ≡ false → IsDueAfter (prices_named F.answers K.closure) K.start pass.new.seen call reply) }
+        ensures legal { AreLegal (prices_named F.answers K.closure) K.start pass.new.seen }
         ensures no_memory { IfOk result (λ reply. reply ≢ Refused Memory) }
         ensures unchanged { OnErr result (pass.new ≡ pass.old) }
     {
+        pass.seen();
         pass.receipts.reserve(1)?;
         let mut guard = self.desk.lock(rt);
         let desk = &mut *guard;

@@ -4,6 +4,8 @@ ghost use Rattle.std.specs.Prelude.{◌≡◌, ◌<◌, ◌≤◌, ◌-◌, ◌+
 ghost use Rattle.topo_core.specs.History.{IsPrefix, call_of};
 ghost use Rattle.topo_service.specs.Commands.{HasEnded, HasMade, commands, end_by, receipts_of};
 ghost use Rattle.topo_service.specs.Passes.{PassState, receipt_of};
+ghost use Rattle.topo_versions.specs.Names.{prices_named};
+ghost use Rattle.topo_versions.specs.Versions.{AreLegal};
 
 use crate::found::Brought;
 use crate::pass::PassOver;
@@ -94,7 +96,8 @@ fn run_each<
     gate: &T,
 )
     requires { length passes.old ≡ length lists.now }
-    ensures { (i : ℕ) (p : PassState) → i < length lists.now → HasMade (slice_index_or passes.old i p) (slice_index_or passes.new i p) (slice_index_or (map commands lists.now) i []) }
+    ensures made { (i : ℕ) (p : PassState) → i < length lists.now → HasMade (slice_index_or passes.old i p) (slice_index_or passes.new i p) (slice_index_or (map commands lists.now) i []) }
+    ensures legal { (i : ℕ) (p : PassState) → i < length lists.now → AreLegal (prices_named F.answers K.closure) K.start (slice_index_or passes.new i p).seen }
 {
     if passes.is_empty() {
         return;
@@ -106,8 +109,12 @@ fn run_each<
         threads,
         &|i, pass: &mut PassOver<F, K, G>|
             requires { i < length lists.now }
-            ensures { HasMade pass.entry.now pass.exit.now (slice_index_or (map commands lists.entry.now) i []) }
-        { work(rt, alloc, service, pass, i, lists[i].as_slice(), gate) },
+            ensures made { HasMade pass.entry.now pass.exit.now (slice_index_or (map commands lists.entry.now) i []) }
+            ensures legal { AreLegal (prices_named F.answers K.closure) K.start pass.exit.now.seen }
+        {
+            work(rt, alloc, service, pass, i, lists[i].as_slice(), gate);
+            pass.seen();
+        },
     );
 }
 
@@ -181,6 +188,7 @@ pub fn run_workers<
     ensures one_each { IfOk result (λ ends. length ends.items ≡ length lists.now) }
     ensures ended { IfOk result (λ ends. (i : ℕ) (p : PassState) (e : WorkerEnd) → i < length lists.now
         → HasEnded (slice_index_or passes.old i p) (slice_index_or passes.new i p) (slice_index_or (map commands lists.now) i []) (slice_index_or ends.items i e)) }
+    ensures legal { IfOk result (λ ends. (i : ℕ) (p : PassState) → i < length lists.now → AreLegal (prices_named F.answers K.closure) K.start (slice_index_or passes.new i p).seen) }
     ensures unchanged { OnErr result (passes.new ≡ passes.old) }
 {
     let before = receipt_counts(alloc, passes)?;

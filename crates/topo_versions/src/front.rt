@@ -1,12 +1,15 @@
 //! Beginnings of the one list of accepted entries.
-ghost use Rattle.std.specs.Prelude.{◌≡◌, ◌+◌, ◌==◌, ◌<◌, ◌≤◌, ◌^◌, ◌++◌, ◌∷◌, [], length, true, MatchBool};
+ghost use Rattle.std.specs.Prelude.{◌≡◌, ◌+◌, ◌==◌, ◌<◌, ◌≤◌, ◌^◌, ◌++◌, ◌∷◌, [], if◌then◌else◌, length, true, MatchBool};
 ghost use Rattle.topo_core.specs.History.{IsPrefix};
 ghost use Rattle.topo_versions.specs.Listing.{head_of};
+ghost use Rattle.topo_versions.specs.Names.{prices_named};
+ghost use Rattle.topo_versions.specs.Versions.{AreLegal};
 
-use crate::naming::Logged;
+use crate::naming::{Logged, Naming};
 use logbook::{Gain, Plain, Play, Rule, Seen, Start, Word};
 use std::marker::{Model, PhantomData};
 use topo_core::calls::Entry;
+use topo_price::tariff::Asks;
 
 /// The rule of the list.
 pub struct Law;
@@ -73,7 +76,7 @@ impl Opened {
     }
 
     /// The list's word under a name, and the front that has seen nothing.
-    pub fn named<K: Logged>(self) -> (Head<K>, Front<K>)
+    pub fn named<F: Asks, K: Naming<F>>(self) -> (Head<K>, Front<F, K>)
         requires { self.seen.book ≡ K.book }
         ensures { result.1 ≡ [] }
     {
@@ -100,36 +103,41 @@ pub struct Head<K: Logged> {
     ghost head_is: { word ≡ head_of K.book },
 }
 
-/// A beginning of the list that was seen. Contracts see it as its entries.
+/// A beginning of the list that was seen: accepted entries that lead by steps from the start, at the prices
+/// that K names. Contracts see it as its entries.
 #[derive(Drop)]
-pub struct Front<K: Logged> {
+pub struct Front<F: Asks, K: Naming<F>> {
     len: u64,
     seen: Seen<Entry, u64, Law>,
-    of: PhantomData<K>,
+    of: PhantomData<(F, K)>,
 }
 
-impl<K: Logged> Model for Front<K> {
+impl<F: Asks, K: Naming<F>> Model for Front<F, K> {
     ghost use Rattle.std.specs.Prelude.{◌≡◌, List, length};
     ghost use Rattle.topo_core.specs.declared.calls.Entry.{Entry};
+    ghost use Rattle.topo_versions.specs.Names.{prices_named};
+    ghost use Rattle.topo_versions.specs.Versions.{AreLegal};
 
     ghost Value = { List Entry };
 
     ghost view = { λ f. f.seen.log };
 
-    ghost invariant = { λ f. (f.len ≡ length f.seen.log) × (f.seen.book ≡ K.book) };
+    ghost invariant = { λ f. (f.len ≡ length f.seen.log) × (f.seen.book ≡ K.book) × AreLegal (prices_named F.answers K.closure) K.start f.seen.log };
 }
 
-impl<K: Logged> Front<K> {
+impl<F: Asks, K: Naming<F>> Front<F, K> {
     /// How many entries it has.
     pub fn len(&self) -> u64
-        ensures { result ≡ length self.now }
+        ensures len { result ≡ length self.now }
+        ensures legal { AreLegal (prices_named F.answers K.closure) K.start self.now }
     {
         self.len
     }
 
     /// A copy.
-    pub fn again(&self) -> Front<K>
-        ensures { result ≡ self.now }
+    pub fn again(&self) -> Front<F, K>
+        ensures same { result ≡ self.now }
+        ensures legal { AreLegal (prices_named F.answers K.closure) K.start result }
     {
         Front {
             len: self.len,
@@ -139,7 +147,7 @@ impl<K: Logged> Front<K> {
     }
 
     /// Whether the two are one: beginnings of one list are, where they are as long.
-    pub fn is(&self, other: &Front<K>) -> bool
+    pub fn is(&self, other: &Front<F, K>) -> bool
         ensures same { result ≡ true → self.now ≡ other.now }
         ensures all { self.now ≡ other.now → result ≡ true }
     {
@@ -149,7 +157,7 @@ impl<K: Logged> Front<K> {
     }
 
     /// Whether it begins the other: of two beginnings of one list the shorter begins the longer.
-    pub fn begins(&self, other: &Front<K>) -> bool
+    pub fn begins(&self, other: &Front<F, K>) -> bool
         ensures begins { result ≡ true → IsPrefix self.now other.now }
         ensures all { IsPrefix self.now other.now → result ≡ true }
     {
@@ -158,18 +166,25 @@ impl<K: Logged> Front<K> {
         self.len <= other.len
     }
 
-    /// Adds an entry to all that was seen, and says whether it did. It did not where the list is longer.
+    /// Adds an accepted entry, which is to be a step on, to all that was seen, and says whether it did. If the
+    /// list is longer than what was seen, nothing changes.
     pub fn add(&mut self, head: &Head<K>, entry: &Entry) -> bool
-        requires { length self.old + 1 < 2 ^ 64 }
-        ensures { result ≡ true → self.new ≡ self.old ++ entry.now ∷ [] }
+        requires room { length self.old + 1 < 2 ^ 64 }
+        requires follows { AreLegal (prices_named F.answers K.closure) K.start (self.old ++ entry.now ∷ []) }
+        ensures { self.new ≡ (if result then self.old ++ entry.now ∷ [] else self.old) }
     {
-        let mut offer = self.seen.plain::<Nothing, Entry, Add>(entry);
-        let mut pen = self.seen.no_pen();
         let len = self.len;
+        let mut seen = self.seen.again();
+        let mut offer = seen.plain::<Nothing, Entry, Add>(entry);
+        let mut pen = seen.no_pen();
         let found = head
             .word
-            .compare_exchange::<Add, Nothing>(len, len + 1, &mut self.seen, &mut offer, &mut pen);
-        self.len = if found == len { len + 1 } else { found };
-        found == len
+            .compare_exchange::<Add, Nothing>(len, len + 1, &mut seen, &mut offer, &mut pen);
+        if found != len {
+            return false;
+        }
+        self.seen = seen;
+        self.len = len + 1;
+        true
     }
 }

@@ -21,7 +21,7 @@ pub trait Shelf<F: Asks, K: Naming<F>> {
 
     /// Publishes the version after these entries, with the picture that they lead to. It keeps no version
     /// before it.
-    fn publish<R: Wait>(&mut self, rt: &R, front: &Front<K>, picture: Arc<Picture>)
+    fn publish<R: Wait>(&mut self, rt: &R, front: &Front<F, K>, picture: Arc<Picture>)
         requires follows { IsVersionFrom (prices_named F.answers K.closure) K.start front.now (arc_value picture) }
         ensures { published self.new ≡ Some front.now };
 

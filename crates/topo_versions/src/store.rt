@@ -55,7 +55,7 @@ impl<F: Asks + Drop, K: Naming<F>> Shelf<F, K> for StoreWriter<F, K> {
 
     // The next version is shown on the side that is blank. Once the readers have left the other side, that one
     // becomes blank.
-    fn publish<R: Wait>(&mut self, rt: &R, front: &Front<K>, picture: Arc<Picture>)
+    fn publish<R: Wait>(&mut self, rt: &R, front: &Front<F, K>, picture: Arc<Picture>)
         requires follows { IsVersionFrom (prices_named F.answers K.closure) K.start front.now (arc_value picture) }
         ensures { entries_shown self.new.desk.shown.value ≡ Some front.now }
     {

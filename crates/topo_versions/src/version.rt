@@ -18,7 +18,7 @@ use topo_price::tariff::Asks;
 #[derive(Drop)]
 pub struct Version<F: Asks, K: Naming<F>> {
     picture: Arc<Picture>,
-    front: Front<K>,
+    front: Front<F, K>,
     of: PhantomData<F>,
 }
 
@@ -36,7 +36,7 @@ impl<F: Asks, K: Naming<F>> Model for Version<F, K> {
 
 impl<F: Asks, K: Naming<F>> Version<F, K> {
     /// The version after these entries, with the picture that they lead to.
-    pub fn new(front: Front<K>, picture: Arc<Picture>) -> Version<F, K>
+    pub fn new(front: Front<F, K>, picture: Arc<Picture>) -> Version<F, K>
         requires follows { IsVersionFrom (prices_named F.answers K.closure) K.start front (arc_value picture) }
         ensures entries { result.entries ≡ front }
         ensures picture { result.picture ≡ arc_value picture }
@@ -76,7 +76,7 @@ impl<F: Asks, K: Naming<F>> Version<F, K> {
 
     /// Its entries. A copy of them holds no share of the picture, so the picture is free to be carried on
     /// while the copy is kept.
-    pub fn front(&self) -> &Front<K>
+    pub fn front(&self) -> &Front<F, K>
         ensures { result.now ≡ self.now.entries }
     {
         &self.front

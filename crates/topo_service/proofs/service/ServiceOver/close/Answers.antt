@@ -12,11 +12,11 @@ use Rattle.topo_service.proofs.service.ServiceOver.close.Goals as goal
 pub audit-requires : goal.audit-requires
 audit-requires g c =
     let given = c.self.inside.given in
-    let sum : c.into_rest-rest.result.parts + given ≡ 16 = search rules in
+    let sum : c.into_parts-parts.result.1.parts + given ≡ 16 = search rules in
     let s = c.gather-all.ensures in
     let there : (n : ℕ) → n < given → HasNumber n c.args.passes.items = rw (← c.as_slice.ensures.value) c.in_default.ensures.all_there in
     let len : vec_len c.args.passes ≡ length c.args.passes.items = search rules in
-    (all_parts c.into_rest-rest.result.parts given _ _ _ sum c.self.invariant.1 s.parts s.apart (rw len (enough given c.args.passes.items there))).0
+    (all_parts c.into_parts-parts.result.1.parts given _ _ _ sum c.self.invariant.1 s.parts s.apart (rw len (enough given c.args.passes.items there))).0
 
 pub returns-clause-all_there : goal.returns-clause-all_there
 returns-clause-all_there g c = rw (← c.self.view_is, ← c.as_slice.ensures.value) c.in_default.ensures.all_there
@@ -33,7 +33,7 @@ returns-clause-whole g c =
     let given = c.self.inside.given in
     let history = c.into_inner-desk.result.history in
     let passes : List PassState = c.args.passes.items in
-    let rest = c.into_rest-rest.result in
+    let rest = c.into_parts-parts.result.1 in
     let sum : rest.parts + given ≡ 16 = search rules in
     let none : rest.amount ≡ 0 = search rules in
     let s = c.gather-all.ensures in
