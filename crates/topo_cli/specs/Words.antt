@@ -4,8 +4,8 @@ use Rattle.clap.specs.Simple.{on_top}
 use Rattle.clap.specs.Kinds.{Kinds, or_else}
 use Rattle.clap.specs.Words.{App, Shape, Text, fault_of, new_app, subcommand_of, with_subcommand}
 use Rattle.clap.specs.declared.error.kind.ErrorKind.TheVariants.{MissingSubcommand}
-use Rattle.topo_words.specs.declared.Verb.{Verb}
-use Rattle.topo_words.specs.declared.Verb.TheVariants.{Run, Replay, Check}
+use Rattle.topo_cli.specs.declared.Verb.{Verb}
+use Rattle.topo_cli.specs.declared.Verb.TheVariants.{Run, Replay, Check}
 
 -- a command must be named, and no word at all asks for help
 abbrev pub planar_shape : Shape → Shape

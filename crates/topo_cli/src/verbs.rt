@@ -3,7 +3,7 @@
 ghost use Rattle.std.specs.Prelude.{◌≡◌, IfOk, IfErr, Some, codes, map, true, is_some};
 ghost use Rattle.clap.specs.Simple.{on_top};
 ghost use Rattle.clap.specs.Words.{FailsBy, app_of, kind_of, new_app, takes};
-ghost use Rattle.topo_words.specs.Words.{planar_app, planar_shape, verb_named, asked_verb, with_command, word_faults};
+ghost use Rattle.topo_cli.specs.Words.{planar_app, planar_shape, verb_named, asked_verb, with_command, word_faults};
 
 use crate::Verb;
 use clap::error::ErrorKind;

@@ -2,8 +2,8 @@
 
 use std::alloc::Global;
 use std::test::Fail;
-use topo_words::Verb;
-use topo_words::verbs::verb;
+use topo_cli::Verb;
+use topo_cli::verbs::verb;
 
 /// Words, and which command they ask for, if any.
 const WORDS: &[(&[&str], Option<Verb>)] = &[

@@ -3,9 +3,9 @@ use Rattle.clap.specs.Kinds.{HasKind, Kinds, or_else}
 use Rattle.clap.specs.Words.{App, fault_of, is_simple_and_free, takes}
 use Rattle.clap.specs.declared.error.Error.{Error}
 use Rattle.clap.specs.declared.error.kind.ErrorKind.TheVariants.{MissingSubcommand}
-use Rattle.topo_words.specs.declared.Verb.{Verb}
-use Rattle.topo_words.specs.Words.{asked_verb, planar_app}
-use Rattle.topo_words.proofs.verbs.asked_of.Goals as goal
+use Rattle.topo_cli.specs.declared.Verb.{Verb}
+use Rattle.topo_cli.specs.Words.{asked_verb, planar_app}
+use Rattle.topo_cli.proofs.verbs.asked_of.Goals as goal
 
 -- clap gives the kinds of error of this program
 planar_is_simple : is_simple_and_free planar_app ≡ true
