@@ -7,7 +7,7 @@ use Rattle.topo_core.specs.declared.calls.Entry.{Entry}
 use Rattle.topo_core.specs.Routes.{Pricing}
 use Rattle.topo_core.specs.Steps.{Step}
 use Rattle.topo_core.specs.History.{Replays}
-use Rattle.topo_frozen.specs.Shown.{Shown, IsPicture}
+use Rattle.topo_rows.specs.Shown.{Shown, IsPicture}
 use Rattle.topo_book.specs.Books.{BookState, CanFollow, IsBook, IsNext, NextState, ReplaysLawfully, picture_after}
 
 module _ (price : Pricing) (limits : Limits) where

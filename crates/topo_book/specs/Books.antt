@@ -10,7 +10,7 @@ use Rattle.topo_core.specs.declared.calls.Reply.TheVariants.{Refused}
 use Rattle.topo_core.specs.Routes.{Pricing}
 use Rattle.topo_core.specs.Steps.{Step}
 use Rattle.topo_core.specs.History.{is_accepted}
-use Rattle.topo_frozen.specs.Shown.{Shown, IsPicture}
+use Rattle.topo_rows.specs.Shown.{Shown, IsPicture}
 
 -- a book: what answers its prices, the picture that it began with, its history, the picture now, and how many entries more the
 -- history has room for

@@ -3,7 +3,7 @@ use Rattle.std.specs.Prelude.{List, All}
 use Rattle.std.specs.Arc.{arc_value}
 use Rattle.topo_core.specs.declared.calls.Entry.{Entry}
 use Rattle.topo_core.specs.Routes.{Pricing}
-use Rattle.topo_frozen.specs.Shown.{Shown}
+use Rattle.topo_rows.specs.Shown.{Shown}
 use Rattle.topo_book.specs.Books.{IsBook, IsReplica}
 use Rattle.topo_book.specs.declared.replicas.Replica.{Replica}
 

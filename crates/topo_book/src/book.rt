@@ -76,7 +76,7 @@ impl<F: Asks> Book<F> {
     ghost use Rattle.topo_core.specs.declared.calls.Call.TheVariants.{Grow, Insert, Delete};
     ghost use Rattle.topo_core.specs.declared.calls.Refusal.TheVariants.{Memory};
     ghost use Rattle.topo_core.specs.declared.calls.Reply.TheVariants.{Refused};
-    ghost use Rattle.topo_frozen.specs.Shown.{IsPicture};
+    ghost use Rattle.topo_rows.specs.Shown.{IsPicture};
     ghost use Rattle.topo_price.specs.Prices.{prices_of};
     ghost use Rattle.topo_book.specs.Books.{CanFollow, IsDue, IsReplica, IsSameBook, IsUnchanged, ReplaysLawfully, picture_after};
     ghost use Rattle.topo_book.specs.Hints.{IsHintFor};

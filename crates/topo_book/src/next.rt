@@ -16,7 +16,7 @@ impl Model for Next {
     ghost use Rattle.std.specs.Prelude.{◌≡◌, is_some, IfSome, option_map};
     ghost use Rattle.std.specs.Arc.{arc_value};
     ghost use Rattle.topo_core.specs.History.{is_accepted};
-    ghost use Rattle.topo_frozen.specs.Shown.{IsPicture};
+    ghost use Rattle.topo_rows.specs.Shown.{IsPicture};
     ghost use Rattle.topo_book.specs.Books.{NextState, IsNext};
 
     ghost Value = { NextState };
@@ -32,7 +32,7 @@ impl Next {
     ghost use Rattle.topo_core.specs.History.{is_accepted};
     ghost use Rattle.topo_core.specs.declared.calls.Refusal.TheVariants.{Memory};
     ghost use Rattle.topo_core.specs.declared.calls.Reply.TheVariants.{Refused};
-    ghost use Rattle.topo_frozen.specs.Shown.{IsPicture};
+    ghost use Rattle.topo_rows.specs.Shown.{IsPicture};
     ghost use Rattle.topo_book.specs.Books.{IsNext, NextState};
 
     /// An accepted entry with the picture after it.

@@ -3,7 +3,7 @@
 ghost use Rattle.std.specs.Prelude.{◌≡◌, IfErr, IfOk, MatchBool, OnOk};
 ghost use Rattle.topo_core.specs.History.{Replays};
 ghost use Rattle.topo_core.specs.Steps.{Step};
-ghost use Rattle.topo_frozen.specs.Shown.{IsPicture};
+ghost use Rattle.topo_rows.specs.Shown.{IsPicture};
 ghost use Rattle.topo_price.specs.Prices.{prices_of};
 ghost use Rattle.topo_book.specs.Books.{IsDue};
 ghost use Rattle.topo_book.specs.Faults.{IsFaultOf, IsIllegalAt};

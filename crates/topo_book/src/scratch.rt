@@ -1,7 +1,7 @@
 //! What the calls of a book write on.
 
 use std::alloc::{AllocError, Global};
-use topo_frozen::NumberLists;
+use topo_dual::NumberLists;
 use topo_route::workspace::Workspace;
 
 /// What searches write on, and the lists in which the check of a plan numbers the darts, kept from one

@@ -8,7 +8,7 @@ ghost use Rattle.topo_core.specs.declared.calls.Call.TheVariants.{Insert};
 ghost use Rattle.topo_core.specs.declared.calls.Refusal.TheVariants.{Memory};
 ghost use Rattle.topo_core.specs.declared.calls.Reply.TheVariants.{Refused};
 ghost use Rattle.topo_price.specs.Prices.{prices_of};
-ghost use Rattle.topo_frozen.specs.Shown.{IsPicture};
+ghost use Rattle.topo_rows.specs.Shown.{IsPicture};
 ghost use Rattle.topo_book.specs.Books.{IsDue};
 ghost use Rattle.topo_book.specs.Hints.{IsHintFor, IsTrueOf};
 
@@ -19,7 +19,7 @@ use std::sync::Arc;
 use topo_core::calls::{Call, Entry, Refusal, Reply};
 use topo_core::ids::EdgeId;
 use topo_core::routes::{Inserted, Route};
-use topo_frozen::NumberLists;
+use topo_dual::NumberLists;
 use topo_picture::Picture;
 use topo_price::tariff::{Asks, Tariff};
 use topo_route::check::check;

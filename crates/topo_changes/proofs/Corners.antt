@@ -8,7 +8,7 @@ use Rattle.topo_core.specs.Lawful.{IsWellFormed}
 use Rattle.topo_core.specs.Picture.{corner, edge_row, end_dart, rotation}
 use Rattle.topo_core.proofs.Standing.{good_rotation}
 use Rattle.topo_core.proofs.SystemDarts.{in_at, vertex_in}
-use Rattle.topo_frozen.proofs.Lookups.{corner_told}
+use Rattle.topo_rows.proofs.RowDarts.{corner_told}
 
 module _ (rows : Rows) (good : IsWellFormed rows) where
   module _ (v : ℕ) (inside : v < length rows.rotations) where

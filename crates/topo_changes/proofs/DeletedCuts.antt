@@ -29,7 +29,7 @@ use Rattle.topo_perm.proofs.Stages.{HaveTwoFaces, IsOpening, Stage, left_after, 
 use Rattle.topo_perm.proofs.Walks.{face_next-permutation, twin-within}
 use Rattle.topo_changes.proofs.DeletedOpening.{back_alone, left_dart, count, faces_shut, first_half, forward_alone, is_opening, left_turn, off_left, off_segment, opened_by, other_half, segment_in, turns_on}
 use Rattle.topo_changes.proofs.InsertedNumbers.{number_less}
-use Rattle.topo_frozen.proofs.Verdicts.{bare_points}
+use Rattle.topo_rows.proofs.Verdicts.{bare_points}
 
 abbrev is_bare : List ℕ → Bool
 is_bare around = length around == 0

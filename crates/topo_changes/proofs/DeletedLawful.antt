@@ -27,7 +27,7 @@ use Rattle.topo_changes.proofs.DeletedSegments.{collapsed}
 use Rattle.topo_changes.proofs.InsertedNumbers.{dart_of}
 use Rattle.topo_changes.proofs.PointCycles.{points_are_cycles}
 use Rattle.topo_changes.proofs.Totals.{segments_total}
-use Rattle.topo_frozen.proofs.Verdicts.{images_total}
+use Rattle.topo_rows.proofs.Verdicts.{images_total}
 use Rattle.topo_changes.proofs.WithoutCounts.{crossings_without, edges_without, full_without, vertices_without, without_bare}
 
 abbrev is_bare : List ℕ → Bool

@@ -23,8 +23,8 @@ use Rattle.topo_core.proofs.WithoutRows.{filter_passes, find_passing, has_id_in,
 use Rattle.topo_core.proofs.WovenPaths.{counted_in}
 use Rattle.topo_core.proofs.UndoneInsertions.{filter_whole}
 use Rattle.topo_changes.specs.Deleting.{IsCrossed, left_by, other_edge, rotation_without}
-use Rattle.topo_frozen.specs.Ids.{IdsRise, IsPlaceOf}
-use Rattle.topo_frozen.proofs.Begins.{edge_ids_climb}
+use Rattle.topo_rows.specs.Ids.{IdsRise, IsPlaceOf}
+use Rattle.topo_rows.proofs.Begins.{edge_ids_climb}
 use Rattle.topo_changes.proofs.Leaving.{filter_alike, least_first, place_named, removed_is}
 use Rattle.topo_changes.proofs.CrossedRows.{in_at}
 

@@ -19,8 +19,8 @@ use Rattle.topo_core.proofs.Members.{in_left, in_map, in_right, left_true}
 use Rattle.topo_core.proofs.Standing.{good_rotation}
 use Rattle.topo_core.proofs.SystemDarts.{edge_at_row, eqb_self, row_id, row_in, some_of, vertex_in}
 use Rattle.topo_core.proofs.WithoutRows.{has_id_in}
-use Rattle.topo_frozen.specs.Placed.{entry_after}
-use Rattle.topo_frozen.proofs.AroundPoints.{turn_at_vertex}
+use Rattle.topo_rows.specs.Around.{entry_after}
+use Rattle.topo_rows.proofs.AroundPoints.{turn_at_vertex}
 use Rattle.topo_changes.proofs.Corners.{corner_known, entry_known}
 
 -- the place of an entry that stands nowhere before it

@@ -21,7 +21,7 @@ use Rattle.topo_perm.specs.Runs.{Turning, IsStep}
 use Rattle.topo_perm.specs.Runs.Edit.{Hang}
 use Rattle.topo_perm.proofs.GrowthNumbers.{IsGrowth, IsGrowthUnder, growth_numbers}
 use Rattle.topo_perm.proofs.Walks.{twin-cases}
-use Rattle.topo_frozen.proofs.Begins.{get_left, get_right}
+use Rattle.topo_rows.proofs.Begins.{get_left, get_right}
 use Rattle.topo_changes.proofs.GrownCorner.{grown_good, grown_turns, known_below, leads_on, new_row}
 use Rattle.topo_changes.proofs.InsertedNumbers.{dart_here, dart_of, even_count, number_less, number_of, turn_number}
 

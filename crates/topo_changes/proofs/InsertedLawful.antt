@@ -32,7 +32,7 @@ use Rattle.topo_perm.proofs.Passages.{IsPassage}
 use Rattle.topo_perm.proofs.Passing.{Passed, passed}
 use Rattle.topo_changes.proofs.InsertedPassage.{IsPath, is_passage, links_of, name, path_bends, path_links, path_of}
 use Rattle.topo_changes.proofs.Totals.{segments_total}
-use Rattle.topo_frozen.proofs.Verdicts.{bare_points}
+use Rattle.topo_rows.proofs.Verdicts.{bare_points}
 
 -- ---- No vertex becomes bare
 

@@ -19,8 +19,8 @@ use Rattle.topo_core.proofs.ShownRows.{in_images}
 use Rattle.topo_core.proofs.Weaving.{in_filter}
 use Rattle.topo_core.proofs.UndoneInsertions.{filter_whole, map_whole}
 use Rattle.topo_changes.specs.Deleting.{IsCrossed, other_edge}
-use Rattle.topo_frozen.specs.Ids.{IsPlaceOf}
-use Rattle.topo_frozen.proofs.Sorting.{apart, up_tail}
+use Rattle.topo_rows.specs.Ids.{IsPlaceOf}
+use Rattle.topo_rows.proofs.Sorting.{apart, up_tail}
 use Rattle.topo_changes.proofs.CrossedRows.{in_at}
 
 -- ---- Items that pass a test

@@ -24,8 +24,8 @@ use Rattle.topo_core.proofs.OpenedDarts.{rest_face_darts, rest_face_numbers}
 use Rattle.topo_core.proofs.Openings.{index_numbered, numbered_index, opens}
 use Rattle.topo_core.proofs.Orbits.{SameCycle-sym}
 use Rattle.topo_perm.proofs.Walks.{face_next-permutation}
-use Rattle.topo_route.proofs.Rounds.{unmet_all, unmet_home}
-use Rattle.topo_frozen.proofs.Lookups.{dart_there}
+use Rattle.topo_perm.proofs.Unmet.{unmet_all, unmet_home}
+use Rattle.topo_rows.proofs.RowDarts.{dart_there}
 use Rattle.topo_changes.proofs.Skipping.{or_at, Skips, skips_alike, skips_ends, skips_here, unchord_skips}
 
 pub not_opened : (e i : ℕ) → (e == e && nat_lt i i) ≡ false

@@ -21,7 +21,7 @@ use Rattle.topo_core.proofs.Standing.{good_rotation}
 use Rattle.topo_core.proofs.SystemDarts.{crossing_there, edge_at_row, row_id, row_in, some_of, vertex_in}
 use Rattle.topo_core.proofs.WithoutRows.{filter_passes, gone, in_has_id, IsRotated, is_left, occurrences-passing, without_rotated, without_rotation, without_vertices}
 use Rattle.topo_core.proofs.WovenPaths.{counted_in}
-use Rattle.topo_frozen.proofs.RowCounts.{same_length}
+use Rattle.topo_rows.proofs.RowCounts.{same_length}
 
 -- ---- How many
 

@@ -5,7 +5,7 @@ use Rattle.topo_core.specs.declared.darts.Dart.{Dart}
 use Rattle.topo_core.specs.declared.rows.EdgeRow.{EdgeRow}
 use Rattle.topo_core.specs.Items.{IsIn}
 use Rattle.topo_core.specs.Changes.{woven}
-use Rattle.topo_frozen.specs.Ids.{IdsRise}
+use Rattle.topo_rows.specs.Ids.{IdsRise}
 
 -- the ids of the edges rise
 abbrev pub EdgesRise : List EdgeRow → Type 0

@@ -5,15 +5,15 @@ ghost use Rattle.topo_core.specs.Changes.{from_least, uncrossed_row, without};
 ghost use Rattle.topo_core.specs.Items.{IsIn};
 ghost use Rattle.topo_core.specs.Lawful.{IsWellFormed};
 ghost use Rattle.topo_core.specs.Picture.{edge_at, edge_row};
-ghost use Rattle.topo_frozen.specs.Ids.{IdsRise};
+ghost use Rattle.topo_rows.specs.Ids.{IdsRise};
 ghost use Rattle.topo_changes.specs.Deleting.{IsCrossed, rotation_without, left_by, other_edge};
 
 use std::alloc::Global;
 use std::mem;
 use topo_core::listed::Listed;
 use topo_core::rows::{CrossRow, EdgeRow, Rows};
-use topo_frozen::Hints;
-use topo_frozen::by_id::{place_of_crossing, place_of_edge};
+use topo_rows::Hints;
+use topo_rows::by_id::{place_of_crossing, place_of_edge};
 
 /// Takes an id out of a list.
 fn take_id(alloc: Global, list: &mut Listed<u32>, id: u32)

@@ -15,8 +15,8 @@ use topo_core::darts::{Dart, Sign, Way};
 use topo_core::listed::Listed;
 use topo_core::routes::Route;
 use topo_core::rows::{CrossRow, EdgeRow, Rows};
-use topo_frozen::Hints;
-use topo_frozen::by_id::edge_place;
+use topo_rows::Hints;
+use topo_rows::by_id::edge_place;
 
 /// The place on a path where a segment ends, when only the crossings with ids before `first` count.
 fn segment_end(path: &[u32], segment: u32, first: u32) -> usize

@@ -4,9 +4,9 @@ use Rattle.std.specs.Io.KnownBytes.{Appends, Keeps}
 use Rattle.topo_core.specs.declared.rows.Rows.{Rows}
 use Rattle.topo_core.specs.declared.limits.Limits.{Limits}
 use Rattle.topo_picture.specs.declared.counts.Counts.{Counts}
-use Rattle.topo_frozen.specs.declared.load.LoadFault.{LoadFault}
-use Rattle.topo_frozen.specs.Loading.{FailsFirst}
-use Rattle.topo_frozen.specs.Shown.{IsPicture}
+use Rattle.topo_rows.specs.declared.load.LoadFault.{LoadFault}
+use Rattle.topo_rows.specs.Loading.{FailsFirst}
+use Rattle.topo_rows.specs.Shown.{IsPicture}
 use Rattle.topo_picture.specs.Totals.{AreCountsOf}
 use Rattle.topo_forms.specs.Reads.{IsFirstFault}
 use Rattle.topo_forms.specs.RowForms.{rows_of}

@@ -1,8 +1,8 @@
 -- What each command of the program does.
 use Rattle.std.specs.Prelude.{ℕ, List, Option}
 use Rattle.topo_settings.specs.declared.fault.RunFault.{RunFault}
-use Rattle.topo_words.specs.declared.Verb.{Verb}
-use Rattle.topo_words.specs.declared.Verb.TheVariants.{Run, Replay, Check}
+use Rattle.topo_cli.specs.declared.Verb.{Verb}
+use Rattle.topo_cli.specs.declared.Verb.TheVariants.{Run, Replay, Check}
 use Rattle.topo_run.specs.Runs.{FailsBy, IsDone}
 use Rattle.topo_check.specs.Checks.{CheckFailsBy, IsChecked}
 use Rattle.topo_check.specs.Replays.{IsReplayed, ReplayFailsBy}

@@ -5,8 +5,8 @@ use Rattle.std.specs.Prelude.{string_bytes, ⊤}
 use Rattle.topo_settings.specs.declared.fault.RunFault.{RunFault}
 use Rattle.topo_settings.specs.declared.fault.RunFault.TheVariants.{Memory as NoMemory}
 use Rattle.topo_settings.specs.Statuses.{fault_line, status_of}
-use Rattle.topo_words.specs.declared.Verb.{Verb}
-use Rattle.topo_words.specs.Words.{asked_verb, word_faults}
+use Rattle.topo_cli.specs.declared.Verb.{Verb}
+use Rattle.topo_cli.specs.Words.{asked_verb, word_faults}
 use Rattle.topo_cli.specs.declared.program.Outcome.{Outcome}
 use Rattle.topo_cli.specs.declared.program.Unread.{Unread}
 use Rattle.topo_cli.specs.declared.program.Unread.TheVariants.{Refused, Memory}

@@ -3,6 +3,7 @@
 ghost use Rattle.std.specs.Prelude.{IfErr, IfOk};
 ghost use Rattle.topo_cli.specs.Commands.{CommandFailsBy, IsAnswered};
 
+use crate::Verb;
 use std::alloc::Global;
 use std::io::{Read, Write};
 use std::sync::Wait;
@@ -10,7 +11,6 @@ use std::thread::Threads;
 use topo_check::{check_io, replay_io};
 use topo_run::{OpenGate, run_io};
 use topo_settings::RunFault;
-use topo_words::Verb;
 
 /// Carries out a command: it reads its input from the reader and writes its answer to the writer.
 pub fn answer<R: Threads + Wait + Sync, I: Read, O: Write>(

@@ -5,8 +5,10 @@ ghost use Rattle.std.specs.Prelude.{◌≡◌, IfErr, IfOk, IsTrue, codes, map};
 ghost use Rattle.topo_cli.specs.Outcomes.{CarriesOut, IsCommand, IsUnread, Performs, Refuses, Tells};
 ghost use Rattle.topo_settings.specs.Statuses.{fault_line, status_of};
 
+use crate::Verb;
 use crate::answers::answer;
 use crate::telling::{tell, tell_fault};
+use crate::verbs::verb;
 use clap::error::ErrorKind;
 use std::alloc::Global;
 use std::convert::AsStr;
@@ -14,8 +16,6 @@ use std::io::{Read, Write};
 use std::sync::Wait;
 use std::thread::Threads;
 use topo_settings::RunFault;
-use topo_words::Verb;
-use topo_words::verbs::verb;
 
 /// The status of a command that is done.
 const DONE: u8 = 0;

@@ -11,3 +11,5 @@ mod gates;
 mod program;
 #[cfg(test)]
 mod streams;
+#[cfg(test)]
+mod words;

@@ -25,8 +25,8 @@ use Rattle.topo_perm.specs.Renumbering.{Renumbers}
 use Rattle.topo_perm.proofs.Points.{SameCycle-same}
 use Rattle.topo_perm.proofs.Renumbered.{renumbered_faces, renumbered_same_cycle}
 use Rattle.topo_perm.proofs.Walks.{face_next-permutation, twin-within}
-use Rattle.topo_frozen.proofs.Lookups.{dart_there}
-use Rattle.topo_frozen.proofs.Rounds.{got_within}
+use Rattle.topo_rows.proofs.RowDarts.{dart_there}
+use Rattle.topo_rows.proofs.Rounds.{got_within}
 use Rattle.topo_map.specs.Rotation.{Rotation, edge_of, half_limit, is_live, turn}
 use Rattle.topo_map.proofs.Stored.{limit-is}
 use Rattle.topo_changes.specs.Cuts.{IsLeft, IsNextLeft}

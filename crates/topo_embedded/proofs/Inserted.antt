@@ -25,7 +25,7 @@ use Rattle.topo_core.proofs.SystemDarts.{eqb_self}
 use Rattle.topo_perm.proofs.Bends.{Bend}
 use Rattle.topo_perm.proofs.PassageNumbers.{bent_number}
 use Rattle.topo_map.specs.Rotation.{Rotation}
-use Rattle.topo_frozen.proofs.Rounds.{got_within}
+use Rattle.topo_rows.proofs.Rounds.{got_within}
 use Rattle.topo_embedded.specs.Crossing.{AreCrossedAt}
 use Rattle.topo_embedded.specs.Halves.{Drawn, ShowsRows, by_way, half_at, half_in, path_of}
 use Rattle.topo_embedded.specs.Inserting.{put_halves}

@@ -13,7 +13,7 @@ use Rattle.topo_core.specs.Rotations.{twin}
 use Rattle.topo_perm.proofs.Bends.{Bend}
 use Rattle.topo_perm.proofs.Faces.{twin-twin}
 use Rattle.topo_map.specs.Rotation.{AddsLabel, Grows, Rotation, edge_of, is_live}
-use Rattle.topo_frozen.proofs.Rounds.{got_within}
+use Rattle.topo_rows.proofs.Rounds.{got_within}
 use Rattle.topo_embedded.specs.Crossing.{HasLabel, HaveLabel, HaveLabels}
 use Rattle.topo_embedded.specs.Halves.{by_way}
 use Rattle.topo_embedded.specs.Inserting.{piece, put_halves}

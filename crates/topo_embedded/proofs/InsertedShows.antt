@@ -22,8 +22,8 @@ use Rattle.topo_core.proofs.SystemDarts.{edge_at_row, get_there}
 use Rattle.topo_perm.specs.Renumbering.{RenumbersTurn}
 use Rattle.topo_perm.proofs.Bends.{Bend}
 use Rattle.topo_map.specs.Rotation.{Rotation, edge_of, half_limit, is_live, turn}
-use Rattle.topo_frozen.specs.Ids.{IsPlaceOf}
-use Rattle.topo_frozen.proofs.Finding.{edges_rise, placed_here}
+use Rattle.topo_rows.specs.Ids.{IsPlaceOf}
+use Rattle.topo_rows.proofs.Finding.{edges_rise, placed_here}
 use Rattle.topo_embedded.specs.Crossing.{AreCrossedAt}
 use Rattle.topo_embedded.specs.Halves.{Drawn, ShowsRows, by_way, half_at, half_in, path_of}
 use Rattle.topo_embedded.proofs.Inserted.{AreInserted, all_have, inserted, path_new, path_old}

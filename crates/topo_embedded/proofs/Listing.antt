@@ -5,9 +5,9 @@ use Rattle.std.proofs.lemmas.Bool.{cases_lt}
 use Rattle.std.proofs.lemmas.List.{get_or_append_left, get_or_at, length-append}
 use Rattle.topo_core.specs.declared.rows.EdgeRow.{EdgeRow}
 use Rattle.topo_core.specs.Picture.{darts_of, segment_count}
-use Rattle.topo_frozen.specs.Flats.{begins_from}
-use Rattle.topo_frozen.proofs.Begins.{back_get, begins_at}
-use Rattle.topo_frozen.proofs.Rounds.{got_within}
+use Rattle.topo_rows.specs.Flats.{begins_from}
+use Rattle.topo_rows.proofs.Begins.{back_get, begins_at}
+use Rattle.topo_rows.proofs.Rounds.{got_within}
 use Rattle.topo_embedded.specs.Making.{ArePathsOf, IsPathOf}
 
 pub paths_more : (edges : List EdgeRow) (begins halves : List ℕ) (paths more : List (List ℕ)) (k : ℕ) (row : EdgeRow) (path : List ℕ) → ArePathsOf edges begins halves k paths → slice_get edges k ≡ Some row

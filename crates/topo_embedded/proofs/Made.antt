@@ -19,9 +19,9 @@ use Rattle.topo_core.proofs.SystemDarts.{get_there}
 use Rattle.topo_perm.specs.Renumbering.{RenumbersTurn}
 use Rattle.topo_perm.proofs.Walks.{twin-within}
 use Rattle.topo_map.specs.Rotation.{AreLabelled, IsMadeFrom, Rotation, edge_of, half_limit, is_live, turn}
-use Rattle.topo_frozen.specs.Flats.{begins_from}
-use Rattle.topo_frozen.proofs.Begins.{number_back, number_forward}
-use Rattle.topo_frozen.proofs.Rounds.{got_within}
+use Rattle.topo_rows.specs.Flats.{begins_from}
+use Rattle.topo_rows.proofs.Begins.{number_back, number_forward}
+use Rattle.topo_rows.proofs.Rounds.{got_within}
 use Rattle.topo_embedded.specs.Halves.{Drawn, ShowsRows, by_way, half_at, half_in}
 use Rattle.topo_embedded.specs.Making.{ArePathsOf, labels_of}
 use Rattle.topo_embedded.proofs.Numbers.{StandsAt, stands_at}

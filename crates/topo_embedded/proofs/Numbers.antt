@@ -17,7 +17,7 @@ use Rattle.topo_core.proofs.Numbering.{get_index, image_of, index_less, index_tw
 use Rattle.topo_core.proofs.SystemDarts.{edge_at_row, row_id, some_of}
 use Rattle.topo_core.proofs.WithoutPlaces.{edge_of_dart, segment_of_dart}
 use Rattle.topo_map.specs.Rotation.{Rotation, is_live, turn}
-use Rattle.topo_frozen.proofs.Rounds.{got_within}
+use Rattle.topo_rows.proofs.Rounds.{got_within}
 use Rattle.topo_embedded.specs.Halves.{Drawn, IsHalf, ShowsRows, half_at, half_in, path_of}
 
 -- what is found stands at its place

@@ -24,8 +24,8 @@ use Rattle.topo_core.proofs.SystemDarts.{eqb_self}
 use Rattle.topo_perm.proofs.Bends.{Bend}
 use Rattle.topo_perm.proofs.Faces.{twin-twin}
 use Rattle.topo_map.specs.Rotation.{Rotation, is_live}
-use Rattle.topo_frozen.proofs.Finding.{edges_rise, placed_here}
-use Rattle.topo_frozen.proofs.Lookups.{dart_there}
+use Rattle.topo_rows.proofs.Finding.{edges_rise, placed_here}
+use Rattle.topo_rows.proofs.RowDarts.{dart_there}
 use Rattle.topo_embedded.specs.Halves.{Drawn, ShowsRows, by_way, half_in, path_of}
 use Rattle.topo_embedded.specs.Inserting.{piece, put_halves}
 use Rattle.topo_embedded.specs.Padding.{AreOff, IsOff, IsOn}

@@ -27,7 +27,7 @@ use Rattle.topo_map.specs.Rotation.{Rotation}
 use Rattle.topo_embedded.specs.Crossing.{AreCrossedAt}
 use Rattle.topo_embedded.specs.Halves.{Drawn, ShowsRows, by_way, half_at, path_of}
 use Rattle.topo_embedded.specs.Inserting.{put_halves}
-use Rattle.topo_frozen.proofs.Lookups.{dart_there}
+use Rattle.topo_rows.proofs.RowDarts.{dart_there}
 use Rattle.topo_embedded.proofs.Numbers.{found_place}
 use Rattle.topo_embedded.proofs.Pieces.{IsCrossed, IsUncrossed, SomeCrossed, crossed_or_not, first_of, last_of, put_append, put_none}
 

@@ -17,10 +17,10 @@ use Rattle.topo_core.specs.Systems.{has_dart}
 use Rattle.topo_core.proofs.Standing.{good_rotation}
 use Rattle.topo_core.proofs.SystemDarts.{edge_at_row, in_at, row_id, vertex_in}
 use Rattle.topo_map.specs.Rotation.{Rotation}
-use Rattle.topo_frozen.specs.Ids.{IsPlaceOf}
-use Rattle.topo_frozen.proofs.Lookups.{dart_there}
-use Rattle.topo_frozen.proofs.Rounds.{got_within}
-use Rattle.topo_frozen.proofs.Verdicts.{darts_total}
+use Rattle.topo_rows.specs.Ids.{IsPlaceOf}
+use Rattle.topo_rows.proofs.RowDarts.{dart_there}
+use Rattle.topo_rows.proofs.Rounds.{got_within}
+use Rattle.topo_rows.proofs.Verdicts.{darts_total}
 use Rattle.topo_embedded.specs.Halves.{Drawn, ShowsRows, by_way, half_in, path_of}
 use Rattle.topo_embedded.specs.Walking.{IsOnPath, end_seg, end_way}
 use Rattle.topo_embedded.proofs.Apart.{halves_apart}

@@ -29,8 +29,8 @@ use Rattle.topo_perm.proofs.DeletionNumbers.{IsSmoothable, smooths_of, unchords_
 use Rattle.topo_perm.proofs.EditNumbers.{still_alive}
 use Rattle.topo_map.specs.Rotation.{IsEmbedding, KeepsLabels, Rotation, Shrinks, edge_of, half_limit, is_live, turn, turning_of}
 use Rattle.topo_map.proofs.EditSteps.{live_half, smooth_step}
-use Rattle.topo_frozen.specs.Ids.{IsPlaceOf}
-use Rattle.topo_frozen.proofs.Finding.{edges_rise, placed_here}
+use Rattle.topo_rows.specs.Ids.{IsPlaceOf}
+use Rattle.topo_rows.proofs.Finding.{edges_rise, placed_here}
 use Rattle.topo_changes.proofs.DeletedMids.{first_of, in_place, mid_is}
 use Rattle.topo_changes.proofs.DeletedStages.{smoothable_along}
 use Rattle.topo_changes.proofs.Deleting.{rest_is}

@@ -25,7 +25,7 @@ use Rattle.topo_perm.proofs.RunNumbers.{kept_alive}
 use Rattle.topo_perm.proofs.PassageNumbers.{splits_add}
 use Rattle.topo_map.specs.Rotation.{AddsLabel, Grows, IsEmbedding, Rotation, edge_of, half_limit, is_live, turn, turning_of}
 use Rattle.topo_map.proofs.EditSteps.{live_half, split_step}
-use Rattle.topo_frozen.proofs.Rounds.{got_within}
+use Rattle.topo_rows.proofs.Rounds.{got_within}
 use Rattle.topo_embedded.specs.declared.padding.Crossed.{Crossed}
 use Rattle.topo_embedded.specs.Crossing.{AreCrossedAt, AreSplit, AreSplitFrom, HasLabel, HaveLabel, IsMarked, bends_of, crossed_darts}
 use Rattle.topo_embedded.specs.Halves.{Drawn, ShowsRows, half_in}

@@ -17,9 +17,9 @@ use std::mem;
 use topo_changes::deletion::delete_rows;
 use topo_core::listed::Listed;
 use topo_core::rows::Rows;
-use topo_frozen::Hints;
-use topo_frozen::by_id::place_of_edge;
 use topo_map::{Embedding, Half};
+use topo_rows::Hints;
+use topo_rows::by_id::place_of_edge;
 
 /// Whether a half is on the path of its edge, and so leads along it.
 fn leads_along(rows: &Rows, paths: &[Path], segments: &Embedding, hints: &Hints, half: Half) -> bool

@@ -9,7 +9,7 @@ ghost use Rattle.topo_core.specs.Routes.{AreFactsOf};
 ghost use Rattle.topo_core.specs.Systems.{SameFace, face_step, has_dart};
 ghost use Rattle.topo_embedded.specs.Halves.{IsHalf, half_in};
 ghost use Rattle.topo_embedded.specs.Walking.{named_in};
-ghost use Rattle.topo_frozen.specs.Flats.{AreTurnsOf};
+ghost use Rattle.topo_rows.specs.Flats.{AreTurnsOf};
 ghost use Rattle.topo_route.specs.Names.{IsNamed};
 
 use crate::copies::copy_paths;
@@ -29,9 +29,9 @@ use topo_core::ids::EdgeId;
 use topo_core::listed::Listed;
 use topo_core::routes::Route;
 use topo_core::rows::{Facts, Rows};
-use topo_frozen::by_id::place_of_edge;
-use topo_frozen::{Hints, Turns};
 use topo_map::{Embedding, Half};
+use topo_rows::by_id::place_of_edge;
+use topo_rows::{Hints, Turns};
 
 /// Well-formed rows with their embedding. Contracts see the rows, and for each edge, by its place among
 /// the edges, the half that leads along it on each of its segments.

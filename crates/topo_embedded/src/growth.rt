@@ -13,8 +13,8 @@ use std::mem;
 use topo_changes::growth::grow_rows;
 use topo_core::listed::Listed;
 use topo_core::rows::Rows;
-use topo_frozen::Hints;
 use topo_map::{Embedding, Half};
+use topo_rows::Hints;
 
 /// Puts a new vertex on a new edge into a corner of the rows, and its segment before the half of that
 /// corner, or leaves all as it was.

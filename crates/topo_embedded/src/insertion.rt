@@ -20,8 +20,8 @@ use topo_changes::insertion::apply_rows;
 use topo_core::listed::Listed;
 use topo_core::routes::Route;
 use topo_core::rows::Rows;
-use topo_frozen::Hints;
 use topo_map::{Embedding, Half};
+use topo_rows::Hints;
 
 /// Splits the segments of the crossed darts, the last one first.
 fn split_crossed(paths: &mut [Path], segments: &mut Embedding, crossed: &mut [Crossed])

@@ -3,7 +3,7 @@
 ghost use Rattle.std.specs.Prelude.{◌≡◌, ◌+◌, ◌*◌, ◌≤◌, ◌<◌, ◌^◌, IfOk, flat_map, length, sum_by};
 ghost use Rattle.topo_core.specs.Picture.{darts_of, segment_count};
 ghost use Rattle.topo_embedded.specs.Making.{ArePathsOf, IsPathOf, labels_of};
-ghost use Rattle.topo_frozen.specs.Flats.{begins_from};
+ghost use Rattle.topo_rows.specs.Flats.{begins_from};
 
 use crate::path::Path;
 use std::alloc::{AllocError, Global};

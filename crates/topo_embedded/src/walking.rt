@@ -92,7 +92,7 @@ impl<'a> EmbeddedRows<'a> {
 }
 
 impl Walked for EmbeddedRows<'_> {
-    ghost use Rattle.topo_frozen.specs.Recovering.{lawful_again};
+    ghost use Rattle.topo_rows.specs.Recovering.{lawful_again};
     ghost use Rattle.topo_embedded.specs.Walking.{named_rows, names_apart};
 
     ghost named = { named_rows };

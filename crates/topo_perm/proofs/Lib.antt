@@ -34,3 +34,4 @@ pub mod Collapses
 pub mod Midpoints
 pub mod DeletionNumbers
 pub mod GrowthNumbers
+pub mod Unmet

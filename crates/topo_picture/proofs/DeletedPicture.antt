@@ -8,7 +8,7 @@ use Rattle.topo_core.specs.Systems.{Connected}
 use Rattle.topo_core.proofs.SystemDarts.{some_of}
 use Rattle.topo_core.proofs.ShownRows.{shown_new_row}
 use Rattle.topo_core.proofs.UndoneInsertions.{insertion_undone}
-use Rattle.topo_frozen.specs.Shown.{IsPicture, Shown}
+use Rattle.topo_rows.specs.Shown.{IsPicture, Shown}
 use Rattle.topo_picture.specs.Undoing.{IsShownOn}
 use Rattle.topo_changes.proofs.DeletedLawful.{cut_by_faces, cut_is_by_faces, no_cut, whole_without}
 use Rattle.topo_changes.proofs.WithoutCounts.{vertices_without}

@@ -8,7 +8,7 @@ use Rattle.topo_core.specs.Picture.{rotation}
 use Rattle.topo_core.specs.Pictures.{seed}
 use Rattle.topo_core.specs.Changes.{grown}
 use Rattle.topo_core.specs.Steps.{grow_refusal}
-use Rattle.topo_frozen.specs.Shown.{IsPicture}
+use Rattle.topo_rows.specs.Shown.{IsPicture}
 use Rattle.topo_core.proofs.Connection.{seed_is_embedding}
 use Rattle.topo_core.proofs.GrownFaces.{growth_keeps_lawful}
 

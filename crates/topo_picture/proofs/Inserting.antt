@@ -12,7 +12,7 @@ use Rattle.topo_core.specs.Changes.{shown}
 use Rattle.topo_core.specs.Insertions.{IsInsertable}
 use Rattle.topo_core.proofs.ShownRows.{shown_vertices}
 use Rattle.topo_core.proofs.SimpleRoutes.{simple_is_insertable}
-use Rattle.topo_frozen.specs.Shown.{IsPicture}
+use Rattle.topo_rows.specs.Shown.{IsPicture}
 use Rattle.topo_changes.proofs.InsertedLawful.{insertion_keeps_lawful}
 
 -- what holds where an insertion is not refused before a route is looked for

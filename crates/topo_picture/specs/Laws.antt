@@ -7,7 +7,7 @@ use Rattle.topo_core.specs.Changes.{IsCut, IsLocalCut, shown}
 use Rattle.topo_core.specs.Picture.{edge_row}
 use Rattle.topo_core.specs.Lawful.{Lawful}
 use Rattle.topo_core.specs.Routes.{IsSimpleRoute}
-use Rattle.topo_frozen.specs.Shown.{IsPicture}
+use Rattle.topo_rows.specs.Shown.{IsPicture}
 
 -- a new edge shown along a route that meets no face twice makes a lawful picture of a lawful picture
 abbrev pub InsertionKeepsLawful : Type 0

@@ -1,7 +1,7 @@
 //! The size of a picture.
 
 ghost use Rattle.topo_core.specs.declared.limits.Limits.{Limits};
-ghost use Rattle.topo_frozen.specs.Shown.{IsPicture};
+ghost use Rattle.topo_rows.specs.Shown.{IsPicture};
 ghost use Rattle.topo_picture.specs.Totals.{AreCountsOf};
 
 use topo_core::rows::Rows;

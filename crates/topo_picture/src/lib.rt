@@ -14,4 +14,5 @@ pub mod picture;
 
 pub use counts::Counts;
 pub use picture::Picture;
-pub use topo_frozen::{Frozen, LoadFault};
+pub use topo_dual::Frozen;
+pub use topo_rows::LoadFault;

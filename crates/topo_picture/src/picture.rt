@@ -11,12 +11,13 @@ use topo_core::limits::Limits;
 use topo_core::listed::Listed;
 use topo_core::routes::Route;
 use topo_core::rows::{EdgeRow, Rows};
+use topo_dual::{Frozen, NumberLists, Numbered};
 use topo_embedded::{Embedded, EmbeddedRows};
-use topo_frozen::by_id::edge_place;
-use topo_frozen::flat::turns_of;
-use topo_frozen::load::{LoadFault, judge};
-use topo_frozen::{Frozen, Hints, NumberLists, Numbered, Turns};
 use topo_route::plan::Plan;
+use topo_rows::by_id::edge_place;
+use topo_rows::flat::turns_of;
+use topo_rows::load::{LoadFault, judge};
+use topo_rows::{Hints, Turns};
 
 /// A connected embedding of a graph of genus zero, within limits. It keeps its rows with the halves along
 /// their edges, in a slab of segments.
@@ -27,7 +28,7 @@ pub struct Picture {
 }
 
 impl Model for Picture {
-    ghost use Rattle.topo_frozen.specs.Shown.{Shown, IsPicture};
+    ghost use Rattle.topo_rows.specs.Shown.{Shown, IsPicture};
 
     ghost Value = { Shown };
 
@@ -43,8 +44,8 @@ impl Picture {
     ghost use Rattle.topo_core.specs.Changes.{IsCut, grown, shown, without};
     ghost use Rattle.topo_core.specs.Picture.{edge_row};
     ghost use Rattle.topo_core.specs.Steps.{HasRoomFor, grow_refusal, insert_refusal};
-    ghost use Rattle.topo_frozen.specs.Loading.{FailsFirst};
-    ghost use Rattle.topo_frozen.specs.Shown.{IsPicture};
+    ghost use Rattle.topo_rows.specs.Loading.{FailsFirst};
+    ghost use Rattle.topo_rows.specs.Shown.{IsPicture};
     ghost use Rattle.topo_picture.specs.Totals.{AreCountsOf};
     ghost use Rattle.topo_picture.specs.Undoing.{IsShownOn};
     ghost use Rattle.topo_core.specs.declared.rows.Rows.{Rows};
@@ -327,9 +328,9 @@ ghost use Rattle.topo_core.specs.Lawful.{has_good_paths};
 ghost use Rattle.topo_core.specs.Picture.{edge_row};
 ghost use Rattle.topo_core.specs.Pictures.{seed};
 ghost use Rattle.topo_core.specs.Steps.{HasRoomFor, grow_refusal, insert_refusal};
-ghost use Rattle.topo_frozen.specs.Flats.{AreTurnsOf};
-ghost use Rattle.topo_frozen.specs.Loading.{FailsFirst};
-ghost use Rattle.topo_frozen.specs.Shown.{IsPicture};
+ghost use Rattle.topo_rows.specs.Flats.{AreTurnsOf};
+ghost use Rattle.topo_rows.specs.Loading.{FailsFirst};
+ghost use Rattle.topo_rows.specs.Shown.{IsPicture};
 
 /// How the darts turn of rows that are a picture within the limits. Else the first test that they fail,
 /// or Memory.

@@ -13,7 +13,7 @@ use anyhow::{Result, bail};
 use topo_core::calls::Refusal;
 use topo_core::ids::{EdgeId, VertexId};
 use topo_core::rows::Facts;
-use topo_frozen::Frozen;
+use topo_dual::Frozen;
 use topo_picture::Picture;
 use topo_price::tariff::{Asks, Tariff};
 use topo_route::check::check;

@@ -10,12 +10,13 @@ use anyhow::{Result, bail};
 use std::alloc::{AllocError, Global};
 use topo_core::limits::Limits;
 use topo_core::rows::Rows;
-use topo_frozen::{Frozen, LoadFault, NumberLists};
+use topo_dual::{Frozen, NumberLists};
 use topo_picture::Picture;
 use topo_price::tariff::{Asks, Tariff};
 use topo_route::plan::Plan;
 use topo_route::search::search;
 use topo_route::walked::Walked;
+use topo_rows::LoadFault;
 
 /// The greatest limits.
 fn greatest_limits() -> Limits {

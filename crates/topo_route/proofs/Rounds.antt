@@ -1,5 +1,5 @@
--- What holds all the way round a cycle, and what a walk that came home did not meet.
-use Rattle.std.proofs.Common.{◌≡◌, ◌≢◌, ℕ, suc, ◌+◌, ◌<◌, refl, sym, ◌∙◌, ap, arith, subst}
+-- What holds all the way round a cycle.
+use Rattle.std.proofs.Common.{◌≡◌, ℕ, suc, ◌+◌, ◌<◌, sym, ◌∙◌, ap, arith, subst}
 use Rattle.topo_core.specs.Cycles.{IsPermutation, after, SameCycle}
 use Rattle.topo_core.proofs.Orbits.{period, wraps}
 
@@ -14,13 +14,6 @@ pub round_all : (f : ℕ → ℕ) (P : ℕ → Type 0) (a n : ℕ) → IsPermuta
 round_all f P a n h l along x same =
     let (d, ld, p) = period f n h a l in
     round_home f P a d p.some p.home (λ j lj. along j (omega arith)) x same
-
--- a walk that has come home without b has not met it anywhere
-pub unmet_home : (f : ℕ → ℕ) (a b k : ℕ) → f (after f k a) ≡ a → ((j : ℕ) → j < k + 1 → after f j a ≢ b) → SameCycle f a b → ⊥
-unmet_home f a b k home unmet same = round_home f (λ x. x ≢ b) a (suc k) (omega arith) home (λ j l. unmet j (omega arith)) b same refl
-
-pub unmet_all : (f : ℕ → ℕ) (a b n : ℕ) → IsPermutation f n → a < n → ((j : ℕ) → j < n → after f j a ≢ b) → SameCycle f a b → ⊥
-unmet_all f a b n h l unmet same = round_all f (λ x. x ≢ b) a n h l unmet b same refl
 
 -- one step more
 pub after-one : (f : ℕ → ℕ) (k a : ℕ) → after f (k + 1) a ≡ f (after f k a)

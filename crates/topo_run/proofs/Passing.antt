@@ -10,7 +10,7 @@ use Rattle.topo_core.specs.declared.calls.Entry.{Entry}
 use Rattle.topo_core.specs.Items.{IsIn}
 use Rattle.topo_core.specs.Routes.{Pricing}
 use Rattle.topo_core.specs.History.{IsRun, Replays, call_of, entries_of}
-use Rattle.topo_frozen.specs.Shown.{Shown}
+use Rattle.topo_rows.specs.Shown.{Shown}
 use Rattle.topo_service.specs.declared.pass.Receipt.{Receipt}
 use Rattle.topo_service.specs.declared.workers.WorkerEnd.{WorkerEnd}
 use Rattle.topo_service.specs.declared.workers.WorkerEnd.TheVariants.{Done}

@@ -5,7 +5,7 @@ use Rattle.topo_core.specs.declared.limits.Limits.{Limits}
 use Rattle.topo_core.specs.declared.calls.Entry.{Entry}
 use Rattle.topo_core.specs.Routes.{IsFirst, Pricing}
 use Rattle.topo_core.specs.History.{IsVersion, Replays, versions}
-use Rattle.topo_frozen.specs.Shown.{Shown}
+use Rattle.topo_rows.specs.Shown.{Shown}
 use Rattle.topo_price.specs.Prices.{Asking, prices_of}
 use Rattle.topo_versions.specs.Names.{prices_named}
 use Rattle.topo_book.proofs.ReplicaLaws.{one_replay}

@@ -12,7 +12,7 @@ use Rattle.topo_core.proofs.Replaying.{replays_on, versions_replay}
 use Rattle.topo_book.specs.Books.{BookState, CanFollow, IsSameBook, IsUnchanged, NextState, picture_after}
 use Rattle.topo_price.specs.Prices.{Asking, prices_of}
 use Rattle.topo_versions.specs.Names.{prices_named}
-use Rattle.topo_frozen.specs.Shown.{IsPicture, Shown}
+use Rattle.topo_rows.specs.Shown.{IsPicture, Shown}
 use Rattle.topo_versions.specs.Versions.{IsVersionFrom}
 
 versions_again : (es : List Entry) → versions (versions es) ≡ versions es

@@ -7,7 +7,7 @@ use Rattle.topo_core.specs.declared.calls.Refusal.TheVariants.{NoVertex, SameEnd
 use Rattle.topo_core.specs.Items.{IsIn}
 use Rattle.topo_core.specs.Routes.{Pricing, HasNoRoute}
 use Rattle.topo_core.specs.Steps.{refusal_number}
-use Rattle.topo_frozen.specs.Shown.{Shown}
+use Rattle.topo_rows.specs.Shown.{Shown}
 use Rattle.topo_versions.specs.Versions.{IsVersionFrom}
 use Rattle.topo_service.specs.declared.faults.EndFault.{EndFault}
 use Rattle.topo_service.specs.declared.faults.EndFault.TheVariants.{PassMissing, Mismatch}

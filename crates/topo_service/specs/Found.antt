@@ -5,7 +5,7 @@ use Rattle.topo_core.specs.declared.routes.Route.{Route}
 use Rattle.topo_core.specs.declared.calls.Entry.{Entry}
 use Rattle.topo_core.specs.History.{IsVersion}
 use Rattle.topo_core.specs.Routes.{IsFirst, Pricing}
-use Rattle.topo_frozen.specs.Shown.{Shown}
+use Rattle.topo_rows.specs.Shown.{Shown}
 
 -- the route from u to v with its price, and the accepted entries that lead to the picture on which it was found
 pub record FoundState : Type 0 where

@@ -11,7 +11,7 @@ use std::test::Fail;
 use std::thread::Threads;
 use topo_core::calls::Reply;
 use topo_core::rows::Facts;
-use topo_frozen::Frozen;
+use topo_dual::Frozen;
 use topo_price::tariff::Asks;
 use topo_route::check::check;
 use topo_route::plan::Plan;

@@ -6,9 +6,9 @@ use Rattle.topo_core.specs.declared.limits.Limits.{Limits}
 use Rattle.topo_core.specs.Limits.{InRange}
 use Rattle.topo_core.specs.Pictures.{seed}
 use Rattle.topo_core.specs.Routes.{Pricing}
-use Rattle.topo_frozen.specs.declared.load.LoadFault.{LoadFault}
-use Rattle.topo_frozen.specs.Loading.{FailsFirst}
-use Rattle.topo_frozen.specs.Shown.{IsPicture}
+use Rattle.topo_rows.specs.declared.load.LoadFault.{LoadFault}
+use Rattle.topo_rows.specs.Loading.{FailsFirst}
+use Rattle.topo_rows.specs.Shown.{IsPicture}
 use Rattle.topo_price.specs.declared.table.PriceFault.{PriceFault}
 use Rattle.topo_price.specs.declared.table.PriceFault.TheVariants.{BadPrice}
 use Rattle.topo_price.specs.Prices.{first_bad}

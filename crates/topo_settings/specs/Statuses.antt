@@ -1,7 +1,7 @@
 -- The number, the name and the text of a fault, and how the program ends.
 use Rattle.std.specs.Prelude.{ℕ, List, [], ◌∷◌, ◌++◌, ◌==◌, codes, decimal, if◌then◌else◌}
 use Rattle.topo_forms.specs.FaultTexts.{fault_name as script_name, fault_number as script_number, fault_text as script_text}
-use Rattle.topo_frozen.specs.FaultTexts.{fault_name as load_name, fault_number as load_number, fault_text as load_text}
+use Rattle.topo_rows.specs.FaultTexts.{fault_name as load_name, fault_number as load_number, fault_text as load_text}
 use Rattle.topo_price.specs.FaultTexts.{fault_name as price_name, fault_number as price_number, fault_text as price_text}
 use Rattle.topo_settings.specs.declared.fault.RunFault.{RunFault}
 use Rattle.topo_settings.specs.declared.fault.RunFault.TheVariants.{Memory, Script, BadLimits, Price, Load, NoSeat, Mismatch, WrongReply, WrongPicture, ReadFault, WriteFault}

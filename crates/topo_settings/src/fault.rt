@@ -6,8 +6,8 @@ ghost use Rattle.topo_settings.specs.Statuses.{fault_name, fault_number, fault_t
 use std::error::Error;
 use std::fmt;
 use topo_forms::ScriptFault;
-use topo_frozen::LoadFault;
 use topo_price::table::PriceFault;
+use topo_rows::LoadFault;
 
 /// Why a command has no answer. Each fault is printed as its number, its name and its value.
 #[derive(Clone, Copy, Debug, PartialEq, Eq)]

@@ -6,9 +6,9 @@ use std::test::Fail;
 use topo_book::ReplayFault;
 use topo_forms::ScriptFault;
 use topo_forms::path::{Key, Path};
-use topo_frozen::LoadFault;
 use topo_price::table::PriceFault;
 use topo_route::plan::PlanFault;
+use topo_rows::LoadFault;
 use topo_settings::RunFault;
 
 /// A text begins with a number and a space.

@@ -37,5 +37,3 @@ mod searches;
 mod seen_rows;
 #[cfg(test)]
 mod types;
-#[cfg(test)]
-mod words;

@@ -8,7 +8,7 @@ use std::test::Fail;
 use topo_core::darts::Way;
 use topo_core::listed::Listed;
 use topo_core::routes::Route;
-use topo_frozen::Frozen;
+use topo_dual::Frozen;
 use topo_picture::Picture;
 use topo_route::plan::{Plan, PlanFault};
 

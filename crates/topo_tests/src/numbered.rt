@@ -7,7 +7,7 @@ use std::process::Abort;
 use std::test::Fail;
 use topo_core::darts::{Dart, Point, Way};
 use topo_core::ids::VertexId;
-use topo_frozen::NumberLists;
+use topo_dual::NumberLists;
 use topo_picture::Picture;
 use topo_route::dual::{Dual, has_number};
 use topo_route::walked::Walked;

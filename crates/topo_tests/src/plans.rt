@@ -14,7 +14,7 @@ use topo_book::Book;
 use topo_core::calls::Reply;
 use topo_core::darts::Way;
 use topo_core::rows::Facts;
-use topo_frozen::Frozen;
+use topo_dual::Frozen;
 use topo_price::table::PriceTable;
 use topo_price::tariff::Asks;
 use topo_route::check::check;

@@ -6,8 +6,8 @@ use std::test::Fail;
 use topo_core::limits::Limits;
 use topo_core::listed::Listed;
 use topo_core::rows::{CrossRow, EdgeRow, Rows};
-use topo_frozen::LoadFault;
 use topo_picture::Picture;
+use topo_rows::LoadFault;
 
 /// Whether a picture shows these rows.
 pub(crate) fn shows(alloc: Global, picture: &Picture, rows: &Rows) -> Result<bool, AllocError> {

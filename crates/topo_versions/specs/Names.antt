@@ -3,7 +3,7 @@ use Rattle.std.specs.Prelude.{Option, Some, None}
 use Rattle.std.proofs.Common.{lit≤}
 use Rattle.topo_core.specs.Pictures.{seed}
 use Rattle.topo_core.specs.Routes.{Pricing}
-use Rattle.topo_frozen.specs.Shown.{Shown}
+use Rattle.topo_rows.specs.Shown.{Shown}
 use Rattle.topo_price.specs.Prices.{Asking, prices_of}
 
 -- the prices of the closure that is named; where none is, no edge has a price

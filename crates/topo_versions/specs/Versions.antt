@@ -4,7 +4,7 @@ use Rattle.topo_core.specs.declared.calls.Entry.{Entry}
 use Rattle.topo_core.specs.declared.rows.Rows.{Rows}
 use Rattle.topo_core.specs.Routes.{Pricing}
 use Rattle.topo_core.specs.History.{IsVersion}
-use Rattle.topo_frozen.specs.Shown.{Shown, IsPicture}
+use Rattle.topo_rows.specs.Shown.{Shown, IsPicture}
 
 -- the picture, and the accepted entries that lead to it
 pub record VersionState : Type 0 where

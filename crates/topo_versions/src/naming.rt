@@ -2,7 +2,7 @@
 
 ghost use Rattle.std.specs.Prelude.{Option};
 ghost use Rattle.logbook.specs.Pages.{Book};
-ghost use Rattle.topo_frozen.specs.Shown.{Shown};
+ghost use Rattle.topo_rows.specs.Shown.{Shown};
 
 use std::marker::Brand;
 use std::sync::ledger::Ledger;

@@ -1,6 +1,6 @@
 use Rattle.std.proofs.Common.{◌≡◌, take}
 use Rattle.topo_core.specs.History.{Replays}
-use Rattle.topo_frozen.specs.Shown.{IsPicture}
+use Rattle.topo_rows.specs.Shown.{IsPicture}
 use Rattle.topo_price.specs.Prices.{prices_of}
 use Rattle.topo_book.proofs.replaying.replay_all.Given as goal
 

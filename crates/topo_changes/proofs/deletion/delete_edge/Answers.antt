@@ -2,8 +2,8 @@ use Rattle.std.proofs.Common.{ap, List, subst, sym, true, ◌≡◌, ◌∙◌, 
 use Rattle.std.specs.Prelude.{find, is_some, map, ◌==◌}
 use Rattle.topo_core.specs.declared.rows.EdgeRow.{EdgeRow}
 use Rattle.topo_core.specs.Changes.{uncrossed_row}
-use Rattle.topo_frozen.specs.Ids.{IdsRise}
-use Rattle.topo_frozen.proofs.Finding.{crossings_rise, edges_rise}
+use Rattle.topo_rows.specs.Ids.{IdsRise}
+use Rattle.topo_rows.proofs.Finding.{crossings_rise, edges_rise}
 use Rattle.topo_changes.proofs.Deleting.{crossed_read, rest_is, rest_rises, row_read}
 use Rattle.topo_changes.proofs.deletion.delete_edge.Goals as goal
 

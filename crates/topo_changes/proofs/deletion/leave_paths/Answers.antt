@@ -1,7 +1,7 @@
 use Rattle.std.proofs.Common.{ap, refl, sym, subst, ◌∙◌, take, get_or}
 use Rattle.std.specs.Prelude.{map}
 use Rattle.topo_core.specs.declared.rows.EdgeRow.{EdgeRow}
-use Rattle.topo_frozen.specs.Ids.{IdsRise}
+use Rattle.topo_rows.specs.Ids.{IdsRise}
 use Rattle.topo_changes.proofs.Leaving.{crossed_still, ids_stay, more_out, none_out}
 use Rattle.topo_changes.proofs.deletion.leave_paths.Goals as goal
 use Rattle.topo_changes.proofs.CrossedRows.{in_at}

@@ -2,7 +2,7 @@ use Rattle.std.proofs.Common.{◌≡◌, subst, sym}
 use Rattle.std.specs.Arc.{arc_value}
 use Rattle.topo_core.specs.declared.calls.Entry.{Entry}
 use Rattle.topo_core.specs.Steps.{Step}
-use Rattle.topo_frozen.specs.Shown.{IsPicture, Shown}
+use Rattle.topo_rows.specs.Shown.{IsPicture, Shown}
 use Rattle.topo_price.specs.Prices.{prices_of}
 use Rattle.topo_book.proofs.Histories.{book_lawful, book_steps}
 use Rattle.topo_book.proofs.ReplicaLaws.{book_on}

@@ -1,7 +1,7 @@
 use Rattle.std.proofs.Common.{ap, arith, sym, subst, ◌∙◌, ◌∷◌, ◌++◌, [], length, Option}
 use Rattle.std.specs.Prelude.{nat_lt, option_map}
 use Rattle.std.specs.Arc.{arc_value}
-use Rattle.topo_frozen.specs.Shown.{Shown}
+use Rattle.topo_rows.specs.Shown.{Shown}
 use Rattle.topo_price.specs.Prices.{prices_of}
 use Rattle.topo_book.specs.declared.replicas.TheConstants.{MOST}
 use Rattle.topo_book.specs.Books.{BookState, CanFollow, IsBook, IsReplica, picture_after}

@@ -1,7 +1,7 @@
 use Rattle.std.proofs.Common.{arith, subst, sym, ◌∙◌}
 use Rattle.topo_core.specs.Cycles.{IsPermutationList}
 use Rattle.topo_core.proofs.Numbering.{turn_permutes}
-use Rattle.topo_frozen.proofs.Verdicts.{images_total}
+use Rattle.topo_rows.proofs.Verdicts.{images_total}
 use Rattle.topo_embedded.proofs.Made.{labels_length, made_from}
 use Rattle.topo_embedded.proofs.embedded.Embedded.of.Goals as goal
 

@@ -6,7 +6,7 @@ use Rattle.topo_core.specs.Routes.{IsSimpleRoute}
 use Rattle.topo_core.specs.Changes.{shown}
 use Rattle.topo_core.specs.Insertions.{IsInsertable}
 use Rattle.topo_core.specs.Steps.{HasRoomFor, insert_refusal}
-use Rattle.topo_frozen.specs.Shown.{IsPicture, Shown}
+use Rattle.topo_rows.specs.Shown.{IsPicture, Shown}
 use Rattle.topo_picture.proofs.Failures.{rows_left}
 use Rattle.topo_picture.proofs.Inserting.{after_insertion, insertable}
 use Rattle.topo_picture.proofs.picture.Picture.apply_route.Goals as goal

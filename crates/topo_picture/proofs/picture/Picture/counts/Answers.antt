@@ -1,5 +1,5 @@
 use Rattle.std.proofs.Common.{subst, sym}
-use Rattle.topo_frozen.specs.Shown.{IsPicture}
+use Rattle.topo_rows.specs.Shown.{IsPicture}
 use Rattle.topo_picture.proofs.picture.Picture.counts.Goals as goal
 
 pub counted-requires : goal.counted-requires

@@ -2,8 +2,8 @@ use Rattle.std.proofs.Common.{ap, arith, length, subst, sym}
 use Rattle.std.specs.Prelude.{sum_by}
 use Rattle.topo_core.specs.declared.rows.Rows.{Rows}
 use Rattle.topo_core.specs.Picture.{segment_count}
-use Rattle.topo_frozen.specs.Shown.{IsPicture}
-use Rattle.topo_frozen.proofs.RowCounts.{picture_small}
+use Rattle.topo_rows.specs.Shown.{IsPicture}
+use Rattle.topo_rows.proofs.RowCounts.{picture_small}
 use Rattle.topo_picture.proofs.picture.Picture.freeze.Goals as goal
 
 pub new-requires-clause-few : goal.new-requires-clause-few

@@ -1,6 +1,6 @@
 use Rattle.std.proofs.Common.{arith, subst, sym}
-use Rattle.topo_frozen.specs.Shown.{IsPicture}
-use Rattle.topo_frozen.proofs.RowCounts.{picture_small}
+use Rattle.topo_rows.specs.Shown.{IsPicture}
+use Rattle.topo_rows.proofs.RowCounts.{picture_small}
 use Rattle.topo_picture.proofs.picture.Picture.numbered.Goals as goal
 
 pub new-requires-clause-few : goal.new-requires-clause-few

@@ -1,5 +1,5 @@
 use Rattle.std.proofs.Common.{sym, subst, ◌∙◌}
-use Rattle.topo_frozen.specs.Shown.{IsPicture}
+use Rattle.topo_rows.specs.Shown.{IsPicture}
 use Rattle.topo_picture.proofs.Growing.{seed_is_picture}
 use Rattle.topo_picture.proofs.picture.Picture.seed.Goals as goal
 

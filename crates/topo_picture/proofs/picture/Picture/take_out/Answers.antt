@@ -3,7 +3,7 @@ use Rattle.topo_core.specs.declared.limits.Limits.{Limits}
 use Rattle.topo_core.specs.declared.rows.Rows.{Rows}
 use Rattle.topo_core.specs.Changes.{HasOneFace, IsCut, without}
 use Rattle.topo_core.specs.Picture.{edge_at, edge_row}
-use Rattle.topo_frozen.specs.Shown.{IsPicture, Shown}
+use Rattle.topo_rows.specs.Shown.{IsPicture, Shown}
 use Rattle.topo_picture.proofs.DeletedPicture.{deletion_of_picture, faces_of_picture}
 use Rattle.topo_picture.proofs.picture.Picture.take_out.Goals as goal
 

@@ -1,6 +1,6 @@
 use Rattle.std.proofs.Common.{◌≡◌, length, Option, IfSome, sym, ap, ◌∙◌, subst, arith, true, is_some}
 use Rattle.topo_core.specs.History.{is_accepted}
-use Rattle.topo_frozen.specs.Shown.{IsPicture, Shown}
+use Rattle.topo_rows.specs.Shown.{IsPicture, Shown}
 use Rattle.topo_book.specs.Books.{IsNext, NextState, picture_after}
 use Rattle.topo_service.proofs.Versions.{if_some, named_step, version_ready, versions_length}
 use Rattle.topo_service.proofs.desk.Desk.call.Goals as goal

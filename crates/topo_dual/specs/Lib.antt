@@ -1,0 +1,2 @@
+pub mod FaceLabels
+pub mod NumberedRows

@@ -1,0 +1,135 @@
+//! Frozen pictures: numbered ones that own their rows.
+
+ghost use Rattle.topo_core.specs.Lawful.{Lawful};
+
+use crate::lists::NumberLists;
+use crate::numbered::Numbered;
+use std::alloc::{AllocError, Global};
+use std::marker::Model;
+use topo_core::darts::{Dart, Point};
+use topo_core::rows::{Facts, Rows};
+use topo_route::dual::Dual;
+use topo_route::walked::Walked;
+use topo_rows::Hints;
+
+/// A frozen picture: lawful rows with the lists that number their darts. Contracts see the rows. It
+/// answers what `Numbered` does, and nothing has to be lent to it.
+#[derive(Drop)]
+pub struct Frozen {
+    rows: Rows,
+    hints: Hints,
+    lists: NumberLists,
+    ghost lawful: { ∥ Lawful rows ∥₁ },
+}
+
+impl Model for Frozen {
+    ghost use Rattle.topo_dual.specs.NumberedRows.{AreListsOf, LawfulRows};
+
+    ghost Value = { LawfulRows };
+
+    ghost view = { λ f. record { rows = f.rows; lawful = f.lawful } };
+
+    ghost invariant = { λ f. AreListsOf f.rows f.lists.begins.items f.lists.turns.items f.lists.faces.items };
+}
+
+impl Frozen {
+    ghost use Rattle.std.specs.Prelude.{◌≡◌, ◌*◌, ◌<◌, ◌^◌, IfOk, length, sum_by};
+    ghost use Rattle.topo_core.specs.Lawful.{Lawful};
+    ghost use Rattle.topo_core.specs.Picture.{segment_count};
+
+    /// The frozen picture with these rows, few enough for numbers of 32 bits, and with hints.
+    pub fn new(alloc: Global, rows: Rows, hints: Hints) -> Result<Self, AllocError>
+        requires lawful { Lawful rows }
+        requires few { 2 * sum_by segment_count rows.edges < 2 ^ 32 }
+        requires vertices { length rows.rotations < 2 ^ 32 }
+        requires crossings { length rows.crossings < 2 ^ 32 }
+        ensures { IfOk result (λ f. f.rows ≡ rows) }
+    {
+        let mut lists = NumberLists::new(alloc);
+        lists.fill(&rows, &hints)?;
+        Ok(Frozen { rows, hints, lists })
+    }
+
+    /// The rows.
+    pub fn rows(&self) -> &Rows
+        ensures rows { result.now ≡ self.now.rows }
+        ensures lawful { Lawful result.now }
+    {
+        &self.rows
+    }
+
+    /// The same, borrowed.
+    fn as_numbered(&self) -> Numbered<'_>
+        ensures { result.rows ≡ self.now.rows }
+    {
+        Numbered {
+            rows: &self.rows,
+            hints: &self.hints,
+            lists: &self.lists,
+        }
+    }
+}
+
+impl Walked for Frozen {
+    ghost use Rattle.topo_rows.specs.Recovering.{lawful_again};
+    ghost use Rattle.topo_route.specs.Names.{canonical};
+    ghost use Rattle.topo_dual.specs.NumberedRows.{names_again};
+
+    ghost named = { λ f. canonical f.rows };
+
+    fn size(&self) -> u32 {
+        self.as_numbered().size()
+    }
+
+    fn next(&self, dart: u32) -> u32 {
+        self.as_numbered().next(dart)
+    }
+
+    fn twin(&self, dart: u32) -> u32 {
+        self.as_numbered().twin(dart)
+    }
+
+    fn facts(&self, dart: u32) -> Facts {
+        self.as_numbered().facts(dart)
+    }
+
+    fn corner(&self, v: u32, position: u32) -> Option<u32> {
+        self.as_numbered().corner(v, position)
+    }
+
+    fn degree(&self, v: u32) -> u32 {
+        self.as_numbered().degree(v)
+    }
+
+    fn dart(&self, dart: u32) -> Dart {
+        self.as_numbered().dart(dart)
+    }
+
+    fn precedes(&self, dart: u32, other: u32) -> bool {
+        self.as_numbered().precedes(dart, other)
+    }
+
+    fn same_face(&self, dart: u32, other: u32) -> bool {
+        self.as_numbered().same_face(dart, other)
+    }
+
+    ghost lawful = { λ f. lawful_again f.rows f.lawful };
+
+    ghost has_names = { λ f. names_again f.rows f.lawful };
+}
+
+impl Dual for Frozen {
+    ghost use Rattle.std.specs.Prelude.{refl};
+
+    ghost shows = { λ f. f.rows };
+
+    fn tail(&self, dart: u32) -> Point {
+        self.as_numbered().tail(dart)
+    }
+
+    fn index(&self, dart: Dart) -> Option<u32> {
+        self.as_numbered().index(dart)
+    }
+
+    ghost numbered = { λ f. refl };
+}

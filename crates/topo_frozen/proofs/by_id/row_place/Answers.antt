@@ -1,6 +1,0 @@
-use Rattle.std.proofs.Common.{arith}
-use Rattle.topo_frozen.proofs.Finding.{placed_read}
-use Rattle.topo_frozen.proofs.by_id.row_place.Goals as goal
-
-pub returns-then-id : goal.returns-then-id
-returns-then-id g c = grind (arith, placed_read)

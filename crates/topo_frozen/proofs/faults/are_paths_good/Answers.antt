@@ -1,6 +1,0 @@
-use Rattle.std.proofs.Common.{arith}
-use Rattle.topo_frozen.proofs.PairTests.{paths_over}
-use Rattle.topo_frozen.proofs.faults.are_paths_good.Goals as goal
-
-pub returns : goal.returns
-returns c = grind (arith, paths_over)

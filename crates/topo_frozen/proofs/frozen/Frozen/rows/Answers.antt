@@ -1,5 +1,0 @@
-use Rattle.topo_frozen.specs.Recovering.{lawful_again}
-use Rattle.topo_frozen.proofs.frozen.Frozen.rows.Goals as goal
-
-pub returns-clause-lawful : goal.returns-clause-lawful
-returns-clause-lawful c = lawful_again c.self.inside.rows c.self.inside.lawful

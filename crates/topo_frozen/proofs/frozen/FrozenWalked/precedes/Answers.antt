@@ -1,6 +1,0 @@
-use Rattle.std.proofs.Common.{subst, sym}
-use Rattle.topo_route.specs.Names.{IsName, canonical}
-use Rattle.topo_frozen.proofs.frozen.FrozenWalked.precedes.Goals as goal
-
-pub precedes-requires-clause-other_there : goal.precedes-requires-clause-other_there
-precedes-requires-clause-other_there c = subst (λ rows. IsName (canonical rows) c.args.other) (sym c.as_numbered.ensures) c.requires.other_there

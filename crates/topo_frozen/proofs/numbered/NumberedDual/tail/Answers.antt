@@ -1,5 +1,0 @@
-use Rattle.topo_frozen.specs.Recovering.{well_formed_again}
-use Rattle.topo_frozen.proofs.numbered.NumberedDual.tail.Goals as goal
-
-pub tail_numbered-requires-clause-paths : goal.tail_numbered-requires-clause-paths
-tail_numbered-requires-clause-paths c = (well_formed_again c.self.inside.rows.now c.self.inside.lawful).paths

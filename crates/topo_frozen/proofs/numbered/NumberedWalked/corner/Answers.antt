@@ -1,5 +1,0 @@
-use Rattle.topo_frozen.specs.Recovering.{well_formed_again}
-use Rattle.topo_frozen.proofs.numbered.NumberedWalked.corner.Goals as goal
-
-pub corner_number-requires-clause-well_formed : goal.corner_number-requires-clause-well_formed
-corner_number-requires-clause-well_formed c = well_formed_again c.self.inside.rows.now c.self.inside.lawful

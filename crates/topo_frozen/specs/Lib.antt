@@ -1,9 +1,0 @@
-pub mod FaceLabels
-pub mod FaultTexts
-pub mod Flats
-pub mod Ids
-pub mod Loading
-pub mod Pairs
-pub mod Placed
-pub mod Recovering
-pub mod Shown

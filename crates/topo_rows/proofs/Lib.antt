@@ -1,0 +1,13 @@
+pub mod AroundPoints
+pub mod Begins
+pub mod Finding
+pub mod Linking
+pub mod Noting
+pub mod PairCounts
+pub mod PairTests
+pub mod Rounds
+pub mod RowDarts
+pub mod RowCounts
+pub mod Sorting
+pub mod Verdicts
+pub mod Written

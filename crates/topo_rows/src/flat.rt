@@ -1,0 +1,298 @@
+//! The flat lists of a well-formed picture: its darts as numbers in canonical order.
+
+ghost use Rattle.std.specs.Prelude.{◌≡◌, ◌+◌, ◌*◌, ◌<◌, ◌≤◌, ◌^◌, ◌++◌, ◌==◌, ℕ, true, IfOk, OnOk, IsTrue, ◌↔◌, find, length, map, flat_map, replicate, sum_by, is_some, slice_index};
+ghost use Rattle.std.specs.List.{list_all};
+ghost use Rattle.topo_core.specs.Lawful.{IsWellFormed, has_good_paths};
+ghost use Rattle.topo_core.specs.Picture.{segment_count, index_of, end_dart, edge_row, darts, rotation, vertices, turn_images};
+ghost use Rattle.topo_rows.specs.Ids.{IdsRise};
+ghost use Rattle.topo_rows.specs.Flats.{begins_from, written, links, note_place, path_notes, notes_from, vertex_round, crossing_round, round_ahead, AreAhead, AreTurnsOf};
+
+use crate::by_id::{place_of_crossing, place_of_edge};
+use crate::hints::Hints;
+use std::alloc::{AllocError, Global};
+use topo_core::darts::Sign;
+use topo_core::rows::{CrossRow, EdgeRow, Rows};
+
+/// Writes for each edge the number of its first dart, and last the number of all darts, over what the
+/// list held.
+pub fn fill_begins(begins: &mut Vec<u32>, edges: &[EdgeRow]) -> Result<(), AllocError>
+    requires { 2 * sum_by segment_count edges.now < 2 ^ 32 }
+    ensures { OnOk result (begins.new.items ≡ begins_from 0 edges.now) }
+{
+    begins.clear();
+    begins.reserve(edges.len() + 1)?;
+    let mut next = 0;
+    for row in edges {
+        begins.push(next)?;
+        next += 2 * (row.crossings.as_slice().len() as u32 + 1);
+    }
+    begins.push(next)?;
+    Ok(())
+}
+
+/// For each edge the number of its first dart, and last the number of all darts.
+fn begins_of(alloc: Global, edges: &[EdgeRow]) -> Result<Vec<u32>, AllocError>
+    requires { 2 * sum_by segment_count edges.now < 2 ^ 32 }
+    ensures { IfOk result (λ begins. begins.items ≡ begins_from 0 edges.now) }
+{
+    let mut begins = Vec::new(alloc);
+    fill_begins(&mut begins, edges)?;
+    Ok(begins)
+}
+
+/// Writes for each entry of a round what follows it.
+fn link_round(images: &mut [u32], round: &[u32])
+    requires { (k : ℕ) → k < length round.now → slice_index round.now k < length images.old }
+    ensures { images.new ≡ written images.old (links round.now) }
+{
+    for i in 0..round.len() {
+        let next = if i + 1 < round.len() {
+            round[i + 1]
+        } else {
+            round[0]
+        };
+        images[round[i] as usize] = next;
+    }
+}
+
+/// Where the dart ahead of crossing `x` on edge `e` is noted.
+fn note_place(crossings: &[CrossRow], hints: &Hints, e: u32, x: u32) -> usize
+    requires rise { IdsRise (map (λ c. c.id) crossings.now) }
+    requires there { is_some (find (λ c. c.id == x) crossings.now) ≡ true }
+    requires few { length crossings.now < 2 ^ 32 }
+    ensures place { result ≡ note_place crossings.now e x }
+    ensures within { result < 2 * length crossings.now }
+{
+    let place = place_of_crossing(crossings, hints, x);
+    if e == crossings[place].crossed {
+        2 * place
+    } else {
+        2 * place + 1
+    }
+}
+
+/// Notes for each crossing of a path the number of the dart ahead, where the path's first dart has
+/// the number `begin`.
+fn note_path(
+    ahead: &mut [u32],
+    crossings: &[CrossRow],
+    hints: &Hints,
+    e: u32,
+    begin: u32,
+    path: &[u32],
+)
+    requires rise { IdsRise (map (λ c. c.id) crossings.now) }
+    requires known { list_all (λ x. is_some (find (λ c. c.id == x) crossings.now)) path.now ≡ true }
+    requires few { length crossings.now < 2 ^ 32 }
+    requires fits { begin + 2 * (length path.now + 1) < 2 ^ 32 }
+    requires room { length ahead.old ≡ 2 * length crossings.now }
+    ensures { ahead.new ≡ written ahead.old (path_notes crossings.now e begin path.now) }
+{
+    for s in 0..path.len() {
+        ahead[note_place(crossings, hints, e, path[s])] = begin + 2 * s as u32 + 2;
+    }
+}
+
+/// Notes that for each path.
+fn note_paths(ahead: &mut [u32], crossings: &[CrossRow], hints: &Hints, edges: &[EdgeRow])
+    requires rise { IdsRise (map (λ c. c.id) crossings.now) }
+    requires known { list_all (λ row. list_all (λ x. is_some (find (λ c. c.id == x) crossings.now)) row.crossings) edges.now ≡ true }
+    requires few { length crossings.now < 2 ^ 32 }
+    requires fits { 2 * sum_by segment_count edges.now < 2 ^ 32 }
+    requires room { length ahead.old ≡ 2 * length crossings.now }
+    ensures { ahead.new ≡ written ahead.old (notes_from crossings.now 0 edges.now) }
+{
+    let mut begin = 0;
+    for row in edges {
+        let path = row.crossings.as_slice();
+        let next = begin + 2 * (path.len() as u32 + 1);
+        note_path(ahead, crossings, hints, row.id, begin, path);
+        begin = next;
+    }
+}
+
+/// Writes for each crossing the numbers of the darts ahead of it, on the crossed edge and on the
+/// newcomer, over what the list held.
+fn fill_ahead(ahead: &mut Vec<u32>, rows: &Rows, hints: &Hints) -> Result<(), AllocError>
+    requires well_formed { IsWellFormed rows.now }
+    requires few { 2 * sum_by segment_count rows.now.edges < 2 ^ 32 }
+    requires crossings { length rows.now.crossings < 2 ^ 32 }
+    ensures { OnOk result (AreAhead rows.now ahead.new.items) }
+{
+    let crossings = rows.crossings.as_slice();
+    if crossings.is_empty() {
+        ahead.clear();
+        return Ok(());
+    }
+    ahead.resize(2 * crossings.len(), 0)?;
+    note_paths(ahead, crossings, hints, rows.edges.as_slice());
+    Ok(())
+}
+
+/// The number of the dart of edge `e` that starts at its end `v`.
+pub fn end_number(rows: &Rows, begins: &[u32], hints: &Hints, v: u32, e: u32) -> u32
+    requires paths { has_good_paths rows.now ≡ true }
+    requires begins { begins.now ≡ begins_from 0 rows.now.edges }
+    requires there { is_some (edge_row rows.now e) ≡ true }
+    ensures { result ≡ index_of rows.now (end_dart rows.now v e) }
+{
+    let edges = rows.edges.as_slice();
+    let place = place_of_edge(edges, hints, e);
+    let row = &edges[place];
+    if row.a == v {
+        begins[place]
+    } else {
+        begins[place + 1] - 1
+    }
+}
+
+/// Writes the turns round a vertex.
+fn link_vertex(images: &mut [u32], rows: &Rows, begins: &[u32], hints: &Hints, v: u32)
+    requires well_formed { IsWellFormed rows.now }
+    requires begins { begins.now ≡ begins_from 0 rows.now.edges }
+    requires vertex { v < length rows.now.rotations }
+    requires room { length images.old ≡ length (darts rows.now) }
+    ensures { images.new ≡ written images.old (links (vertex_round rows.now v)) }
+{
+    let around = rows.rotations.as_slice()[v as usize].as_slice();
+    if around.is_empty() {
+        return;
+    }
+    let first = end_number(rows, begins, hints, v, around[0]);
+    let mut here = first;
+    for i in 1..around.len() {
+        let next = end_number(rows, begins, hints, v, around[i]);
+        images[here as usize] = next;
+        here = next;
+    }
+    images[here as usize] = first;
+}
+
+/// Writes the turns round the vertices.
+fn link_vertices(images: &mut [u32], rows: &Rows, begins: &[u32], hints: &Hints)
+    requires well_formed { IsWellFormed rows.now }
+    requires begins { begins.now ≡ begins_from 0 rows.now.edges }
+    requires vertices { length rows.now.rotations < 2 ^ 32 }
+    requires room { length images.old ≡ length (darts rows.now) }
+    ensures { images.new ≡ written images.old (flat_map (λ v. links (vertex_round rows.now v)) (vertices rows.now)) }
+{
+    for v in 0..rows.rotations.as_slice().len() {
+        link_vertex(images, rows, begins, hints, v as u32);
+    }
+}
+
+/// Writes the turns round a crossing, from the numbers of the darts ahead of it.
+fn link_crossing(images: &mut [u32], sign: Sign, crossed: u32, newcomer: u32)
+    requires crossed { 0 < crossed }
+    requires newcomer { 0 < newcomer }
+    requires crossed_within { crossed < length images.old }
+    requires newcomer_within { newcomer < length images.old }
+    ensures { images.new ≡ written images.old (links (round_ahead sign crossed newcomer)) }
+{
+    let round = match sign {
+        Sign::LeftToRight => [crossed, newcomer, crossed - 1, newcomer - 1],
+        Sign::RightToLeft => [crossed, newcomer - 1, crossed - 1, newcomer],
+    };
+    link_round(images, &round);
+}
+
+/// Writes the turns round the crossings.
+fn link_crossings(images: &mut [u32], rows: &Rows, ahead: &[u32])
+    requires well_formed { IsWellFormed rows.now }
+    requires crossings { length rows.now.crossings < 2 ^ 32 }
+    requires ahead { AreAhead rows.now ahead.now }
+    requires room { length images.old ≡ length (darts rows.now) }
+    ensures { images.new ≡ written images.old (flat_map (λ x. links (crossing_round rows.now x)) rows.now.crossings) }
+{
+    let crossings = rows.crossings.as_slice();
+    for i in 0..crossings.len() {
+        link_crossing(images, crossings[i].sign, ahead[2 * i], ahead[2 * i + 1]);
+    }
+}
+
+/// Writes the images of the turn, from the numbers of the darts ahead of the crossings.
+fn link_points(images: &mut [u32], rows: &Rows, begins: &[u32], hints: &Hints, ahead: &[u32])
+    requires well_formed { IsWellFormed rows.now }
+    requires begins { begins.now ≡ begins_from 0 rows.now.edges }
+    requires vertices { length rows.now.rotations < 2 ^ 32 }
+    requires crossings { length rows.now.crossings < 2 ^ 32 }
+    requires ahead { AreAhead rows.now ahead.now }
+    requires room { length images.old ≡ length (darts rows.now) }
+    ensures { images.new ≡ turn_images rows.now }
+{
+    link_vertices(images, rows, begins, hints);
+    link_crossings(images, rows, ahead);
+}
+
+/// How many darts there are.
+pub(crate) fn dart_count(rows: &Rows, begins: &[u32]) -> usize
+    requires { begins.now ≡ begins_from 0 rows.now.edges }
+    ensures { result ≡ length (darts rows.now) }
+{
+    let last = rows.edges.as_slice().len();
+    begins[last] as usize
+}
+
+/// Writes the images of the turn in canonical numbers, where the darts of the edges begin as said, over
+/// what the list held. Another list is for the numbers of the darts ahead of the crossings.
+pub fn fill_turns(
+    turns: &mut Vec<u32>,
+    ahead: &mut Vec<u32>,
+    rows: &Rows,
+    begins: &[u32],
+    hints: &Hints,
+) -> Result<(), AllocError>
+    requires well_formed { IsWellFormed rows.now }
+    requires begins { begins.now ≡ begins_from 0 rows.now.edges }
+    requires few { 2 * sum_by segment_count rows.now.edges < 2 ^ 32 }
+    requires vertices { length rows.now.rotations < 2 ^ 32 }
+    requires crossings { length rows.now.crossings < 2 ^ 32 }
+    ensures { OnOk result (turns.new.items ≡ turn_images rows.now) }
+{
+    fill_ahead(ahead, rows, hints)?;
+    turns.resize(dart_count(rows, begins), 0)?;
+    link_points(turns, rows, begins, hints, ahead.as_slice());
+    Ok(())
+}
+
+/// How the darts of rows turn, in canonical numbers, with what that was worked out from.
+#[derive(Drop)]
+pub struct Turns {
+    /// For each dart the next one clockwise at its point.
+    pub images: Vec<u32>,
+    /// For each edge the number of its first dart, and last the number of all darts.
+    pub begins: Vec<u32>,
+    /// Places of rows by their ids, to be tried before a search.
+    pub hints: Hints,
+}
+
+/// How the darts of rows turn, in canonical numbers.
+pub fn turns_of(alloc: Global, rows: &Rows) -> Result<Turns, AllocError>
+    requires well_formed { IsWellFormed rows.now }
+    requires few { 2 * sum_by segment_count rows.now.edges < 2 ^ 32 }
+    requires vertices { length rows.now.rotations < 2 ^ 32 }
+    requires crossings { length rows.now.crossings < 2 ^ 32 }
+    ensures { IfOk result (λ turns. AreTurnsOf rows.now turns.begins.items turns.images.items) }
+{
+    let hints = Hints::of(alloc, rows)?;
+    hinted_turns(alloc, rows, hints)
+}
+
+/// The same, where hints are made already.
+pub(crate) fn hinted_turns(alloc: Global, rows: &Rows, hints: Hints) -> Result<Turns, AllocError>
+    requires well_formed { IsWellFormed rows.now }
+    requires few { 2 * sum_by segment_count rows.now.edges < 2 ^ 32 }
+    requires vertices { length rows.now.rotations < 2 ^ 32 }
+    requires crossings { length rows.now.crossings < 2 ^ 32 }
+    ensures { IfOk result (λ turns. AreTurnsOf rows.now turns.begins.items turns.images.items) }
+{
+    let begins = begins_of(alloc, rows.edges.as_slice())?;
+    let mut ahead = Vec::new(alloc);
+    let mut images = Vec::new(alloc);
+    fill_turns(&mut images, &mut ahead, rows, begins.as_slice(), &hints)?;
+    Ok(Turns {
+        images,
+        begins,
+        hints,
+    })
+}

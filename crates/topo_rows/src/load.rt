@@ -1,0 +1,179 @@
+//! Rows that are handed in: the first test that they fail.
+
+use crate::faults::{are_crossings_good, are_paths_good, are_rotations_good, within_limits};
+use crate::flat::{Turns, hinted_turns};
+use crate::hints::Hints;
+use std::alloc::{AllocError, Global};
+use std::error::Error;
+use std::fmt;
+use topo_core::limits::Limits;
+use topo_core::listed::Listed;
+use topo_core::rows::Rows;
+use topo_perm::{cycles, is_connected};
+
+/// Why rows are not loaded.
+#[derive(Clone, Copy, Debug, Drop, PartialEq, Eq)]
+pub enum LoadFault {
+    /// There are more vertices than the limit, or a counter is above its limit.
+    TooMany,
+    /// Edge ids do not rise or are not below the next, an end is no vertex, the ends are equal, a
+    /// kind is above 63, or a path names a crossing that is not there.
+    BadPath,
+    /// Crossing ids do not rise or are not below the next, the two edges are equal or not there, or a
+    /// crossing is not once in each of their paths and in no other.
+    BadCrossing,
+    /// An edge is not once in the list of each of its ends, a list has something else, or it does not
+    /// begin with its least id.
+    BadRotation,
+    /// A point has no dart, or two darts are not joined.
+    NotConnected,
+    /// Euler's formula does not give 2.
+    NotPlanar,
+    /// A growth of memory was refused.
+    Memory,
+}
+
+impl LoadFault {
+    ghost use Rattle.std.specs.Prelude.{◌≡◌};
+    ghost use Rattle.topo_rows.specs.FaultTexts.{fault_name, fault_number};
+
+    /// The number that is written before the name of the fault.
+    pub fn number(&self) -> u32
+        ensures { result ≡ fault_number self.now }
+    {
+        match self {
+            LoadFault::TooMany => 20,
+            LoadFault::BadPath => 21,
+            LoadFault::BadCrossing => 22,
+            LoadFault::BadRotation => 23,
+            LoadFault::NotConnected => 24,
+            LoadFault::NotPlanar => 25,
+            LoadFault::Memory => 8,
+        }
+    }
+
+    /// The name of the fault.
+    pub fn name(&self) -> &'static str
+        ensures { result.now ≡ fault_name self.now }
+    {
+        match self {
+            LoadFault::TooMany => "TooMany",
+            LoadFault::BadPath => "BadPath",
+            LoadFault::BadCrossing => "BadCrossing",
+            LoadFault::BadRotation => "BadRotation",
+            LoadFault::NotConnected => "NotConnected",
+            LoadFault::NotPlanar => "NotPlanar",
+            LoadFault::Memory => "Memory",
+        }
+    }
+}
+
+impl fmt::Display for LoadFault {
+    ghost use Rattle.std.specs.Prelude.{Some};
+    ghost use Rattle.topo_rows.specs.FaultTexts.{fault_text};
+
+    ghost output = { λ fault. Some (fault_text fault) };
+
+    fn fmt<W: fmt::Write>(&self, f: &mut fmt::Formatter<W>) -> fmt::Result {
+        let number = self.number();
+        let name = self.name();
+        write!(f, "{number} {name}")
+    }
+}
+
+impl Error for LoadFault {}
+
+ghost use Rattle.std.specs.Prelude.{◌≡◌, ◌≢◌, ◌==◌, ◌+◌, ◌%◌, ◌<◌, ◌≤◌, ◌*◌, ◌^◌, ◌↔◌, IfErr, IfOk, IsTrue, length, sum_by};
+ghost use Rattle.std.specs.List.{list_any};
+ghost use Rattle.topo_core.specs.Cycles.{IsPermutationList};
+ghost use Rattle.topo_core.specs.Lawful.{HasGenusZero, IsWellFormed};
+ghost use Rattle.topo_core.specs.Picture.{segment_count, system, turn_images};
+ghost use Rattle.topo_core.specs.Rotations.{faces_of};
+ghost use Rattle.topo_core.specs.Systems.{Connected};
+ghost use Rattle.topo_rows.specs.Flats.{AreTurnsOf};
+ghost use Rattle.topo_rows.specs.Loading.{FailsFirst};
+ghost use Rattle.topo_rows.specs.Shown.{IsPicture};
+
+/// The number of faces of a rotation system: the cycles of the turn after the twin.
+fn faces(alloc: Global, images: &[u32]) -> Result<u64, AllocError>
+    requires permutation { IsPermutationList images.now }
+    requires even { length images.now % 2 ≡ 0 }
+    ensures { IfOk result (λ count. count ≡ faces_of images.now) }
+{
+    let mut nexts = Vec::with_capacity(alloc, images.len())?;
+    for dart in 0..images.len() {
+        let twin = if dart % 2 == 0 { dart + 1 } else { dart - 1 };
+        nexts.push(images[twin])?;
+    }
+    let count = cycles(alloc, &nexts)?;
+    Ok(count)
+}
+
+/// Whether a vertex has no edge.
+fn has_bare_vertex(rotations: &[Listed<u32>]) -> bool
+    ensures { result ≡ list_any (λ around. length around == 0) rotations.now }
+{
+    rotations.iter().any(|around| around.as_slice().is_empty())
+}
+
+/// Whether the rotation system of rows is connected, from the images of its turn.
+fn is_whole(alloc: Global, rows: &Rows, images: &[u32]) -> Result<bool, AllocError>
+    requires well_formed { IsWellFormed rows.now }
+    requires images { images.now ≡ turn_images rows.now }
+    ensures { IfOk result (λ yes. IsTrue yes ↔ Connected (system rows.now)) }
+{
+    if has_bare_vertex(rows.rotations.as_slice()) {
+        return Ok(false);
+    }
+    let joined = is_connected(alloc, images)?;
+    Ok(joined)
+}
+
+/// Whether Euler's formula gives 2.
+fn has_genus_zero(alloc: Global, rows: &Rows, images: &[u32]) -> Result<bool, AllocError>
+    requires well_formed { IsWellFormed rows.now }
+    requires images { images.now ≡ turn_images rows.now }
+    requires few { 2 * sum_by segment_count rows.now.edges < 2 ^ 32 }
+    requires vertices { length rows.now.rotations < 2 ^ 32 }
+    requires crossings { length rows.now.crossings < 2 ^ 32 }
+    ensures { IfOk result (λ yes. IsTrue yes ↔ HasGenusZero rows.now) }
+{
+    let points = rows.rotations.as_slice().len() + rows.crossings.as_slice().len();
+    let segments = images.len() / 2;
+    Ok(faces(alloc, images)? + points as u64 == segments as u64 + 2)
+}
+
+/// How the darts turn of rows that are a picture within the limits, or else the first test that the rows
+/// fail. Want of memory is an error, and no such test.
+pub fn judge(
+    alloc: Global,
+    limits: &Limits,
+    rows: &Rows,
+) -> Result<Result<Turns, LoadFault>, AllocError>
+    ensures picture { IfOk result (λ judged. IfOk judged (λ _. IsPicture limits.now rows.now)) }
+    ensures turns { IfOk result (λ judged. IfOk judged (λ turns. AreTurnsOf rows.now turns.begins.items turns.images.items)) }
+    ensures first { IfOk result (λ judged. IfErr judged (FailsFirst limits.now rows.now)) }
+    ensures no_memory { IfOk result (λ judged. IfErr judged (λ fault. fault ≢ LoadFault.Memory)) }
+{
+    if !within_limits(limits, rows) {
+        return Ok(Err(LoadFault::TooMany));
+    }
+    if !are_paths_good(alloc, rows)? {
+        return Ok(Err(LoadFault::BadPath));
+    }
+    let hints = Hints::of(alloc, rows)?;
+    if !are_crossings_good(alloc, rows, &hints)? {
+        return Ok(Err(LoadFault::BadCrossing));
+    }
+    if !are_rotations_good(alloc, rows, &hints)? {
+        return Ok(Err(LoadFault::BadRotation));
+    }
+    let turns = hinted_turns(alloc, rows, hints)?;
+    if !is_whole(alloc, rows, &turns.images)? {
+        return Ok(Err(LoadFault::NotConnected));
+    }
+    if !has_genus_zero(alloc, rows, &turns.images)? {
+        return Ok(Err(LoadFault::NotPlanar));
+    }
+    Ok(Ok(turns))
+}
