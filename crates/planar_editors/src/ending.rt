@@ -9,10 +9,10 @@ use topo_core::calls::{Entry, Reply};
 use topo_picture::Picture;
 use topo_price::tariff::Asks;
 use topo_service::close::CloseFault;
-use topo_versions::{Naming, StoreReader};
+use topo_versions::{ServiceBrand, StoreReader};
 
 /// How the service ended: with a book, whose history is that of one thread, or with a fault.
-pub(crate) fn tell<F: Asks + Drop, K: Naming<F>, R: Print + AllocGlobal>(
+pub(crate) fn tell<F: Asks + Drop, K: ServiceBrand<F>, R: Print + AllocGlobal>(
     rt: &R,
     served: Result<()>,
     end: &Result<Book<F>, CloseFault<F, K, StoreReader<F, K>>>,

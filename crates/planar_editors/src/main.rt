@@ -26,8 +26,8 @@ use topo_core::limits::Limits;
 use topo_core::rows::Facts;
 use topo_picture::Picture;
 use topo_price::tariff::{Asks, Tariff};
-use topo_service::{Pass, Service, Unopened};
-use topo_versions::Naming;
+use topo_service::{FreshService, Pass, Service};
+use topo_versions::ServiceBrand;
 
 /// How many editors there are. Their passes have the numbers from 0 on, the viewer's comes after them.
 const EDITORS: u32 = 2;
@@ -56,23 +56,23 @@ fn begin<F: Asks + Drop + Send + Sync, R: Threads + Wait + Print + AllocGlobal +
     // two vertices, 0 and 1, with an edge between them
     let start = Picture::seed(alloc, limits)?;
     let tariff = Arc::new(alloc, Tariff::new(prices))?;
-    share::<F, Brand, R>(rt, alloc, Unopened::new(), start, tariff)
+    share::<F, Brand, R>(rt, alloc, FreshService::new(), start, tariff)
 }
 
 /// Two editors and a viewer at one service. The service and the passes are owned here, and handed back to it
 /// whatever happened: it has to be closed.
 fn share<
     F: Asks + Drop + Send + Sync,
-    K: Naming<F> + Send + Sync,
+    K: ServiceBrand<F> + Send + Sync,
     R: Threads + Wait + Print + AllocGlobal + Sync,
->(rt: &R, alloc: Global, unopened: Unopened, start: Picture, tariff: Arc<Tariff<F>>) -> Result<()>
-    requires ledger { (unopened.blank.name ≡ K.name) × (unopened.blank.parts ≡ K.parts) }
+>(rt: &R, alloc: Global, fresh: FreshService, start: Picture, tariff: Arc<Tariff<F>>) -> Result<()>
+    requires ledger { (fresh.blank.name ≡ K.name) × (fresh.blank.parts ≡ K.parts) }
     requires parts { K.parts ≡ 16 }
-    requires list { unopened.opened.seen.book ≡ K.book }
+    requires list { fresh.opened.seen.book ≡ K.book }
     requires start { start ≡ K.start }
     requires prices { K.closure ≡ Some (arc_value tariff) }
 {
-    let mut service = Service::<F, K>::new(alloc, unopened, start, tariff)?;
+    let mut service = Service::<F, K>::new(alloc, fresh, start, tariff)?;
     let mut passes = Vec::new(alloc);
     let served = serve(rt, alloc, &mut service, &mut passes);
     let end = service.close(rt, passes);
@@ -80,7 +80,7 @@ fn share<
 }
 
 /// Gives the passes out, and lets everybody do their work.
-fn serve<F: Asks + Drop + Send + Sync, K: Naming<F> + Send + Sync, R: Threads + Wait + Sync>(
+fn serve<F: Asks + Drop + Send + Sync, K: ServiceBrand<F> + Send + Sync, R: Threads + Wait + Sync>(
     rt: &R,
     alloc: Global,
     service: &mut Service<F, K>,
@@ -95,7 +95,7 @@ fn serve<F: Asks + Drop + Send + Sync, K: Naming<F> + Send + Sync, R: Threads + 
 }
 
 /// A pass for each editor and one for the viewer.
-fn give_out<F: Asks + Drop, K: Naming<F>>(
+fn give_out<F: Asks + Drop, K: ServiceBrand<F>>(
     service: &mut Service<F, K>,
     passes: &mut Vec<Pass<F, K>>,
 ) -> Result<()> {
@@ -109,7 +109,7 @@ fn give_out<F: Asks + Drop, K: Naming<F>>(
 }
 
 /// A thread for each pass: the first ones edit, the last one looks. It says whether each came to its end.
-fn work<F: Asks + Drop + Send + Sync, K: Naming<F> + Send + Sync, R: Threads + Wait + Sync>(
+fn work<F: Asks + Drop + Send + Sync, K: ServiceBrand<F> + Send + Sync, R: Threads + Wait + Sync>(
     rt: &R,
     alloc: Global,
     service: &Service<F, K>,

@@ -5,7 +5,7 @@ use std::sync::Wait;
 use topo_core::calls::Reply;
 use topo_price::tariff::Asks;
 use topo_service::{Pass, Service};
-use topo_versions::Naming;
+use topo_versions::ServiceBrand;
 
 /// How many vertices an editor draws.
 const STEPS: u32 = 8;
@@ -18,7 +18,7 @@ pub(crate) const LOOKS: u32 = 200;
 ///
 /// The calls of the other editor come in between, so which numbers its vertices and edges get, and which
 /// edges of the other it crosses, is another in each run. It learns that from the replies.
-pub(crate) fn edit<F: Asks + Drop, K: Naming<F>, R: Wait>(
+pub(crate) fn edit<F: Asks + Drop, K: ServiceBrand<F>, R: Wait>(
     rt: &R,
     alloc: Global,
     service: &Service<F, K>,
@@ -45,7 +45,7 @@ pub(crate) fn edit<F: Asks + Drop, K: Naming<F>, R: Wait>(
 
 /// A new edge. Where it goes is looked for on a view, while others make their calls. The service takes that
 /// route as it is where no call changed the picture meanwhile, and else looks for it under the lock.
-fn draw<F: Asks + Drop, K: Naming<F>, R: Wait>(
+fn draw<F: Asks + Drop, K: ServiceBrand<F>, R: Wait>(
     rt: &R,
     alloc: Global,
     service: &Service<F, K>,
@@ -62,7 +62,7 @@ fn draw<F: Asks + Drop, K: Naming<F>, R: Wait>(
 
 /// Takes views while the editors work. It says whether none was earlier than the one before, and none had
 /// fewer vertices, of which no editor takes one out.
-pub(crate) fn watch<F: Asks + Drop, K: Naming<F>>(pass: &mut Pass<F, K>) -> bool {
+pub(crate) fn watch<F: Asks + Drop, K: ServiceBrand<F>>(pass: &mut Pass<F, K>) -> bool {
     let mut number = 0;
     let mut vertices = 0;
     for _ in 0..LOOKS {

@@ -14,7 +14,7 @@ use topo_core::calls::{Call, Refusal, Reply};
 use topo_price::tariff::Asks;
 use topo_route::plan::Plan;
 use topo_service::{Pass, PassFault, Service};
-use topo_versions::{Naming, Version};
+use topo_versions::{ServiceBrand, Version};
 
 /// The ends of the edges that are put in: the apexes.
 pub(crate) const ENDS: (u32, u32) = (3, 4);
@@ -54,7 +54,7 @@ fn name_of(call: Call, plan: Option<&Plan>) -> &'static str {
 }
 
 /// Makes a call.
-fn made<F: Asks + Drop, K: Naming<F>, R: Wait>(
+fn made<F: Asks + Drop, K: ServiceBrand<F>, R: Wait>(
     rt: &R,
     service: &Service<F, K>,
     pass: &mut Pass<F, K>,
@@ -72,7 +72,7 @@ fn made<F: Asks + Drop, K: Naming<F>, R: Wait>(
 }
 
 /// Makes a call with the pass that calls.
-fn called<F: Asks + Drop, K: Naming<F>, R: Wait>(
+fn called<F: Asks + Drop, K: ServiceBrand<F>, R: Wait>(
     rt: &R,
     service: &Service<F, K>,
     passes: &mut [Pass<F, K>],
@@ -92,7 +92,7 @@ fn print_reply<R: Print>(rt: &R, name: &str, call: Call, reply: &Reply) -> Resul
 }
 
 /// What a call is answered, which is made once more where it wants memory.
-fn answered<F: Asks + Drop, K: Naming<F>, R: Wait + Print + Eprint + AllocGlobal>(
+fn answered<F: Asks + Drop, K: ServiceBrand<F>, R: Wait + Print + Eprint + AllocGlobal>(
     rt: &R,
     service: &Service<F, K>,
     passes: &mut [Pass<F, K>],
@@ -104,7 +104,7 @@ fn answered<F: Asks + Drop, K: Naming<F>, R: Wait + Print + Eprint + AllocGlobal
 }
 
 /// The same of a service that was so before.
-fn answered_from<F: Asks + Drop, K: Naming<F>, R: Wait + Print + Eprint + AllocGlobal>(
+fn answered_from<F: Asks + Drop, K: ServiceBrand<F>, R: Wait + Print + Eprint + AllocGlobal>(
     rt: &R,
     service: &Service<F, K>,
     passes: &mut [Pass<F, K>],
@@ -122,7 +122,7 @@ fn answered_from<F: Asks + Drop, K: Naming<F>, R: Wait + Print + Eprint + AllocG
 }
 
 /// Makes a call. The service is printed.
-fn make<F: Asks + Drop, K: Naming<F>, R: Wait + Print + Eprint + AllocGlobal>(
+fn make<F: Asks + Drop, K: ServiceBrand<F>, R: Wait + Print + Eprint + AllocGlobal>(
     rt: &R,
     service: &Service<F, K>,
     passes: &mut [Pass<F, K>],
@@ -137,7 +137,7 @@ fn make<F: Asks + Drop, K: Naming<F>, R: Wait + Print + Eprint + AllocGlobal>(
 }
 
 /// What the pass that plans is answered.
-fn plan_with<F: Asks + Drop, K: Naming<F>, R: AllocGlobal>(
+fn plan_with<F: Asks + Drop, K: ServiceBrand<F>, R: AllocGlobal>(
     rt: &R,
     service: &Service<F, K>,
     passes: &mut [Pass<F, K>],
@@ -170,7 +170,7 @@ fn plan_of<R: Print>(rt: &R, answer: Result<Plan, PassFault>) -> Result<Plan> {
 }
 
 /// A plan, which is made once more where it wants memory.
-fn planned<F: Asks + Drop, K: Naming<F>, R: Print + Eprint + AllocGlobal>(
+fn planned<F: Asks + Drop, K: ServiceBrand<F>, R: Print + Eprint + AllocGlobal>(
     rt: &R,
     service: &Service<F, K>,
     passes: &mut [Pass<F, K>],
@@ -186,7 +186,7 @@ fn planned<F: Asks + Drop, K: Naming<F>, R: Print + Eprint + AllocGlobal>(
 }
 
 /// The first calls.
-fn make_first<F: Asks + Drop, K: Naming<F>, R: Wait + Print + Eprint + AllocGlobal>(
+fn make_first<F: Asks + Drop, K: ServiceBrand<F>, R: Wait + Print + Eprint + AllocGlobal>(
     rt: &R,
     service: &Service<F, K>,
     passes: &mut [Pass<F, K>],
@@ -199,7 +199,7 @@ fn make_first<F: Asks + Drop, K: Naming<F>, R: Wait + Print + Eprint + AllocGlob
 }
 
 /// Two insertions by one plan, which suits the first.
-fn insert_twice<F: Asks + Drop, K: Naming<F>, R: Wait + Print + Eprint + AllocGlobal>(
+fn insert_twice<F: Asks + Drop, K: ServiceBrand<F>, R: Wait + Print + Eprint + AllocGlobal>(
     rt: &R,
     service: &Service<F, K>,
     passes: &mut [Pass<F, K>],
@@ -211,7 +211,7 @@ fn insert_twice<F: Asks + Drop, K: Naming<F>, R: Wait + Print + Eprint + AllocGl
 }
 
 /// A plan, and two insertions by it.
-fn insert_by_plan<F: Asks + Drop, K: Naming<F>, R: Wait + Print + Eprint + AllocGlobal>(
+fn insert_by_plan<F: Asks + Drop, K: ServiceBrand<F>, R: Wait + Print + Eprint + AllocGlobal>(
     rt: &R,
     service: &Service<F, K>,
     passes: &mut [Pass<F, K>],
@@ -225,7 +225,7 @@ fn insert_by_plan<F: Asks + Drop, K: Naming<F>, R: Wait + Print + Eprint + Alloc
 /// The first calls, insertions by a plan, the deletion of an edge that is crossed, a list that a worker carries out, and insertions by a route that was found.
 fn make_all<
     F: Asks + Drop + Send + Sync,
-    K: Naming<F> + Send + Sync,
+    K: ServiceBrand<F> + Send + Sync,
     R: Threads + Wait + Print + Eprint + AllocGlobal + Sync,
 >(rt: &R, service: &Service<F, K>, passes: &mut [Pass<F, K>]) -> Result<()> {
     make_first(rt, service, passes)?;
@@ -236,7 +236,7 @@ fn make_all<
 }
 
 /// Prints a version that was kept from before the first call on.
-fn show_kept<F: Asks + Drop, K: Naming<F>, R: Print + Eprint + AllocGlobal>(
+fn show_kept<F: Asks + Drop, K: ServiceBrand<F>, R: Print + Eprint + AllocGlobal>(
     rt: &R,
     told: Result<()>,
     kept: &Version<F, K>,
@@ -251,7 +251,7 @@ fn show_kept<F: Asks + Drop, K: Naming<F>, R: Print + Eprint + AllocGlobal>(
 /// The calls, while a version is kept, so that its picture cannot be carried on.
 pub(crate) fn tell_deeds<
     F: Asks + Drop + Send + Sync,
-    K: Naming<F> + Send + Sync,
+    K: ServiceBrand<F> + Send + Sync,
     R: Threads + Wait + Print + Eprint + AllocGlobal + Sync,
 >(rt: &R, service: &Service<F, K>, passes: &mut [Pass<F, K>]) -> Result<()> {
     let Some(looker) = passes.get_mut(LOOKER) else {

@@ -9,13 +9,13 @@ use std::sync::Wait;
 use topo_core::calls::{Refusal, Reply};
 use topo_price::tariff::Asks;
 use topo_service::{FoundRoute, Pass, PassFault, Service};
-use topo_versions::Naming;
+use topo_versions::ServiceBrand;
 
 /// The kind of the edges that are put in.
 const KIND: u32 = 0;
 
 /// What the pass that plans is answered.
-fn find_with<F: Asks + Drop, K: Naming<F>, R: AllocGlobal>(
+fn find_with<F: Asks + Drop, K: ServiceBrand<F>, R: AllocGlobal>(
     rt: &R,
     service: &Service<F, K>,
     passes: &mut [Pass<F, K>],
@@ -28,7 +28,7 @@ fn find_with<F: Asks + Drop, K: Naming<F>, R: AllocGlobal>(
 }
 
 /// Prints a route that was found.
-fn print_found<F: Asks + Drop, K: Naming<F>, R: Print>(
+fn print_found<F: Asks + Drop, K: ServiceBrand<F>, R: Print>(
     rt: &R,
     found: &FoundRoute<F, K>,
 ) -> Result<()> {
@@ -38,7 +38,7 @@ fn print_found<F: Asks + Drop, K: Naming<F>, R: Print>(
 }
 
 /// The route that was answered.
-fn route_of<F: Asks + Drop, K: Naming<F>>(
+fn route_of<F: Asks + Drop, K: ServiceBrand<F>>(
     answer: Result<FoundRoute<F, K>, PassFault>,
 ) -> Result<FoundRoute<F, K>> {
     match answer {
@@ -48,7 +48,7 @@ fn route_of<F: Asks + Drop, K: Naming<F>>(
 }
 
 /// A route, which is looked for once more where the search wants memory.
-fn found<F: Asks + Drop, K: Naming<F>, R: Print + Eprint + AllocGlobal>(
+fn found<F: Asks + Drop, K: ServiceBrand<F>, R: Print + Eprint + AllocGlobal>(
     rt: &R,
     service: &Service<F, K>,
     passes: &mut [Pass<F, K>],
@@ -64,7 +64,7 @@ fn found<F: Asks + Drop, K: Naming<F>, R: Print + Eprint + AllocGlobal>(
 }
 
 /// The pass that calls inserts an edge by the route.
-fn insert_with<F: Asks + Drop, K: Naming<F>, R: Wait>(
+fn insert_with<F: Asks + Drop, K: ServiceBrand<F>, R: Wait>(
     rt: &R,
     service: &Service<F, K>,
     passes: &mut [Pass<F, K>],
@@ -83,7 +83,7 @@ fn print_answer<R: Print>(rt: &R, answer: &Result<Reply, AllocError>) -> Result<
 }
 
 /// What an insertion by the route is answered, which is made once more where it wants memory.
-fn inserted<F: Asks + Drop, K: Naming<F>, R: Wait + Print + Eprint + AllocGlobal>(
+fn inserted<F: Asks + Drop, K: ServiceBrand<F>, R: Wait + Print + Eprint + AllocGlobal>(
     rt: &R,
     service: &Service<F, K>,
     passes: &mut [Pass<F, K>],
@@ -100,7 +100,7 @@ fn inserted<F: Asks + Drop, K: Naming<F>, R: Wait + Print + Eprint + AllocGlobal
 }
 
 /// An insertion by the route. The service is printed.
-fn insert<F: Asks + Drop, K: Naming<F>, R: Wait + Print + Eprint + AllocGlobal>(
+fn insert<F: Asks + Drop, K: ServiceBrand<F>, R: Wait + Print + Eprint + AllocGlobal>(
     rt: &R,
     service: &Service<F, K>,
     passes: &mut [Pass<F, K>],
@@ -114,7 +114,7 @@ fn insert<F: Asks + Drop, K: Naming<F>, R: Wait + Print + Eprint + AllocGlobal>(
 }
 
 /// Two insertions by one route.
-fn insert_twice<F: Asks + Drop, K: Naming<F>, R: Wait + Print + Eprint + AllocGlobal>(
+fn insert_twice<F: Asks + Drop, K: ServiceBrand<F>, R: Wait + Print + Eprint + AllocGlobal>(
     rt: &R,
     service: &Service<F, K>,
     passes: &mut [Pass<F, K>],
@@ -129,7 +129,7 @@ fn insert_twice<F: Asks + Drop, K: Naming<F>, R: Wait + Print + Eprint + AllocGl
 /// A route is found, and two edges are inserted by it.
 pub(crate) fn insert_by_search<
     F: Asks + Drop,
-    K: Naming<F>,
+    K: ServiceBrand<F>,
     R: Wait + Print + Eprint + AllocGlobal,
 >(rt: &R, service: &Service<F, K>, passes: &mut [Pass<F, K>]) -> Result<()> {
     let found = found(rt, service, passes)?;

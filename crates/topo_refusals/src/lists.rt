@@ -10,7 +10,7 @@ use std::thread::Threads;
 use topo_core::calls::{Call, Command};
 use topo_price::tariff::Asks;
 use topo_service::{Gate, Pass, Receipt, Service, WorkerEnd, run_workers};
-use topo_versions::Naming;
+use topo_versions::ServiceBrand;
 
 /// What the worker does.
 const COMMANDS: &[Command] = &[
@@ -56,7 +56,7 @@ fn listed<R: Eprint + AllocGlobal>(
 }
 
 /// How many receipts the pass has whose list is run.
-fn receipts<F: Asks + Drop, K: Naming<F>>(passes: &[Pass<F, K>]) -> usize {
+fn receipts<F: Asks + Drop, K: ServiceBrand<F>>(passes: &[Pass<F, K>]) -> usize {
     match passes.get(CALLER) {
         Some(pass) => pass.receipts().len(),
         None => 0,
@@ -66,7 +66,7 @@ fn receipts<F: Asks + Drop, K: Naming<F>>(passes: &[Pass<F, K>]) -> usize {
 /// How a worker ended with the commands of a list.
 fn run_list<
     F: Asks + Drop + Send + Sync,
-    K: Naming<F> + Send + Sync,
+    K: ServiceBrand<F> + Send + Sync,
     R: Threads + Wait + AllocGlobal + Sync,
 >(
     rt: &R,
@@ -108,7 +108,7 @@ fn rest_of(at: usize) -> Result<&'static [Command]> {
 /// before it.
 fn run_rest<
     F: Asks + Drop + Send + Sync,
-    K: Naming<F> + Send + Sync,
+    K: ServiceBrand<F> + Send + Sync,
     R: Threads + Wait + Print + Eprint + AllocGlobal + Sync,
 >(rt: &R, service: &Service<F, K>, passes: &mut [Pass<F, K>], had: usize, at: usize) -> Result<()> {
     tell(rt, "a command of run_workers");
@@ -122,7 +122,7 @@ fn run_rest<
 /// Runs a list to its end.
 fn run_whole<
     F: Asks + Drop + Send + Sync,
-    K: Naming<F> + Send + Sync,
+    K: ServiceBrand<F> + Send + Sync,
     R: Threads + Wait + AllocGlobal + Sync,
 >(
     rt: &R,
@@ -153,7 +153,7 @@ fn print_all<R: Print>(rt: &R, receipts: &[Receipt]) -> Result<()> {
 }
 
 /// Prints the receipts of the pass whose list was run.
-fn print_receipts<F: Asks + Drop, K: Naming<F>, R: Print>(
+fn print_receipts<F: Asks + Drop, K: ServiceBrand<F>, R: Print>(
     rt: &R,
     passes: &[Pass<F, K>],
 ) -> Result<()> {
@@ -167,7 +167,7 @@ fn print_receipts<F: Asks + Drop, K: Naming<F>, R: Print>(
 /// more.
 fn run<
     F: Asks + Drop + Send + Sync,
-    K: Naming<F> + Send + Sync,
+    K: ServiceBrand<F> + Send + Sync,
     R: Threads + Wait + Print + Eprint + AllocGlobal + Sync,
 >(
     rt: &R,
@@ -190,7 +190,7 @@ fn run<
 /// A worker carries out the list.
 pub(crate) fn work<
     F: Asks + Drop + Send + Sync,
-    K: Naming<F> + Send + Sync,
+    K: ServiceBrand<F> + Send + Sync,
     R: Threads + Wait + Print + Eprint + AllocGlobal + Sync,
 >(rt: &R, service: &Service<F, K>, passes: &mut [Pass<F, K>]) -> Result<()> {
     let lists = listed(rt, COMMANDS)?;

@@ -21,8 +21,8 @@ use topo_core::rows::Facts;
 use topo_picture::Picture;
 use topo_price::tariff::{Asks, Tariff};
 use topo_service::close::CloseFault;
-use topo_service::{Pass, Service, Unopened};
-use topo_versions::{Naming, StoreReader};
+use topo_service::{FreshService, Pass, Service};
+use topo_versions::{ServiceBrand, StoreReader};
 
 /// One pass looks at versions, one makes the calls, and one plans.
 const SEATS: usize = 3;
@@ -73,22 +73,22 @@ fn begun<F: Asks + Drop + Send + Sync, R: Threads + Wait + Print + Eprint + Allo
 ) -> Result<bool> {
     let tariff = Arc::try_clone(tariff)?;
     let copy = copied(rt, start)?;
-    named::<F, Brand, R>(rt, Unopened::new(), copy, tariff)
+    named::<F, Brand, R>(rt, FreshService::new(), copy, tariff)
 }
 
 /// The same, over the service that K names.
 fn named<
     F: Asks + Drop + Send + Sync,
-    K: Naming<F> + Send + Sync,
+    K: ServiceBrand<F> + Send + Sync,
     R: Threads + Wait + Print + Eprint + AllocGlobal + Sync,
->(rt: &R, unopened: Unopened, start: Picture, tariff: Arc<Tariff<F>>) -> Result<bool>
-    requires ledger { (unopened.blank.name ≡ K.name) × (unopened.blank.parts ≡ K.parts) }
+>(rt: &R, fresh: FreshService, start: Picture, tariff: Arc<Tariff<F>>) -> Result<bool>
+    requires ledger { (fresh.blank.name ≡ K.name) × (fresh.blank.parts ≡ K.parts) }
     requires parts { K.parts ≡ 16 }
-    requires list { unopened.opened.seen.book ≡ K.book }
+    requires list { fresh.opened.seen.book ≡ K.book }
     requires start { start ≡ K.start }
     requires prices { K.closure ≡ Some (arc_value tariff) }
 {
-    let Ok(service) = Service::<F, K>::new(rt.alloc(), unopened, start, tariff) else {
+    let Ok(service) = Service::<F, K>::new(rt.alloc(), fresh, start, tariff) else {
         return Ok(false);
     };
     use_and_close(rt, service)
@@ -98,7 +98,7 @@ fn named<
 /// while they are.
 fn use_and_close<
     F: Asks + Drop + Send + Sync,
-    K: Naming<F> + Send + Sync,
+    K: ServiceBrand<F> + Send + Sync,
     R: Threads + Wait + Print + Eprint + AllocGlobal + Sync,
 >(rt: &R, mut service: Service<F, K>) -> Result<bool> {
     let mut passes = Vec::new(rt.alloc());
@@ -107,7 +107,7 @@ fn use_and_close<
 }
 
 /// Closes a service with its passes. Prints only where the calls before were printed too.
-fn close<F: Asks + Drop, K: Naming<F>, R: Wait + Print + Eprint + AllocGlobal>(
+fn close<F: Asks + Drop, K: ServiceBrand<F>, R: Wait + Print + Eprint + AllocGlobal>(
     rt: &R,
     service: Service<F, K>,
     passes: Vec<Pass<F, K>>,
@@ -122,7 +122,7 @@ fn close<F: Asks + Drop, K: Naming<F>, R: Wait + Print + Eprint + AllocGlobal>(
 /// Gives the passes out, and makes the calls.
 fn use_passes<
     F: Asks + Drop + Send + Sync,
-    K: Naming<F> + Send + Sync,
+    K: ServiceBrand<F> + Send + Sync,
     R: Threads + Wait + Print + Eprint + AllocGlobal + Sync,
 >(rt: &R, service: &mut Service<F, K>, passes: &mut Vec<Pass<F, K>>) -> Result<()> {
     if passes.reserve(SEATS).is_err() {
@@ -136,7 +136,7 @@ fn use_passes<
 }
 
 /// The next pass, which is asked for again where it wants memory.
-fn give_out<F: Asks + Drop, K: Naming<F>, R: Print + Eprint>(
+fn give_out<F: Asks + Drop, K: ServiceBrand<F>, R: Print + Eprint>(
     rt: &R,
     service: &mut Service<F, K>,
     passes: &mut Vec<Pass<F, K>>,
@@ -158,7 +158,7 @@ fn print_pass<R: Print>(rt: &R, number: u32, receipts: usize, seen: u64) -> Resu
 }
 
 /// Prints a new pass and keeps it.
-fn keep<F: Asks + Drop, K: Naming<F>, R: Print>(
+fn keep<F: Asks + Drop, K: ServiceBrand<F>, R: Print>(
     rt: &R,
     passes: &mut Vec<Pass<F, K>>,
     pass: Pass<F, K>,
@@ -176,7 +176,7 @@ fn print_closed<R: Print + Eprint + AllocGlobal, F: Asks>(rt: &R, book: &Book<F>
 }
 
 /// The book of a service that ended well is printed, and its history replayed.
-fn finish<F: Asks + Drop, K: Naming<F>, R: Print + Eprint + AllocGlobal>(
+fn finish<F: Asks + Drop, K: ServiceBrand<F>, R: Print + Eprint + AllocGlobal>(
     rt: &R,
     told: Result<()>,
     end: &Result<Book<F>, CloseFault<F, K, StoreReader<F, K>>>,

@@ -7,10 +7,10 @@ use std::alloc::{AllocError, Global};
 use topo_core::rows::Rows;
 use topo_price::tariff::Asks;
 use topo_service::{Pass, Receipt};
-use topo_versions::{Naming, Version};
+use topo_versions::{ServiceBrand, Version};
 
 /// The version of now, for which no memory is taken.
-pub(crate) fn view_of<F: Asks + Drop, K: Naming<F>>(
+pub(crate) fn view_of<F: Asks + Drop, K: ServiceBrand<F>>(
     pass: &mut Pass<F, K>,
 ) -> Result<Version<F, K>> {
     match pass.view() {
@@ -31,7 +31,7 @@ fn write_receipts(text: &mut String, number: u32, receipts: &[Receipt]) -> Resul
 }
 
 /// The receipts of passes, and a version.
-fn text_of<F: Asks + Drop, K: Naming<F>>(
+fn text_of<F: Asks + Drop, K: ServiceBrand<F>>(
     alloc: Global,
     passes: &[Pass<F, K>],
     version: &Version<F, K>,
@@ -48,7 +48,7 @@ fn text_of<F: Asks + Drop, K: Naming<F>>(
 }
 
 /// The text of a version and of the receipts of passes.
-fn version_text<F: Asks + Drop, K: Naming<F>, R: Eprint + AllocGlobal>(
+fn version_text<F: Asks + Drop, K: ServiceBrand<F>, R: Eprint + AllocGlobal>(
     rt: &R,
     passes: &[Pass<F, K>],
     version: &Version<F, K>,
@@ -79,7 +79,7 @@ pub(crate) const CALLER: usize = 1;
 pub(crate) const PLANNER: usize = 2;
 
 /// How many accepted calls the pass at a place has seen.
-fn seen_by<F: Asks + Drop, K: Naming<F>>(passes: &[Pass<F, K>], at: usize) -> u64 {
+fn seen_by<F: Asks + Drop, K: ServiceBrand<F>>(passes: &[Pass<F, K>], at: usize) -> u64 {
     match passes.get(at) {
         Some(pass) => pass.seen(),
         None => 0,
@@ -87,7 +87,7 @@ fn seen_by<F: Asks + Drop, K: Naming<F>>(passes: &[Pass<F, K>], at: usize) -> u6
 }
 
 /// The text of the receipts and of the newest version.
-fn text_now<F: Asks + Drop, K: Naming<F>, R: Eprint + AllocGlobal>(
+fn text_now<F: Asks + Drop, K: ServiceBrand<F>, R: Eprint + AllocGlobal>(
     rt: &R,
     passes: &mut [Pass<F, K>],
 ) -> Result<String> {
@@ -108,7 +108,7 @@ fn print_sight<R: Print>(rt: &R, sight: &Sight) -> Result<()> {
 }
 
 /// A service as it is now.
-pub(crate) fn look<F: Asks + Drop, K: Naming<F>, R: Eprint + AllocGlobal>(
+pub(crate) fn look<F: Asks + Drop, K: ServiceBrand<F>, R: Eprint + AllocGlobal>(
     rt: &R,
     passes: &mut [Pass<F, K>],
 ) -> Result<Sight> {
@@ -118,7 +118,7 @@ pub(crate) fn look<F: Asks + Drop, K: Naming<F>, R: Eprint + AllocGlobal>(
 }
 
 /// Prints a service as it is now.
-pub(crate) fn show<F: Asks + Drop, K: Naming<F>, R: Print + Eprint + AllocGlobal>(
+pub(crate) fn show<F: Asks + Drop, K: ServiceBrand<F>, R: Print + Eprint + AllocGlobal>(
     rt: &R,
     passes: &mut [Pass<F, K>],
 ) -> Result<()> {
@@ -135,7 +135,7 @@ fn compare_seen<R: Print>(rt: &R, call: &str, before: (u64, u64), after: (u64, u
 }
 
 /// Compares a service with what it was before a call that wants memory.
-pub(crate) fn compare_service<F: Asks + Drop, K: Naming<F>, R: Print + Eprint + AllocGlobal>(
+pub(crate) fn compare_service<F: Asks + Drop, K: ServiceBrand<F>, R: Print + Eprint + AllocGlobal>(
     rt: &R,
     call: &str,
     before: &Sight,
@@ -148,7 +148,7 @@ pub(crate) fn compare_service<F: Asks + Drop, K: Naming<F>, R: Print + Eprint + 
 }
 
 /// The same of a plan or a search that wants memory: the pass that plans may have seen the newest version by it.
-pub(crate) fn compare_planning<F: Asks + Drop, K: Naming<F>, R: Print + Eprint + AllocGlobal>(
+pub(crate) fn compare_planning<F: Asks + Drop, K: ServiceBrand<F>, R: Print + Eprint + AllocGlobal>(
     rt: &R,
     call: &str,
     before: &Sight,

@@ -22,7 +22,7 @@ use Rattle.topo_price.specs.Prices.{Asking, prices_of}
 use Rattle.topo_settings.specs.Settings.{price_table, priced}
 use Rattle.topo_settings.proofs.Pricing.{back, run_so, there}
 use Rattle.topo_run.specs.Runs.{AnswersPrices}
-use Rattle.topo_run.specs.Working.{AreSeated, HasWorked, HaveWorked}
+use Rattle.topo_run.specs.Working.{AreOpened, HasWorked, HaveWorked}
 
 abbrev no_pass : PassState
 no_pass = record { number = 0; receipts = []; seen = [] }
@@ -71,7 +71,7 @@ run_of_passes price limits p q lists passes history worked whole replayed = reco
 pub has_number : (lists : List (List Command)) (passes : List PassState) (n : ℕ) → HaveWorked lists passes → n < length passes → HasNumber n passes
 has_number lists passes n worked below = number_at n passes n no_pass below (worked.each n no_pass (omega (arith, worked.count))).is_numbered
 
--- ---- Seats
+-- ---- SharePool
 
 -- a place in a list with one more element is before the last, or the last
 place_cases : (i n : ℕ) → i < n + 1 → (i < n) ⊎ (i ≡ n + 0)
@@ -80,9 +80,9 @@ place_cases zero (suc n) h = inl (omega arith)
 place_cases (suc i) zero h = absurd (omega arith)
 place_cases (suc i) (suc n) h = elim (place_cases i n (omega arith)) [ inl e ↦ inl (omega arith) | inr e ↦ inr (omega arith) ]
 
-pub seated_push : (passes : List PassState) (pass : PassState) → AreSeated passes → pass.number ≡ length passes → pass.receipts ≡ [] → AreSeated (passes ++ pass ∷ [])
-seated_push passes pass seated number receipts i d below = elim (place_cases i (length passes) (omega (arith, length-append passes (pass ∷ [])))) [
-  | inl before ↦ rw (get_or_append_left passes (pass ∷ []) d i before) (seated i d before)
+pub opened_push : (passes : List PassState) (pass : PassState) → AreOpened passes → pass.number ≡ length passes → pass.receipts ≡ [] → AreOpened (passes ++ pass ∷ [])
+opened_push passes pass opened number receipts i d below = elim (place_cases i (length passes) (omega (arith, length-append passes (pass ∷ [])))) [
+  | inl before ↦ rw (get_or_append_left passes (pass ∷ []) d i before) (opened i d before)
   | inr last ↦ rw (last, get_or-append-add passes (pass ∷ []) 0 d) (omega (arith, number), receipts)
 ]
 
@@ -97,14 +97,14 @@ worked_one i old new list number none done = record {
   calls = ap (map call_in) (done.receipts ∙ ap (λ (rs : List Receipt). rs ++ done.gained) none) ∙ done.calls ∙ ap (map call_of) (take_all (length list) list (omega arith));
 }
 
-pub all_worked : (old new : List PassState) (lists : List (List Command)) (ends : List WorkerEnd) → AreSeated old → length old ≡ length lists → length new ≡ length lists
+pub all_worked : (old new : List PassState) (lists : List (List Command)) (ends : List WorkerEnd) → AreOpened old → length old ≡ length lists → length new ≡ length lists
     → length ends ≡ length lists → All (λ end. end ≡ Done) ends
     → ((i : ℕ) (p : PassState) (e : WorkerEnd) → i < length lists → HasEnded (get_or old i p) (get_or new i p) (slice_index_or lists i []) (get_or ends i e)) → HaveWorked lists new
-all_worked old new lists ends seated as_many still one_each done ended = record {
+all_worked old new lists ends opened as_many still one_each done ended = record {
   count = still;
   each = λ i p below.
-      let seat = seated i p (omega (arith, as_many)) in
-      worked_one i (get_or old i p) (get_or new i p) (slice_index_or lists i []) seat.0 seat.1
+      let open_pass = opened i p (omega (arith, as_many)) in
+      worked_one i (get_or old i p) (get_or new i p) (slice_index_or lists i []) open_pass.0 open_pass.1
       (done_so (get_or old i p) (get_or new i p) (slice_index_or lists i []) (get_or ends i Done) (done i Done (omega (arith, one_each))) (ended i p Done below));
 }
 

@@ -7,8 +7,8 @@ use Rattle.topo_settings.specs.declared.fault.RunFault.{RunFault}
 use Rattle.topo_settings.specs.declared.fault.RunFault.TheVariants.{Memory, NoSeat, Mismatch}
 
 -- the pass at each place has this place as its number, and no receipt
-abbrev pub AreSeated : List PassState → Type 0
-AreSeated passes = (i : ℕ) (p : PassState) → i < length passes → ((slice_index_or passes i p).number ≡ i) × ((slice_index_or passes i p).receipts ≡ [])
+abbrev pub AreOpened : List PassState → Type 0
+AreOpened passes = (i : ℕ) (p : PassState) → i < length passes → ((slice_index_or passes i p).number ≡ i) × ((slice_index_or passes i p).receipts ≡ [])
 
 -- the pass has this number, and a receipt for each command of the list, in order
 pub record HasWorked (number : ℕ) (list : List Command) (pass : PassState) : Type 0 where

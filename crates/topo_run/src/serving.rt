@@ -4,7 +4,7 @@ ghost use Rattle.std.specs.Prelude.{◌≡◌, ◌+◌, ◌<◌, ℕ, List, [], 
 ghost use Rattle.std.specs.Arc.{arc_value};
 ghost use Rattle.topo_core.specs.History.{IsRun};
 ghost use Rattle.topo_price.specs.Prices.{prices_of};
-ghost use Rattle.topo_run.specs.Working.{AreSeated, HaveWorked, IsOfService};
+ghost use Rattle.topo_run.specs.Working.{AreOpened, HaveWorked, IsOfService};
 ghost use Rattle.topo_service.specs.Commands.{commands};
 
 use std::alloc::{AllocError, Global};
@@ -17,9 +17,9 @@ use topo_core::listed::Listed;
 use topo_core::rows::Rows;
 use topo_picture::Picture;
 use topo_price::tariff::{Asks, Tariff};
-use topo_service::{EndFault, Gate, Pass, Service, Unopened, WorkerEnd, run_workers};
+use topo_service::{EndFault, FreshService, Gate, Pass, Service, WorkerEnd, run_workers};
 use topo_settings::RunFault;
-use topo_versions::{Naming, StoreReader};
+use topo_versions::{ServiceBrand, StoreReader};
 
 /// A history, and the picture at its end.
 #[derive(Drop)]
@@ -43,7 +43,9 @@ pub(crate) fn lists_of(
 }
 
 /// The next pass of a service.
-fn seat<F: Asks + Drop, K: Naming<F>>(service: &mut Service<F, K>) -> Result<Pass<F, K>, RunFault>
+fn open_pass<F: Asks + Drop, K: ServiceBrand<F>>(
+    service: &mut Service<F, K>,
+) -> Result<Pass<F, K>, RunFault>
     ensures number { IfOk result (λ p. p.number ≡ service.old.given) }
     ensures receipts { IfOk result (λ p. p.receipts ≡ []) }
     ensures given { IfOk result (λ p. service.new.given ≡ service.old.given + 1) }
@@ -57,13 +59,13 @@ fn seat<F: Asks + Drop, K: Naming<F>>(service: &mut Service<F, K>) -> Result<Pas
 }
 
 /// The first passes of a service, so many of them.
-fn seat_all<F: Asks + Drop, K: Naming<F>>(
+fn open_passes<F: Asks + Drop, K: ServiceBrand<F>>(
     alloc: Global,
     service: &mut Service<F, K>,
     count: usize,
 ) -> Result<Vec<Pass<F, K>>, RunFault>
     requires { service.old.given ≡ 0 }
-    ensures seated { IfOk result (λ passes. AreSeated passes.items) }
+    ensures opened { IfOk result (λ passes. AreOpened passes.items) }
     ensures count { IfOk result (λ passes. length passes.items ≡ count) }
     ensures given { IfOk result (λ passes. service.new.given ≡ count) }
     ensures same { service.new.tariff ≡ service.old.tariff }
@@ -71,7 +73,7 @@ fn seat_all<F: Asks + Drop, K: Naming<F>>(
 {
     let mut passes = Vec::new(alloc);
     for _i in 0..count {
-        let pass = seat(service)?;
+        let pass = open_pass(service)?;
         if passes.push(pass).is_err() {
             return Err(RunFault::Memory);
         }
@@ -95,7 +97,7 @@ fn are_done(ends: &[WorkerEnd]) -> bool
 /// Carries the lists out, each with a pass of its own.
 fn work_all<
     F: Asks + Drop + Send + Sync,
-    K: Naming<F> + Send + Sync,
+    K: ServiceBrand<F> + Send + Sync,
     R: Threads + Wait + Sync,
     T: Gate,
 >(
@@ -111,7 +113,7 @@ fn work_all<
     ensures same { service.new.tariff ≡ service.old.tariff }
     ensures fault { IfErr result IsOfService }
 {
-    let mut passes = seat_all(alloc, service, lists.len())?;
+    let mut passes = open_passes(alloc, service, lists.len())?;
     let ran = run_workers(rt, alloc, &*service, passes.as_mut_slice(), lists, gate);
     let Ok(ends) = ran else {
         return Err(RunFault::Memory);
@@ -141,29 +143,28 @@ fn course_of<F: Asks + Drop>(alloc: Global, book: Book<F>) -> Result<Course, Run
 /// What the lists lead to from the start that K names, by a service of its own.
 fn serve<
     F: Asks + Drop + Send + Sync,
-    K: Naming<F> + Send + Sync,
+    K: ServiceBrand<F> + Send + Sync,
     R: Threads + Wait + Sync,
     T: Gate,
 >(
     rt: &R,
     alloc: Global,
-    unopened: Unopened,
+    fresh: FreshService,
     start: Picture,
     tariff: Arc<Tariff<F>>,
     lists: &[Vec<Command>],
     gate: &T,
 ) -> Result<Course, RunFault>
-    requires ledger { (unopened.blank.name ≡ K.name) × (unopened.blank.parts ≡ K.parts) }
+    requires ledger { (fresh.blank.name ≡ K.name) × (fresh.blank.parts ≡ K.parts) }
     requires parts { K.parts ≡ 16 }
-    requires list { unopened.opened.seen.book ≡ K.book }
+    requires list { fresh.opened.seen.book ≡ K.book }
     requires start { start ≡ K.start }
     requires prices { K.closure ≡ Some (arc_value tariff) }
     ensures run { IfOk result (λ course. IsRun (prices_of (F.answers (arc_value tariff))) start.limits start.rows (map commands lists.now) course.history course.picture) }
     ensures fault { IfErr result IsOfService }
 {
     let places = lists.len().max(1).min(16) as u32;
-    let Ok(mut service) = Service::<F, K>::with_places(alloc, unopened, start, tariff, places)
-    else {
+    let Ok(mut service) = Service::<F, K>::with_places(alloc, fresh, start, tariff, places) else {
         return Err(RunFault::Memory);
     };
     match work_all(rt, alloc, &mut service, lists, gate) {
@@ -193,5 +194,5 @@ pub(crate) fn course_from<F: Asks + Drop + Send + Sync, R: Threads + Wait + Sync
     ensures run { IfOk result (λ course. IsRun (prices_of (F.answers (arc_value tariff))) start.limits start.rows (map commands lists.now) course.history course.picture) }
     ensures fault { IfErr result IsOfService }
 {
-    serve::<F, Brand, R, T>(rt, alloc, Unopened::new(), start, tariff, lists, gate)
+    serve::<F, Brand, R, T>(rt, alloc, FreshService::new(), start, tariff, lists, gate)
 }

@@ -6,17 +6,17 @@ ghost use Rattle.topo_core.specs.History.{IsPrefix, versions};
 ghost use Rattle.topo_service.specs.Faults.{HasDifference, IsEndFault};
 ghost use Rattle.topo_service.specs.Receipts.{AreFirst, AreFound, Differs, HasNumber, receipt_count, receipt_in};
 
-use crate::desk::Desk;
 use crate::faults::EndFault;
+use crate::locked_state::LockedState;
 use crate::pass::{PassOver, Receipt};
 use std::sync::Wait;
 use std::sync::ledger::Share;
 use topo_core::calls::Entry;
 use topo_price::tariff::Asks;
-use topo_versions::{Glass, Naming, Shelf, wait_forever};
+use topo_versions::{ServiceBrand, VersionReader, VersionWriter, wait_forever};
 
 /// Whether a pass with this number is there.
-fn is_there<F: Asks, K: Naming<F>, G: Glass<F, K>>(
+fn is_there<F: Asks, K: ServiceBrand<F>, G: VersionReader<F, K>>(
     number: u32,
     passes: &[PassOver<F, K, G>],
 ) -> bool
@@ -32,7 +32,7 @@ fn is_there<F: Asks, K: Naming<F>, G: Glass<F, K>>(
 }
 
 /// The least number below `given` that no pass has.
-fn first_missing<F: Asks, K: Naming<F>, G: Glass<F, K>>(
+fn first_missing<F: Asks, K: ServiceBrand<F>, G: VersionReader<F, K>>(
     given: u32,
     passes: &[PassOver<F, K, G>],
 ) -> Option<u32>
@@ -89,7 +89,7 @@ fn first_difference(number: u32, receipts: &[Receipt], history: &[Entry]) -> Opt
 }
 
 /// The first pass with a receipt that is not its caller's entry at its place, and the place.
-fn first_mismatch<F: Asks, K: Naming<F>, G: Glass<F, K>>(
+fn first_mismatch<F: Asks, K: ServiceBrand<F>, G: VersionReader<F, K>>(
     passes: &[PassOver<F, K, G>],
     history: &[Entry],
 ) -> Option<(u32, usize)>
@@ -105,7 +105,7 @@ fn first_mismatch<F: Asks, K: Naming<F>, G: Glass<F, K>>(
 }
 
 /// Why the service does not end well, if so.
-pub(crate) fn first_fault<F: Asks, K: Naming<F>, G: Glass<F, K>>(
+pub(crate) fn first_fault<F: Asks, K: ServiceBrand<F>, G: VersionReader<F, K>>(
     given: u32,
     passes: &[PassOver<F, K, G>],
     history: &[Entry],
@@ -124,16 +124,17 @@ pub(crate) fn first_fault<F: Asks, K: Naming<F>, G: Glass<F, K>>(
 }
 
 /// Joins the shares of the ledger. What each pass has seen begins the accepted entries.
-pub(crate) fn gather<F: Asks, K: Naming<F>, W: Shelf<F, K>, G: Glass<F, K>, R: Wait>(
-    rt: &R,
-    desk: &Desk<F, K, W>,
-    rest: Share<K>,
-    passes: Vec<PassOver<F, K, G>>,
-) -> Share<K>
+pub(crate) fn gather<
+    F: Asks,
+    K: ServiceBrand<F>,
+    W: VersionWriter<F, K>,
+    G: VersionReader<F, K>,
+    R: Wait,
+>(rt: &R, state: &LockedState<F, K, W>, rest: Share<K>, passes: Vec<PassOver<F, K, G>>) -> Share<K>
     ensures parts { result.parts ≡ rest.parts + vec_len passes }
     ensures amount { result.amount ≡ rest.amount + receipt_count passes.items }
     ensures apart { 0 < vec_len passes → result.parts ≤ K.parts }
-    ensures seen { All (λ p. IsPrefix p.seen (versions desk.now.history)) passes.items }
+    ensures seen { All (λ p. IsPrefix p.seen (versions state.now.history)) passes.items }
 {
     let mut rest = rest;
     for pass in passes {
@@ -142,11 +143,11 @@ pub(crate) fn gather<F: Asks, K: Naming<F>, W: Shelf<F, K>, G: Glass<F, K>, R: W
             receipts: _receipts,
             share,
             reader: _reader,
-            front,
+            prefix,
             work: _work,
             of: _,
         } = pass;
-        if !front.begins(desk.front()) {
+        if !prefix.is_prefix_of(state.prefix()) {
             wait_forever(rt);
         }
         rest.merge(share);

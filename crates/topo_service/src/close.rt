@@ -10,11 +10,11 @@ ghost use Rattle.topo_service.specs.Faults.{IsEndFault};
 ghost use Rattle.topo_service.specs.Receipts.{AllAgree, AreWhole, HasNumber, receipt_count};
 
 use crate::checks::{first_fault, gather};
-use crate::desk::Desk;
 use crate::faults::EndFault;
+use crate::locked_state::LockedState;
 use crate::pass::PassOver;
-use crate::seats::Seats;
 use crate::service::ServiceOver;
+use crate::share_pool::SharePool;
 use std::alloc::{AllocError, Global};
 use std::sync::ledger::{Blank, Book as Tally};
 use std::sync::{Arc, Mutex, Wait};
@@ -22,49 +22,50 @@ use topo_book::Book;
 use topo_picture::Picture;
 use topo_price::tariff::{Asks, Tariff};
 use topo_versions::{
-    Front, Glass, Head, Naming, Opened, Shelf, StoreWriter, Version, new_store, wait_forever,
+    FreshLog, LogLength, LogPrefix, ServiceBrand, StoreWriter, Version, VersionReader,
+    VersionWriter, new_store, wait_forever,
 };
 
 /// The end of a service that was not well, with the book and the passes as they were handed in.
 #[derive(Drop)]
-pub struct CloseFault<F: Asks, K: Naming<F>, G: Glass<F, K>> {
+pub struct CloseFault<F: Asks, K: ServiceBrand<F>, G: VersionReader<F, K>> {
     pub fault: EndFault,
     pub book: Book<F>,
     pub passes: Vec<PassOver<F, K, G>>,
 }
 
-/// A ledger and a list of accepted entries that no type stands for yet.
-pub struct Unopened {
+/// A fresh ledger and log, not bound to a service yet.
+pub struct FreshService {
     pub blank: Blank,
-    pub opened: Opened,
+    pub log: FreshLog,
 }
 
-impl Unopened {
-    pub fn new() -> Unopened
+impl FreshService {
+    pub fn new() -> FreshService
         ensures { result.blank.parts ≡ 16 }
     {
-        Unopened {
+        FreshService {
             blank: Blank::new(16),
-            opened: Opened::new(),
+            log: FreshLog::new(),
         }
     }
 }
 
 /// The store of versions of a service whose book is new, for so many readers: the first version is the start.
-fn writer_of<F: Asks + Drop, K: Naming<F>>(
+fn writer_of<F: Asks + Drop, K: ServiceBrand<F>>(
     alloc: Global,
     book: &Book<F>,
-    front: &Front<F, K>,
+    prefix: &LogPrefix<F, K>,
     places: u32,
 ) -> Result<StoreWriter<F, K>, AllocError>
     requires start { (book.now.start ≡ K.start) × (book.now.history ≡ []) }
     requires prices { K.closure ≡ Some book.now.tariff }
-    requires empty { front.now ≡ [] }
+    requires empty { prefix.now ≡ [] }
     requires places { 0 < places }
     ensures empty { IfOk result (λ w. entries_shown w.desk.shown.value ≡ Some []) }
 {
     let shared = Arc::try_clone(book.shared_picture())?;
-    new_store(alloc, Version::new(front.again(), shared), places as usize)
+    new_store(alloc, Version::new(prefix.share(), shared), places as usize)
 }
 
 /// A new book that shares the prices.
@@ -82,82 +83,82 @@ fn book_of<F: Asks + Drop>(
 }
 
 /// A new book, and the store of its versions for so many readers.
-fn book_with_store<F: Asks + Drop, K: Naming<F>>(
+fn book_with_store<F: Asks + Drop, K: ServiceBrand<F>>(
     alloc: Global,
     start: Picture,
     tariff: &Arc<Tariff<F>>,
-    front: &Front<F, K>,
+    prefix: &LogPrefix<F, K>,
     places: u32,
 ) -> Result<(Book<F>, StoreWriter<F, K>), AllocError>
     requires start { start ≡ K.start }
     requires prices { K.closure ≡ Some (arc_value tariff.now) }
-    requires empty { front.now ≡ [] }
+    requires empty { prefix.now ≡ [] }
     requires places { 0 < places }
     ensures book { IfOk result (λ made. (made.0.start ≡ K.start) × (made.0.history ≡ [])) }
     ensures prices { IfOk result (λ made. K.closure ≡ Some made.0.tariff) }
     ensures empty { IfOk result (λ made. entries_shown made.1.desk.shown.value ≡ Some []) }
 {
     let book = book_of(alloc, start, tariff)?;
-    let writer = writer_of(alloc, &book, front, places)?;
+    let writer = writer_of(alloc, &book, prefix, places)?;
     Ok((book, writer))
 }
 
 /// What lies under the lock of a service with no call, for so many passes.
-fn desk_of<F: Asks + Drop, K: Naming<F>>(
+fn state_of<F: Asks + Drop, K: ServiceBrand<F>>(
     alloc: Global,
-    head: Head<K>,
-    front: Front<F, K>,
+    log_length: LogLength<K>,
+    prefix: LogPrefix<F, K>,
     calls: Tally<K>,
     start: Picture,
     tariff: &Arc<Tariff<F>>,
     places: u32,
-) -> Result<Desk<F, K, StoreWriter<F, K>>, AllocError>
-    requires empty { front ≡ [] }
+) -> Result<LockedState<F, K, StoreWriter<F, K>>, AllocError>
+    requires empty { prefix ≡ [] }
     requires no_call { calls.total ≡ 0 }
     requires start { start ≡ K.start }
     requires prices { K.closure ≡ Some (arc_value tariff.now) }
     requires places { 0 < places }
 {
-    let (book, writer) = book_with_store(alloc, start, tariff, &front, places)?;
-    Ok(Desk::new(book, calls, head, front, writer))
+    let (book, writer) = book_with_store(alloc, start, tariff, &prefix, places)?;
+    Ok(LockedState::new(book, calls, log_length, prefix, writer))
 }
 
 /// A service over the version store.
 pub type Service<F, K> = ServiceOver<F, K, StoreWriter<F, K>>;
 
-impl<F: Asks + Drop, K: Naming<F>> Service<F, K> {
+impl<F: Asks + Drop, K: ServiceBrand<F>> Service<F, K> {
     /// Begins a service of 16 passes at most, at the start and with the closure that K names, with no entry
     /// and no pass.
     pub fn new(
         alloc: Global,
-        unopened: Unopened,
+        fresh: FreshService,
         start: Picture,
         tariff: Arc<Tariff<F>>,
     ) -> Result<Service<F, K>, AllocError>
-        requires ledger { (unopened.blank.name ≡ K.name) × (unopened.blank.parts ≡ K.parts) }
+        requires ledger { (fresh.blank.name ≡ K.name) × (fresh.blank.parts ≡ K.parts) }
         requires parts { K.parts ≡ 16 }
-        requires list { unopened.opened.seen.book ≡ K.book }
+        requires list { fresh.log.seen.book ≡ K.book }
         requires start { start ≡ K.start }
         requires prices { K.closure ≡ Some (arc_value tariff) }
         ensures tariff { IfOk result (λ s. s.tariff ≡ arc_value tariff) }
         ensures places { IfOk result (λ s. s.places ≡ 16) }
         ensures no_pass { IfOk result (λ s. s.given ≡ 0) }
     {
-        Self::with_places(alloc, unopened, start, tariff, 16)
+        Self::with_places(alloc, fresh, start, tariff, 16)
     }
 
     /// As `new`, for so many passes at most. An accepted call visits the place of each of them twice, so a
     /// service of few passes takes less time.
     pub fn with_places(
         alloc: Global,
-        unopened: Unopened,
+        fresh: FreshService,
         start: Picture,
         tariff: Arc<Tariff<F>>,
         places: u32,
     ) -> Result<Service<F, K>, AllocError>
-        requires ledger { (unopened.blank.name ≡ K.name) × (unopened.blank.parts ≡ K.parts) }
+        requires ledger { (fresh.blank.name ≡ K.name) × (fresh.blank.parts ≡ K.parts) }
         requires parts { K.parts ≡ 16 }
-        requires list { unopened.opened.seen.book ≡ K.book }
+        requires list { fresh.log.seen.book ≡ K.book }
         requires start { start ≡ K.start }
         requires prices { K.closure ≡ Some (arc_value tariff) }
         requires places { (0 < places) × (places ≤ 16) }
@@ -165,16 +166,16 @@ impl<F: Asks + Drop, K: Naming<F>> Service<F, K> {
         ensures places { IfOk result (λ s. s.places ≡ places) }
         ensures no_pass { IfOk result (λ s. s.given ≡ 0) }
     {
-        let Unopened { blank, opened } = unopened;
+        let FreshService { blank, log } = fresh;
         let (calls, rest) = blank.open::<K>();
-        let (head, front) = opened.named::<F, K>();
-        let nothing = front.again();
-        let desk = desk_of(alloc, head, front, calls, start, &tariff, places)?;
+        let (log_length, prefix) = log.named::<F, K>();
+        let nothing = prefix.share();
+        let state = state_of(alloc, log_length, prefix, calls, start, &tariff, places)?;
         Ok(ServiceOver {
             alloc,
             tariff,
-            desk: Mutex::new(desk),
-            seats: Seats::new(rest),
+            state: Mutex::new(state),
+            pool: SharePool::new(rest),
             nothing,
             places,
             given: 0,
@@ -182,12 +183,12 @@ impl<F: Asks + Drop, K: Naming<F>> Service<F, K> {
     }
 }
 
-impl<F: Asks + Drop, K: Naming<F>, W: Shelf<F, K>> ServiceOver<F, K, W> {
+impl<F: Asks + Drop, K: ServiceBrand<F>, W: VersionWriter<F, K>> ServiceOver<F, K, W> {
     /// Ends the service. Where each pass that was given out is there and every receipt agrees with the
     /// history, the book is handed back: its history is one thread's, from the start to its picture, and
     /// the receipts of the passes are all of it. Else the fault names the least number of a pass that is
     /// not there, and where none is missing, a receipt that differs. It takes no memory.
-    pub fn close<G: Glass<F, K>, R: Wait>(
+    pub fn close<G: VersionReader<F, K>, R: Wait>(
         self,
         rt: &R,
         passes: Vec<PassOver<F, K, G>>,
@@ -214,26 +215,26 @@ impl<F: Asks + Drop, K: Naming<F>, W: Shelf<F, K>> ServiceOver<F, K, W> {
         let ServiceOver {
             alloc: _,
             tariff: _tariff,
-            desk,
-            seats,
+            state,
+            pool,
             nothing: _nothing,
             places: _,
             given,
         } = self;
-        let (parts, rest) = seats.into_parts();
+        let (parts, rest) = pool.into_parts();
         if parts != given {
             wait_forever(rt);
         }
-        let mut desk = desk.into_inner();
-        if let Some(fault) = first_fault(given, passes.as_slice(), desk.history()) {
+        let mut state = state.into_inner();
+        if let Some(fault) = first_fault(given, passes.as_slice(), state.history()) {
             return Err(CloseFault {
                 fault,
-                book: desk.into_book(rt),
+                book: state.into_book(rt),
                 passes,
             });
         }
-        let mut all = gather(rt, &desk, rest, passes);
-        desk.audit(&mut all);
-        Ok(desk.into_book(rt))
+        let mut all = gather(rt, &state, rest, passes);
+        state.audit(&mut all);
+        Ok(state.into_book(rt))
     }
 }

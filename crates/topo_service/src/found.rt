@@ -18,33 +18,33 @@ use topo_price::tariff::{Asks, Tariff};
 use topo_route::plan::{Plan, PricedRoute};
 use topo_route::search::first_route;
 use topo_route::workspace::Workspace;
-use topo_versions::{Front, Glass, Naming, Version};
+use topo_versions::{LogPrefix, ServiceBrand, Version, VersionReader};
 
 /// The first of the cheapest routes between two vertices at the service's prices, as it was found on one
 /// version. It remembers which version that was, so that the service takes it with no check where that
 /// version is still the newest; it holds no share of the version's picture.
 #[derive(Drop)]
-pub struct FoundRoute<F: Asks, K: Naming<F>> {
+pub struct FoundRoute<F: Asks, K: ServiceBrand<F>> {
     u: u32,
     v: u32,
     first: PricedRoute,
     // The accepted entries that lead to that version.
-    front: Front<F, K>,
+    prefix: LogPrefix<F, K>,
     of: PhantomData<F>,
 }
 
-impl<F: Asks, K: Naming<F>> Model for FoundRoute<F, K> {
+impl<F: Asks, K: ServiceBrand<F>> Model for FoundRoute<F, K> {
     ghost use Rattle.topo_versions.specs.Names.{prices_named};
     ghost use Rattle.topo_service.specs.Found.{FoundState, IsFoundRoute};
 
     ghost Value = { FoundState };
 
-    ghost view = { λ f. record { u = f.u; v = f.v; route = f.first.route; price = f.first.price; entries = f.front } };
+    ghost view = { λ f. record { u = f.u; v = f.v; route = f.first.route; price = f.first.price; entries = f.prefix } };
 
-    ghost invariant = { λ f. IsFoundRoute (prices_named F.answers K.closure) K.start (record { u = f.u; v = f.v; route = f.first.route; price = f.first.price; entries = f.front }) };
+    ghost invariant = { λ f. IsFoundRoute (prices_named F.answers K.closure) K.start (record { u = f.u; v = f.v; route = f.first.route; price = f.first.price; entries = f.prefix }) };
 }
 
-impl<F: Asks, K: Naming<F>> FoundRoute<F, K> {
+impl<F: Asks, K: ServiceBrand<F>> FoundRoute<F, K> {
     /// The route and its price.
     pub fn first(&self) -> &PricedRoute
         ensures route { result.now.route ≡ self.now.route }
@@ -63,12 +63,12 @@ impl<F: Asks, K: Naming<F>> FoundRoute<F, K> {
     }
 
     /// Whether it leads between these and was found on the version after these entries.
-    pub(crate) fn is_of(&self, u: u32, v: u32, front: &Front<F, K>) -> bool
+    pub(crate) fn is_of(&self, u: u32, v: u32, prefix: &LogPrefix<F, K>) -> bool
         ensures u { result ≡ true → self.now.u ≡ u }
         ensures v { result ≡ true → self.now.v ≡ v }
-        ensures entries { result ≡ true → self.now.entries ≡ front.now }
+        ensures entries { result ≡ true → self.now.entries ≡ prefix.now }
     {
-        self.u == u && self.v == v && self.front.is(front)
+        self.u == u && self.v == v && self.prefix.same_as(prefix)
     }
 
     /// The search on a version.
@@ -90,7 +90,7 @@ impl<F: Asks, K: Naming<F>> FoundRoute<F, K> {
             u: ends.0,
             v: ends.1,
             first,
-            front: version.front().again(),
+            prefix: version.prefix().share(),
             of: PhantomData,
         })
     }
@@ -136,7 +136,7 @@ fn first_on<A: Asks>(
 
 /// What a call brings along that may spare its search.
 #[derive(Drop)]
-pub enum Brought<'a, F: Asks, K: Naming<F>> {
+pub enum Brought<'a, F: Asks, K: ServiceBrand<F>> {
     /// Nothing.
     Nothing,
     /// A plan that is to be checked.
@@ -145,7 +145,7 @@ pub enum Brought<'a, F: Asks, K: Naming<F>> {
     Found(&'a FoundRoute<F, K>),
 }
 
-impl<F: Asks, K: Naming<F>, G: Glass<F, K>> PassOver<F, K, G> {
+impl<F: Asks, K: ServiceBrand<F>, G: VersionReader<F, K>> PassOver<F, K, G> {
     /// The first of the cheapest routes from `u` to `v` at the service's prices on the version of now. It
     /// copies nothing of the picture, and waits for nobody. NoView comes first, then NoVertex, then
     /// SameEnds, by the picture of that version, then NoRoute; Memory where the search wants it.

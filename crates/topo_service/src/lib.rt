@@ -11,17 +11,17 @@
 pub mod answer;
 mod checks;
 pub mod close;
-pub mod desk;
 pub mod faults;
 pub mod found;
+pub mod locked_state;
 pub mod pass;
-mod seats;
 pub mod service;
+mod share_pool;
 pub mod workers;
 
-pub use close::{CloseFault, Service, Unopened};
+pub use close::{CloseFault, FreshService, Service};
 pub use faults::{EndFault, PassFault, ServiceFault};
 pub use found::FoundRoute;
-pub use pass::{Pass, PassOver, Receipt};
+pub use pass::{Pass, PassOver, Receipt, View};
 pub use service::ServiceOver;
 pub use workers::{Gate, WorkerEnd, run_workers};

@@ -20,7 +20,7 @@ use topo_price::tariff::{Asks, Tariff};
 use topo_route::plan::Plan;
 use topo_route::search::search;
 use topo_route::workspace::Workspace;
-use topo_versions::{Front, Glass, Naming, StoreReader, Version};
+use topo_versions::{LogPrefix, ServiceBrand, StoreReader, Version, VersionReader};
 
 /// A call of a pass, and what it was answered.
 #[derive(Drop)]
@@ -32,28 +32,31 @@ pub struct Receipt {
 /// A caller's number, its receipts, its share of the ledger, its reader of versions and the accepted entries
 /// that it has seen. Contracts see its number, its receipts and these entries.
 #[derive(Drop)]
-pub struct PassOver<F: Asks, K: Naming<F>, G: Glass<F, K>> {
+pub struct PassOver<F: Asks, K: ServiceBrand<F>, G: VersionReader<F, K>> {
     pub(crate) number: u32,
     pub(crate) receipts: Vec<Receipt>,
     pub(crate) share: Share<K>,
     pub(crate) reader: G,
     // The accepted entries that it has seen.
-    pub(crate) front: Front<F, K>,
+    pub(crate) prefix: LogPrefix<F, K>,
     // What its searches write on, once there was one.
     pub(crate) work: Option<Workspace>,
     pub(crate) of: PhantomData<F>,
 }
 
+/// A view: a version, with the picture that its accepted entries lead to.
+pub type View<F, K> = Version<F, K>;
+
 /// A pass of a service.
 pub type Pass<F, K> = PassOver<F, K, StoreReader<F, K>>;
 
-impl<F: Asks, K: Naming<F>, G: Glass<F, K>> Model for PassOver<F, K, G> {
+impl<F: Asks, K: ServiceBrand<F>, G: VersionReader<F, K>> Model for PassOver<F, K, G> {
     ghost use Rattle.std.specs.Prelude.{◌≡◌, length};
     ghost use Rattle.topo_service.specs.Passes.{PassState};
 
     ghost Value = { PassState };
 
-    ghost view = { λ p. record { number = p.number; receipts = p.receipts.items; seen = p.front } };
+    ghost view = { λ p. record { number = p.number; receipts = p.receipts.items; seen = p.prefix } };
 
     ghost invariant = { λ p. (p.share.parts ≡ 1) × (p.share.amount ≡ length p.receipts.items) };
 }
@@ -102,7 +105,7 @@ fn plan_on<A: Asks>(
     }
 }
 
-impl<F: Asks, K: Naming<F>, G: Glass<F, K>> PassOver<F, K, G> {
+impl<F: Asks, K: ServiceBrand<F>, G: VersionReader<F, K>> PassOver<F, K, G> {
     /// Its number: the caller in the entries of its calls.
     pub fn number(&self) -> u32
         ensures { result ≡ self.now.number }
@@ -122,13 +125,13 @@ impl<F: Asks, K: Naming<F>, G: Glass<F, K>> PassOver<F, K, G> {
         ensures count { result ≡ length self.now.seen }
         ensures legal { AreLegal (prices_named F.answers K.closure) K.start self.now.seen }
     {
-        self.front.len()
+        self.prefix.len()
     }
 
     /// The version of now: the picture after accepted entries that begin with all that the pass has seen,
     /// and that it has seen from then on. It takes no memory and waits for nobody. NoView is answered
     /// where the service has ended or no further share of the version is left.
-    pub fn view(&mut self) -> Result<Version<F, K>, PassFault>
+    pub fn view(&mut self) -> Result<View<F, K>, PassFault>
         ensures number { self.new.number ≡ self.old.number }
         ensures receipts { self.new.receipts ≡ self.old.receipts }
         ensures later { IsPrefix self.old.seen self.new.seen }
@@ -136,13 +139,13 @@ impl<F: Asks, K: Naming<F>, G: Glass<F, K>> PassOver<F, K, G> {
         ensures version { IfOk result (λ v. IsVersionFrom (prices_named F.answers K.closure) K.start v.entries v.picture) }
         ensures fault { IfErr result (λ e. e ≡ PassFault.NoView) }
     {
-        let Some(version) = self.reader.look() else {
+        let Some(version) = self.reader.current() else {
             return Err(PassFault::NoView);
         };
-        if !self.front.begins(version.front()) {
+        if !self.prefix.is_prefix_of(version.prefix()) {
             return Err(PassFault::NoView);
         }
-        self.front = version.front().again();
+        self.prefix = version.prefix().share();
         version.picture();
         Ok(version)
     }

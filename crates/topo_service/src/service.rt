@@ -11,34 +11,36 @@ ghost use Rattle.topo_service.specs.Answers.{HasSeenOwn, IsDueAfter};
 ghost use Rattle.topo_service.specs.Passes.{receipt_of};
 
 use crate::answer::Answer;
-use crate::desk::Desk;
 use crate::faults::ServiceFault;
 use crate::found::{Brought, FoundRoute};
+use crate::locked_state::LockedState;
 use crate::pass::{PassOver, Receipt};
-use crate::seats::Seats;
+use crate::share_pool::SharePool;
 use std::alloc::{AllocError, Global};
 use std::marker::{Model, PhantomData};
 use std::sync::{Arc, Mutex, Wait};
 use topo_core::calls::{Call, Reply};
 use topo_price::tariff::{Asks, Tariff};
 use topo_route::plan::Plan;
-use topo_versions::{Front, Glass, Lends, Naming, Shelf, wait_forever};
+use topo_versions::{
+    LogPrefix, ReaderFactory, ServiceBrand, VersionReader, VersionWriter, wait_forever,
+};
 
 /// One lock round a book, with the passes that were given out. Contracts see what answers its prices, how
 /// many passes it gives out at most, and how many it has given out.
-pub struct ServiceOver<F: Asks, K: Naming<F>, W: Shelf<F, K>> {
+pub struct ServiceOver<F: Asks, K: ServiceBrand<F>, W: VersionWriter<F, K>> {
     pub(crate) alloc: Global,
     pub(crate) tariff: Arc<Tariff<F>>,
-    pub(crate) desk: Mutex<Desk<F, K, W>>,
+    pub(crate) state: Mutex<LockedState<F, K, W>>,
     // Out of the reach of calls, which have a shared reference to the service.
-    pub(crate) seats: Seats<K>,
+    pub(crate) pool: SharePool<K>,
     // What a new pass has seen.
-    pub(crate) nothing: Front<F, K>,
+    pub(crate) nothing: LogPrefix<F, K>,
     pub(crate) places: u32,
     pub(crate) given: u32,
 }
 
-impl<F: Asks, K: Naming<F>, W: Shelf<F, K>> Model for ServiceOver<F, K, W> {
+impl<F: Asks, K: ServiceBrand<F>, W: VersionWriter<F, K>> Model for ServiceOver<F, K, W> {
     ghost use Rattle.std.specs.Prelude.{◌≡◌, ◌≤◌, [], Some};
     ghost use Rattle.std.specs.Arc.{arc_value};
     ghost use Rattle.topo_service.specs.Passes.{ServiceState};
@@ -50,7 +52,7 @@ impl<F: Asks, K: Naming<F>, W: Shelf<F, K>> Model for ServiceOver<F, K, W> {
     ghost invariant = { λ s. (K.closure ≡ Some (arc_value s.tariff)) × (K.parts ≡ 16) × (s.places ≤ 16) × (s.nothing ≡ []) };
 }
 
-impl<F: Asks, K: Naming<F>, W: Shelf<F, K>> ServiceOver<F, K, W> {
+impl<F: Asks, K: ServiceBrand<F>, W: VersionWriter<F, K>> ServiceOver<F, K, W> {
     /// The prices. It takes no lock.
     pub fn tariff(&self) -> &Tariff<F>
         ensures tariff { result.now ≡ self.now.tariff }
@@ -61,9 +63,9 @@ impl<F: Asks, K: Naming<F>, W: Shelf<F, K>> ServiceOver<F, K, W> {
 
     /// The next pass, with no receipt. NoSeat is answered where as many were given out as there may be, or
     /// the version store has no place for a reader. It waits for nobody.
-    pub fn pass<G: Glass<F, K>>(&mut self) -> Result<PassOver<F, K, G>, ServiceFault>
+    pub fn pass<G: VersionReader<F, K>>(&mut self) -> Result<PassOver<F, K, G>, ServiceFault>
     where
-        W: Lends<F, K, G>,
+        W: ReaderFactory<F, K, G>,
         ensures number { IfOk result (λ p. p.number ≡ self.old.given) }
         ensures receipts { IfOk result (λ p. p.receipts ≡ []) }
         ensures seen { IfOk result (λ p. p.seen ≡ []) }
@@ -75,10 +77,10 @@ impl<F: Asks, K: Naming<F>, W: Shelf<F, K>> ServiceOver<F, K, W> {
         if self.given >= self.places {
             return Err(ServiceFault::NoSeat);
         }
-        let Ok(reader) = self.desk.get_mut().reader() else {
+        let Ok(reader) = self.state.get_mut().reader() else {
             return Err(ServiceFault::NoSeat);
         };
-        let Some(share) = self.seats.take() else {
+        let Some(share) = self.pool.take() else {
             return Err(ServiceFault::NoSeat);
         };
         let number = self.given;
@@ -88,7 +90,7 @@ impl<F: Asks, K: Naming<F>, W: Shelf<F, K>> ServiceOver<F, K, W> {
             receipts: Vec::new(self.alloc),
             share,
             reader,
-            front: self.nothing.again(),
+            prefix: self.nothing.share(),
             work: None,
             of: PhantomData,
         })
@@ -98,7 +100,7 @@ impl<F: Asks, K: Naming<F>, W: Shelf<F, K>> ServiceOver<F, K, W> {
     /// the first reason why not, under the lock. The pass gains a receipt, and has then seen the version
     /// of its call. Want of memory may stand in place of any answer; nothing was published then, and the
     /// pass is as it was.
-    pub fn insert<G: Glass<F, K>, R: Wait>(
+    pub fn insert<G: VersionReader<F, K>, R: Wait>(
         &self,
         rt: &R,
         pass: &mut PassOver<F, K, G>,
@@ -120,7 +122,7 @@ impl<F: Asks, K: Naming<F>, W: Shelf<F, K>> ServiceOver<F, K, W> {
 
     /// As `insert`, whatever the plan: its route is taken where the plan passes the check on the picture
     /// of now, which spares the search, and else the route is looked for.
-    pub fn insert_planned<G: Glass<F, K>, R: Wait>(
+    pub fn insert_planned<G: VersionReader<F, K>, R: Wait>(
         &self,
         rt: &R,
         pass: &mut PassOver<F, K, G>,
@@ -143,7 +145,7 @@ impl<F: Asks, K: Naming<F>, W: Shelf<F, K>> ServiceOver<F, K, W> {
 
     /// As `insert` between the ends of a route that was found: the route is taken as it is where it was
     /// found on the version of now, and else the route is looked for.
-    pub fn insert_found<G: Glass<F, K>, R: Wait>(
+    pub fn insert_found<G: VersionReader<F, K>, R: Wait>(
         &self,
         rt: &R,
         pass: &mut PassOver<F, K, G>,
@@ -164,7 +166,7 @@ impl<F: Asks, K: Naming<F>, W: Shelf<F, K>> ServiceOver<F, K, W> {
     }
 
     /// Takes an edge out, or answers why not; in all else as `insert`.
-    pub fn delete<G: Glass<F, K>, R: Wait>(
+    pub fn delete<G: VersionReader<F, K>, R: Wait>(
         &self,
         rt: &R,
         pass: &mut PassOver<F, K, G>,
@@ -184,7 +186,7 @@ impl<F: Asks, K: Naming<F>, W: Shelf<F, K>> ServiceOver<F, K, W> {
 
     /// Puts a new vertex on a new edge of this kind into the corner at `position` of `u`, or answers the
     /// first reason why not; in all else as `insert`.
-    pub fn grow<G: Glass<F, K>, R: Wait>(
+    pub fn grow<G: VersionReader<F, K>, R: Wait>(
         &self,
         rt: &R,
         pass: &mut PassOver<F, K, G>,
@@ -205,7 +207,7 @@ impl<F: Asks, K: Naming<F>, W: Shelf<F, K>> ServiceOver<F, K, W> {
     }
 
     /// One call under the lock. The place of its receipt is taken first.
-    pub(crate) fn call<'a, G: Glass<F, K>, R: Wait>(
+    pub(crate) fn call<'a, G: VersionReader<F, K>, R: Wait>(
         &'a self,
         rt: &R,
         pass: &mut PassOver<F, K, G>,
@@ -223,15 +225,15 @@ impl<F: Asks, K: Naming<F>, W: Shelf<F, K>> ServiceOver<F, K, W> {
     {
         pass.seen();
         pass.receipts.reserve(1)?;
-        let mut guard = self.desk.lock(rt);
-        let desk = &mut *guard;
-        if !pass.front.begins(desk.front()) {
+        let mut guard = self.state.lock(rt);
+        let state = &mut *guard;
+        if !pass.prefix.is_prefix_of(state.prefix()) {
             wait_forever(rt);
         }
-        let made = desk.call(rt, self.alloc, &mut pass.share, pass.number, call, brought);
+        let made = state.call(rt, self.alloc, &mut pass.share, pass.number, call, brought);
         let Answer { told, kept } = made?;
         pass.receipts.push_reserved(Receipt { call, reply: kept });
-        pass.front = desk.front().again();
+        pass.prefix = state.prefix().share();
         Ok(told)
     }
 }

@@ -16,7 +16,7 @@ use std::thread;
 use std::thread::Threads;
 use topo_core::calls::{Command, Reply};
 use topo_price::tariff::Asks;
-use topo_versions::{Glass, Naming, Shelf};
+use topo_versions::{ServiceBrand, VersionReader, VersionWriter};
 
 /// What is called round each command: with the place of the list, and the command's place in it.
 pub trait Gate: Sync {
@@ -36,7 +36,7 @@ pub enum WorkerEnd {
 
 /// Carries a command out. A planned insertion looks for its route on a view first, without the lock; where
 /// that finds none, it is an insertion.
-fn carry_out<F: Asks, K: Naming<F>, W: Shelf<F, K>, G: Glass<F, K>, R: Wait>(
+fn carry_out<F: Asks, K: ServiceBrand<F>, W: VersionWriter<F, K>, G: VersionReader<F, K>, R: Wait>(
     rt: &R,
     alloc: Global,
     service: &ServiceOver<F, K, W>,
@@ -58,7 +58,14 @@ fn carry_out<F: Asks, K: Naming<F>, W: Shelf<F, K>, G: Glass<F, K>, R: Wait>(
 }
 
 /// Carries a list out, until memory is wanted.
-fn work<F: Asks, K: Naming<F>, W: Shelf<F, K>, G: Glass<F, K>, R: Wait, T: Gate>(
+fn work<
+    F: Asks,
+    K: ServiceBrand<F>,
+    W: VersionWriter<F, K>,
+    G: VersionReader<F, K>,
+    R: Wait,
+    T: Gate,
+>(
     rt: &R,
     alloc: Global,
     service: &ServiceOver<F, K, W>,
@@ -82,9 +89,9 @@ fn work<F: Asks, K: Naming<F>, W: Shelf<F, K>, G: Glass<F, K>, R: Wait, T: Gate>
 /// Runs each list with the pass at its place, in a thread of its own.
 fn run_each<
     F: Asks + Drop + Send + Sync,
-    K: Naming<F> + Send + Sync,
-    W: Shelf<F, K> + Send,
-    G: Glass<F, K> + Send,
+    K: ServiceBrand<F> + Send + Sync,
+    W: VersionWriter<F, K> + Send,
+    G: VersionReader<F, K> + Send,
     R: Threads + Wait + Sync,
     T: Gate,
 >(
@@ -119,7 +126,7 @@ fn run_each<
 }
 
 /// How many receipts each pass has.
-fn receipt_counts<F: Asks, K: Naming<F>, G: Glass<F, K>>(
+fn receipt_counts<F: Asks, K: ServiceBrand<F>, G: VersionReader<F, K>>(
     alloc: Global,
     passes: &[PassOver<F, K, G>],
 ) -> Result<Vec<usize>, AllocError>
@@ -145,7 +152,7 @@ fn end_of(before: usize, after: usize, commands: usize) -> WorkerEnd
 }
 
 /// Tells how the work on each list ended.
-fn tell_ends<F: Asks, K: Naming<F>, G: Glass<F, K>>(
+fn tell_ends<F: Asks, K: ServiceBrand<F>, G: VersionReader<F, K>>(
     ends: &mut Vec<WorkerEnd>,
     before: &[usize],
     passes: &[PassOver<F, K, G>],
@@ -171,9 +178,9 @@ fn tell_ends<F: Asks, K: Naming<F>, G: Glass<F, K>>(
 /// refused, no pass has changed.
 pub fn run_workers<
     F: Asks + Drop + Send + Sync,
-    K: Naming<F> + Send + Sync,
-    W: Shelf<F, K> + Send,
-    G: Glass<F, K> + Send,
+    K: ServiceBrand<F> + Send + Sync,
+    W: VersionWriter<F, K> + Send,
+    G: VersionReader<F, K> + Send,
     R: Threads + Wait + Sync,
     T: Gate,
 >(

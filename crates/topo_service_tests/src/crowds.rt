@@ -15,7 +15,7 @@ use topo_core::rows::Rows;
 use topo_picture::Picture;
 use topo_price::tariff::Asks;
 use topo_service::{Pass, Service, WorkerEnd};
-use topo_versions::{Naming, Version};
+use topo_versions::{ServiceBrand, Version};
 
 /// So many workers, whether all came to their ends, and whether at least so many calls were accepted.
 #[derive(Drop)]
@@ -25,7 +25,7 @@ struct Workers {
 }
 
 /// How many calls are accepted, as the first pass sees it.
-fn accepted_by<F: Asks + Drop, K: Naming<F>>(passes: &mut [Pass<F, K>]) -> Result<u64, Fail> {
+fn accepted_by<F: Asks + Drop, K: ServiceBrand<F>>(passes: &mut [Pass<F, K>]) -> Result<u64, Fail> {
     match passes.first_mut() {
         Some(pass) => {
             let view = view_of(pass)?;
@@ -38,11 +38,11 @@ fn accepted_by<F: Asks + Drop, K: Naming<F>>(passes: &mut [Pass<F, K>]) -> Resul
 }
 
 impl Story for Workers {
-    fn seats(&self) -> usize {
+    fn pass_count(&self) -> usize {
         self.number
     }
 
-    fn tell<F: Asks + Drop, K: Naming<F>, R: Wait>(
+    fn tell<F: Asks + Drop, K: ServiceBrand<F>, R: Wait>(
         &self,
         _rt: &R,
         alloc: Global,
@@ -205,7 +205,7 @@ fn is_lawful(alloc: Global, picture: &Picture) -> bool {
 }
 
 /// Looks at a version, and answers its number.
-fn look_at<F: Asks + Drop, K: Naming<F>>(
+fn look_at<F: Asks + Drop, K: ServiceBrand<F>>(
     alloc: Global,
     view: &Version<F, K>,
     before: u64,
@@ -218,7 +218,7 @@ fn look_at<F: Asks + Drop, K: Naming<F>>(
 }
 
 /// Takes a view, and looks at it. It answers the number of the last view.
-fn look<F: Asks + Drop, K: Naming<F>>(
+fn look<F: Asks + Drop, K: ServiceBrand<F>>(
     alloc: Global,
     pass: &mut Pass<F, K>,
     before: u64,
@@ -235,7 +235,7 @@ fn look<F: Asks + Drop, K: Naming<F>>(
 }
 
 /// Whether a command was carried out.
-fn is_made<F: Asks + Drop, K: Naming<F>, R: Wait>(
+fn is_made<F: Asks + Drop, K: ServiceBrand<F>, R: Wait>(
     rt: &R,
     service: &Service<F, K>,
     pass: &mut Pass<F, K>,
@@ -252,7 +252,7 @@ fn is_made<F: Asks + Drop, K: Naming<F>, R: Wait>(
 }
 
 /// The same of a planned insertion.
-fn is_planned<F: Asks + Drop, K: Naming<F>, R: Wait>(
+fn is_planned<F: Asks + Drop, K: ServiceBrand<F>, R: Wait>(
     rt: &R,
     alloc: Global,
     service: &Service<F, K>,
@@ -272,7 +272,7 @@ fn is_planned<F: Asks + Drop, K: Naming<F>, R: Wait>(
 }
 
 /// Makes two thousand calls, and takes a view after each hundred.
-fn work_and_look<F: Asks + Drop, K: Naming<F>, R: Wait>(
+fn work_and_look<F: Asks + Drop, K: ServiceBrand<F>, R: Wait>(
     rt: &R,
     alloc: Global,
     service: &Service<F, K>,
@@ -298,7 +298,7 @@ fn work_and_look<F: Asks + Drop, K: Naming<F>, R: Wait>(
 /// Lets each pass make its calls, in a thread of its own, and looks at versions meanwhile.
 pub(crate) fn work_all<
     F: Asks + Drop + Send + Sync,
-    K: Naming<F> + Send + Sync,
+    K: ServiceBrand<F> + Send + Sync,
     R: Threads + Wait + Sync,
 >(rt: &R, alloc: Global, service: &Service<F, K>, passes: &mut [Pass<F, K>], watch: &Watch) {
     let threads = passes.len();

@@ -14,7 +14,7 @@ use topo_core::calls::{Call, Command};
 use topo_core::rows::Facts;
 use topo_price::tariff::Asks;
 use topo_service::{Gate, Pass, Service, WorkerEnd};
-use topo_versions::Naming;
+use topo_versions::ServiceBrand;
 
 /// How often a gate looks for a flag before the run is late.
 const LOOKS: u64 = 100_000_000;
@@ -72,7 +72,7 @@ struct Pair<'a> {
 }
 
 /// How many receipts each pass has, and how many edges it sees.
-fn seen_of<F: Asks + Drop, K: Naming<F>>(
+fn seen_of<F: Asks + Drop, K: ServiceBrand<F>>(
     alloc: Global,
     passes: &mut [Pass<F, K>],
 ) -> Result<Vec<(usize, u32)>, Fail> {
@@ -87,11 +87,11 @@ fn seen_of<F: Asks + Drop, K: Naming<F>>(
 }
 
 impl Story for Pair<'_> {
-    fn seats(&self) -> usize {
+    fn pass_count(&self) -> usize {
         2
     }
 
-    fn tell<F: Asks + Drop, K: Naming<F>, R: Wait>(
+    fn tell<F: Asks + Drop, K: ServiceBrand<F>, R: Wait>(
         &self,
         _rt: &R,
         alloc: Global,
@@ -206,7 +206,7 @@ struct PlanAndDelete<'a> {
 }
 
 /// What the first call of the first pass was answered.
-fn first_reply<F: Asks + Drop, K: Naming<F>>(
+fn first_reply<F: Asks + Drop, K: ServiceBrand<F>>(
     alloc: Global,
     passes: &[Pass<F, K>],
 ) -> Result<String, Fail> {
@@ -220,11 +220,11 @@ fn first_reply<F: Asks + Drop, K: Naming<F>>(
 }
 
 impl Story for PlanAndDelete<'_> {
-    fn seats(&self) -> usize {
+    fn pass_count(&self) -> usize {
         2
     }
 
-    fn tell<F: Asks + Drop, K: Naming<F>, R: Wait>(
+    fn tell<F: Asks + Drop, K: ServiceBrand<F>, R: Wait>(
         &self,
         _rt: &R,
         alloc: Global,

@@ -20,18 +20,18 @@ use topo_picture::Picture;
 use topo_price::table::PriceTable;
 use topo_price::tariff::{Asks, Tariff};
 use topo_service::close::CloseFault;
-use topo_service::{EndFault, Gate, Pass, Service, Unopened, WorkerEnd, run_workers};
-use topo_versions::{Naming, StoreReader};
+use topo_service::{EndFault, FreshService, Gate, Pass, Service, WorkerEnd, run_workers};
+use topo_versions::{ServiceBrand, StoreReader};
 
 /// What is done with a service.
 pub(crate) trait Story {
     /// How many passes it asks for.
-    fn seats(&self) -> usize;
+    fn pass_count(&self) -> usize;
 
     /// Uses the service by its passes, of which there are fewer than asked for where the service gave no
     /// more, and says what it saw. It gets how the workers' lists ended. The passes that it leaves are
     /// those that the service is closed with.
-    fn tell<F: Asks + Drop, K: Naming<F>, R: Wait>(
+    fn tell<F: Asks + Drop, K: ServiceBrand<F>, R: Wait>(
         &self,
         rt: &R,
         alloc: Global,
@@ -123,32 +123,32 @@ pub(crate) fn run_work<F: Asks + Drop + Send + Sync, S: Story, T: Gate, R: Threa
     requires promise { IsPromise (F.answers ask) }
 {
     let tariff = Arc::new(alloc, Tariff::new(ask))?;
-    named::<F, Brand, S, T, R>(rt, alloc, Unopened::new(), start, tariff, work, story)
+    named::<F, Brand, S, T, R>(rt, alloc, FreshService::new(), start, tariff, work, story)
 }
 
 /// The same, over the service that K names.
 fn named<
     F: Asks + Drop + Send + Sync,
-    K: Naming<F> + Send + Sync,
+    K: ServiceBrand<F> + Send + Sync,
     S: Story,
     T: Gate,
     R: Threads + Wait + Sync,
 >(
     rt: &R,
     alloc: Global,
-    unopened: Unopened,
+    fresh: FreshService,
     start: Picture,
     tariff: Arc<Tariff<F>>,
     work: Work<T>,
     story: &S,
 ) -> Result<String, Fail>
-    requires ledger { (unopened.blank.name ≡ K.name) × (unopened.blank.parts ≡ K.parts) }
+    requires ledger { (fresh.blank.name ≡ K.name) × (fresh.blank.parts ≡ K.parts) }
     requires parts { K.parts ≡ 16 }
-    requires list { unopened.opened.seen.book ≡ K.book }
+    requires list { fresh.opened.seen.book ≡ K.book }
     requires start { start ≡ K.start }
     requires prices { K.closure ≡ Some (arc_value tariff) }
 {
-    let service = Service::<F, K>::new(alloc, unopened, start, tariff)?;
+    let service = Service::<F, K>::new(alloc, fresh, start, tariff)?;
     tell_and_close(rt, alloc, service, work, story)
 }
 
@@ -156,7 +156,7 @@ fn named<
 /// nothing returns early while they are.
 fn tell_and_close<
     F: Asks + Drop + Send + Sync,
-    K: Naming<F> + Send + Sync,
+    K: ServiceBrand<F> + Send + Sync,
     S: Story,
     T: Gate,
     R: Threads + Wait + Sync,
@@ -184,7 +184,7 @@ fn both(
 }
 
 /// Closes the service with these passes. The text says how it ended.
-fn close<F: Asks + Drop, K: Naming<F>, R: Wait>(
+fn close<F: Asks + Drop, K: ServiceBrand<F>, R: Wait>(
     rt: &R,
     alloc: Global,
     service: Service<F, K>,
@@ -196,7 +196,7 @@ fn close<F: Asks + Drop, K: Naming<F>, R: Wait>(
 /// Gives out the passes that the story asks for, lets the workers do their work, and then plays the story.
 fn tell<
     F: Asks + Drop + Send + Sync,
-    K: Naming<F> + Send + Sync,
+    K: ServiceBrand<F> + Send + Sync,
     S: Story,
     T: Gate,
     R: Threads + Wait + Sync,
@@ -208,18 +208,18 @@ fn tell<
     work: Work<T>,
     story: &S,
 ) -> Result<String, Fail> {
-    give_out(service, passes, story.seats())?;
+    give_out(service, passes, story.pass_count())?;
     let ends = carry_out(rt, alloc, &*service, passes.as_mut_slice(), work)?;
     story.tell(rt, alloc, &*service, passes, ends.as_slice())
 }
 
 /// Gives out so many passes, or as many as there are.
-fn give_out<F: Asks + Drop, K: Naming<F>>(
+fn give_out<F: Asks + Drop, K: ServiceBrand<F>>(
     service: &mut Service<F, K>,
     passes: &mut Vec<Pass<F, K>>,
-    seats: usize,
+    pass_count: usize,
 ) -> Result<(), AllocError> {
-    for _ in 0..seats {
+    for _ in 0..pass_count {
         let Ok(pass) = service.pass() else {
             return Ok(());
         };
@@ -229,7 +229,7 @@ fn give_out<F: Asks + Drop, K: Naming<F>>(
 }
 
 /// How a service ended: with a book or with a fault.
-fn ending<F: Asks + Drop, K: Naming<F>>(
+fn ending<F: Asks + Drop, K: ServiceBrand<F>>(
     alloc: Global,
     end: Result<Book<F>, CloseFault<F, K, StoreReader<F, K>>>,
 ) -> Result<String, AllocError> {
@@ -265,7 +265,7 @@ fn ended_with(alloc: Global, fault: EndFault, left: usize) -> Result<String, All
 /// Lets the passes do their work, each in a thread of its own.
 fn carry_out<
     F: Asks + Drop + Send + Sync,
-    K: Naming<F> + Send + Sync,
+    K: ServiceBrand<F> + Send + Sync,
     T: Gate,
     R: Threads + Wait + Sync,
 >(

@@ -2,6 +2,8 @@
 #![tactic(auto)]
 
 #[cfg(test)]
+mod closed;
+#[cfg(test)]
 mod crowds;
 #[cfg(test)]
 mod gates;

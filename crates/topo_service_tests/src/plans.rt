@@ -16,7 +16,7 @@ use topo_core::rows::Rows;
 use topo_price::tariff::Asks;
 use topo_route::plan::Plan;
 use topo_service::{Pass, Service, WorkerEnd};
-use topo_versions::Naming;
+use topo_versions::ServiceBrand;
 
 /// The least heights from the apexes' faces to apex 4, where the edges of the triangle cost 5, 2 and 9.
 const LEAST: [u64; 18] = [0, 3, 0, 2, 0, 3, 3, 3, 3, 2, 2, 3, 0, 0, 0, 0, 0, 0];
@@ -55,7 +55,7 @@ fn invented(alloc: Global, crossed: Dart, heights: &[u64]) -> Result<Plan, Alloc
 }
 
 /// An insertion between the apexes, with the plan if there is one.
-fn join<F: Asks + Drop, K: Naming<F>, R: Wait>(
+fn join<F: Asks + Drop, K: ServiceBrand<F>, R: Wait>(
     rt: &R,
     service: &Service<F, K>,
     pass: &mut Pass<F, K>,
@@ -68,7 +68,7 @@ fn join<F: Asks + Drop, K: Naming<F>, R: Wait>(
 }
 
 /// The picture of now.
-fn rows_of<F: Asks + Drop, K: Naming<F>>(
+fn rows_of<F: Asks + Drop, K: ServiceBrand<F>>(
     alloc: Global,
     pass: &mut Pass<F, K>,
 ) -> Result<Rows, Fail> {
@@ -79,7 +79,7 @@ fn rows_of<F: Asks + Drop, K: Naming<F>>(
 }
 
 /// A reply, and the picture after it.
-fn text_of<F: Asks + Drop, K: Naming<F>>(
+fn text_of<F: Asks + Drop, K: ServiceBrand<F>>(
     alloc: Global,
     reply: &Reply,
     pass: &mut Pass<F, K>,
@@ -97,11 +97,11 @@ struct Joined<'a> {
 }
 
 impl Story for Joined<'_> {
-    fn seats(&self) -> usize {
+    fn pass_count(&self) -> usize {
         1
     }
 
-    fn tell<F: Asks + Drop, K: Naming<F>, R: Wait>(
+    fn tell<F: Asks + Drop, K: ServiceBrand<F>, R: Wait>(
         &self,
         rt: &R,
         alloc: Global,
@@ -127,7 +127,7 @@ struct Late {
 }
 
 /// The two changes, and the insertion.
-fn join_late<F: Asks + Drop, K: Naming<F>, R: Wait>(
+fn join_late<F: Asks + Drop, K: ServiceBrand<F>, R: Wait>(
     rt: &R,
     service: &Service<F, K>,
     pass: &mut Pass<F, K>,
@@ -139,7 +139,7 @@ fn join_late<F: Asks + Drop, K: Naming<F>, R: Wait>(
 }
 
 /// The reply to the insertion, and the picture after it.
-fn told_late<F: Asks + Drop, K: Naming<F>, R: Wait>(
+fn told_late<F: Asks + Drop, K: ServiceBrand<F>, R: Wait>(
     rt: &R,
     alloc: Global,
     service: &Service<F, K>,
@@ -153,11 +153,11 @@ fn told_late<F: Asks + Drop, K: Naming<F>, R: Wait>(
 }
 
 impl Story for Late {
-    fn seats(&self) -> usize {
+    fn pass_count(&self) -> usize {
         1
     }
 
-    fn tell<F: Asks + Drop, K: Naming<F>, R: Wait>(
+    fn tell<F: Asks + Drop, K: ServiceBrand<F>, R: Wait>(
         &self,
         rt: &R,
         alloc: Global,

@@ -5,8 +5,8 @@ ghost use Rattle.std.specs.Arc.{arc_value};
 ghost use Rattle.topo_versions.specs.Names.{prices_named};
 ghost use Rattle.topo_versions.specs.Versions.{IsVersionFrom};
 
-use crate::front::Front;
-use crate::naming::Naming;
+use crate::brand::ServiceBrand;
+use crate::log_prefix::LogPrefix;
 use std::alloc::AllocError;
 use std::marker::{Model, PhantomData};
 use std::sync::Arc;
@@ -16,45 +16,45 @@ use topo_price::tariff::Asks;
 /// A picture that no longer changes, and the beginning of the list of accepted entries that leads to it.
 /// Contracts see the picture and the entries.
 #[derive(Drop)]
-pub struct Version<F: Asks, K: Naming<F>> {
+pub struct Version<F: Asks, K: ServiceBrand<F>> {
     picture: Arc<Picture>,
-    front: Front<F, K>,
+    prefix: LogPrefix<F, K>,
     of: PhantomData<F>,
 }
 
-impl<F: Asks, K: Naming<F>> Model for Version<F, K> {
+impl<F: Asks, K: ServiceBrand<F>> Model for Version<F, K> {
     ghost use Rattle.std.specs.Arc.{arc_value};
     ghost use Rattle.topo_versions.specs.Names.{prices_named};
     ghost use Rattle.topo_versions.specs.Versions.{VersionState, IsVersionFrom};
 
     ghost Value = { VersionState };
 
-    ghost view = { λ v. record { picture = arc_value v.picture; entries = v.front } };
+    ghost view = { λ v. record { picture = arc_value v.picture; entries = v.prefix } };
 
-    ghost invariant = { λ v. IsVersionFrom (prices_named F.answers K.closure) K.start v.front (arc_value v.picture) };
+    ghost invariant = { λ v. IsVersionFrom (prices_named F.answers K.closure) K.start v.prefix (arc_value v.picture) };
 }
 
-impl<F: Asks, K: Naming<F>> Version<F, K> {
+impl<F: Asks, K: ServiceBrand<F>> Version<F, K> {
     /// The version after these entries, with the picture that they lead to.
-    pub fn new(front: Front<F, K>, picture: Arc<Picture>) -> Version<F, K>
-        requires follows { IsVersionFrom (prices_named F.answers K.closure) K.start front (arc_value picture) }
-        ensures entries { result.entries ≡ front }
+    pub fn new(prefix: LogPrefix<F, K>, picture: Arc<Picture>) -> Version<F, K>
+        requires follows { IsVersionFrom (prices_named F.answers K.closure) K.start prefix (arc_value picture) }
+        ensures entries { result.entries ≡ prefix }
         ensures picture { result.picture ≡ arc_value picture }
     {
         Version {
             picture,
-            front,
+            prefix,
             of: PhantomData,
         }
     }
 
     /// A copy, over one more share of the picture. It takes no memory.
-    pub fn again(&self) -> Result<Version<F, K>, AllocError>
+    pub fn share(&self) -> Result<Version<F, K>, AllocError>
         ensures { IfOk result (λ v. v ≡ self.now) }
     {
         Ok(Version {
             picture: Arc::try_clone(&self.picture)?,
-            front: self.front.again(),
+            prefix: self.prefix.share(),
             of: PhantomData,
         })
     }
@@ -63,7 +63,7 @@ impl<F: Asks, K: Naming<F>> Version<F, K> {
     pub fn number(&self) -> u64
         ensures { result ≡ length self.now.entries }
     {
-        self.front.len()
+        self.prefix.len()
     }
 
     /// The picture after its entries.
@@ -76,9 +76,9 @@ impl<F: Asks, K: Naming<F>> Version<F, K> {
 
     /// Its entries. A copy of them holds no share of the picture, so the picture is free to be carried on
     /// while the copy is kept.
-    pub fn front(&self) -> &Front<F, K>
+    pub fn prefix(&self) -> &LogPrefix<F, K>
         ensures { result.now ≡ self.now.entries }
     {
-        &self.front
+        &self.prefix
     }
 }

@@ -23,15 +23,15 @@ returns-clause-all_there g c = rw (← c.self.view_is, ← c.as_slice.ensures.va
 
 pub returns-clause-agree : goal.returns-clause-agree
 returns-clause-agree g c =
-    let firsts : All (λ (p : PassState). AreFirst c.into_inner-desk.result.history p.number p.receipts) c.args.passes.items = rw (← c.as_slice.ensures.value, ← c.history.ensures) c.in_default.ensures.agree in
+    let firsts : All (λ (p : PassState). AreFirst c.into_inner-state.result.history p.number p.receipts) c.args.passes.items = rw (← c.as_slice.ensures.value, ← c.history.ensures) c.in_default.ensures.agree in
     let same = ap (λ b. b.history) (c.into_book-2.ensures.same ∙ c.audit.ensures.same) in
-    let agree : All (λ (p : PassState). AllAgree c.into_inner-desk.result.history p.number p.receipts) c.args.passes.items = λ k d lt. first_agree _ _ _ (firsts k d lt) in
+    let agree : All (λ (p : PassState). AllAgree c.into_inner-state.result.history p.number p.receipts) c.args.passes.items = λ k d lt. first_agree _ _ _ (firsts k d lt) in
     subst (λ (h : List Entry). All (λ (p : PassState). AllAgree h p.number p.receipts) c.args.passes.items) (sym same) agree
 
 pub returns-clause-whole : goal.returns-clause-whole
 returns-clause-whole g c =
     let given = c.self.inside.given in
-    let history = c.into_inner-desk.result.history in
+    let history = c.into_inner-state.result.history in
     let passes : List PassState = c.args.passes.items in
     let rest = c.into_parts-parts.result.1 in
     let sum : rest.parts + given ≡ 16 = search rules in

@@ -2,7 +2,7 @@
 
 ghost use Rattle.std.specs.Prelude.{◌≡◌, IfSome, Some, None};
 
-use crate::naming::Naming;
+use crate::brand::ServiceBrand;
 use crate::version::Version;
 use left_right::Absorb;
 use std::alloc::AllocError;
@@ -12,11 +12,11 @@ use topo_price::tariff::Asks;
 /// A side of the store: the version that readers take, and nothing on the side that they have left, so that
 /// the store keeps no version before the one of now.
 #[derive(Drop)]
-pub struct Side<F: Asks, K: Naming<F>> {
+pub struct Slot<F: Asks, K: ServiceBrand<F>> {
     version: Option<Version<F, K>>,
 }
 
-impl<F: Asks, K: Naming<F>> Model for Side<F, K> {
+impl<F: Asks, K: ServiceBrand<F>> Model for Slot<F, K> {
     ghost use Rattle.std.specs.Prelude.{Option};
     ghost use Rattle.topo_versions.specs.Versions.{VersionState};
 
@@ -26,33 +26,33 @@ impl<F: Asks, K: Naming<F>> Model for Side<F, K> {
 }
 
 // A side is written whole, and takes in no operations.
-impl<F: Asks + Drop, K: Naming<F>> Absorb<()> for Side<F, K> {
+impl<F: Asks + Drop, K: ServiceBrand<F>> Absorb<()> for Slot<F, K> {
     type State = ();
 
     ghost state = { λ s. tt };
 
     ghost applied = { λ s o. s };
 
-    fn absorb_first(&mut self, _operation: &(), _other: &Side<F, K>) -> Result<(), AllocError> {
+    fn absorb_first(&mut self, _operation: &(), _other: &Slot<F, K>) -> Result<(), AllocError> {
         Ok(())
     }
 }
 
-impl<F: Asks, K: Naming<F>> Side<F, K> {
+impl<F: Asks, K: ServiceBrand<F>> Slot<F, K> {
     /// The side that shows a version.
-    pub(crate) fn of(version: Version<F, K>) -> Side<F, K>
+    pub(crate) fn of(version: Version<F, K>) -> Slot<F, K>
         ensures { result ≡ Some version }
     {
-        Side {
+        Slot {
             version: Some(version),
         }
     }
 
     /// The side that nobody looks at.
-    pub(crate) fn blank() -> Side<F, K>
+    pub(crate) fn blank() -> Slot<F, K>
         ensures { result ≡ None }
     {
-        Side { version: None }
+        Slot { version: None }
     }
 
     /// The version that it shows, over one more share of the picture where one is left.
@@ -60,7 +60,7 @@ impl<F: Asks, K: Naming<F>> Side<F, K> {
         ensures { IfSome result (λ version. self.now ≡ Some version) }
     {
         match &self.version {
-            Some(version) => version.again().ok(),
+            Some(version) => version.share().ok(),
             None => None,
         }
     }

@@ -1,20 +1,21 @@
-//! Beginnings of the one list of accepted entries.
+//! The log of accepted entries: a list that only grows, and its prefixes that were seen. Of any two prefixes
+//! one is a prefix of the other.
 ghost use Rattle.std.specs.Prelude.{◌≡◌, ◌+◌, ◌==◌, ◌<◌, ◌≤◌, ◌^◌, ◌++◌, ◌∷◌, [], if◌then◌else◌, length, true, MatchBool};
 ghost use Rattle.topo_core.specs.History.{IsPrefix};
 ghost use Rattle.topo_versions.specs.Listing.{head_of};
 ghost use Rattle.topo_versions.specs.Names.{prices_named};
 ghost use Rattle.topo_versions.specs.Versions.{AreLegal};
 
-use crate::naming::{Logged, Naming};
+use crate::brand::{LogBrand, ServiceBrand};
 use logbook::{Gain, Plain, Play, Rule, Seen, Start, Word};
 use std::marker::{Model, PhantomData};
 use topo_core::calls::Entry;
 use topo_price::tariff::Asks;
 
-/// The rule of the list.
-pub struct Law;
+/// The rule of the log: its entries are kept, and its length is in one word.
+pub struct AppendOnly;
 
-impl Rule<Entry, u64> for Law {
+impl Rule<Entry, u64> for AppendOnly {
     ghost use Rattle.std.specs.Prelude.{[]};
     ghost use base.Fml.{ftrue};
     ghost use Rattle.topo_versions.specs.Listing.{IsKept};
@@ -33,24 +34,24 @@ impl Rule<Entry, u64> for Law {
 }
 
 /// Callers trade nothing.
-pub struct Nothing;
+pub struct NoGain;
 
-impl Gain<Entry, u64> for Nothing {
+impl Gain<Entry, u64> for NoGain {
     ghost use base.Fml.{ftrue};
 
     ghost after = { λ names about answer. ftrue };
 }
 
 /// A step that adds an entry.
-pub struct Add;
+pub struct Append;
 
-impl Play<Entry, u64> for Add {
+impl Play<Entry, u64> for Append {
     ghost use Rattle.topo_versions.specs.Listing.{Adds};
 
     ghost then = { Adds };
 }
 
-impl Plain<Entry, Entry, u64> for Add {
+impl Plain<Entry, Entry, u64> for Append {
     ghost use Rattle.std.specs.Prelude.{None};
 
     ghost ask = { λ entry. entry };
@@ -58,35 +59,35 @@ impl Plain<Entry, Entry, u64> for Add {
     ghost state = { λ entry. None };
 }
 
-/// An empty list, which has no name yet.
-pub struct Opened {
-    head: Word<Entry, u64, Law>,
-    seen: Seen<Entry, u64, Law>,
+/// An empty log, which is not bound to a service yet.
+pub struct FreshLog {
+    head: Word<Entry, u64, AppendOnly>,
+    seen: Seen<Entry, u64, AppendOnly>,
     pub ghost empty: { seen.log ≡ [] },
     pub ghost head_is: { head ≡ head_of seen.book },
 }
 
-impl Opened {
-    pub fn new() -> Opened {
+impl FreshLog {
+    pub fn new() -> FreshLog {
         let (seen, mut first, _second) = Seen::open(Start::alone(), 0, 0);
-        Opened {
+        FreshLog {
             head: Word::tracked(0, &mut first),
             seen,
         }
     }
 
-    /// The list's word under a name, and the front that has seen nothing.
-    pub fn named<F: Asks, K: Naming<F>>(self) -> (Head<K>, Front<F, K>)
+    /// The log's length and its empty prefix, bound to the service that K names.
+    pub fn named<F: Asks, K: ServiceBrand<F>>(self) -> (LogLength<K>, LogPrefix<F, K>)
         requires { self.seen.book ≡ K.book }
         ensures { result.1 ≡ [] }
     {
-        let Opened { head, seen } = self;
+        let FreshLog { head, seen } = self;
         (
-            Head {
+            LogLength {
                 word: head,
                 of: PhantomData,
             },
-            Front {
+            LogPrefix {
                 len: 0,
                 seen,
                 of: PhantomData,
@@ -95,24 +96,24 @@ impl Opened {
     }
 }
 
-/// The word with the length of the list.
+/// The log's length: the word that each addition changes.
 #[derive(Drop)]
-pub struct Head<K: Logged> {
-    word: Word<Entry, u64, Law>,
+pub struct LogLength<K: LogBrand> {
+    word: Word<Entry, u64, AppendOnly>,
     of: PhantomData<K>,
     ghost head_is: { word ≡ head_of K.book },
 }
 
-/// A beginning of the list that was seen: accepted entries that lead by steps from the start, at the prices
-/// that K names. Contracts see it as its entries.
+/// A prefix of the log that was seen: accepted entries that lead by steps from the start, at the prices that
+/// K names. Contracts see it as its entries.
 #[derive(Drop)]
-pub struct Front<F: Asks, K: Naming<F>> {
+pub struct LogPrefix<F: Asks, K: ServiceBrand<F>> {
     len: u64,
-    seen: Seen<Entry, u64, Law>,
+    seen: Seen<Entry, u64, AppendOnly>,
     of: PhantomData<(F, K)>,
 }
 
-impl<F: Asks, K: Naming<F>> Model for Front<F, K> {
+impl<F: Asks, K: ServiceBrand<F>> Model for LogPrefix<F, K> {
     ghost use Rattle.std.specs.Prelude.{◌≡◌, List, length};
     ghost use Rattle.topo_core.specs.declared.calls.Entry.{Entry};
     ghost use Rattle.topo_versions.specs.Names.{prices_named};
@@ -125,7 +126,7 @@ impl<F: Asks, K: Naming<F>> Model for Front<F, K> {
     ghost invariant = { λ f. (f.len ≡ length f.seen.log) × (f.seen.book ≡ K.book) × AreLegal (prices_named F.answers K.closure) K.start f.seen.log };
 }
 
-impl<F: Asks, K: Naming<F>> Front<F, K> {
+impl<F: Asks, K: ServiceBrand<F>> LogPrefix<F, K> {
     /// How many entries it has.
     pub fn len(&self) -> u64
         ensures len { result ≡ length self.now }
@@ -134,20 +135,20 @@ impl<F: Asks, K: Naming<F>> Front<F, K> {
         self.len
     }
 
-    /// A copy.
-    pub fn again(&self) -> Front<F, K>
+    /// The same prefix once more.
+    pub fn share(&self) -> LogPrefix<F, K>
         ensures same { result ≡ self.now }
         ensures legal { AreLegal (prices_named F.answers K.closure) K.start result }
     {
-        Front {
+        LogPrefix {
             len: self.len,
             seen: self.seen.again(),
             of: PhantomData,
         }
     }
 
-    /// Whether the two are one: beginnings of one list are, where they are as long.
-    pub fn is(&self, other: &Front<F, K>) -> bool
+    /// Whether the two are equal. Prefixes of one log are equal if their lengths are.
+    pub fn same_as(&self, other: &LogPrefix<F, K>) -> bool
         ensures same { result ≡ true → self.now ≡ other.now }
         ensures all { self.now ≡ other.now → result ≡ true }
     {
@@ -156,9 +157,9 @@ impl<F: Asks, K: Naming<F>> Front<F, K> {
         self.len == other.len
     }
 
-    /// Whether it begins the other: of two beginnings of one list the shorter begins the longer.
-    pub fn begins(&self, other: &Front<F, K>) -> bool
-        ensures begins { result ≡ true → IsPrefix self.now other.now }
+    /// Whether it is a prefix of the other: of two prefixes of one log the shorter is one of the longer.
+    pub fn is_prefix_of(&self, other: &LogPrefix<F, K>) -> bool
+        ensures prefix { result ≡ true → IsPrefix self.now other.now }
         ensures all { IsPrefix self.now other.now → result ≡ true }
     {
         let mut both = self.seen.again();
@@ -167,19 +168,19 @@ impl<F: Asks, K: Naming<F>> Front<F, K> {
     }
 
     /// Adds an accepted entry, which is to be a step on, to all that was seen, and says whether it did. If the
-    /// list is longer than what was seen, nothing changes.
-    pub fn add(&mut self, head: &Head<K>, entry: &Entry) -> bool
+    /// log is longer than what was seen, nothing changes.
+    pub fn add(&mut self, head: &LogLength<K>, entry: &Entry) -> bool
         requires room { length self.old + 1 < 2 ^ 64 }
         requires follows { AreLegal (prices_named F.answers K.closure) K.start (self.old ++ entry.now ∷ []) }
         ensures { self.new ≡ (if result then self.old ++ entry.now ∷ [] else self.old) }
     {
         let len = self.len;
         let mut seen = self.seen.again();
-        let mut offer = seen.plain::<Nothing, Entry, Add>(entry);
+        let mut offer = seen.plain::<NoGain, Entry, Append>(entry);
         let mut pen = seen.no_pen();
         let found = head
             .word
-            .compare_exchange::<Add, Nothing>(len, len + 1, &mut seen, &mut offer, &mut pen);
+            .compare_exchange::<Append, NoGain>(len, len + 1, &mut seen, &mut offer, &mut pen);
         if found != len {
             return false;
         }

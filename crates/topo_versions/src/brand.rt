@@ -8,22 +8,22 @@ use std::marker::Brand;
 use std::sync::ledger::Ledger;
 
 /// The list of the accepted entries.
-pub trait Logged: Ledger {
+pub trait LogBrand: Ledger {
     ghost book: { Book };
 }
 
 /// The start of a service, and the closure that answers its prices.
-pub trait Naming<F>: Logged {
+pub trait ServiceBrand<F>: LogBrand {
     ghost start: { Shown };
 
     ghost closure: { Option F };
 }
 
-impl Logged for Brand {
+impl LogBrand for Brand {
     ghost book = { record { number = 0; log_name = 0; cells_name = 0 } };
 }
 
-impl<F> Naming<F> for Brand {
+impl<F> ServiceBrand<F> for Brand {
     ghost use Rattle.std.specs.Prelude.{None};
     ghost use Rattle.topo_versions.specs.Names.{smallest};
 

@@ -1,8 +1,8 @@
 use Rattle.std.proofs.Common.{◌≡◌, List, ◌++◌, ◌∷◌, [], arith, length-append, rules, subst, sym}
-use Rattle.topo_run.proofs.Passing.{seated_push}
-use Rattle.topo_run.specs.Working.{AreSeated}
+use Rattle.topo_run.proofs.Passing.{opened_push}
+use Rattle.topo_run.specs.Working.{AreOpened}
 use Rattle.topo_service.specs.Passes.{PassState}
-use Rattle.topo_run.proofs.serving.seat_all.Goals as goal
+use Rattle.topo_run.proofs.serving.open_passes.Goals as goal
 
 pub loop-i-preserved : goal.loop-i-preserved
 loop-i-preserved g c =
@@ -11,7 +11,7 @@ loop-i-preserved g c =
     let pushed : c.push.new.self.items ≡ passes ++ pass ∷ [] = search rules in
     let inv = c.loop-i.invariant in
     record {
-      seated = subst (λ (ps : List PassState). AreSeated ps) (sym pushed) (seated_push passes pass inv.seated (omega (arith, inv.count, inv.given, c.in_ok-pass.ensures.number)) c.in_ok-pass.ensures.receipts);
+      opened = subst (λ (ps : List PassState). AreOpened ps) (sym pushed) (opened_push passes pass inv.opened (omega (arith, inv.count, inv.given, c.in_ok-pass.ensures.number)) c.in_ok-pass.ensures.receipts);
       count = rw pushed (omega (arith, length-append passes (pass ∷ []), inv.count));
       given = omega (arith, c.in_ok-pass.ensures.given, inv.given);
       same = search rules;

@@ -3,7 +3,7 @@ use Rattle.std.proofs.lemmas.Bool.Decides.{nat_tests}
 use mathlib.Core.List.{IsPrefix}
 use Rattle.topo_core.specs.declared.calls.Entry.{Entry}
 use Rattle.topo_versions.proofs.Fronts.{prefix_same}
-use Rattle.topo_versions.proofs.front.Front.is.Goals as goal
+use Rattle.topo_versions.proofs.log_prefix.LogPrefix.same_as.Goals as goal
 
 pub returns-clause-same : goal.returns-clause-same
 returns-clause-same g c alike =

@@ -6,8 +6,8 @@ ghost use Rattle.topo_core.specs.declared.calls.Entry.{Entry};
 ghost use Rattle.topo_versions.specs.Names.{prices_named};
 ghost use Rattle.topo_versions.specs.Versions.{IsVersionFrom};
 
-use crate::front::Front;
-use crate::naming::Naming;
+use crate::brand::ServiceBrand;
+use crate::log_prefix::LogPrefix;
 use crate::version::Version;
 use std::alloc::AllocError;
 use std::sync::{Arc, Wait};
@@ -15,28 +15,28 @@ use topo_picture::Picture;
 use topo_price::tariff::Asks;
 
 /// What publishes versions.
-pub trait Shelf<F: Asks, K: Naming<F>> {
+pub trait VersionWriter<F: Asks, K: ServiceBrand<F>> {
     /// The entries of the version that readers take now, if there is one.
     ghost published: { Self → Option (List Entry) };
 
     /// Publishes the version after these entries, with the picture that they lead to. It keeps no version
     /// before it.
-    fn publish<R: Wait>(&mut self, rt: &R, front: &Front<F, K>, picture: Arc<Picture>)
-        requires follows { IsVersionFrom (prices_named F.answers K.closure) K.start front.now (arc_value picture) }
-        ensures { published self.new ≡ Some front.now };
+    fn publish<R: Wait>(&mut self, rt: &R, prefix: &LogPrefix<F, K>, picture: Arc<Picture>)
+        requires follows { IsVersionFrom (prices_named F.answers K.closure) K.start prefix.now (arc_value picture) }
+        ensures { published self.new ≡ Some prefix.now };
 
     /// Ends it.
     fn end<R: Wait>(self, rt: &R);
 }
 
 /// What takes versions.
-pub trait Glass<F: Asks, K: Naming<F>>: Drop {
-    /// The version of now; none where the store has ended or no further share of it is left.
-    fn look(&mut self) -> Option<Version<F, K>>;
+pub trait VersionReader<F: Asks, K: ServiceBrand<F>>: Drop {
+    /// The current version; none where the store has ended or no further share of it is left.
+    fn current(&mut self) -> Option<Version<F, K>>;
 }
 
 /// What makes readers.
-pub trait Lends<F: Asks, K: Naming<F>, G: Glass<F, K>>: Shelf<F, K> {
+pub trait ReaderFactory<F: Asks, K: ServiceBrand<F>, G: VersionReader<F, K>>: VersionWriter<F, K> {
     /// A reader; want of memory also where no place for one is left.
     fn reader(&self) -> Result<G, AllocError>;
 }

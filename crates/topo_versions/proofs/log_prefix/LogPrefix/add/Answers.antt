@@ -1,6 +1,6 @@
 use Rattle.std.proofs.Common.{◌≡◌, sym, ◌∙◌, ap, length}
 use Rattle.topo_versions.proofs.Adding.{adds_moves}
-use Rattle.topo_versions.proofs.front.Front.add.Goals as goal
+use Rattle.topo_versions.proofs.log_prefix.LogPrefix.add.Goals as goal
 
 pub compare_exchange-found-requires : goal.compare_exchange-found-requires
 compare_exchange-found-requires g c =

@@ -4,16 +4,16 @@ ghost use Rattle.std.specs.Prelude.{◌≡◌, ◌+◌, ◌<◌, IfSome};
 use std::marker::Model;
 use std::sync::Mutex;
 use std::sync::ledger::Share;
-use topo_versions::Logged;
+use topo_versions::LogBrand;
 
 /// What is left, and how many parts were given out.
 #[derive(Drop)]
-struct Rest<K: Logged> {
+struct Rest<K: LogBrand> {
     share: Share<K>,
     given: u32,
 }
 
-impl<K: Logged> Model for Rest<K> {
+impl<K: LogBrand> Model for Rest<K> {
     ghost use Rattle.std.specs.Prelude.{◌≡◌, ◌+◌, ℕ};
 
     ghost Value = { ℕ };
@@ -23,7 +23,7 @@ impl<K: Logged> Model for Rest<K> {
     ghost invariant = { λ r. (r.share.parts + r.given ≡ 16) × (r.share.amount ≡ 0) };
 }
 
-impl<K: Logged> Rest<K> {
+impl<K: LogBrand> Rest<K> {
     /// None was given out.
     fn new(share: Share<K>) -> Rest<K>
         requires { (share.parts ≡ 16) × (share.amount ≡ 0) }
@@ -56,16 +56,16 @@ impl<K: Logged> Rest<K> {
 /// a share of a ledger may not be shared. Only the owner of a pool takes parts from it: a reference to it,
 /// which is what the calls of a service have, gives nothing.
 #[derive(Drop)]
-pub struct Seats<K: Logged> {
+pub struct SharePool<K: LogBrand> {
     rest: Mutex<Rest<K>>,
 }
 
-impl<K: Logged> Seats<K> {
+impl<K: LogBrand> SharePool<K> {
     /// None was given out.
-    pub fn new(share: Share<K>) -> Seats<K>
+    pub fn new(share: Share<K>) -> SharePool<K>
         requires { (share.parts ≡ 16) × (share.amount ≡ 0) }
     {
-        Seats {
+        SharePool {
             rest: Mutex::new(Rest::new(share)),
         }
     }
@@ -81,7 +81,7 @@ impl<K: Logged> Seats<K> {
     pub fn into_parts(self) -> (u32, Share<K>)
         ensures { (result.1.parts + result.0 ≡ 16) × (result.1.amount ≡ 0) }
     {
-        let Seats { rest } = self;
+        let SharePool { rest } = self;
         rest.into_inner().into_parts()
     }
 }

@@ -3,10 +3,10 @@ use Rattle.std.proofs.lemmas.Bool.Decides.{nat_tests}
 use mathlib.Core.List.{IsPrefix}
 use Rattle.topo_core.specs.declared.calls.Entry.{Entry}
 use Rattle.topo_versions.proofs.Fronts.{prefix_length, prefix_shorter}
-use Rattle.topo_versions.proofs.front.Front.begins.Goals as goal
+use Rattle.topo_versions.proofs.log_prefix.LogPrefix.is_prefix_of.Goals as goal
 
-pub returns-clause-begins : goal.returns-clause-begins
-returns-clause-begins g c shorter =
+pub returns-clause-prefix : goal.returns-clause-prefix
+returns-clause-prefix g c shorter =
     let both = c.learn.new.self.log in
     let this : IsPrefix c.self.inside.seen.log both = subst (λ (l : List Entry). IsPrefix l both) (ap (λ s. s.log) c.again-both.ensures) c.learn.ensures.2 in
     let less : c.self.inside.len ≤ c.other.inside.len = grind (arith, nat_tests, shorter) in

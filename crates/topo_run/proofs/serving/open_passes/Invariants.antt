@@ -1,10 +1,10 @@
 use Rattle.std.proofs.Common.{◌≡◌, length}
-use Rattle.topo_run.specs.Working.{AreSeated}
-use Rattle.topo_run.proofs.serving.seat_all.Given as goal
+use Rattle.topo_run.specs.Working.{AreOpened}
+use Rattle.topo_run.proofs.serving.open_passes.Given as goal
 
 abbrev pub invariant-loop-i : goal.invariant-loop-i
 invariant-loop-i g l = record {
-  seated : AreSeated l.passes.items;
+  opened : AreOpened l.passes.items;
   count : length l.passes.items ≡ l._i;
   given : l.service.given ≡ l._i;
   same : l.service.tariff ≡ l.fn.service.tariff;

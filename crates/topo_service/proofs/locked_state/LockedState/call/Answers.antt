@@ -3,7 +3,7 @@ use Rattle.topo_core.specs.History.{is_accepted}
 use Rattle.topo_rows.specs.Shown.{IsPicture, Shown}
 use Rattle.topo_book.specs.Books.{IsNext, NextState, picture_after}
 use Rattle.topo_service.proofs.Versions.{if_some, named_step, version_ready, versions_length}
-use Rattle.topo_service.proofs.desk.Desk.call.Goals as goal
+use Rattle.topo_service.proofs.locked_state.LockedState.call.Goals as goal
 
 pub answer_ready-requires-clause-room : goal.answer_ready-requires-clause-room
 answer_ready-requires-clause-room g c = omega (arith, ap length c.self.invariant.3, versions_length c.self.inside.book.history, c.make_ready.ensures.room)
@@ -17,7 +17,7 @@ answer_ready-requires-clause-follows g c =
     if_some _ n.picture (λ p is.
     let good = subst (λ (o : Option Shown). IfSome o (λ q. IsPicture q.limits q.rows)) is is_next.lawful in
     let on : is_accepted n.entry.reply ≡ true = sym is_next.accepted ∙ ap is_some is in
-    let there = version_ready g.F.Asks.answers g.K.Naming.closure g.K.Naming.start c.self.inside.book c.make_ready.new.book n i.1 i.0 m.unchanged m.same_book m.same_limits c.in_ok-next.ensures.ready m.legal p is on good in
+    let there = version_ready g.F.Asks.answers g.K.ServiceBrand.closure g.K.ServiceBrand.start c.self.inside.book c.make_ready.new.book n i.1 i.0 m.unchanged m.same_book m.same_limits c.in_ok-next.ensures.ready m.legal p is on good in
     rw i.3 there)
 
 pub returns-clause-step : goal.returns-clause-step
@@ -28,5 +28,5 @@ returns-clause-step g c =
     let m = c.make_ready.ensures in
     let told : c.in_ok-answer.answer.told ≡ n.entry.reply = c.in_ok-answer.ensures.told in
     let after : c.commit.new.self.picture ≡ picture_after n.picture b.picture = c.commit.ensures.picture ∙ ap (picture_after n.picture) m.unchanged.1 in
-    let step = named_step g.F.Asks.answers g.K.Naming.closure g.K.Naming.start b c.make_ready.new.book n i.1 i.0 m.unchanged m.same_book m.same_limits c.in_ok-next.ensures.ready in
+    let step = named_step g.F.Asks.answers g.K.ServiceBrand.closure g.K.ServiceBrand.start b c.make_ready.new.book n i.1 i.0 m.unchanged m.same_book m.same_limits c.in_ok-next.ensures.ready in
     rw (← c.in_ok-next.ensures.call, told, after, ← ap (λ s. s.picture) c.self.view_is) step

@@ -1,7 +1,7 @@
 use Rattle.std.proofs.Common.{◌≡◌, ap}
 use Rattle.topo_price.specs.Prices.{prices_of}
 use Rattle.topo_service.proofs.Versions.{is_version}
-use Rattle.topo_service.proofs.desk.Desk.front.Goals as goal
+use Rattle.topo_service.proofs.locked_state.LockedState.prefix.Goals as goal
 
 pub returns-clause-replayed : goal.returns-clause-replayed
 returns-clause-replayed g c =

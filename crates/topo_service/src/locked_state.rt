@@ -22,22 +22,24 @@ use std::sync::{Arc, Wait};
 use topo_book::{Book, Hint, Next};
 use topo_core::calls::{Call, Entry};
 use topo_price::tariff::Asks;
-use topo_versions::{Front, Glass, Head, Lends, Naming, Shelf, wait_forever};
+use topo_versions::{
+    LogLength, LogPrefix, ReaderFactory, ServiceBrand, VersionReader, VersionWriter, wait_forever,
+};
 
 /// The book, the number of its calls, and the versions. Contracts see the book.
 ///
 /// At all times the book begins with the start and has the prices that K names, the ledger's total is the
 /// length of the history, and what is published are the accepted entries of the history.
-pub struct Desk<F: Asks, K: Naming<F>, W: Shelf<F, K>> {
+pub struct LockedState<F: Asks, K: ServiceBrand<F>, W: VersionWriter<F, K>> {
     book: Book<F>,
     calls: Tally<K>,
-    head: Head<K>,
+    log_length: LogLength<K>,
     // The accepted entries.
-    front: Front<F, K>,
+    prefix: LogPrefix<F, K>,
     writer: W,
 }
 
-impl<F: Asks, K: Naming<F>, W: Shelf<F, K>> Model for Desk<F, K, W> {
+impl<F: Asks, K: ServiceBrand<F>, W: VersionWriter<F, K>> Model for LockedState<F, K, W> {
     ghost use Rattle.std.specs.Prelude.{◌≡◌, length, Some};
     ghost use Rattle.topo_core.specs.History.{versions};
     ghost use Rattle.topo_book.specs.Books.{BookState};
@@ -47,7 +49,7 @@ impl<F: Asks, K: Naming<F>, W: Shelf<F, K>> Model for Desk<F, K, W> {
     ghost view = { λ d. d.book };
 
     ghost invariant = { λ d. (d.book.start ≡ K.start) × (K.closure ≡ Some d.book.tariff) × (d.calls.total ≡ length d.book.history)
-        × (d.front ≡ versions d.book.history) × (W.published d.writer ≡ Some (versions d.book.history)) };
+        × (d.prefix ≡ versions d.book.history) × (W.published d.writer ≡ Some (versions d.book.history)) };
 }
 
 /// Makes a call ready, with what is known of its route. The rest is what is true of every book.
@@ -84,72 +86,72 @@ fn make_ready<F: Asks>(
 
 /// Adds a call that was made ready to the accepted entries, and publishes the version after it, where it is
 /// accepted. After want of memory nothing has changed.
-fn show<F: Asks, K: Naming<F>, W: Shelf<F, K>, R: Wait>(
+fn show<F: Asks, K: ServiceBrand<F>, W: VersionWriter<F, K>, R: Wait>(
     rt: &R,
-    head: &Head<K>,
-    front: &mut Front<F, K>,
+    log_length: &LogLength<K>,
+    prefix: &mut LogPrefix<F, K>,
     writer: &mut W,
     next: &Next,
 ) -> Result<(), AllocError>
-    requires room { length front.old + 1 < 2 ^ 64 }
-    requires whole { W.published writer.old ≡ Some front.old }
-    requires follows { IfSome next.now.picture (λ picture. IsVersionFrom (prices_named F.answers K.closure) K.start (front.old ++ next.now.entry ∷ []) picture) }
-    ensures front { OnOk result (front.new ≡ (if is_accepted next.now.entry.reply then front.old ++ next.now.entry ∷ [] else front.old)) }
-    ensures published { OnOk result (W.published writer.new ≡ Some front.new) }
-    ensures err { OnErr result ((front.new ≡ front.old) × (W.published writer.new ≡ W.published writer.old)) }
+    requires room { length prefix.old + 1 < 2 ^ 64 }
+    requires whole { W.published writer.old ≡ Some prefix.old }
+    requires follows { IfSome next.now.picture (λ picture. IsVersionFrom (prices_named F.answers K.closure) K.start (prefix.old ++ next.now.entry ∷ []) picture) }
+    ensures prefix { OnOk result (prefix.new ≡ (if is_accepted next.now.entry.reply then prefix.old ++ next.now.entry ∷ [] else prefix.old)) }
+    ensures published { OnOk result (W.published writer.new ≡ Some prefix.new) }
+    ensures err { OnErr result ((prefix.new ≡ prefix.old) × (W.published writer.new ≡ W.published writer.old)) }
 {
     let Some(picture) = next.shared() else {
         return Ok(());
     };
     let share = Arc::try_clone(picture)?;
-    if !front.add(head, next.entry()) {
+    if !prefix.add(log_length, next.entry()) {
         wait_forever(rt);
     }
-    writer.publish(rt, front, share);
+    writer.publish(rt, prefix, share);
     Ok(())
 }
 
 /// The answer to a call that was made ready, once the version after it is published where it is accepted.
 /// After want of memory nothing has changed.
-fn answer_ready<F: Asks, K: Naming<F>, W: Shelf<F, K>, R: Wait>(
+fn answer_ready<F: Asks, K: ServiceBrand<F>, W: VersionWriter<F, K>, R: Wait>(
     rt: &R,
     alloc: Global,
-    head: &Head<K>,
-    front: &mut Front<F, K>,
+    log_length: &LogLength<K>,
+    prefix: &mut LogPrefix<F, K>,
     writer: &mut W,
     next: &Next,
 ) -> Result<Answer, AllocError>
-    requires room { length front.old + 1 < 2 ^ 64 }
-    requires whole { W.published writer.old ≡ Some front.old }
-    requires follows { IfSome next.now.picture (λ picture. IsVersionFrom (prices_named F.answers K.closure) K.start (front.old ++ next.now.entry ∷ []) picture) }
+    requires room { length prefix.old + 1 < 2 ^ 64 }
+    requires whole { W.published writer.old ≡ Some prefix.old }
+    requires follows { IfSome next.now.picture (λ picture. IsVersionFrom (prices_named F.answers K.closure) K.start (prefix.old ++ next.now.entry ∷ []) picture) }
     ensures told { IfOk result (λ answer. answer.told ≡ next.now.entry.reply) }
-    ensures front { OnOk result (front.new ≡ (if is_accepted next.now.entry.reply then front.old ++ next.now.entry ∷ [] else front.old)) }
-    ensures published { OnOk result (W.published writer.new ≡ Some front.new) }
-    ensures err { OnErr result ((front.new ≡ front.old) × (W.published writer.new ≡ W.published writer.old)) }
+    ensures prefix { OnOk result (prefix.new ≡ (if is_accepted next.now.entry.reply then prefix.old ++ next.now.entry ∷ [] else prefix.old)) }
+    ensures published { OnOk result (W.published writer.new ≡ Some prefix.new) }
+    ensures err { OnErr result ((prefix.new ≡ prefix.old) × (W.published writer.new ≡ W.published writer.old)) }
 {
     let answer = Answer::of(alloc, &next.entry().reply)?;
-    show::<F, K, W, R>(rt, head, front, writer, next)?;
+    show::<F, K, W, R>(rt, log_length, prefix, writer, next)?;
     Ok(answer)
 }
 
-impl<F: Asks, K: Naming<F>, W: Shelf<F, K>> Desk<F, K, W> {
+impl<F: Asks, K: ServiceBrand<F>, W: VersionWriter<F, K>> LockedState<F, K, W> {
     pub(crate) fn new(
         book: Book<F>,
         calls: Tally<K>,
-        head: Head<K>,
-        front: Front<F, K>,
+        log_length: LogLength<K>,
+        prefix: LogPrefix<F, K>,
         writer: W,
-    ) -> Desk<F, K, W>
+    ) -> LockedState<F, K, W>
         requires book { (book.start ≡ K.start) × (book.history ≡ []) }
         requires prices { K.closure ≡ Some book.tariff }
-        requires empty { (calls.total ≡ 0) × (front ≡ []) × (W.published writer ≡ Some []) }
+        requires empty { (calls.total ≡ 0) × (prefix ≡ []) × (W.published writer ≡ Some []) }
         ensures { result ≡ book }
     {
-        Desk {
+        LockedState {
             book,
             calls,
-            head,
-            front,
+            log_length,
+            prefix,
             writer,
         }
     }
@@ -161,7 +163,7 @@ impl<F: Asks, K: Naming<F>, W: Shelf<F, K>> Desk<F, K, W> {
     {
         self.book.history();
         found.first();
-        found.is_of(u, v, &self.front)
+        found.is_of(u, v, &self.prefix)
     }
 
     /// What is known of the route of a call, by what the call brings along.
@@ -202,8 +204,8 @@ impl<F: Asks, K: Naming<F>, W: Shelf<F, K>> Desk<F, K, W> {
         let answer = answer_ready::<F, K, W, R>(
             rt,
             alloc,
-            &self.head,
-            &mut self.front,
+            &self.log_length,
+            &mut self.prefix,
             &mut self.writer,
             &next,
         )?;
@@ -213,18 +215,18 @@ impl<F: Asks, K: Naming<F>, W: Shelf<F, K>> Desk<F, K, W> {
     }
 
     /// The accepted entries.
-    pub(crate) fn front(&self) -> &Front<F, K>
+    pub(crate) fn prefix(&self) -> &LogPrefix<F, K>
         ensures now { result.now ≡ versions self.now.history }
         ensures replayed { IsVersion (prices_named F.answers K.closure) K.start.limits K.start.rows result.now self.now.picture.rows }
     {
         self.book.history();
-        &self.front
+        &self.prefix
     }
 
     /// A reader of versions.
-    pub(crate) fn reader<G: Glass<F, K>>(&self) -> Result<G, AllocError>
+    pub(crate) fn reader<G: VersionReader<F, K>>(&self) -> Result<G, AllocError>
     where
-        W: Lends<F, K, G>,
+        W: ReaderFactory<F, K, G>,
     {
         self.writer.reader()
     }
@@ -245,11 +247,11 @@ impl<F: Asks, K: Naming<F>, W: Shelf<F, K>> Desk<F, K, W> {
         ensures lawful { ReplaysLawfully (prices_of (F.answers result.tariff)) result.start.limits result.start.rows result.history result.picture.rows }
         ensures same_limits { result.picture.limits ≡ result.start.limits }
     {
-        let Desk {
+        let LockedState {
             book,
             calls: _calls,
-            head: _head,
-            front: _front,
+            log_length: _head,
+            prefix: _front,
             writer,
         } = self;
         writer.end(rt);

@@ -1,0 +1,53 @@
+//! Searches where each way is closed: they say that there is no route, and not that memory ran out.
+
+use crate::harness::{Story, bipyramid, is_told, run_at};
+use std::alloc::Global;
+use std::sync::Wait;
+use std::test::Fail;
+use topo_price::table::PriceTable;
+use topo_price::tariff::Asks;
+use topo_service::{Pass, Service, WorkerEnd};
+use topo_versions::ServiceBrand;
+
+/// A search for a plan, one for a found route, and an insertion between the apexes.
+#[derive(Drop)]
+struct Closed;
+
+impl Story for Closed {
+    fn pass_count(&self) -> usize {
+        1
+    }
+
+    fn tell<F: Asks + Drop, K: ServiceBrand<F>, R: Wait>(
+        &self,
+        rt: &R,
+        alloc: Global,
+        service: &Service<F, K>,
+        passes: &mut Vec<Pass<F, K>>,
+        _ends: &[WorkerEnd],
+    ) -> Result<String, Fail> {
+        let Some(pass) = passes.as_mut_slice().first_mut() else {
+            return Err("a pass".into());
+        };
+        let planned = pass.plan(alloc, service.tariff(), 3, 4).err();
+        let found = pass.find(alloc, service.tariff(), 3, 4).err();
+        let reply = service.insert(rt, pass, 3, 4, 0)?;
+        let told = format!(in alloc; "{planned:?} {found:?} {reply:?}");
+        drop(reply);
+        Ok(told?)
+    }
+}
+
+#[test]
+fn no_route_is_not_out_of_memory(rt: HostRuntime) -> Result<(), Fail> {
+    let alloc = rt.alloc();
+    let closed = PriceTable::new([None; 64]).expect(&rt, "a table");
+    let start = bipyramid(&rt, alloc)?;
+    let told = run_at(&rt, alloc, &closed, start, &Closed)?;
+    is_told(
+        &rt,
+        told.as_str(),
+        "Some(Refused(NoRoute)) Some(Refused(NoRoute)) Refused(NoRoute); 1 calls, replayed: true",
+    );
+    Ok(())
+}
