@@ -62,6 +62,10 @@ class MemoryFault(Fault):
     status = 3
 
 
+class OtherReport(PlanarError):
+    """A report was to be read as that of a script that it does not belong to."""
+
+
 class NotPlanarized(PlanarError):
     """A graph could not be planarized: the program refused one of its edges.
 

@@ -8,12 +8,12 @@ from functools import cached_property
 from typing import Any, Dict, FrozenSet, Iterable, List, Optional, Sequence, Tuple, Union
 
 from .embeddings import picture_of
-from .faults import NotPlanarized
+from .faults import NotPlanarized, OtherReport
 from .graphs import GraphEdge, Node, Price, PricedGraph, Pricing, bridges, incidence, places_of, rank, read_graph
 from .pictures import Edge, Picture
 from .planarizer import Planarizer
 from .program import PathLike
-from .reports import Inserted, Limits, Refused, Report
+from .reports import Inserted, Limits, Refused, Report, difference
 
 #: `given` (the order of the graph's edges), `random`, or edges in the order in which they are to come.
 Order = Union[str, Sequence[GraphEdge]]
@@ -93,7 +93,15 @@ class Prepared:
         return self.planarizer.script_text()
 
     def result(self, report: Report) -> Planarization:
-        """What the report of this script's run means for the graph; NotPlanarized where an edge was refused."""
+        """What the report of this script's run means for the graph.
+
+        OtherReport where its start, prices, limits or calls are not those of this script; NotPlanarized where an edge
+        was refused.
+        """
+        planarizer = self.planarizer
+        other = difference(report, planarizer.start, planarizer.limits, planarizer.prices, planarizer.commands)
+        if other is not None:
+            raise OtherReport(f"the report is not that of this script: {other}")
         edge_of = {edge_id: self.source.edges[place] for edge_id, place in enumerate(self.drawn)}
         for place, reply in zip(self.asked, report.replies):
             if isinstance(reply, Refused):
@@ -186,9 +194,14 @@ def _prepare(source: PricedGraph, begin: str, order: Order, seed: str, limits: O
 
 def _ordered(source: PricedGraph, order: Order, seed: str) -> Tuple[List[int], List[int]]:
     """The places of the edges that are named by the order, and those of all others in order."""
+    if isinstance(order, (set, frozenset)):
+        raise ValueError("the order is a set, whose edges stand in no order: give a list")
     if not isinstance(order, str):
         named = places_of(source.edges, order, source.graph.is_directed())
-        return named, [place for place in range(len(source.edges)) if place not in set(named)]
+        others = dict.fromkeys(range(len(source.edges)))
+        for place in named:
+            del others[place]
+        return named, list(others)
     if order not in ("given", "random"):
         raise ValueError(f"the order {order!r} is not known: it is 'given', 'random', or a list of edges")
     places = list(range(len(source.edges)))
@@ -250,13 +263,14 @@ def _begin_embedded(source: PricedGraph, places: Sequence[int], is_full: bool) -
 
     chosen = _joined(source, places)
     plain = networkx.Graph()
-    plain.add_edges_from(tuple(pair) for pair in chosen)
+    plain.add_edges_from(source.edges[place][:2] for place in chosen.values())
     if not networkx.check_planarity(plain)[0]:
         raise ValueError("the edges that must not be crossed cannot be drawn without crossings")
     if is_full:
         for place in _dearest_first(source, places):
             chosen.setdefault(frozenset(source.edges[place][:2]), place)
-        _add_planar(plain, [tuple(pair) for pair in chosen if not plain.has_edge(*pair)])
+        pairs = [source.edges[place][:2] for place in chosen.values()]
+        _add_planar(plain, [pair for pair in pairs if not plain.has_edge(*pair)])
     embedding = networkx.check_planarity(plain)[1]
     rotations = {node: list(embedding.neighbors_cw_order(node)) for node in embedding}
     picture, pairs = picture_of(rotations, lambda u, v: source.kinds[chosen[frozenset((u, v))]])
