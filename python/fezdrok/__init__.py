@@ -7,7 +7,7 @@ edges that must not be crossed, matplotlib for `draw`.
 
 from .drawing import chain, draw, positions
 from .embeddings import Dummy, from_networkx_embedding, to_networkx_embedding
-from .faults import Fault, MemoryFault, NotPlanarized, PlanarError, ProgramFailed, ProgramNotFound, UsageRefused
+from .faults import Fault, MemoryFault, NotPlanarized, OtherReport, PlanarError, PlanarWarning, ProgramFailed, ProgramNotFound, UsageRefused
 from .many import Bar, planarize_many
 from .pictures import Counts, Crossing, Dart, Edge, Picture, Point
 from .planarization import Planarization, Prepared, planarize, prepare, reinsert
@@ -33,8 +33,10 @@ __all__ = [
     "Limits",
     "MemoryFault",
     "NotPlanarized",
+    "OtherReport",
     "Picture",
     "PlanarError",
+    "PlanarWarning",
     "Planarization",
     "Planarizer",
     "Planned",

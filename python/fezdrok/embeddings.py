@@ -51,7 +51,7 @@ def to_networkx_embedding(result: "Planarization") -> "networkx.PlanarEmbedding"
     embedding.set_data(_neighbours(picture, names, bends))
     for point, name in names.items():
         embedding.nodes[name].update(_point_data(result, point))
-    for bend in set(bends.values()):
+    for bend in bends.values():
         embedding.nodes[bend].update(dummy=True, bend=result.edge_of[bend.of.edge])
     for dart in picture.darts:
         edge = result.edge_of[dart.edge]

@@ -7,16 +7,21 @@ from typing import Any, Optional, Union
 Value = Union[int, str, None]
 
 
+class PlanarWarning(UserWarning):
+    """There is an answer, but its reader should know something: the program is older than its sources, or not all that
+    was asked for was done."""
+
+
 class PlanarError(Exception):
     """Base of all exceptions of this package that come from the program or from a refused call."""
 
 
 class ProgramNotFound(PlanarError):
-    """There is no program `planar` where it was looked for."""
+    """There is no program `planar` where it was looked for, or it is not built."""
 
 
 class UsageRefused(PlanarError):
-    """Status 2: the program refused the words of its command line, or could not be built."""
+    """Status 2: the program refused the words of its command line."""
 
 
 class ProgramFailed(PlanarError):
@@ -60,6 +65,10 @@ class MemoryFault(Fault):
     """Status 3: the program could not get memory. The same call may succeed later."""
 
     status = 3
+
+
+class OtherReport(PlanarError):
+    """A report was to be read as that of a script that it does not belong to."""
 
 
 class NotPlanarized(PlanarError):

@@ -29,8 +29,7 @@ def planarize_many(graphs: Iterable[Any], processes: Optional[int] = None, progr
     (without it one a processor), `options` are those of `planarize` and count for every graph; functions among them
     must be such that pickle can name. Graphs are taken from the iterable as they are needed.
 
-    The program is called once before the work begins, so that it is built if it is the repository's script.
-    ProgramNotFound, and every other failure of that call, is raised.
+    The program is called once before the work begins. ProgramNotFound, and every other failure of that call, is raised.
     """
     program = Planarizer(program=options.get("program"))
     program.check(Picture.seed())

@@ -3,17 +3,18 @@
 from __future__ import annotations
 
 import random
+import warnings
 from dataclasses import dataclass, field, replace
 from functools import cached_property
-from typing import Any, Dict, FrozenSet, Iterable, List, Optional, Sequence, Tuple, Union
+from typing import Any, Dict, FrozenSet, Iterable, Iterator, List, Optional, Sequence, Tuple, Union
 
 from .embeddings import picture_of
-from .faults import NotPlanarized
+from .faults import Fault, NotPlanarized, OtherReport, PlanarError, PlanarWarning
 from .graphs import GraphEdge, Node, Price, PricedGraph, Pricing, bridges, incidence, places_of, rank, read_graph
 from .pictures import Edge, Picture
 from .planarizer import Planarizer
 from .program import PathLike
-from .reports import Inserted, Limits, Refused, Report
+from .reports import Inserted, Limits, Refused, Report, difference
 
 #: `given` (the order of the graph's edges), `random`, or edges in the order in which they are to come.
 Order = Union[str, Sequence[GraphEdge]]
@@ -26,7 +27,7 @@ class Planarization:
     `node_of[v]` is the node of vertex v and `vertex_of` leads back; `edge_of[e]` is the edge of the graph that has the
     id e in the picture, as the graph's `edges` gives it, and `id_of` leads back. `prices` are those of the kinds.
     `reports` are the reports of the program's runs, each of which starts where the one before it ended. `tries` has
-    the number of crossings of each order that was tried.
+    the number of crossings of each order that was tried and came to a picture.
     """
 
     graph: Any
@@ -93,7 +94,15 @@ class Prepared:
         return self.planarizer.script_text()
 
     def result(self, report: Report) -> Planarization:
-        """What the report of this script's run means for the graph; NotPlanarized where an edge was refused."""
+        """What the report of this script's run means for the graph.
+
+        OtherReport where its start, prices, limits or calls are not those of this script; NotPlanarized where an edge
+        was refused.
+        """
+        planarizer = self.planarizer
+        other = difference(report, planarizer.start, planarizer.limits, planarizer.prices, planarizer.commands)
+        if other is not None:
+            raise OtherReport(f"the report is not that of this script: {other}")
         edge_of = {edge_id: self.source.edges[place] for edge_id, place in enumerate(self.drawn)}
         for place, reply in zip(self.asked, report.replies):
             if isinstance(reply, Refused):
@@ -138,18 +147,52 @@ def planarize(
     After each try there are up to `rounds` rounds in which every crossed edge is taken out and inserted again; they
     end when one saves nothing.
 
-    NotPlanarized where the program refuses an edge; Fault as Planarizer.run.
+    What was found is never lost. An order that comes to no picture, since the program refuses an edge or has a fault
+    of the script, is passed over where another comes to one. Rounds end where the program has a fault, as 51 TooLong
+    where the picture makes the script longer than the program takes, or the limits do not suffice. Any other failure
+    of the program and Ctrl-C (KeyboardInterrupt) end the search. In each of these cases the best picture so far is
+    the result, and a PlanarWarning says what happened; where there is no picture yet, the first failure is raised:
+    NotPlanarized where the program refuses an edge; Fault and other PlanarErrors as Planarizer.run; KeyboardInterrupt.
     """
     if tries < 1:
         raise ValueError("tries must be at least 1")
     source = read_graph(graph, price, forbidden)
-    found: List[Planarization] = []
-    for attempt in range(tries):
-        how = order if attempt == 0 else "random"
-        prepared = _prepare(source, begin, how, f"{seed}/{attempt}", limits, program)
-        found.append(reinsert(prepared.run(), rounds, limits, program))
-    best = min(found, key=lambda result: result.score)
-    return replace(best, tries=tuple(result.crossings for result in found))
+    found: Dict[int, Planarization] = {}
+    failures: List[str] = []
+    first: Optional[BaseException] = None
+    try:
+        for attempt in range(tries):
+            prepared = _prepare(source, begin, order if attempt == 0 else "random", f"{seed}/{attempt}", limits, program)
+            try:
+                found[attempt] = prepared.run()
+                for better in _rounds(found[attempt], rounds, limits, program):
+                    found[attempt] = better
+            except (Fault, NotPlanarized) as fault:
+                first = first or fault
+                failures.append(f"order {attempt + 1} of {tries}: {_words(fault)}")
+    except _ENDS as end:
+        first = first or end
+        failures.append(_words(end))
+    if first is not None and not found:
+        raise first
+    _warn(failures)
+    best = min(found.values(), key=lambda result: result.score)
+    return replace(best, tries=tuple(result.crossings for result in found.values()))
+
+
+#: What ends a search, while what was found so far is given.
+_ENDS = (KeyboardInterrupt, PlanarError, OSError, MemoryError)
+
+
+def _words(end: BaseException) -> str:
+    """What ended a search, in words."""
+    return f"{type(end).__name__} {end}".strip()
+
+
+def _warn(failures: Sequence[str]) -> None:
+    """A warning where the search did not do all that was asked for."""
+    if failures:
+        warnings.warn(f"the best picture so far is given, and not all was tried: {'; '.join(failures)}", PlanarWarning, stacklevel=3)
 
 
 def prepare(
@@ -186,9 +229,14 @@ def _prepare(source: PricedGraph, begin: str, order: Order, seed: str, limits: O
 
 def _ordered(source: PricedGraph, order: Order, seed: str) -> Tuple[List[int], List[int]]:
     """The places of the edges that are named by the order, and those of all others in order."""
+    if isinstance(order, (set, frozenset)):
+        raise ValueError("the order is a set, whose edges stand in no order: give a list")
     if not isinstance(order, str):
         named = places_of(source.edges, order, source.graph.is_directed())
-        return named, [place for place in range(len(source.edges)) if place not in set(named)]
+        others = dict.fromkeys(range(len(source.edges)))
+        for place in named:
+            del others[place]
+        return named, list(others)
     if order not in ("given", "random"):
         raise ValueError(f"the order {order!r} is not known: it is 'given', 'random', or a list of edges")
     places = list(range(len(source.edges)))
@@ -250,13 +298,14 @@ def _begin_embedded(source: PricedGraph, places: Sequence[int], is_full: bool) -
 
     chosen = _joined(source, places)
     plain = networkx.Graph()
-    plain.add_edges_from(tuple(pair) for pair in chosen)
+    plain.add_edges_from(source.edges[place][:2] for place in chosen.values())
     if not networkx.check_planarity(plain)[0]:
         raise ValueError("the edges that must not be crossed cannot be drawn without crossings")
     if is_full:
         for place in _dearest_first(source, places):
             chosen.setdefault(frozenset(source.edges[place][:2]), place)
-        _add_planar(plain, [tuple(pair) for pair in chosen if not plain.has_edge(*pair)])
+        pairs = [source.edges[place][:2] for place in chosen.values()]
+        _add_planar(plain, [pair for pair in pairs if not plain.has_edge(*pair)])
     embedding = networkx.check_planarity(plain)[1]
     rotations = {node: list(embedding.neighbors_cw_order(node)) for node in embedding}
     picture, pairs = picture_of(rotations, lambda u, v: source.kinds[chosen[frozenset((u, v))]])
@@ -304,25 +353,44 @@ def reinsert(result: Planarization, rounds: int = 1, limits: Optional[Limits] = 
 
     In a round each crossed edge that has a price is taken out and inserted again, the most crossed first. At most
     this many rounds are made, and none after one that saves nothing.
+
+    What was found is never lost: where the program fails, as by 51 TooLong where the picture makes the script longer
+    than the program takes, where the limits do not suffice, and at Ctrl-C (KeyboardInterrupt), the best picture so far
+    is given, with a PlanarWarning that says what happened.
     """
-    for _ in range(rounds):
-        following = _round(result, limits, program)
-        if following is None or following.score >= result.score:
-            return result
-        result = following
+    failures: List[str] = []
+    try:
+        for better in _rounds(result, rounds, limits, program):
+            result = better
+    except _ENDS as end:
+        failures.append(_words(end))
+    _warn(failures)
     return result
 
 
+def _rounds(result: Planarization, rounds: int, limits: Optional[Limits], program: Optional[PathLike]) -> Iterator[Planarization]:
+    """The pictures of the rounds that save something, one after another; exceptions as those of `_round`."""
+    for _ in range(rounds):
+        following = _round(result, limits, program)
+        if following is None or following.score >= result.score:
+            return
+        yield following
+        result = following
+
+
 def _round(result: Planarization, limits: Optional[Limits], program: Optional[PathLike]) -> Optional[Planarization]:
-    """One round, or None where there is nothing to take out or the limits do not suffice."""
+    """One round, or None where there is nothing to take out; NotPlanarized where an edge is refused, as by the limits."""
     rows = _movable(result)
+    if not rows:
+        return None
     planarizer = Planarizer(result.picture, limits, result.prices, program)
     for row in rows:
         planarizer.delete(row.id)
         planarizer.insert(row.a, row.b, row.kind)
-    report = planarizer.run() if rows else None
-    if report is None or report.refused:
-        return None
+    report = planarizer.run()
+    for place, reply in enumerate(report.replies):
+        if isinstance(reply, Refused):
+            raise NotPlanarized(result.edge_of[rows[place // 2].id], reply)
     edge_of = dict(result.edge_of)
     inserted = [reply for reply in report.replies if isinstance(reply, Inserted)]
     for row, reply in zip(rows, inserted):

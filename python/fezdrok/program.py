@@ -6,10 +6,11 @@ import os
 import re
 import shutil
 import subprocess
+import warnings
 from pathlib import Path
-from typing import Iterator, Optional, Tuple, Union
+from typing import Iterator, Optional, Set, Tuple, Union
 
-from .faults import Fault, MemoryFault, ProgramFailed, ProgramNotFound, UsageRefused, read_value
+from .faults import Fault, MemoryFault, PlanarWarning, ProgramFailed, ProgramNotFound, UsageRefused, read_value
 
 PathLike = Union[str, "os.PathLike[str]"]
 
@@ -39,17 +40,57 @@ def _candidates(program: Optional[PathLike]) -> Iterator[Tuple[str, str]]:
 
 def find_program(program: Optional[PathLike] = None) -> str:
     """The path of the program: the argument, else what the environment variable FEZDROK_PLANAR names, else the
-    script `planar` of the repository that holds this package, else `planar` in PATH.
+    program of the repository that holds this package, else `planar` in PATH.
 
     An argument or a variable that names no program is an error; nothing else is tried then.
+
+    The script `planar` of a repository stands for the program that it builds, wherever it is named. It is not called,
+    so nothing is built here: where there is no such program, that is as if nothing were named, and the message says
+    how to build it. A PlanarWarning, once in a process, says that the program was built from other sources than those
+    that are there now; it is used all the same.
     """
     looked = []
     for place, name in _candidates(program):
         path = shutil.which(name)
-        if path is not None:
+        built = None if path is None else _built_by(path)
+        if path is None:
+            looked.append(f"{place} ({name})")
+        elif built is None:
             return path
-        looked.append(f"{place} ({name})")
+        elif os.access(built, os.X_OK):
+            _tell_if_old(path, built)
+            return os.fspath(built)
+        else:
+            looked.append(f"{place} ({built} is not built: run {path}, which builds it)")
     raise ProgramNotFound("no program planar by " + " or ".join(looked))
+
+
+def _built_by(path: str) -> Optional[Path]:
+    """The program that the script at this path builds, or None where it is not the script of a repository."""
+    script = Path(path).resolve()
+    is_script = script.name == "planar" and (script.parent / ".ci" / "sources").is_file()
+    return script.parent / "out" / "planar" if is_script else None
+
+
+_told: Set[Path] = set()
+
+
+def _tell_if_old(script: str, built: Path) -> None:
+    """A warning where the repository's sources are not those that its program was built from, once for each program.
+
+    Where that cannot be found out, nothing is said.
+    """
+    if built in _told:
+        return
+    _told.add(built)
+    sources = built.parent.parent / ".ci" / "sources"
+    try:
+        now = subprocess.run([sources, "planar"], stdin=subprocess.DEVNULL, stdout=subprocess.PIPE, stderr=subprocess.DEVNULL, check=True).stdout
+    except (OSError, subprocess.CalledProcessError):
+        return
+    noted = Path(f"{built}.sources")
+    if not noted.is_file() or noted.read_bytes() != now:
+        warnings.warn(f"{built} was built from other sources than those that are there now: run {script}, which builds it anew", PlanarWarning, stacklevel=2)
 
 
 class Program:

@@ -221,6 +221,53 @@ class Report:
         return compact(self.to_json())
 
 
+def difference(
+    report: Report, start: Optional[Picture], limits: Optional[Limits], prices: Optional[Sequence[Optional[int]]], calls: Sequence[Call]
+) -> Optional[str]:
+    """How a report differs from that of a script with one list of calls, in words, or None where it may be the script's.
+
+    What is None has its value as in a script that leaves it out. Whether the replies are true is not looked at.
+    """
+    kept = without_last_ones(prices or ())
+    if without_last_ones(report.prices) != kept:
+        return f"its prices are {list(report.prices)}, and not {list(kept)}"
+    if report.limits != (limits or Limits()):
+        return f"its limits are {report.limits.to_json()}, and not {(limits or Limits()).to_json()}"
+    if report.start != (start or Picture.seed()):
+        return f"its start is another picture: {_first_difference(report.start, start or Picture.seed())}"
+    if len(report.history) != len(calls):
+        return f"it has {len(report.history)} calls, and not {len(calls)}"
+    for place, (entry, call) in enumerate(zip(report.history, calls)):
+        if entry.caller != 0 or entry.call != as_entered(call):
+            return f"its call {place} is {compact(entry.call.to_json())} of list {entry.caller}, and not {compact(as_entered(call).to_json())} of list 0"
+    return None
+
+
+def _first_difference(picture: Picture, due: Picture) -> str:
+    """The first part of two pictures that differs, in words."""
+    parts = zip(picture.to_json().items(), due.to_json().values())
+    name, value, wanted = next((name, value, wanted) for (name, value), wanted in parts if value != wanted)
+    if isinstance(value, int):
+        return f"its {name} is {value}, and not {wanted}"
+    if len(value) != len(wanted):
+        return f"it has {len(value)} {name}, and not {len(wanted)}"
+    place = next(place for place in range(len(value)) if value[place] != wanted[place])
+    return f"its {name}[{place}] is {compact(value[place])}, and not {compact(wanted[place])}"
+
+
+def as_entered(call: Call) -> Call:
+    """The call as a history has it: an insertion with a plan stands there as any other."""
+    return Insert(call.u, call.v, call.kind) if isinstance(call, Planned) else call
+
+
+def without_last_ones(prices: Sequence[Optional[int]]) -> Prices:
+    """The prices as a report has them: without the ones at their end, which say nothing."""
+    kept = list(prices)
+    while kept and kept[-1] == 1:
+        kept.pop()
+    return tuple(kept)
+
+
 def version_of(prices: Sequence[Optional[int]]) -> int:
     """The version that a script with these prices has: 2 where an edge must not be crossed, else 1."""
     return 2 if None in prices else 1

@@ -20,7 +20,7 @@ needs_matplotlib = unittest.skipUnless(find_spec("networkx") and find_spec("matp
 
 
 def has_program() -> bool:
-    """Whether there is a program to call, built or not."""
+    """Whether there is a program to call."""
     try:
         find_program()
     except ProgramNotFound:

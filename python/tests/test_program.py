@@ -83,8 +83,8 @@ class Statuses(unittest.TestCase):
         self.assertEqual(self.failure("echo 'planar: 60 WrongReply 3' >&2; exit 1").value, 3)
         self.assertIsNone(self.failure("echo 'planar: 50 NotJson' >&2; exit 1").value)
 
-    def test_the_fault_stands_behind_what_the_script_says_of_building(self):
-        fault = self.failure("echo 'planar: proving and building' >&2; echo 'planar: 53 BadVersion' >&2; exit 1")
+    def test_the_fault_is_the_last_line(self):
+        fault = self.failure("echo 'planar: something else' >&2; echo 'planar: 53 BadVersion' >&2; exit 1")
         self.assertEqual(str(fault), "53 BadVersion")
 
     def test_memory(self):

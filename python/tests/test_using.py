@@ -9,7 +9,10 @@ import sys
 import tempfile
 import unittest
 from importlib.util import find_spec
+from pathlib import Path
 from typing import List, Tuple
+
+from fezdrok import find_program
 
 from .support import ROOT, needs_networkx, needs_program
 
@@ -69,12 +72,25 @@ class Examples(unittest.TestCase):
             result = doctest.DocTestRunner(optionflags=doctest.ELLIPSIS, verbose=False).run(examples, out=told.append)
             self.assertEqual(result.failed, 0, "".join(told))
 
+    def checkout(self) -> Path:
+        """A folder that is as the repository, with the program that the tests call as the one that is built there: so
+        the commands build nothing."""
+        folder = Path(self.folder) / "checkout"
+        folder.mkdir()
+        for file in ROOT.iterdir():
+            if file.name != "out":
+                (folder / file.name).symlink_to(file)
+        (folder / "out").mkdir()
+        (folder / "out" / "planar").symlink_to(Path(find_program()).resolve())
+        (folder / "out" / "planar.sources").write_bytes(subprocess.check_output([".ci/sources", "planar"], cwd=folder))
+        return folder
+
     def check_commands(self, page: str):
         todo = commands(page)
         self.assertTrue(todo, page)
         script = "\n".join(f"{{ {command}\n}} 2>&1\necho '{MARK}'" for command, _ in todo)
         words = {"HOME": self.folder, "PATH": os.path.dirname(sys.executable) + os.pathsep + os.environ["PATH"]}
-        ran = subprocess.run(["bash", "-c", script], cwd=ROOT, env={**os.environ, **words}, stdout=subprocess.PIPE, universal_newlines=True)
+        ran = subprocess.run(["bash", "-c", script], cwd=self.checkout(), env={**os.environ, **words}, stdout=subprocess.PIPE, universal_newlines=True)
         told = ran.stdout.split(MARK + "\n")
         self.assertEqual(len(told), len(todo) + 1, ran.stdout)
         for (command, printed), text in zip(todo, told):

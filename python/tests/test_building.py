@@ -1,0 +1,180 @@
+"""The script `planar` in a folder that is like the repository, with a toolchain that proves nothing: the program is built
+beside the one that is there, and the package builds none."""
+
+import os
+import shutil
+import signal
+import subprocess
+import tempfile
+import time
+import unittest
+import warnings
+from pathlib import Path
+from unittest import mock
+
+from fezdrok import PlanarWarning, Program, ProgramNotFound, find_program
+from fezdrok import program as program_module
+
+from .support import ROOT
+
+#: Stands for the command rt: it takes the program away, waits for the file `go`, and makes a program that says the source.
+TOOLCHAIN = """#!/bin/sh
+echo called >> ../../calls
+rm -f out/planar
+while [ ! -e ../../go ]; do sleep 0.05; done
+[ ! -e ../../fails ] || { echo "no proof"; exit 1; }
+mkdir -p out
+printf '#!/bin/sh\\necho "%s" "$@"\\n' "$(cat src/main.rt)" > out/planar
+chmod +x out/planar
+"""
+
+
+class Folder(unittest.TestCase):
+    def setUp(self):
+        folder = tempfile.TemporaryDirectory()
+        self.addCleanup(folder.cleanup)
+        self.root = Path(folder.name).resolve()
+        for name in ("planar", ".ci/sources", ".ci/below", ".ci/place"):
+            (self.root / name).parent.mkdir(exist_ok=True)
+            shutil.copy(ROOT / name, self.root / name)
+        (self.root / "crates.txt").write_text("planar: std\n")
+        for name, text in {"crates/planar/src/main.rt": "first", "crates/topo_examples/data/bipyramid.json": "{}", "bin/rt": TOOLCHAIN}.items():
+            (self.root / name).parent.mkdir(parents=True)
+            (self.root / name).write_text(text)
+        (self.root / "bin" / "rt").chmod(0o755)
+        self.script, self.built = self.root / "planar", self.root / "out" / "planar"
+        self.environment = {"PATH": f"{self.root / 'bin'}{os.pathsep}{os.environ['PATH']}"}
+        self.start(mock.patch.dict(os.environ, self.environment))
+        self.start(mock.patch.object(program_module, "_told", set()))
+        self.allow()
+
+    def start(self, patch):
+        patch.start()
+        self.addCleanup(patch.stop)
+
+    def allow(self, name: str = "go"):
+        """Makes the file that the toolchain looks for."""
+        (self.root / name).touch()
+
+    def edit(self):
+        """Changes the sources, and holds the toolchain back."""
+        (self.root / "crates/planar/src/main.rt").write_text("second")
+        (self.root / "go").unlink()
+
+    def said(self, program: Path) -> str:
+        """What a program prints."""
+        return subprocess.run([program, "word"], stdout=subprocess.PIPE, stderr=subprocess.PIPE, timeout=60, check=True).stdout.decode()
+
+    def calls(self) -> int:
+        """How often the toolchain was called."""
+        file = self.root / "calls"
+        return len(file.read_text().splitlines()) if file.exists() else 0
+
+    def wait_for_calls(self, count: int):
+        end = time.monotonic() + 20
+        while self.calls() < count and time.monotonic() < end:
+            time.sleep(0.02)
+        self.assertEqual(self.calls(), count)
+
+    def begin(self) -> "subprocess.Popen[str]":
+        """A call of the script that goes on."""
+        process = subprocess.Popen([self.script, "word"], stdout=subprocess.PIPE, stderr=subprocess.PIPE, text=True)
+        self.addCleanup(lambda: (process.kill(), process.communicate()))
+        return process
+
+
+class Building(Folder):
+    def test_it_is_built_once(self):
+        self.assertEqual([self.said(self.script) for _ in range(2)], ["first word\n"] * 2)
+        self.assertEqual(self.calls(), 1)
+        self.assertEqual(sorted(os.listdir(self.root / "out")), ["planar", "planar.lock", "planar.sources"])
+
+    def test_the_old_one_stays_until_the_new_one_is_built(self):
+        self.said(self.script)
+        self.edit()
+        with open(self.built) as old:
+            process = self.begin()
+            self.wait_for_calls(2)
+            self.assertEqual(self.said(self.built), "first word\n")
+            self.allow()
+            self.assertEqual(process.communicate(timeout=60)[0], "second word\n")
+            self.assertIn("first", old.read())
+        self.assertEqual(self.said(self.built), "second word\n")
+
+    def test_the_old_one_stays_where_the_new_one_is_not_proved(self):
+        self.said(self.script)
+        self.edit()
+        self.allow()
+        self.allow("fails")
+        process = self.begin()
+        told = process.communicate(timeout=60)[1]
+        self.assertEqual(process.returncode, 2)
+        self.assertIn("no proof\nplanar: the program is not proved, so it was not built\n", told)
+        self.assertEqual(self.said(self.built), "first word\n")
+        (self.root / "fails").unlink()
+        self.assertEqual(self.said(self.script), "second word\n")
+
+    def test_of_two_calls_one_builds(self):
+        (self.root / "go").unlink()
+        processes = [self.begin(), self.begin()]
+        self.wait_for_calls(1)
+        self.allow()
+        self.assertEqual([process.communicate(timeout=60)[0] for process in processes], ["first word\n"] * 2)
+        self.assertEqual(self.calls(), 1)
+
+    def test_a_call_that_is_ended_ends_its_build(self):
+        (self.root / "go").unlink()
+        process = self.begin()
+        self.wait_for_calls(1)
+        process.send_signal(signal.SIGTERM)
+        process.communicate(timeout=5)   # its streams are closed only when the toolchain has ended too
+        self.assertEqual(process.returncode, 130)
+        self.allow()
+        self.assertEqual(self.said(self.script), "first word\n")
+
+
+class Package(Folder):
+    def test_it_builds_nothing(self):
+        with self.assertRaisesRegex(ProgramNotFound, f"{self.built} is not built: run {self.script}, which builds it"):
+            Program(self.script).run("{}")
+        with mock.patch.dict(os.environ, {"FEZDROK_PLANAR": os.fspath(self.script)}), self.assertRaisesRegex(ProgramNotFound, "FEZDROK_PLANAR .*is not built"):
+            find_program()
+        self.assertEqual(self.calls(), 0)
+
+    def test_it_takes_what_the_script_has_built(self):
+        self.said(self.script)
+        with warnings.catch_warnings():
+            warnings.simplefilter("error")
+            self.assertEqual(find_program(self.script), os.fspath(self.built))
+        self.assertEqual(Program(self.script).run(""), "first run\n")
+
+    def test_an_old_one_is_told_of_once_and_used(self):
+        self.said(self.script)
+        self.edit()
+        with warnings.catch_warnings(record=True) as told:
+            warnings.simplefilter("always")
+            self.assertEqual([Program(self.script).run("") for _ in range(3)], ["first run\n"] * 3)
+        self.assertEqual([warning.category for warning in told], [PlanarWarning])
+        self.assertIn(f"run {self.script}, which builds it anew", str(told[0].message))
+        self.assertEqual(self.calls(), 1)
+
+    def test_it_is_used_while_a_new_one_is_built(self):
+        self.said(self.script)
+        self.edit()
+        self.begin()
+        self.wait_for_calls(2)
+        with self.assertWarns(PlanarWarning):
+            self.assertEqual(Program(self.script).run(""), "first run\n")
+        self.allow()
+
+    def test_the_repository_is_one_place_of_several(self):
+        words = {"FEZDROK_PLANAR": "", "PATH": os.environ["PATH"] + os.pathsep + os.fspath(self.root)}
+        with mock.patch.dict(os.environ, words), mock.patch.object(program_module, "repository_script", return_value=self.script):
+            with self.assertRaisesRegex(ProgramNotFound, "by the repository .*is not built.* or PATH .*is not built"):
+                find_program()
+            self.said(self.script)
+            self.assertEqual(find_program(), os.fspath(self.built))
+
+
+if __name__ == "__main__":
+    unittest.main()
