@@ -68,7 +68,7 @@ fn share<
 >(rt: &R, alloc: Global, fresh: FreshService, start: Picture, tariff: Arc<Tariff<F>>) -> Result<()>
     requires ledger { (fresh.blank.name ≡ K.name) × (fresh.blank.parts ≡ K.parts) }
     requires parts { K.parts ≡ 16 }
-    requires list { fresh.opened.seen.book ≡ K.book }
+    requires list { fresh.log.seen.book ≡ K.book }
     requires start { start ≡ K.start }
     requires prices { K.closure ≡ Some (arc_value tariff) }
 {

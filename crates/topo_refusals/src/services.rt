@@ -84,7 +84,7 @@ fn named<
 >(rt: &R, fresh: FreshService, start: Picture, tariff: Arc<Tariff<F>>) -> Result<bool>
     requires ledger { (fresh.blank.name ≡ K.name) × (fresh.blank.parts ≡ K.parts) }
     requires parts { K.parts ≡ 16 }
-    requires list { fresh.opened.seen.book ≡ K.book }
+    requires list { fresh.log.seen.book ≡ K.book }
     requires start { start ≡ K.start }
     requires prices { K.closure ≡ Some (arc_value tariff) }
 {

@@ -71,7 +71,7 @@ run_of_passes price limits p q lists passes history worked whole replayed = reco
 pub has_number : (lists : List (List Command)) (passes : List PassState) (n : ℕ) → HaveWorked lists passes → n < length passes → HasNumber n passes
 has_number lists passes n worked below = number_at n passes n no_pass below (worked.each n no_pass (omega (arith, worked.count))).is_numbered
 
--- ---- SharePool
+-- ---- Passes that were opened
 
 -- a place in a list with one more element is before the last, or the last
 place_cases : (i n : ℕ) → i < n + 1 → (i < n) ⊎ (i ≡ n + 0)

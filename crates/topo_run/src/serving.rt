@@ -157,7 +157,7 @@ fn serve<
 ) -> Result<Course, RunFault>
     requires ledger { (fresh.blank.name ≡ K.name) × (fresh.blank.parts ≡ K.parts) }
     requires parts { K.parts ≡ 16 }
-    requires list { fresh.opened.seen.book ≡ K.book }
+    requires list { fresh.log.seen.book ≡ K.book }
     requires start { start ≡ K.start }
     requires prices { K.closure ≡ Some (arc_value tariff) }
     ensures run { IfOk result (λ course. IsRun (prices_of (F.answers (arc_value tariff))) start.limits start.rows (map commands lists.now) course.history course.picture) }

@@ -144,7 +144,7 @@ fn named<
 ) -> Result<String, Fail>
     requires ledger { (fresh.blank.name ≡ K.name) × (fresh.blank.parts ≡ K.parts) }
     requires parts { K.parts ≡ 16 }
-    requires list { fresh.opened.seen.book ≡ K.book }
+    requires list { fresh.log.seen.book ≡ K.book }
     requires start { start ≡ K.start }
     requires prices { K.closure ≡ Some (arc_value tariff) }
 {
