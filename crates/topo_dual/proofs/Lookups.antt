@@ -4,7 +4,6 @@ use Rattle.std.specs.Prelude.{is_some, map, nat_lt, Option, slice_get, slice_ind
 use Rattle.std.specs.List.{list_all}
 use Rattle.std.proofs.lemmas.Bool.Decides.{nat_tests}
 use Rattle.std.proofs.lemmas.Bool.{cases_Bool, eqb-true}
-use Rattle.std.proofs.lemmas.Option.{slice_get-get_or}
 use Rattle.topo_core.specs.declared.darts.Dart.{Dart}
 use Rattle.topo_core.specs.declared.darts.Point.{Point}
 use Rattle.topo_core.specs.declared.darts.Point.TheVariants.{Vertex}
@@ -14,7 +13,7 @@ use Rattle.topo_core.specs.declared.rows.Facts.{Facts}
 use Rattle.topo_core.specs.declared.rows.Rows.{Rows}
 use Rattle.topo_core.specs.Items.{IsIn, rises_below}
 use Rattle.topo_core.specs.Lawful.{has_good_path, has_good_paths}
-use Rattle.topo_core.specs.Picture.{corner, cross_row, darts, edge_at, edge_row, end_dart, index_of, points_of, rotation, segment_count, start, start_place}
+use Rattle.topo_core.specs.Picture.{cross_row, darts, edge_at, edge_row, index_of, points_of, segment_count, start, start_place}
 use Rattle.topo_core.specs.Routes.{AreFactsOf}
 use Rattle.topo_core.specs.Systems.{has_dart}
 use Rattle.topo_core.proofs.Members.{left_true, right_true, test_of_each}

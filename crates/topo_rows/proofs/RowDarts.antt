@@ -1,5 +1,5 @@
 -- Darts of rows: those that are there, and those at corners.
-use Rattle.std.proofs.Common.{get_or, ◌≡◌, ◌&&◌, ◌<◌, ap, arith, length, List, refl, Some, suc, sym, true, zero, ℕ, [], ◌∙◌, ◌∷◌}
+use Rattle.std.proofs.Common.{get_or, ◌≡◌, ◌&&◌, ◌<◌, ap, arith, length, List, Some, suc, sym, true, zero, ℕ, [], ◌∙◌, ◌∷◌}
 use Rattle.std.specs.Prelude.{is_some, map, nat_lt, Option, slice_get}
 use Rattle.std.proofs.lemmas.Bool.Decides.{nat_tests}
 use Rattle.std.proofs.lemmas.Option.{slice_get-get_or}

@@ -1,5 +1,5 @@
 -- The flat lists of rows: numbers of darts by edges, by crossings and round points, and what is written where.
-use Rattle.std.specs.Prelude.{◌≡◌, ℕ, ◌+◌, ◌-◌, ◌*◌, ◌<◌, ◌==◌, cond, List, [], ◌∷◌, ◌++◌, map, length, Some, slice_get, slice_index, slice_index_or, slice_set}
+use Rattle.std.specs.Prelude.{◌≡◌, ℕ, ◌+◌, ◌-◌, ◌*◌, ◌==◌, cond, List, [], ◌∷◌, ◌++◌, map, length, Some, slice_get, slice_index, slice_index_or, slice_set}
 use Rattle.std.specs.List.{position_or_len}
 use Rattle.topo_core.specs.declared.darts.Sign.{Sign}
 use Rattle.topo_core.specs.declared.darts.Sign.TheVariants.{LeftToRight, RightToLeft}
