@@ -2,6 +2,7 @@ pub mod Chains
 pub mod Descents
 pub mod Direct
 pub mod FaultTexts
+pub mod Meeting
 pub mod Names
 pub mod Numbers
 pub mod Plans
