@@ -8,14 +8,14 @@ ghost use Rattle.topo_route.specs.Descents.{AreHeightsFor, IsFirstRoute};
 ghost use Rattle.topo_route.specs.Plans.{IsPlan};
 ghost use Rattle.topo_route.specs.Settling.{ArePrices};
 
+use crate::bucket_queue::BucketQueue;
 use crate::descent::{descend, end_corner, start_corner};
 use crate::direct::direct_route;
 use crate::dual::Dual;
 use crate::graph::{Graph, segment_prices};
 use crate::plan::{Plan, PricedRoute};
-use crate::sheet::Sheet;
 use crate::spread::{heights_for, least_heights};
-use crate::waiting::Waiting;
+use crate::stamped_array::StampedArray;
 use crate::walked::Walked;
 use crate::workspace::Workspace;
 use std::alloc::{AllocError, Global};
@@ -29,7 +29,7 @@ fn route_by_heights<W: Walked, F: Asks>(
     graph: &Graph<W, F>,
     u: u32,
     v: u32,
-    heights: &Sheet,
+    heights: &StampedArray,
 ) -> Result<Option<PricedRoute>, AllocError>
     requires right { ArePrices (prices_of (F.answers graph.now.tariff.now)) (W.named graph.now.walked.now) graph.now.prices.items }
     requires known { AreHeightsFor (prices_of (F.answers graph.now.tariff.now)) (W.named graph.now.walked.now) u v heights.now }
@@ -81,8 +81,8 @@ pub fn search<D: Dual, F: Asks>(
         tariff,
         prices,
     };
-    let mut heights = Sheet::new(alloc);
-    let mut waiting = Waiting::new(alloc, dual.size() as usize)?;
+    let mut heights = StampedArray::new(alloc);
+    let mut waiting = BucketQueue::new(alloc, dual.size() as usize)?;
     least_heights(&graph, v, &mut heights, &mut waiting)?;
     let numbers = heights.numbers(alloc)?;
     let found = route_by_heights(alloc, &graph, u, v, &heights)?;

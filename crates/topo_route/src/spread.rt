@@ -9,21 +9,21 @@ ghost use Rattle.topo_route.specs.Names.{height_of};
 ghost use Rattle.topo_route.specs.Plans.{AreHeights, IsZeroAt};
 ghost use Rattle.topo_route.specs.Settling.{AreLowered, ArePrices, IsCrossed, IsReached, Spreads, dart_of_item, effort, is_pending, is_waiting};
 
+use crate::bucket_queue::{BucketQueue, dart_of_item, item_of, least_height};
 use crate::descent::least_corner;
 use crate::graph::Graph;
-use crate::sheet::Sheet;
+use crate::stamped_array::StampedArray;
 use crate::steps::{across, corner_at, next_along};
-use crate::waiting::{Waiting, dart_of_item, item_of, least_height};
 use crate::walked::Walked;
 use std::alloc::AllocError;
 use topo_price::tariff::Asks;
 
 /// Crosses a dart backwards: its twin reaches the target over it. A height that this lowers, and
 /// brings below the bound, waits. The price is not asked where not even 1 would do so.
-fn cross_back<W: Walked, F: Asks>(
+fn relax_twin<W: Walked, F: Asks>(
     graph: &Graph<W, F>,
-    heights: &mut Sheet,
-    waiting: &mut Waiting,
+    heights: &mut StampedArray,
+    waiting: &mut BucketQueue,
     v: u32,
     bound: u64,
     dart: u32,
@@ -59,10 +59,10 @@ fn cross_back<W: Walked, F: Asks>(
 
 /// Spreads the height of one dart round its face and over the segments along it, as far as it lowers
 /// what is there. Nothing spreads from a dart that is not below the bound.
-fn spread_one<W: Walked, F: Asks>(
+fn relax_face<W: Walked, F: Asks>(
     graph: &Graph<W, F>,
-    heights: &mut Sheet,
-    waiting: &mut Waiting,
+    heights: &mut StampedArray,
+    waiting: &mut BucketQueue,
     v: u32,
     bound: u64,
     dart: u32,
@@ -80,7 +80,7 @@ fn spread_one<W: Walked, F: Asks>(
     let mut at = dart;
     loop {
         let next = next_along(graph.walked, at);
-        cross_back(graph, heights, waiting, v, bound, at)?;
+        relax_twin(graph, heights, waiting, v, bound, at)?;
         let height = heights.get(at);
         let there = heights.get(next);
         if there <= height {
@@ -94,7 +94,7 @@ fn spread_one<W: Walked, F: Asks>(
 /// Takes out the next dart that waits with the height that it has. An item of another height is passed
 /// over: the dart was lowered since, and then a walk round its face spread its new height, or that
 /// waits too. So is one whose height is not below the bound, and no height is read for it.
-fn next_pending(heights: &Sheet, waiting: &mut Waiting, bound: u64) -> Option<u32>
+fn next_pending(heights: &StampedArray, waiting: &mut BucketQueue, bound: u64) -> Option<u32>
     requires within { (item : ℕ) → is_waiting waiting.old item ≡ true → dart_of_item item < length heights.now }
     ensures pending { IfSome result (λ dart. is_pending heights.now waiting.old dart ≡ true) }
     ensures others { MatchOption result ((k : ℕ) → k < 2 ^ 32 → slice_index heights.now k < bound → is_pending heights.now waiting.old k ≡ false)
@@ -116,8 +116,8 @@ fn next_pending(heights: &Sheet, waiting: &mut Waiting, bound: u64) -> Option<u3
 /// Spreads the heights of all that wait.
 fn spread_all<W: Walked, F: Asks>(
     graph: &Graph<W, F>,
-    heights: &mut Sheet,
-    waiting: &mut Waiting,
+    heights: &mut StampedArray,
+    waiting: &mut BucketQueue,
     v: u32,
 ) -> Result<(), AllocError>
     requires right { ArePrices (prices_of (F.answers graph.now.tariff.now)) (W.named graph.now.walked.now) graph.now.prices.items }
@@ -129,13 +129,13 @@ fn spread_all<W: Walked, F: Asks>(
 {
     let _darts = graph.walked.size();
     while let Some(dart) = next_pending(heights, waiting, u64::MAX) {
-        spread_one(graph, heights, waiting, v, u64::MAX, dart)?;
+        relax_face(graph, heights, waiting, v, u64::MAX, dart)?;
     }
     Ok(())
 }
 
 /// A bound above the heights that routes from `u` come through: one more than the least of a corner.
-fn bound_at<W: Walked>(walked: &W, u: u32, heights: &Sheet) -> u64
+fn bound_at<W: Walked>(walked: &W, u: u32, heights: &StampedArray) -> u64
     requires { length heights.now ≡ (W.named walked.now).size }
     ensures { result ≢ unreached → HasCornerBelow (W.named walked.now) u heights.now result }
 {
@@ -147,8 +147,8 @@ fn bound_at<W: Walked>(walked: &W, u: u32, heights: &Sheet) -> u64
 /// once in as many steps as it has corners, so looking costs no more than the steps do.
 fn spread_up_to<W: Walked, F: Asks>(
     graph: &Graph<W, F>,
-    heights: &mut Sheet,
-    waiting: &mut Waiting,
+    heights: &mut StampedArray,
+    waiting: &mut BucketQueue,
     u: u32,
     v: u32,
 ) -> Result<(), AllocError>
@@ -162,7 +162,7 @@ fn spread_up_to<W: Walked, F: Asks>(
     let mut bound = u64::MAX;
     let mut steps = 0;
     while let Some(dart) = next_pending(heights, waiting, bound) {
-        spread_one(graph, heights, waiting, v, bound, dart)?;
+        relax_face(graph, heights, waiting, v, bound, dart)?;
         if steps == 0 {
             bound = bound.min(bound_at(graph.walked, u, heights));
             steps = graph.walked.degree(u);
@@ -176,8 +176,8 @@ fn spread_up_to<W: Walked, F: Asks>(
 /// Gives the corners of the target height 0, and puts them among the items that wait.
 fn start_at<W: Walked, F: Asks>(
     graph: &Graph<W, F>,
-    heights: &mut Sheet,
-    waiting: &mut Waiting,
+    heights: &mut StampedArray,
+    waiting: &mut BucketQueue,
     v: u32,
 ) -> Result<(), AllocError>
     requires spreads { Spreads (prices_of (F.answers graph.now.tariff.now)) (W.named graph.now.walked.now) v unreached heights.old waiting.old (W.named graph.now.walked.now).size }
@@ -199,8 +199,8 @@ fn start_at<W: Walked, F: Asks>(
 pub(crate) fn least_heights<W: Walked, F: Asks>(
     graph: &Graph<W, F>,
     v: u32,
-    heights: &mut Sheet,
-    waiting: &mut Waiting,
+    heights: &mut StampedArray,
+    waiting: &mut BucketQueue,
 ) -> Result<(), AllocError>
     requires right { ArePrices (prices_of (F.answers graph.now.tariff.now)) (W.named graph.now.walked.now) graph.now.prices.items }
     requires some { 0 < length (darts (W.named graph.now.walked.now).rows) }
@@ -218,8 +218,8 @@ pub(crate) fn heights_for<W: Walked, F: Asks>(
     graph: &Graph<W, F>,
     u: u32,
     v: u32,
-    heights: &mut Sheet,
-    waiting: &mut Waiting,
+    heights: &mut StampedArray,
+    waiting: &mut BucketQueue,
 ) -> Result<(), AllocError>
     requires right { ArePrices (prices_of (F.answers graph.now.tariff.now)) (W.named graph.now.walked.now) graph.now.prices.items }
     requires some { 0 < length (darts (W.named graph.now.walked.now).rows) }

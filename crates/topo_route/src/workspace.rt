@@ -1,7 +1,7 @@
 //! What searches write on.
 
-use crate::sheet::Sheet;
-use crate::waiting::Waiting;
+use crate::bucket_queue::BucketQueue;
+use crate::stamped_array::StampedArray;
 use std::alloc::{AllocError, Global};
 
 /// The heights of darts and the queue of a search, kept for the next one. Each search begins
@@ -9,16 +9,16 @@ use std::alloc::{AllocError, Global};
 /// picture, but where the picture has more darts than any before.
 #[derive(Drop)]
 pub struct Workspace {
-    pub(crate) heights: Sheet,
-    pub(crate) waiting: Waiting,
+    pub(crate) heights: StampedArray,
+    pub(crate) waiting: BucketQueue,
 }
 
 impl Workspace {
     /// One for pictures of any size.
     pub fn new(alloc: Global) -> Result<Self, AllocError> {
         Ok(Workspace {
-            heights: Sheet::new(alloc),
-            waiting: Waiting::new(alloc, 0)?,
+            heights: StampedArray::new(alloc),
+            waiting: BucketQueue::new(alloc, 0)?,
         })
     }
 }

@@ -5,15 +5,15 @@ use Rattle.topo_route.proofs.Reaching.{are_heights}
 use Rattle.topo_route.proofs.Settled.{all_settled, every_settled, meets_lower, taken_reached, taken_up}
 use Rattle.topo_route.proofs.spread.spread_all.Goals as goal
 
-pub spread_one-requires-clause-spreads : goal.spread_one-requires-clause-spreads
-spread_one-requires-clause-spreads g c =
+pub relax_face-requires-clause-spreads : goal.relax_face-requires-clause-spreads
+relax_face-requires-clause-spreads g c =
     let named = g.W.Walked.named c.args.graph.now.walked.now in
     let small : named.size < 2 ^ 32 = omega (arith, c.size-darts.ensures, c.size-darts.type_inv) in
     taken_up (prices_of (g.F.Asks.answers c.args.graph.now.tariff.now)) named (g.met.W.Walked.has_names c.args.graph.now.walked.now) c.args.v unreached c.loop-dart.heights c.loop-dart.waiting c.next_pending.new.waiting c.in-Some.dart small
     c.loop-dart.invariant.spreads c.in-Some.ensures.others c.in-Some.ensures.fewer
 
-pub spread_one-requires-clause-in_hand : goal.spread_one-requires-clause-in_hand
-spread_one-requires-clause-in_hand g c =
+pub relax_face-requires-clause-in_hand : goal.relax_face-requires-clause-in_hand
+relax_face-requires-clause-in_hand g c =
     let named = g.W.Walked.named c.args.graph.now.walked.now in
     let short : c.in-Some.dart < 2 ^ 32 = omega arith in
     taken_reached (prices_of (g.F.Asks.answers c.args.graph.now.tariff.now)) named c.args.v unreached c.loop-dart.heights c.loop-dart.waiting named.size c.in-Some.dart short
@@ -21,8 +21,8 @@ spread_one-requires-clause-in_hand g c =
 
 pub loop-dart-preserved : goal.loop-dart-preserved
 loop-dart-preserved g c = record {
-  spreads = c.in_ok-spread_one.ensures.spreads;
-  target = meets_lower (g.W.Walked.named c.args.graph.now.walked.now) c.args.v c.loop-dart.heights c.spread_one.new.heights c.in_ok-spread_one.ensures.lower c.loop-dart.invariant.target;
+  spreads = c.in_ok-relax_face.ensures.spreads;
+  target = meets_lower (g.W.Walked.named c.args.graph.now.walked.now) c.args.v c.loop-dart.heights c.relax_face.new.heights c.in_ok-relax_face.ensures.lower c.loop-dart.invariant.target;
 }
 
 pub returns-clause-are_heights : goal.returns-clause-are_heights
