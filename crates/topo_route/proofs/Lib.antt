@@ -6,6 +6,8 @@ pub mod Tests
 pub mod Walking
 pub mod Verdicts
 pub mod Settled
+pub mod Sums
+pub mod Relaxing
 pub mod Buckets
 pub mod Reaching
 pub mod Crossings

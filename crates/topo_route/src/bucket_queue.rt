@@ -65,6 +65,11 @@ impl BucketQueue {
         self.first = 0;
     }
 
+    /// How many items have been added since the last call of `clear`.
+    pub(crate) fn pushed(&self) -> usize {
+        self.entries.len()
+    }
+
     /// Adds an item of this height.
     pub(crate) fn push(&mut self, height: u64, item: u64) -> Result<(), AllocError>
         ensures waits { IfOk result (λ _. (k : ℕ) → is_waiting self.new k ≡ (item == k || is_waiting self.old k)) }

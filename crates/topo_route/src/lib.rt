@@ -9,6 +9,7 @@
 //! first: its Ok means that the route is the first of the least, whoever made the plan.
 #![tactic(auto)]
 
+mod both_ends;
 mod bucket_queue;
 pub mod check;
 mod descent;

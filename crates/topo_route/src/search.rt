@@ -8,13 +8,12 @@ ghost use Rattle.topo_route.specs.Descents.{AreHeightsFor, IsFirstRoute};
 ghost use Rattle.topo_route.specs.Plans.{IsPlan};
 ghost use Rattle.topo_route.specs.Settling.{ArePrices};
 
-use crate::bucket_queue::BucketQueue;
+use crate::both_ends::{heights_for, least_heights};
 use crate::descent::{descend, end_corner, start_corner};
 use crate::direct::direct_route;
 use crate::dual::Dual;
 use crate::graph::{Graph, segment_prices};
 use crate::plan::{Plan, PricedRoute};
-use crate::spread::{heights_for, least_heights};
 use crate::stamped_array::StampedArray;
 use crate::walked::Walked;
 use crate::workspace::Workspace;
@@ -81,11 +80,10 @@ pub fn search<D: Dual, F: Asks>(
         tariff,
         prices,
     };
-    let mut heights = StampedArray::new(alloc);
-    let mut waiting = BucketQueue::new(alloc, dual.size() as usize)?;
-    least_heights(&graph, v, &mut heights, &mut waiting)?;
-    let numbers = heights.numbers(alloc)?;
-    let found = route_by_heights(alloc, &graph, u, v, &heights)?;
+    let mut work = Workspace::with_room(alloc, dual.size() as usize)?;
+    least_heights(&graph, v, &mut work)?;
+    let numbers = work.to_end.heights.numbers(alloc)?;
+    let found = route_by_heights(alloc, &graph, u, v, &work.to_end.heights)?;
     match found {
         Some(PricedRoute { route, price }) => Ok(Some(Plan {
             route,
@@ -135,7 +133,7 @@ pub fn first_route<W: Walked, F: Asks>(
         tariff,
         prices: Vec::new(alloc),
     };
-    heights_for(&graph, u, v, &mut work.heights, &mut work.waiting)?;
-    let found = route_by_heights(alloc, &graph, u, v, &work.heights)?;
+    heights_for(&graph, u, v, work)?;
+    let found = route_by_heights(alloc, &graph, u, v, &work.to_end.heights)?;
     Ok(found)
 }

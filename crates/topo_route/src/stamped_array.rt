@@ -1,7 +1,8 @@
 //! A list of numbers that is blank again in one step.
 
-ghost use Rattle.std.specs.Prelude.{◌≡◌, ◌<◌, ◌≤◌, ℕ, IfOk, OnOk, length, replicate, slice_index, slice_set};
+ghost use Rattle.std.specs.Prelude.{◌≡◌, ◌<◌, ◌≤◌, [], ℕ, IfOk, OnOk, length, replicate, slice_index, slice_set};
 ghost use Rattle.topo_core.specs.Routes.{unreached};
+ghost use Rattle.topo_route.specs.Settling.{number_at};
 
 use std::alloc::{AllocError, Global};
 use std::marker::Model;
@@ -30,7 +31,9 @@ impl Model for StampedArray {
 
 impl StampedArray {
     /// An empty list.
-    pub(crate) fn new(alloc: Global) -> Self {
+    pub(crate) fn new(alloc: Global) -> Self
+        ensures { result ≡ [] }
+    {
         StampedArray {
             numbers: Vec::new(alloc),
             epochs: Vec::new(alloc),
@@ -69,6 +72,18 @@ impl StampedArray {
     {
         if self.epochs[place] == self.epoch {
             self.numbers[place]
+        } else {
+            u64::MAX
+        }
+    }
+
+    /// The number at a place, and the greatest past the end.
+    pub(crate) fn number_at(&self, place: u32) -> u64
+        ensures { result ≡ number_at self.now place }
+    {
+        let place = place as usize;
+        if place < self.epochs.len() {
+            self.read(place)
         } else {
             u64::MAX
         }
