@@ -13,6 +13,7 @@ pub mod Segments
 pub mod Descending
 pub mod Levels
 pub mod Known
+pub mod Meeting
 pub mod Names
 pub mod Canonical
 pub mod Uncrossed
