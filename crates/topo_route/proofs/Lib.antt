@@ -14,6 +14,8 @@ pub mod Descending
 pub mod Levels
 pub mod Known
 pub mod Meeting
+pub mod Turned
+pub mod Unreached
 pub mod Names
 pub mod Canonical
 pub mod Uncrossed
