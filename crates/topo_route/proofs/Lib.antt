@@ -11,7 +11,6 @@ pub mod Reaching
 pub mod Crossings
 pub mod Segments
 pub mod Descending
-pub mod Levels
 pub mod Known
 pub mod Meeting
 pub mod Turned

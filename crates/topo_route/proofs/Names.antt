@@ -91,6 +91,12 @@ module _ (g : Named) (lawful : Lawful g.rows) (has : IsNamed g) where
   pub twin_back : (k : ℕ) → IsName g k → twin_name g (twin_name g k) ≡ k
   twin_back k n = ap (λ d. g.name (dart_twin d)) (dart_of_twin k n) ∙ ap g.name (twin-twin (dart_named g k)) ∙ n.is
 
+  -- crossing costs the same both ways
+  pub twin_price : (price : Pricing) (k c : ℕ) → IsName g k → Price price g.rows (dart_named g k) c → Price price g.rows (dart_named g (twin_name g k)) c
+  twin_price price k c n asked =
+      let other : Price price g.rows (dart_twin (dart_named g k)) c = record { facts = asked.facts; known = asked.known; asked = asked.asked } in
+      subst (λ d. Price price g.rows d c) (sym (dart_of_twin k n)) other
+
   -- the twin has another name
   pub twin_differs : (k : ℕ) → IsName g k → twin_name g k ≢ k
   twin_differs k n e = twin_apart g.rows (dart_named g k) n.there (sym (dart_of_twin k n) ∙ ap (dart_named g) e)

@@ -17,7 +17,7 @@ use Rattle.topo_core.proofs.Numbering.{twin_in}
 use Rattle.topo_route.specs.Names.{IsName, IsNamed, Named, dart_named, height_of, next_name, twin_name}
 use Rattle.topo_route.specs.Plans.{AreHeights, IsZeroAt}
 use Rattle.topo_route.specs.Settling.{AreCosts, IsSettled, reached}
-use Rattle.topo_route.proofs.Names.{back_round, dart_of_name, dart_of_twin, even_names, even_round, face_of_names, gentle_names, name_is, next_is, twin_back, twin_is}
+use Rattle.topo_route.proofs.Names.{back_round, dart_of_name, dart_of_twin, even_names, even_round, face_of_names, gentle_names, name_is, next_is, twin_back, twin_is, twin_price}
 use Rattle.topo_route.proofs.Numbers.{face_stays}
 use Rattle.topo_route.proofs.Settled.{counts}
 
@@ -89,8 +89,7 @@ module _ (price : Pricing) (g : Named) (lawful : Lawful g.rows) (has : IsNamed g
 
   gentle : (k p : ℕ) → IsName g k → Price price g.rows (dart_named g k) p → slice_index heights k ≤ p + slice_index heights (twin_name g k)
   gentle k p l asked =
-      let other : Price price g.rows (dart_twin (dart_named g k)) p = record { facts = asked.facts; known = asked.known; asked = asked.asked } in
-      let there = subst (λ c. Price price g.rows c p) (sym (dart_of_twin g lawful has k l)) other in
+      let there = twin_price g lawful has price k p l asked in
       let climb = (settled (twin_name g k) (twin_is g lawful has k l)).1 p there in
       let back : slice_index heights (twin_name g (twin_name g k)) ≡ slice_index heights k = ap (slice_index heights) (twin_back g lawful has k l) in
       let low = top (twin_name g (twin_name g k)) in omega arith
