@@ -1,12 +1,16 @@
 -- Where a search from both ends has stopped: a certificate, and which heights are known.
-use Rattle.std.proofs.Common.{◌≡◌, ℕ, ◌+◌, ◌-◌, ◌<◌, ◌≤◌, List, sym, subst, arith}
+use Rattle.std.proofs.Common.{◌≡◌, ℕ, ◌+◌, ◌-◌, ◌<◌, ◌≤◌, List, length, subst, arith}
 use Rattle.std.specs.Prelude.{max, min, slice_index}
-use Rattle.topo_core.specs.Darts.{dart_twin}
 use Rattle.topo_core.specs.Lawful.{Lawful}
-use Rattle.topo_core.specs.Routes.{IsCertificate, Price, Pricing}
+use Rattle.topo_core.specs.declared.routes.Route.{Route}
+use Rattle.topo_core.specs.Routes.{HasNoRoute, IsCertificate, IsPricedRoute, Price, Pricing, Reaches}
+use Rattle.topo_core.proofs.Certificates.{route_bound}
+use Rattle.topo_core.proofs.RouteDarts.{certified}
+use Rattle.topo_route.specs.Descents.{AreHeightsFor, HasNoStart}
+use Rattle.topo_route.specs.Plans.{AreHeightsBelow}
 use Rattle.topo_route.specs.Meeting.{Meets}
 use Rattle.topo_route.specs.Names.{IsName, IsNamed, Named, dart_named, height_of, next_name, twin_name}
-use Rattle.topo_route.proofs.Names.{dart_of_twin, even_names, even_round, gentle_names, twin_back, twin_is}
+use Rattle.topo_route.proofs.Names.{dart_of_name, even_names, even_round, gentle_names, height_named, name_is, twin_back, twin_is, twin_price}
 
 -- ---- One dart, and the next along its face or its twin
 
@@ -66,17 +70,11 @@ module _ (price : Pricing) (g : Named) (lawful : Lawful g.rows) (has : IsNamed g
   known_round k l = lid_round level least met.within (slice_index heights k) (slice_index distances k) (slice_index heights (next_name g k)) (slice_index distances (next_name g k))
       (λ low. (met.below k l low).0) (λ low. (met.along k l low).0) (λ near. (met.near k l near).0)
 
-  -- the twin has the price too
-  other_price : (k c : ℕ) → IsName g k → Price price g.rows (dart_named g k) c → Price price g.rows (dart_named g (twin_name g k)) c
-  other_price k c l asked =
-      let other : Price price g.rows (dart_twin (dart_named g k)) c = record { facts = asked.facts; known = asked.known; asked = asked.asked } in
-      subst (λ d. Price price g.rows d c) (sym (dart_of_twin g lawful has k l)) other
-
   gentle : (k c : ℕ) → IsName g k → Price price g.rows (dart_named g k) c → lid k ≤ c + lid (twin_name g k)
   gentle k c l asked =
       let t = twin_name g k in
       let there = twin_is g lawful has k l in
-      let other = other_price k c l asked in
+      let other = twin_price g lawful has price k c l asked in
       let Back : ℕ → Type 0 = λ j. min (slice_index heights j) (least + 1) ≤ c + slice_index heights t in
       lid_gentle level least met.within c (slice_index heights k) (slice_index distances k) (slice_index heights t) (slice_index distances t)
       (λ low. subst Back (twin_back g lawful has k l) ((met.below t there low).1 c other))
@@ -95,3 +93,50 @@ module _ (price : Pricing) (g : Named) (lawful : Lawful g.rows) (has : IsNamed g
     gentle = gentle_names g lawful has lid price gentle;
     target = λ p c at. omega (arith, met.at_target p c at);
   }
+
+  -- each route costs at least the height of its corner of u, so one of them has the least price for its height at most
+  low_corner : (r : Route) → (priced : IsPricedRoute price g.rows u v r least) → height_of g heights priced.route.from ≤ least
+  low_corner r priced =
+      let from = priced.route.from in
+      let bound = route_bound price g.rows u v (λ d. min (height_of g heights d) (top (g.name d)))
+      (certified price g.rows u v (λ d. min (height_of g heights d) (top (g.name d))) lawful.embedding.well_formed met_certificate) r least from priced priced.route.starts in
+      omega (arith, met.at_start r.start from priced.route.starts)
+
+  known_met : AreHeightsBelow price g v top heights
+  known_met = record {
+    one_each = met.heights_cost.one_each;
+    reaches = λ d h low.
+        subst (λ c. Reaches price g.rows v c (height_of g heights d)) (dart_of_name g has d h)
+        (met.heights_cost.costs (g.name d) (name_is g has d h) (λ e. let within = met.within in let some = met.some in omega arith));
+    certificate = met_certificate;
+    round = known_round;
+    down = known_down;
+  }
+
+  -- what a search from both ends knows is enough for the first route
+  pub for_met : AreHeightsFor price g u v heights
+  for_met =
+      let (r, priced) = met.route in
+      let low = low_corner r priced in
+      let c = priced.route.from in
+      record {
+        top = top;
+        known = known_met;
+        start = λ position from start p d at. omega (arith, start.least r.start c priced.route.starts, height_named g has heights from start.name, met.at_start p d at);
+        none = λ none. let e = none r.start c priced.route.starts in let some = met.some in absurd (omega arith);
+      }
+
+-- there is no route, and no corner of u is reached
+pub for_none : (price : Pricing) (g : Named) (u v : ℕ) (heights : List ℕ) → length heights ≡ g.size → HasNoRoute price g.rows u v → HasNoStart g u heights → AreHeightsFor price g u v heights
+for_none price g u v heights one_each no_route none = record {
+  top = λ k. 0;
+  known = record {
+    one_each = one_each;
+    reaches = λ d h low. absurd (omega arith);
+    certificate = record { even = λ d h. omega arith; gentle = λ d p h asked. omega arith; target = λ p c at. omega arith };
+    round = λ k l low. absurd (omega arith);
+    down = λ k c l low asked fall. absurd (omega arith);
+  };
+  start = λ position from start p c at. absurd (start.reached (none position (dart_named g from) start.there));
+  none = λ nowhere. no_route;
+}
