@@ -13,8 +13,10 @@ pub mod Reaching
 pub mod Crossings
 pub mod Segments
 pub mod Descending
-pub mod Levels
 pub mod Known
+pub mod Meeting
+pub mod Turned
+pub mod Unreached
 pub mod Names
 pub mod Canonical
 pub mod Uncrossed

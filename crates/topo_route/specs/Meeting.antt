@@ -1,5 +1,5 @@
 -- What a search from both ends of a new edge knows where the two meet.
-use Rattle.std.specs.Prelude.{◌≡◌, ℕ, ◌+◌, ◌<◌, ◌≤◌, List, slice_index}
+use Rattle.std.specs.Prelude.{ℕ, ◌+◌, ◌<◌, ◌≤◌, List, slice_index}
 use Rattle.topo_core.specs.declared.routes.Route.{Route}
 use Rattle.topo_core.specs.Routes.{IsPricedRoute, Pricing, unreached}
 use Rattle.topo_route.specs.Names.{IsName, Named, height_of}
