@@ -17,6 +17,7 @@ pub mod Known
 pub mod Meeting
 pub mod Turned
 pub mod Unreached
+pub mod Ending
 pub mod Names
 pub mod Canonical
 pub mod Uncrossed

@@ -72,7 +72,7 @@ module _ (price : Pricing) (g : Named) (lawful : Lawful g.rows) (has : IsNamed g
 
 -- ---- When all are settled
 
-reached_most : (heights : List ℕ) → reached heights ≤ length heights
+pub reached_most : (heights : List ℕ) → reached heights ≤ length heights
 reached_most [] = omega arith
 reached_most (h ∷ heights) = elim (cases_Bool (h == unreached)) [
   | inl e ↦ let one : counts h ≡ 0 = ap (λ (b : Bool). cond {A = ℕ} b 0 1) e in omega (arith, sum_by-cons counts h heights, reached_most heights)

@@ -1,15 +1,15 @@
 -- Steps of a search: a twin that is lowered and waits, the height that is passed on along a face, and the dart that is put down.
-use Rattle.std.proofs.Common.{◌≡◌, ◌≢◌, ℕ, ◌+◌, ◌*◌, ◌^◌, ◌<◌, ◌≤◌, ◌||◌, ◌==◌, Bool, true, false, List, [], length, Some, inl, inr, refl, sym, ap, subst, ◌∙◌, arith}
+use Rattle.std.proofs.Common.{◌≡◌, ◌≢◌, ℕ, ◌+◌, ◌^◌, ◌<◌, ◌≤◌, ◌||◌, ◌==◌, true, List, [], length, Some, refl, sym, subst, ◌∙◌, arith}
 use Rattle.std.specs.Prelude.{min, slice_index}
 use Rattle.std.proofs.Math.ListN.{set}
 use Rattle.topo_core.specs.declared.darts.Dart.{Dart}
 use Rattle.topo_core.specs.Lawful.{Lawful}
 use Rattle.topo_core.specs.Picture.{corner}
-use Rattle.topo_core.specs.Routes.{KeepsPromise, Price, Pricing, Reaches, unreached}
+use Rattle.topo_core.specs.Routes.{KeepsPromise, Price, Pricing, Reaches}
 use Rattle.topo_route.specs.Names.{IsName, IsNamed, Named, dart_named, height_of, next_name, twin_name}
-use Rattle.topo_route.specs.Settling.{AreCosts, AreSums, AreLowered, IsCrossed, IsReached, IsSettled, Relaxes, Spreads, effort, is_pending, is_waiting, item_of, number_at, reach_of}
+use Rattle.topo_route.specs.Settling.{AreCosts, AreSums, IsCrossed, IsReached, IsSettled, Relaxes, Spreads, is_pending, is_waiting, item_of, number_at, reach_of}
 use Rattle.topo_route.proofs.Crossings.{twin_costs, twin_waits}
-use Rattle.topo_route.proofs.Names.{height_named, name_below}
+use Rattle.topo_route.proofs.Names.{height_named}
 use Rattle.topo_route.proofs.Reaching.{reaches_next}
 use Rattle.topo_route.proofs.Settled.{has_height, lowered_costs, lowered_less, lowered_there, lowered_waits, narrowed, passed_effort, passed_on, put_down, taken_up}
 use Rattle.topo_route.proofs.Sums.{sums_lowered}
@@ -70,7 +70,7 @@ module _ (price : Pricing) (g : Named) (lawful : Lawful g.rows) (has : IsNamed g
       let less = passed_effort heights waiting t x within low in
       let near = costs.bounded d in_hand.0 in_hand.1 in
       let walk : Reaches price g.rows v (dart_named g t) x = subst (λ k. Reaches price g.rows v (dart_named g k) x) (sym is)
-          (reaches_next price g lawful has v d x in_hand.0 (subst (Reaches price g.rows v (dart_named g d)) (sym same) (costs.costs d in_hand.0 in_hand.1))) in
+      (reaches_next price g lawful has v d x in_hand.0 (subst (Reaches price g.rows v (dart_named g d)) (sym same) (costs.costs d in_hand.0 in_hand.1))) in
       record {
         spreads = λ top s.
             let on = passed_on price g has v top (reach_of least) heights waiting d t s is there (omega arith) crossed (subst (Reaches price g.rows v (dart_named g t)) same walk) near in
@@ -128,4 +128,4 @@ module _ (price : Pricing) (g : Named) (lawful : Lawful g.rows) (has : IsNamed g
   renamed {hs} {ws} {l} {d} {hs'} {ws'} {l'} {d'} hs'' ws'' l'' h w m relaxes =
       subst (λ (x : List ℕ). Relaxes price g v others hs ws l d x ws'' l'' d') (sym h)
       (subst (λ (x : List ℕ). Relaxes price g v others hs ws l d hs' x l'' d') (sym w)
-       (subst (λ (x : ℕ). Relaxes price g v others hs ws l d hs' ws' x d') (sym m) relaxes))
+      (subst (λ (x : ℕ). Relaxes price g v others hs ws l d hs' ws' x d') (sym m) relaxes))

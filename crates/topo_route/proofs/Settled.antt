@@ -1,18 +1,15 @@
 -- How heights spread, on names of darts.
-use Rattle.std.proofs.Common.{◌≡◌, ◌≢◌, ℕ, ◌+◌, ◌*◌, ◌^◌, ◌<◌, ◌≤◌, ◌||◌, ◌==◌, Bool, true, false, cond, List, [], length, Some, inl, inr, refl, sym, ap, subst, ◌∙◌, arith, get_or-set_same, get_or-set_other}
+use Rattle.std.proofs.Common.{◌≡◌, ◌≢◌, ℕ, ◌+◌, ◌*◌, ◌^◌, ◌<◌, ◌≤◌, ◌||◌, ◌==◌, Bool, true, false, cond, List, length, inl, inr, refl, sym, ap, subst, ◌∙◌, arith, get_or-set_same, get_or-set_other}
 use Rattle.std.specs.Prelude.{slice_index, sum_by}
 use Rattle.std.proofs.Math.ListN.{set}
 use Rattle.std.proofs.lemmas.Bool.{cases_eq, cases_lt, eqb-true, eq-eqb, ne_eqb, false≢true}
 use Rattle.std.proofs.lemmas.List.{length-set}
 use Rattle.std.proofs.lemmas.List.Sums.{sum_by-set}
-use Rattle.topo_core.specs.declared.darts.Dart.{Dart}
-use Rattle.topo_core.specs.Picture.{corner}
 use Rattle.topo_core.specs.Routes.{Pricing, Reaches, unreached}
 use Rattle.topo_core.proofs.NumberOrder.{either}
 use Rattle.topo_route.specs.Names.{IsName, IsNamed, Named, dart_named, height_of, next_name, twin_name}
 use Rattle.topo_route.specs.Plans.{IsZeroAt}
-use Rattle.topo_route.proofs.Names.{height_named, name_below}
-use Rattle.topo_route.proofs.Tests.{before_some}
+use Rattle.topo_route.proofs.Names.{name_below}
 use Rattle.topo_route.specs.Settling.{AreCosts, AreLowered, IsCrossed, IsReached, IsSettled, Spreads, dart_of_item, effort, is_pending, is_waiting, item_of, reached}
 
 abbrev pub counts : ℕ → ℕ

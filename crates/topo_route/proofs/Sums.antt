@@ -1,6 +1,6 @@
 -- The least sum of heights from two ends.
-use Rattle.std.proofs.Common.{◌≡◌, ◌≢◌, ℕ, ◌+◌, ◌<◌, ◌≤◌, List, [], length, inl, inr, ap, arith, ◌∙◌}
-use Rattle.std.specs.Prelude.{min, slice_index, slice_index_or}
+use Rattle.std.proofs.Common.{◌≡◌, ℕ, ◌+◌, ◌<◌, ◌≤◌, List, [], length, inl, inr, ap, arith, ◌∙◌}
+use Rattle.std.specs.Prelude.{min, slice_index}
 use Rattle.std.proofs.Math.ListN.{set}
 use Rattle.std.proofs.lemmas.Bool.{cases_eq, cases_lt}
 use Rattle.std.proofs.lemmas.Grind.{get_or_default_zero}
@@ -28,7 +28,7 @@ sums_lowered g heights others least t x lower there within low sums is = record 
   ];
 }
 
-number_within : (others : List ℕ) (k : ℕ) → k < length others → number_at others k ≡ slice_index others k
+pub number_within : (others : List ℕ) (k : ℕ) → k < length others → number_at others k ≡ slice_index others k
 number_within others k within = get_or_default_zero others k unreached within
 
 -- seen from the other end

@@ -1,5 +1,7 @@
 //! What searches write on.
 
+ghost use Rattle.std.specs.Prelude.{◌≡◌, [], IfOk};
+
 use crate::spread::Labels;
 use std::alloc::{AllocError, Global};
 
@@ -19,7 +21,9 @@ impl Workspace {
     }
 
     /// One with room for so many darts that wait for the target, before it asks for more.
-    pub(crate) fn with_room(alloc: Global, room: usize) -> Result<Self, AllocError> {
+    pub(crate) fn with_room(alloc: Global, room: usize) -> Result<Self, AllocError>
+        ensures { IfOk result (λ work. work.to_start.heights ≡ []) }
+    {
         Ok(Workspace {
             to_end: Labels::new(alloc, room)?,
             to_start: Labels::new(alloc, 0)?,

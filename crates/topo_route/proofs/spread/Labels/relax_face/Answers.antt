@@ -21,9 +21,9 @@ returns-then-get-height g c =
     let step : slice_index hs c.next_along-next.result ≡ slice_index hs (next_name named at) = ap (slice_index hs) c.next_along-next.ensures.next in
     record {
       relaxes = both_steps price named lawful has c.args.v c.args.other.now c.loop-self.invariant.relaxes
-      (both_steps price named lawful has c.args.v c.args.other.now crossed
-       (put_down_relaxes price named lawful has c.args.v c.args.other.now hs c.relax_twin.new.self.waiting c.relax_twin.new.least at crossed.costs crossed.sums
-        (omega (arith, c.in_ok-relax_twin.ensures.same, c.get.ensures), c.in_ok-relax_twin.ensures.crossed)));
+          (both_steps price named lawful has c.args.v c.args.other.now crossed
+          (put_down_relaxes price named lawful has c.args.v c.args.other.now hs c.relax_twin.new.self.waiting c.relax_twin.new.least at crossed.costs crossed.sums
+          (omega (arith, c.in_ok-relax_twin.ensures.same, c.get.ensures), c.in_ok-relax_twin.ensures.crossed)));
     }
 
 pub loop-self-preserved : goal.loop-self-preserved
@@ -50,12 +50,12 @@ loop-self-preserved g c =
     let is : c.lower.new.self.heights ≡ set hs next x = c.lower.ensures.heights in
     let now : slice_index c.lower.new.self.heights next ≡ x = ap (λ (xs : List ℕ). slice_index xs next) is ∙ lowered_there hs next x within in
     let on = next_relaxes price named lawful has v others hs ws least c.lower.new.least at next x (sym same) crossed.sums crossed.costs (here, some) c.in_ok-relax_twin.ensures.crossed
-        c.next_along-next.ensures.next there low c.lower.ensures.least in
+    c.next_along-next.ensures.next there low c.lower.ensures.least in
     record {
       relaxes = both_steps price named lawful has v others c.loop-self.invariant.relaxes
-      (both_steps price named lawful has v others crossed
-       (subst (λ (xs : List ℕ). Relaxes price named v others hs ws least at xs c.lower.new.self.waiting c.lower.new.least next) (sym is)
-        (subst (λ (ys : List ℕ). Relaxes price named v others hs ws least at (set hs next x) ys c.lower.new.least next) (sym c.lower.ensures.waiting) on)));
+          (both_steps price named lawful has v others crossed
+          (subst (λ (xs : List ℕ). Relaxes price named v others hs ws least at xs c.lower.new.self.waiting c.lower.new.least next) (sym is)
+          (subst (λ (ys : List ℕ). Relaxes price named v others hs ws least at (set hs next x) ys c.lower.new.least next) (sym c.lower.ensures.waiting) on)));
       in_hand = (there, λ e. some (same ∙ sym now ∙ e));
       same = now;
     }

@@ -1,11 +1,10 @@
 use Rattle.std.proofs.Common.{◌≡◌, ◌+◌, ◌∙◌, ◌==◌, ◌||◌, List, ℕ, ap, arith, length, subst, sym}
 use Rattle.std.proofs.Math.ListN.{set}
-use Rattle.std.specs.Prelude.{min, slice_index}
+use Rattle.std.specs.Prelude.{slice_index}
 use Rattle.topo_price.specs.Prices.{prices_of}
-use Rattle.topo_route.specs.Settling.{IsCrossed, Relaxes, is_waiting, item_of, number_at, reach_of}
-use Rattle.topo_route.proofs.Crossings.{crossed_already, crossed_low, is_crossed, twin_same}
-use Rattle.topo_route.proofs.Names.{name_some}
-use Rattle.topo_route.proofs.Relaxing.{still, twin_relaxes}
+use Rattle.topo_route.specs.Settling.{IsCrossed, Relaxes, is_waiting, item_of, reach_of}
+use Rattle.topo_route.proofs.Crossings.{crossed_low, is_crossed}
+use Rattle.topo_route.proofs.Relaxing.{twin_relaxes}
 use Rattle.topo_route.proofs.spread.Labels.relax_twin.Goals as goal
 
 pub returns-in_ok-push-in-Some-clause-relaxes : goal.returns-in_ok-push-in-Some-clause-relaxes

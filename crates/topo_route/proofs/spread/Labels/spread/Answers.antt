@@ -1,7 +1,7 @@
-use Rattle.std.proofs.Common.{◌≡◌, ◌<◌, ◌^◌, ℕ, arith, false, subst}
-use Rattle.std.specs.Prelude.{min, slice_index}
+use Rattle.std.proofs.Common.{◌<◌, ◌^◌, ℕ, arith}
+use Rattle.std.specs.Prelude.{min}
 use Rattle.topo_price.specs.Prices.{prices_of}
-use Rattle.topo_route.specs.Settling.{is_pending, reach_of, top_of}
+use Rattle.topo_route.specs.Settling.{reach_of, top_of}
 use Rattle.topo_route.proofs.Relaxing.{taken_relaxes}
 use Rattle.topo_route.proofs.Settled.{all_settled, taken_reached, waits_within}
 use Rattle.topo_route.proofs.spread.Labels.spread.Goals as goal
@@ -27,8 +27,8 @@ loop-dart-preserved g c =
     let top = λ (least : ℕ). top_of c.args.level (min c.args.most least) c.args.other.now in
     record {
       spreads = taken_relaxes (prices_of (g.F.Asks.answers c.args.graph.now.tariff.now)) named (g.met.W.Walked.lawful c.args.graph.now.walked.now) (g.met.W.Walked.has_names c.args.graph.now.walked.now) c.args.v c.args.other.now
-      (top c.loop-dart.least) (top c.relax_face.new.least) small c.loop-dart.invariant.spreads (λ k s less. c.in-Some.ensures.others k s (omega (arith, c.min.ensures))) c.in-Some.ensures.fewer relaxes
-      (λ k. omega (arith, relaxes.less));
+          (top c.loop-dart.least) (top c.relax_face.new.least) small c.loop-dart.invariant.spreads (λ k s less. c.in-Some.ensures.others k s (omega (arith, c.min.ensures))) c.in-Some.ensures.fewer relaxes
+          (λ k. omega (arith, relaxes.less));
       sums = relaxes.sums;
       less = omega (arith, relaxes.less, c.loop-dart.invariant.less);
       lower = λ k. omega (arith, relaxes.lower k, c.loop-dart.invariant.lower k);
@@ -41,7 +41,7 @@ returns g c =
     record {
       costs = c.loop-dart.invariant.spreads.costs;
       settled = all_settled (prices_of (g.F.Asks.answers c.args.graph.now.tariff.now)) named (g.met.W.Walked.has_names c.args.graph.now.walked.now) c.args.v (top_of c.args.level (min c.args.most c.loop-dart.least) c.args.other.now) (reach_of c.loop-dart.least)
-      c.loop-dart.self.heights c.loop-dart.self.waiting small c.loop-dart.invariant.spreads (λ k s less. c.in_default.ensures.others k s (omega (arith, c.min.ensures)));
+          c.loop-dart.self.heights c.loop-dart.self.waiting small c.loop-dart.invariant.spreads (λ k s less. c.in_default.ensures.others k s (omega (arith, c.min.ensures)));
       sums = c.loop-dart.invariant.sums;
       less = c.loop-dart.invariant.less;
       lower = c.loop-dart.invariant.lower;

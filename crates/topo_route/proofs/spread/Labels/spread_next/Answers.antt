@@ -1,5 +1,4 @@
-use Rattle.std.proofs.Common.{◌≡◌, ◌<◌, ◌^◌, ℕ, arith}
-use Rattle.std.specs.Prelude.{slice_index}
+use Rattle.std.proofs.Common.{◌<◌, ◌^◌, arith}
 use Rattle.topo_price.specs.Prices.{prices_of}
 use Rattle.topo_route.specs.Settling.{IsReached, reach_of}
 use Rattle.topo_route.proofs.Relaxing.{taken_relaxes}
@@ -12,7 +11,7 @@ get-height-requires g c =
     let named = g.W.Walked.named c.args.graph.now.walked.now in
     let short : c.in-Some.dart < 2 ^ 32 = omega arith in
     let reached : IsReached named c.args.self.now.heights c.in-Some.dart = taken_reached price named c.args.v (λ k. reach_of c.args.least.now) (reach_of c.args.least.now) c.args.self.now.heights c.args.self.now.waiting named.size c.in-Some.dart short
-        c.requires.spreads c.in-Some.ensures.pending in
+    c.requires.spreads c.in-Some.ensures.pending in
     has_height price named (g.met.W.Walked.has_names c.args.graph.now.walked.now) c.args.v c.args.self.now.heights c.requires.spreads.costs c.in-Some.dart reached.0
 
 pub relax_face-requires-clause-in_hand : goal.relax_face-requires-clause-in_hand
