@@ -6,7 +6,7 @@ use Rattle.std.proofs.Math.Seq.{get_or-append_seam}
 use Rattle.std.proofs.lemmas.Bool.{cases_eq, cases_lt}
 use Rattle.std.proofs.lemmas.List.{get_or-replicate, get_or_default, get_or_past, length-replicate}
 use Rattle.std.proofs.lemmas.List.Folds.{list_any-append}
-use Rattle.topo_route.specs.declared.waiting.Entry.{Entry}
+use Rattle.topo_route.specs.declared.bucket_queue.Entry.{Entry}
 use Rattle.topo_route.specs.Chains.{GoesDown, StaysBelow, all_chained, chain, chained, no_entry}
 use Rattle.topo_route.specs.Settling.{is_waiting}
 

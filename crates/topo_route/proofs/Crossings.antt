@@ -6,36 +6,45 @@ use Rattle.topo_core.specs.Lawful.{Lawful}
 use Rattle.topo_core.specs.Routes.{KeepsPromise, Price, Pricing, Reaches}
 use Rattle.topo_core.proofs.Certificates.{single_price}
 use Rattle.topo_route.specs.Names.{IsName, IsNamed, Named, dart_named, twin_name}
-use Rattle.topo_route.specs.Settling.{IsCrossed, IsReached, Spreads, is_waiting, item_of, reached}
+use Rattle.topo_route.specs.Settling.{AreCosts, IsCrossed, IsReached, Spreads, is_waiting, item_of, reached}
 use Rattle.topo_route.proofs.Names.{name_below, twin_differs}
 use Rattle.topo_route.proofs.Reaching.{reaches_twin}
-use Rattle.topo_route.proofs.Settled.{lowered_there, lowered_other, lowered_waits}
+use Rattle.topo_route.proofs.Settled.{lowered_costs, lowered_there, lowered_other, lowered_waits}
 
-module _ (price : Pricing) (g : Named) (lawful : Lawful g.rows) (has : IsNamed g) (v bound : ℕ) (heights waiting : List ℕ) (d other p : ℕ) (spreads : Spreads price g v bound heights waiting d)
+module _ (price : Pricing) (g : Named) (lawful : Lawful g.rows) (has : IsNamed g) (v reach : ℕ) (heights waiting : List ℕ) (d other p : ℕ) (costs : AreCosts price g v heights)
     (in_hand : IsReached g heights d) (promise : KeepsPromise price) (asked : Price price g.rows (dart_named g d) p) (is : other ≡ twin_name g d) (there : IsName g other)
-    (low : slice_index heights d + p < min (slice_index heights other) bound) where
+    (low : slice_index heights d + p < min (slice_index heights other) reach) where
   abbrev x : ℕ
   x = slice_index heights d + p
 
   walk : Reaches price g.rows v (dart_named g other) x
   walk =
       let order : p + slice_index heights d ≡ x = omega arith in
-      let over = reaches_twin price g lawful has v d (slice_index heights d) p in_hand.0 asked (spreads.costs.costs d in_hand.0 in_hand.1) in
+      let over = reaches_twin price g lawful has v d (slice_index heights d) p in_hand.0 asked (costs.costs d in_hand.0 in_hand.1) in
       subst (λ k. Reaches price g.rows v (dart_named g k) x) (sym is) (subst (λ m. Reaches price g.rows v (dart_named g (twin_name g d)) m) order over)
 
   near : x ≤ 1000 * reached heights + 1000
-  near = omega (arith, promise.at_most asked.facts p asked.asked, spreads.costs.bounded d in_hand.0 in_hand.1)
+  near = omega (arith, promise.at_most asked.facts p asked.asked, costs.bounded d in_hand.0 in_hand.1)
+
+  pub twin_costs : AreCosts price g v (set heights other x)
+  twin_costs = lowered_costs price g v heights has costs other x there (omega arith) walk near
 
   -- the twin waits
-  pub twin_waits : (after : List ℕ) → other < 2 ^ 32 → ((i : ℕ) → is_waiting after i ≡ (item_of other x == i || is_waiting waiting i)) → Spreads price g v bound (set heights other x) after d
-  twin_waits after short = lowered_waits price g v heights has spreads.costs other x there (omega arith) walk near bound waiting after d short spreads
+  pub twin_waits : (top : ℕ → ℕ) (after : List ℕ) → other < 2 ^ 32 → ((i : ℕ) → is_waiting after i ≡ (item_of other x == i || is_waiting waiting i))
+      → Spreads price g v top reach heights waiting d → Spreads price g v top reach (set heights other x) after d
+  twin_waits top after short added spreads = lowered_waits price g v heights has costs other x there (omega arith) walk near top reach waiting after d short spreads added
 
-  pub is_crossed : IsCrossed price g bound (set heights other x) d
-  is_crossed q priced =
+  pub twin_same : slice_index (set heights other x) d ≡ slice_index heights d
+  twin_same =
+      let within : other < length heights = omega (arith, name_below g has other there, costs.one_each) in
+      lowered_other heights other x within d (λ e. twin_differs g lawful has d in_hand.0 (sym (e ∙ is)))
+
+  pub is_crossed : (nearer : ℕ) → IsCrossed price g nearer (set heights other x) d
+  is_crossed nearer q priced =
       let same = single_price price g.rows promise (dart_named g d) q p priced asked in
-      let within : other < length heights = omega (arith, name_below g has other there, spreads.costs.one_each) in
+      let within : other < length heights = omega (arith, name_below g has other there, costs.one_each) in
       let now : slice_index (set heights other x) (twin_name g d) ≡ x = ap (slice_index (set heights other x)) (sym is) ∙ lowered_there heights other x within in
-      let kept = lowered_other heights other x within d (λ e. twin_differs g lawful has d in_hand.0 (sym (e ∙ is))) in
+      let kept = twin_same in
       omega arith
 
 -- the twin is so low that no price lowers it as far as the bound

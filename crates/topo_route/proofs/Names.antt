@@ -91,6 +91,12 @@ module _ (g : Named) (lawful : Lawful g.rows) (has : IsNamed g) where
   pub twin_back : (k : ℕ) → IsName g k → twin_name g (twin_name g k) ≡ k
   twin_back k n = ap (λ d. g.name (dart_twin d)) (dart_of_twin k n) ∙ ap g.name (twin-twin (dart_named g k)) ∙ n.is
 
+  -- crossing costs the same both ways
+  pub twin_price : (price : Pricing) (k c : ℕ) → IsName g k → Price price g.rows (dart_named g k) c → Price price g.rows (dart_named g (twin_name g k)) c
+  twin_price price k c n asked =
+      let other : Price price g.rows (dart_twin (dart_named g k)) c = record { facts = asked.facts; known = asked.known; asked = asked.asked } in
+      subst (λ d. Price price g.rows d c) (sym (dart_of_twin k n)) other
+
   -- the twin has another name
   pub twin_differs : (k : ℕ) → IsName g k → twin_name g k ≢ k
   twin_differs k n e = twin_apart g.rows (dart_named g k) n.there (sym (dart_of_twin k n) ∙ ap (dart_named g) e)
@@ -167,16 +173,32 @@ module _ (g : Named) (lawful : Lawful g.rows) (has : IsNamed g) where
   pub names_of_face : (i : ℕ) (d : Dart) → IsName g i → SameFace (system g.rows) (dart_named g i) d → SameCycle (next_name g) i (g.name d)
   names_of_face i d n same = grind (arith, after_is, dart_after)
 
-  -- ---- Heights
+  -- ---- Numbers by names
 
-  pub even_names : (heights : List ℕ) → ((k : ℕ) → IsName g k → slice_index heights (next_name g k) ≡ slice_index heights k)
-      → (d : Dart) → has_dart (darts g.rows) d ≡ true → height_of g heights (face_step (system g.rows) d) ≡ height_of g heights d
-  even_names heights even d h =
-      ap (λ c. height_of g heights (face_step (system g.rows) c)) (sym (dart_of_name g has d h)) ∙ even (g.name d) (name_is g has d h)
+  falls_round : (f : ℕ → ℕ) → ((k : ℕ) → IsName g k → f (next_name g k) ≤ f k) → (j k : ℕ) → IsName g k → f (after (next_name g) j k) ≤ f k
+  falls_round f falls zero k n = omega arith
+  falls_round f falls (suc j) k n =
+      let rest = falls_round f falls j k n in
+      let step = falls (after (next_name g) j k) (after_is j k n) in omega arith
 
-  pub gentle_names : (heights : List ℕ) (price : Pricing) → ((k p : ℕ) → IsName g k → Price price g.rows (dart_named g k) p → slice_index heights k ≤ p + slice_index heights (twin_name g k))
-      → (d : Dart) (p : ℕ) → has_dart (darts g.rows) d ≡ true → Price price g.rows d p → height_of g heights d ≤ p + height_of g heights (dart_twin d)
-  gentle_names heights price gentle d p h asked =
+  -- what rises nowhere along the faces is the same all round each
+  pub even_round : (f : ℕ → ℕ) → ((k : ℕ) → IsName g k → f (next_name g k) ≤ f k) → (k : ℕ) → IsName g k → f (next_name g k) ≡ f k
+  even_round f falls k n =
+      let back = back_round k (next_name g k) n (record { steps = 1; leads = refl }) in
+      let rest = falls_round f falls back.steps (next_name g k) (next_is k n) in
+      let home : f (after (next_name g) back.steps (next_name g k)) ≡ f k = ap f back.leads in
+      let step = falls k n in omega arith
+
+  -- the same along faces, said of darts
+  pub even_names : (f : ℕ → ℕ) → ((k : ℕ) → IsName g k → f (next_name g k) ≡ f k)
+      → (d : Dart) → has_dart (darts g.rows) d ≡ true → f (g.name (face_step (system g.rows) d)) ≡ f (g.name d)
+  even_names f even d h =
+      ap (λ c. f (g.name (face_step (system g.rows) c))) (sym (dart_of_name g has d h)) ∙ even (g.name d) (name_is g has d h)
+
+  -- and that nothing falls across a segment by more than its price
+  pub gentle_names : (f : ℕ → ℕ) (price : Pricing) → ((k p : ℕ) → IsName g k → Price price g.rows (dart_named g k) p → f k ≤ p + f (twin_name g k))
+      → (d : Dart) (p : ℕ) → has_dart (darts g.rows) d ≡ true → Price price g.rows d p → f (g.name d) ≤ p + f (g.name (dart_twin d))
+  gentle_names f price gentle d p h asked =
       let climb = gentle (g.name d) p (name_is g has d h) (subst (λ c. Price price g.rows c p) (sym (dart_of_name g has d h)) asked) in
-      let other : slice_index heights (twin_name g (g.name d)) ≡ height_of g heights (dart_twin d) = ap (λ c. height_of g heights (dart_twin c)) (dart_of_name g has d h) in
+      let other : f (twin_name g (g.name d)) ≡ f (g.name (dart_twin d)) = ap (λ c. f (g.name (dart_twin c))) (dart_of_name g has d h) in
       omega arith

@@ -17,7 +17,7 @@ use Rattle.topo_core.proofs.Numbering.{twin_in}
 use Rattle.topo_route.specs.Names.{IsName, IsNamed, Named, dart_named, height_of, next_name, twin_name}
 use Rattle.topo_route.specs.Plans.{AreHeights, IsZeroAt}
 use Rattle.topo_route.specs.Settling.{AreCosts, IsSettled, reached}
-use Rattle.topo_route.proofs.Names.{after_is, back_round, dart_of_name, dart_of_twin, even_names, face_of_names, gentle_names, name_is, next_is, twin_back, twin_is}
+use Rattle.topo_route.proofs.Names.{back_round, dart_of_name, dart_of_twin, even_names, even_round, face_of_names, gentle_names, name_is, next_is, twin_back, twin_is, twin_price}
 use Rattle.topo_route.proofs.Numbers.{face_stays}
 use Rattle.topo_route.proofs.Settled.{counts}
 
@@ -34,7 +34,7 @@ same_through f a b c g h = record {
 }
 
 -- a walk may start anywhere in its first face
-crosses_from : (rows : Rows) (c d : Dart) (xs : List Dart) (to : Dart) → SameFace (system rows) c d → Crosses (system rows) d xs to → Crosses (system rows) c xs to
+pub crosses_from : (rows : Rows) (c d : Dart) (xs : List Dart) (to : Dart) → SameFace (system rows) c d → Crosses (system rows) d xs to → Crosses (system rows) c xs to
 crosses_from rows c d [] to same walk = same_through (face_step (system rows)) c d to same walk
 crosses_from rows c d (x ∷ xs) to same walk = (same_through (face_step (system rows)) c d x same walk.0, walk.1)
 
@@ -72,7 +72,7 @@ module _ (price : Pricing) (g : Named) (lawful : Lawful g.rows) (has : IsNamed g
 
 -- ---- When all are settled
 
-reached_most : (heights : List ℕ) → reached heights ≤ length heights
+pub reached_most : (heights : List ℕ) → reached heights ≤ length heights
 reached_most [] = omega arith
 reached_most (h ∷ heights) = elim (cases_Bool (h == unreached)) [
   | inl e ↦ let one : counts h ≡ 0 = ap (λ (b : Bool). cond {A = ℕ} b 0 1) e in omega (arith, sum_by-cons counts h heights, reached_most heights)
@@ -84,28 +84,18 @@ module _ (price : Pricing) (g : Named) (lawful : Lawful g.rows) (has : IsNamed g
   abbrev height : Dart → ℕ
   height = height_of g heights
 
-  falls : (j k : ℕ) → IsName g k → slice_index heights (after (next_name g) j k) ≤ slice_index heights k
-  falls zero k l = omega arith
-  falls (suc j) k l =
-      let rest = falls j k l in
-      let step = (settled (after (next_name g) j k) (after_is g lawful has j k l)).0 in omega arith
-
   even : (k : ℕ) → IsName g k → slice_index heights (next_name g k) ≡ slice_index heights k
-  even k l =
-      let step : SameCycle (next_name g) k (next_name g k) = record { steps = 1; leads = refl } in
-      let back = back_round g lawful has k (next_name g k) l step in
-      grind (arith, falls, next_is)
+  even = even_round g lawful has (slice_index heights) (λ k l. (settled k l).0)
 
   gentle : (k p : ℕ) → IsName g k → Price price g.rows (dart_named g k) p → slice_index heights k ≤ p + slice_index heights (twin_name g k)
   gentle k p l asked =
-      let other : Price price g.rows (dart_twin (dart_named g k)) p = record { facts = asked.facts; known = asked.known; asked = asked.asked } in
-      let there = subst (λ c. Price price g.rows c p) (sym (dart_of_twin g lawful has k l)) other in
+      let there = twin_price g lawful has price k p l asked in
       let climb = (settled (twin_name g k) (twin_is g lawful has k l)).1 p there in
       let back : slice_index heights (twin_name g (twin_name g k)) ≡ slice_index heights k = ap (slice_index heights) (twin_back g lawful has k l) in
       let low = top (twin_name g (twin_name g k)) in omega arith
 
   pub certificate : IsCertificate price g.rows v height
-  certificate = record { even = even_names g lawful has heights even; gentle = gentle_names g lawful has heights price gentle; target = meets }
+  certificate = record { even = even_names g lawful has (slice_index heights) even; gentle = gentle_names g lawful has (slice_index heights) price gentle; target = meets }
 
   module _ (promise : KeepsPromise price) (costs : AreCosts price g v heights) (small : g.size < 2 ^ 32) where
     cap : (d : Dart) → has_dart (darts g.rows) d ≡ true → height d ≢ unreached → height d ≤ 1000 * 4294967296

@@ -1,18 +1,15 @@
 -- How heights spread, on names of darts.
-use Rattle.std.proofs.Common.{◌≡◌, ◌≢◌, ℕ, ◌+◌, ◌*◌, ◌^◌, ◌<◌, ◌≤◌, ◌||◌, ◌==◌, Bool, true, false, cond, List, [], length, Some, inl, inr, refl, sym, ap, subst, ◌∙◌, arith, get_or-set_same, get_or-set_other}
+use Rattle.std.proofs.Common.{◌≡◌, ◌≢◌, ℕ, ◌+◌, ◌*◌, ◌^◌, ◌<◌, ◌≤◌, ◌||◌, ◌==◌, Bool, true, false, cond, List, length, inl, inr, refl, sym, ap, subst, ◌∙◌, arith, get_or-set_same, get_or-set_other}
 use Rattle.std.specs.Prelude.{slice_index, sum_by}
 use Rattle.std.proofs.Math.ListN.{set}
 use Rattle.std.proofs.lemmas.Bool.{cases_eq, cases_lt, eqb-true, eq-eqb, ne_eqb, false≢true}
 use Rattle.std.proofs.lemmas.List.{length-set}
 use Rattle.std.proofs.lemmas.List.Sums.{sum_by-set}
-use Rattle.topo_core.specs.declared.darts.Dart.{Dart}
-use Rattle.topo_core.specs.Picture.{corner}
 use Rattle.topo_core.specs.Routes.{Pricing, Reaches, unreached}
 use Rattle.topo_core.proofs.NumberOrder.{either}
 use Rattle.topo_route.specs.Names.{IsName, IsNamed, Named, dart_named, height_of, next_name, twin_name}
 use Rattle.topo_route.specs.Plans.{IsZeroAt}
-use Rattle.topo_route.proofs.Names.{height_named, name_below}
-use Rattle.topo_route.proofs.Tests.{before_some}
+use Rattle.topo_route.proofs.Names.{name_below}
 use Rattle.topo_route.specs.Settling.{AreCosts, AreLowered, IsCrossed, IsReached, IsSettled, Spreads, dart_of_item, effort, is_pending, is_waiting, item_of, reached}
 
 abbrev pub counts : ℕ → ℕ
@@ -87,9 +84,9 @@ module _ (price : Pricing) (g : Named) (v : ℕ) (heights : List ℕ) (has : IsN
       )
 
   -- t is lowered and waits
-  pub lowered_waits : (bound : ℕ) (waiting after : List ℕ) (in_hand : ℕ) → t < 2 ^ 32 → Spreads price g v bound heights waiting in_hand
-      → ((i : ℕ) → is_waiting after i ≡ (item_of t x == i || is_waiting waiting i)) → Spreads price g v bound (set heights t x) after in_hand
-  lowered_waits bound waiting after in_hand short spreads added = record {
+  pub lowered_waits : (top : ℕ → ℕ) (reach : ℕ) (waiting after : List ℕ) (in_hand : ℕ) → t < 2 ^ 32 → Spreads price g v top reach heights waiting in_hand
+      → ((i : ℕ) → is_waiting after i ≡ (item_of t x == i || is_waiting waiting i)) → Spreads price g v top reach (set heights t x) after in_hand
+  lowered_waits top reach waiting after in_hand short spreads added = record {
     costs = lowered_costs;
     others = λ k l ne less idle.
         let item = item_of k (slice_index (set heights t x) k) in
@@ -97,7 +94,7 @@ module _ (price : Pricing) (g : Named) (v : ℕ) (heights : List ℕ) (has : IsN
         let own : k ≡ t → item ≡ item_of t x = λ e. ap (λ j. item_of j (slice_index (set heights t x) j)) e ∙ ap (item_of t) (lowered_there heights t x inside) in
         let apart : k ≢ t = λ e. false≢true (sym both.0 ∙ eq-eqb (item_of t x) item (sym (own e))) in
         let same = lowered_other heights t x inside k apart in
-        lowered_settled bound k apart (spreads.others k l ne (omega arith) (ap (λ h. is_waiting waiting (item_of k h)) (sym same) ∙ both.1));
+        lowered_settled reach k apart (spreads.others k l ne (omega arith) (ap (λ h. is_waiting waiting (item_of k h)) (sym same) ∙ both.1));
     reached_waits = λ item waits. elim (either (item_of t x == item) (is_waiting waiting item) (sym (added item) ∙ waits)) [
       | inl here ↦
           let is : t ≡ dart_of_item item = sym (dart_of_own t x short) ∙ ap dart_of_item (eqb-true (item_of t x) item here) in (
@@ -109,11 +106,11 @@ module _ (price : Pricing) (g : Named) (v : ℕ) (heights : List ℕ) (has : IsN
   }
 
 -- t is the next along the face of the dart in hand, and is lowered to its height: now it is in hand
-pub passed_on : (price : Pricing) (g : Named) → IsNamed g → (v bound : ℕ) (heights waiting : List ℕ) (d t : ℕ) → Spreads price g v bound heights waiting d
-    → t ≡ next_name g d → IsName g t → slice_index heights d < slice_index heights t → IsCrossed price g bound heights d
+pub passed_on : (price : Pricing) (g : Named) → IsNamed g → (v : ℕ) (top : ℕ → ℕ) (reach : ℕ) (heights waiting : List ℕ) (d t : ℕ) → Spreads price g v top reach heights waiting d
+    → t ≡ next_name g d → IsName g t → slice_index heights d < slice_index heights t → IsCrossed price g reach heights d
     → Reaches price g.rows v (dart_named g t) (slice_index heights d) → slice_index heights d ≤ 1000 * reached heights
-    → Spreads price g v bound (set heights t (slice_index heights d)) waiting t
-passed_on price g has v bound heights waiting d t spreads is there low crossed walk near =
+    → Spreads price g v top reach (set heights t (slice_index heights d)) waiting t
+passed_on price g has v top reach heights waiting d t spreads is there low crossed walk near =
     let x = slice_index heights d in
     let costs = spreads.costs in
     let within : t < length heights = omega (arith, costs.one_each, name_below g has t there) in
@@ -126,89 +123,62 @@ passed_on price g has v bound heights waiting d t spreads is there low crossed w
             let now : slice_index (set heights t x) (next_name g k) ≡ x = ap (λ j. slice_index (set heights t x) (next_name g j)) e ∙ ap (slice_index (set heights t x)) (sym is) ∙ lowered_there heights t x within in (
               (omega arith),
               (λ p priced.
-                  let bound = subst (IsCrossed price g bound heights) (sym e) crossed p priced in
+                  let bound = subst (IsCrossed price g reach heights) (sym e) crossed p priced in
                   let was : slice_index heights k ≡ x = ap (slice_index heights) e in
                   let less = lowered_less heights t x within (twin_name g k) (omega arith) in omega arith),
             )
         | inr other ↦
             let same = lowered_other heights t x within k ne in
-            lowered_settled price g v heights has costs t x there low walk near' bound k ne (spreads.others k l other (omega arith) (ap (λ h. is_waiting waiting (item_of k h)) (sym same) ∙ idle))
+            lowered_settled price g v heights has costs t x there low walk near' reach k ne (spreads.others k l other (omega arith) (ap (λ h. is_waiting waiting (item_of k h)) (sym same) ∙ idle))
       ];
       reached_waits = λ item waits. let was = spreads.reached_waits item waits in (was.0, lowered_stays price g v heights has costs t x there low walk near' (dart_of_item item) was.1);
     }
 
 -- the dart in hand is settled
-pub put_down : (price : Pricing) (g : Named) (v bound : ℕ) (heights waiting : List ℕ) (d : ℕ) → Spreads price g v bound heights waiting d
-    → IsSettled price g bound heights d → Spreads price g v bound heights waiting g.size
-put_down price g v bound heights waiting d spreads settled = record {
+pub put_down : (price : Pricing) (g : Named) (v : ℕ) (top : ℕ → ℕ) (reach : ℕ) (heights waiting : List ℕ) (d : ℕ) → Spreads price g v top reach heights waiting d
+    → IsSettled price g reach heights d → Spreads price g v top reach heights waiting g.size
+put_down price g v top reach heights waiting d spreads settled = record {
   costs = spreads.costs;
   others = λ k l ne less idle. elim (cases_eq k d) [
-    | inl e ↦ subst (IsSettled price g bound heights) (sym e) settled
+    | inl e ↦ subst (IsSettled price g reach heights) (sym e) settled
     | inr other ↦ spreads.others k l other less idle
   ];
   reached_waits = spreads.reached_waits;
 }
 
--- the dart in hand is not below the bound
-pub put_aside : (price : Pricing) (g : Named) (v bound : ℕ) (heights waiting : List ℕ) (d : ℕ) → Spreads price g v bound heights waiting d
-    → bound ≤ slice_index heights d → Spreads price g v bound heights waiting g.size
-put_aside price g v bound heights waiting d spreads high = record {
-  costs = spreads.costs;
-  others = λ k l ne less idle. elim (cases_eq k d) [
-    | inl e ↦ let same : slice_index heights k ≡ slice_index heights d = ap (slice_index heights) e in absurd (omega arith)
-    | inr other ↦ spreads.others k l other less idle
-  ];
-  reached_waits = spreads.reached_waits;
-}
+-- what is settled is settled as far as a lower reach
+pub settled_nearer : (price : Pricing) (g : Named) (reach nearer : ℕ) (heights : List ℕ) (k : ℕ) → nearer ≤ reach → IsSettled price g reach heights k → IsSettled price g nearer heights k
+settled_nearer price g reach nearer heights k near (face, crossed) = (face, λ p asked. let climb = crossed p asked in omega arith)
 
--- a lower bound
-pub narrowed : (price : Pricing) (g : Named) (v bound lower : ℕ) (heights waiting : List ℕ) (in_hand : ℕ) → Spreads price g v bound heights waiting in_hand
-    → lower ≤ bound → Spreads price g v lower heights waiting in_hand
-narrowed price g v bound lower heights waiting in_hand spreads low = record {
+-- lower tops and a lower reach
+pub narrowed : (price : Pricing) (g : Named) (v : ℕ) (top lower : ℕ → ℕ) (reach nearer : ℕ) (heights waiting : List ℕ) (in_hand : ℕ) → Spreads price g v top reach heights waiting in_hand
+    → ((k : ℕ) → lower k ≤ top k) → nearer ≤ reach → Spreads price g v lower nearer heights waiting in_hand
+narrowed price g v top lower reach nearer heights waiting in_hand spreads low near = record {
   costs = spreads.costs;
-  others = λ k l ne less idle.
-      let (face, crossed) = spreads.others k l ne (omega arith) idle in
-      (face, λ p asked. let climb = crossed p asked in omega arith);
+  others = λ k l ne less idle. settled_nearer price g reach nearer heights k near (spreads.others k l ne (omega (arith, low k)) idle);
   reached_waits = spreads.reached_waits;
 }
 
 -- a dart is taken from those that wait
-pub taken_up : (price : Pricing) (g : Named) → IsNamed g → (v bound : ℕ) (heights waiting after : List ℕ) (d : ℕ) → g.size < 2 ^ 32
-    → Spreads price g v bound heights waiting g.size → ((k : ℕ) → k < 2 ^ 32 → slice_index heights k < bound → k ≢ d → is_pending heights after k ≡ is_pending heights waiting k)
-    → ((item : ℕ) → is_waiting after item ≡ true → is_waiting waiting item ≡ true) → Spreads price g v bound heights after d
-taken_up price g has v bound heights waiting after d small spreads same fewer = record {
+pub taken_up : (price : Pricing) (g : Named) → IsNamed g → (v : ℕ) (top : ℕ → ℕ) (reach : ℕ) (heights waiting after : List ℕ) (d : ℕ) → g.size < 2 ^ 32
+    → Spreads price g v top reach heights waiting g.size → ((k : ℕ) → k < 2 ^ 32 → slice_index heights k < top k → k ≢ d → is_pending heights after k ≡ is_pending heights waiting k)
+    → ((item : ℕ) → is_waiting after item ≡ true → is_waiting waiting item ≡ true) → Spreads price g v top reach heights after d
+taken_up price g has v top reach heights waiting after d small spreads same fewer = record {
   costs = spreads.costs;
   others = λ k l ne less idle. let below = name_below g has k l in spreads.others k l (omega arith) less (sym (same k (omega arith) less ne) ∙ idle);
   reached_waits = λ item waits. spreads.reached_waits item (fewer item waits);
 }
 
 -- and has been reached
-pub taken_reached : (price : Pricing) (g : Named) (v bound : ℕ) (heights waiting : List ℕ) (in_hand d : ℕ) → d < 2 ^ 32 → Spreads price g v bound heights waiting in_hand
+pub taken_reached : (price : Pricing) (g : Named) (v : ℕ) (top : ℕ → ℕ) (reach : ℕ) (heights waiting : List ℕ) (in_hand d : ℕ) → d < 2 ^ 32 → Spreads price g v top reach heights waiting in_hand
     → is_pending heights waiting d ≡ true → IsReached g heights d
-taken_reached price g v bound heights waiting in_hand d short spreads pending =
+taken_reached price g v top reach heights waiting in_hand d short spreads pending =
     subst (IsReached g heights) (dart_of_own d (slice_index heights d) short) (spreads.reached_waits (item_of d (slice_index heights d)) pending)
 
--- a corner of the target gets height 0 and waits
-module _ (price : Pricing) (g : Named) (has : IsNamed g) (v bound : ℕ) (heights waiting after : List ℕ) (in_hand i c : ℕ) (spreads : Spreads price g v bound heights waiting in_hand)
-    (there : IsName g c) (at : corner g.rows v i ≡ Some (dart_named g c)) (high : 0 < slice_index heights c)
-    (short : c < 2 ^ 32) (added : (i : ℕ) → is_waiting after i ≡ (item_of c 0 == i || is_waiting waiting i)) where
-  pub started : Spreads price g v bound (set heights c 0) after in_hand
-  started =
-      let walk : Reaches price g.rows v (dart_named g c) 0 = record { crossed = []; position = i; to = dart_named g c; ends = at; walk = record { steps = 0; leads = refl }; cost = refl } in
-      lowered_waits price g v heights has spreads.costs c 0 there high walk (omega arith) bound waiting after in_hand short spreads added
-
-  pub started_zero : ((p : ℕ) (d : Dart) → p < i → corner g.rows v p ≡ Some d → height_of g heights d ≡ 0)
-      → (p : ℕ) (d : Dart) → p < i + 1 → corner g.rows v p ≡ Some d → height_of g (set heights c 0) d ≡ 0
-  started_zero before =
-      let within : c < length heights = omega (arith, spreads.costs.one_each, name_below g has c there) in
-      before_some g.rows v (λ p d. height_of g (set heights c 0) d ≡ 0) i (dart_named g c) at
-      (height_named g has (set heights c 0) c there ∙ lowered_there heights c 0 within)
-      (λ p d l here. let was = before p d l here in let less = lowered_less heights c 0 within (g.name d) (omega arith) in omega arith)
-
--- none waits with its height, so all below the bound are settled
-pub all_settled : (price : Pricing) (g : Named) → IsNamed g → (v bound : ℕ) (heights waiting : List ℕ) → g.size < 2 ^ 32 → Spreads price g v bound heights waiting g.size
-    → ((k : ℕ) → k < 2 ^ 32 → slice_index heights k < bound → is_pending heights waiting k ≡ false) → (k : ℕ) → IsName g k → slice_index heights k < bound → IsSettled price g bound heights k
-all_settled price g has v bound heights waiting small spreads none k l less = let below = name_below g has k l in spreads.others k l (omega arith) less (none k (omega arith) less)
+-- none waits with its height, so all below their tops are settled
+pub all_settled : (price : Pricing) (g : Named) → IsNamed g → (v : ℕ) (top : ℕ → ℕ) (reach : ℕ) (heights waiting : List ℕ) → g.size < 2 ^ 32 → Spreads price g v top reach heights waiting g.size
+    → ((k : ℕ) → k < 2 ^ 32 → slice_index heights k < top k → is_pending heights waiting k ≡ false) → (k : ℕ) → IsName g k → slice_index heights k < top k → IsSettled price g reach heights k
+all_settled price g has v top reach heights waiting small spreads none k l less = let below = name_below g has k l in spreads.others k l (omega arith) less (none k (omega arith) less)
 
 -- what is not reached is settled
 pub every_settled : (price : Pricing) (g : Named) (v : ℕ) (heights : List ℕ) → AreCosts price g v heights
@@ -225,3 +195,18 @@ meets_lower g v before after lower meets p c at = omega (arith, lower (g.name c)
 -- a step falls
 pub passed_effort : (heights waiting : List ℕ) (t x : ℕ) → t < length heights → x < slice_index heights t → effort (set heights t x) waiting < effort heights waiting
 passed_effort heights waiting t x within low = let e = lowered_sum heights t x within in omega arith
+
+-- what waits is of darts that have heights
+pub waits_within : (price : Pricing) (g : Named) → IsNamed g → (v : ℕ) (top : ℕ → ℕ) (reach : ℕ) (heights waiting : List ℕ) (in_hand : ℕ) → Spreads price g v top reach heights waiting in_hand
+    → (item : ℕ) → is_waiting waiting item ≡ true → dart_of_item item < length heights
+waits_within price g has v top reach heights waiting in_hand spreads item waits = has_height price g has v heights spreads.costs (dart_of_item item) (spreads.reached_waits item waits).0
+
+-- and whatever is left of it still spreads
+pub emptied : (price : Pricing) (g : Named) → IsNamed g → (v : ℕ) (top : ℕ → ℕ) (reach : ℕ) (heights waiting after : List ℕ) → g.size < 2 ^ 32 → Spreads price g v top reach heights waiting g.size
+    → ((k : ℕ) → k < 2 ^ 32 → slice_index heights k < top k → is_pending heights waiting k ≡ false) → ((item : ℕ) → is_waiting after item ≡ true → is_waiting waiting item ≡ true)
+    → Spreads price g v top reach heights after g.size
+emptied price g has v top reach heights waiting after small spreads none fewer = record {
+  costs = spreads.costs;
+  others = λ k l ne less idle. all_settled price g has v top reach heights waiting small spreads none k l less;
+  reached_waits = λ item waits. spreads.reached_waits item (fewer item waits);
+}

@@ -1,6 +1,6 @@
 -- Chains of entries in one list, each from a later entry to an earlier one.
 use Rattle.std.specs.Prelude.{ℕ, zero, suc, ◌≤◌, List, [], ◌∷◌, length, flat_map, slice_index, slice_index_or}
-use Rattle.topo_route.specs.declared.waiting.Entry.{Entry}
+use Rattle.topo_route.specs.declared.bucket_queue.Entry.{Entry}
 
 abbrev pub no_entry : Entry
 no_entry = record { item = 0; below = 0 }

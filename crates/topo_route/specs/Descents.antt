@@ -26,15 +26,16 @@ pub record IsStart (g : Named) (u : ℕ) (heights : List ℕ) (position from : �
 
 -- heights that are known as far up as a dart
 pub record AreHeightsUpTo (price : Pricing) (g : Named) (v : ℕ) (heights : List ℕ) (at : ℕ) : Type 0 where
-  pub bound : ℕ
-  pub known : AreHeightsBelow price g v bound heights
-  pub below : slice_index heights at < bound
+  pub top : ℕ → ℕ
+  pub known : AreHeightsBelow price g v top heights
+  pub below : slice_index heights at < top at
 
--- heights that are known as far up as the first corner of u with the least height, and where no corner of u is reached there is no route
+-- Heights that are known as far up as the first corner of u with the least height, which is below the tops of all corners of u.
+-- Where no corner of u is reached there is no route.
 pub record AreHeightsFor (price : Pricing) (g : Named) (u v : ℕ) (heights : List ℕ) : Type 0 where
-  pub bound : ℕ
-  pub known : AreHeightsBelow price g v bound heights
-  pub start : (position from : ℕ) → IsStart g u heights position from → slice_index heights from < bound
+  pub top : ℕ → ℕ
+  pub known : AreHeightsBelow price g v top heights
+  pub start : (position from : ℕ) → IsStart g u heights position from → (p : ℕ) (c : Dart) → corner g.rows u p ≡ Some c → slice_index heights from < top (g.name c)
   pub none : HasNoStart g u heights → HasNoRoute price g.rows u v
 
 -- a corner of u lies lower than the bound
@@ -69,7 +70,6 @@ pub record IsDescent (price : Pricing) (g : Named) (heights : List ℕ) (from : 
 -- a walk so far: what leads on from `at` leads on from the start
 pub record Descends (price : Pricing) (g : Named) (heights : List ℕ) (from : ℕ) (crossed : List Dart) (at : ℕ) : Type 0 where
   pub name : IsName g at
-  pub low : height_of g heights (dart_named g at) ≤ height_of g heights (dart_named g from)
   pub walk : (rest : List Dart) (to : Dart) → Crosses (system g.rows) (dart_named g at) rest to → Crosses (system g.rows) (dart_named g from) (crossed ++ rest) to
   pub cost : (rest : List Dart) → Costs price g.rows rest (height_of g heights (dart_named g at)) → Costs price g.rows (crossed ++ rest) (height_of g heights (dart_named g from))
   pub first_darts : (rest : List Dart) → TakesFirstDarts price g.rows (height_of g heights) (dart_named g at) rest → TakesFirstDarts price g.rows (height_of g heights) (dart_named g from) (crossed ++ rest)

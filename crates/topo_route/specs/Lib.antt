@@ -2,8 +2,9 @@ pub mod Chains
 pub mod Descents
 pub mod Direct
 pub mod FaultTexts
+pub mod Meeting
 pub mod Names
 pub mod Numbers
 pub mod Plans
 pub mod Settling
-pub mod Sheets
+pub mod StampedArrays

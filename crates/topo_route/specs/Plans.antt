@@ -1,5 +1,5 @@
 -- What a plan has to be, and what the check says of one.
-use Rattle.std.specs.Prelude.{◌≡◌, ◌≢◌, ℕ, ◌<◌, ◌≤◌, ◌+◌, true, List, length, map, min, Some, slice_index}
+use Rattle.std.specs.Prelude.{◌≡◌, ◌≢◌, ℕ, ◌<◌, ◌≤◌, ◌+◌, true, List, length, min, Some, slice_index}
 use Rattle.topo_core.specs.declared.darts.Dart.{Dart}
 use Rattle.topo_core.specs.declared.rows.Rows.{Rows}
 use Rattle.topo_core.specs.Darts.{dart_twin}
@@ -7,7 +7,7 @@ use Rattle.topo_core.specs.Systems.{SameFace, face_step, has_dart}
 use Rattle.topo_core.specs.Picture.{corner, darts, index_of, system}
 use Rattle.topo_core.specs.Routes.{Pricing, Price, IsPricedRoute, IsFirst, IsHeight, IsCertificate, Reaches, unreached}
 use Rattle.topo_core.specs.RouteLaws.{TakesFirstDarts, arrival, IsFirstByHeights}
-use Rattle.topo_route.specs.Names.{Named, canonical, height_of}
+use Rattle.topo_route.specs.Names.{IsName, Named, canonical, dart_named, height_of, next_name, twin_name}
 use Rattle.topo_route.specs.declared.plan.Plan.{Plan}
 use Rattle.topo_route.specs.declared.plan.PlanFault.{PlanFault}
 use Rattle.topo_route.specs.declared.plan.PlanFault.TheVariants.{WrongLength, UnevenFace, TooSteep, TargetNotZero, NotARoute, NotLeast, NotFirst}
@@ -23,15 +23,16 @@ pub record AreHeights (price : Pricing) (g : Named) (v : ℕ) (heights : List �
   pub certificate : IsCertificate price g.rows v (height_of g heights)
   pub unreached_none : (d : Dart) → has_dart (darts g.rows) d ≡ true → height_of g heights d ≡ unreached → (n : ℕ) → Reaches price g.rows v d n → ⊥
 
--- heights as far as a bound, and the bound in place of those above it
-abbrev pub capped : ℕ → List ℕ → List ℕ
-capped bound heights = map (λ h. min h bound) heights
-
--- heights of which those below a bound are the least costs to the target: a walk costs as much, and capped they are a certificate
-pub record AreHeightsBelow (price : Pricing) (g : Named) (v bound : ℕ) (heights : List ℕ) : Type 0 where
+-- Heights of which those below the tops that darts have are the least costs to the target: a walk costs as much, and cut off at
+-- the tops they are a certificate. With a dart its face is below the tops, and so is its twin where crossing costs no more
+-- than the certificate falls.
+pub record AreHeightsBelow (price : Pricing) (g : Named) (v : ℕ) (top : ℕ → ℕ) (heights : List ℕ) : Type 0 where
   pub one_each : length heights ≡ g.size
-  pub reaches : (d : Dart) → has_dart (darts g.rows) d ≡ true → height_of g heights d < bound → Reaches price g.rows v d (height_of g heights d)
-  pub certificate : IsCertificate price g.rows v (height_of g (capped bound heights))
+  pub reaches : (d : Dart) → has_dart (darts g.rows) d ≡ true → height_of g heights d < top (g.name d) → Reaches price g.rows v d (height_of g heights d)
+  pub certificate : IsCertificate price g.rows v (λ d. min (height_of g heights d) (top (g.name d)))
+  pub round : (k : ℕ) → IsName g k → slice_index heights k < top k → slice_index heights (next_name g k) < top (next_name g k)
+  pub down : (k c : ℕ) → IsName g k → slice_index heights k < top k → Price price g.rows (dart_named g k) c
+      → c + min (slice_index heights (twin_name g k)) (top (twin_name g k)) ≤ slice_index heights k → slice_index heights (twin_name g k) < top (twin_name g k)
 
 -- a plan as a search makes it
 pub record IsPlan (price : Pricing) (rows : Rows) (u v : ℕ) (plan : Plan) : Type 0 where

@@ -1,5 +1,5 @@
 -- Heights while a search spreads them.
-use Rattle.std.specs.Prelude.{◌≡◌, ◌≢◌, ℕ, ◌+◌, ◌*◌, ◌/◌, ◌%◌, ◌^◌, ◌<◌, ◌≤◌, ◌==◌, Bool, true, false, cond, List, length, min, Option, None, slice_index, slice_index_or, sum_by}
+use Rattle.std.specs.Prelude.{◌≡◌, ◌≢◌, ℕ, ◌+◌, ◌-◌, ◌*◌, ◌/◌, ◌%◌, ◌^◌, ◌<◌, ◌≤◌, ◌==◌, Bool, true, false, cond, List, length, max, min, Option, None, slice_index, slice_index_or, sum_by}
 use Rattle.std.specs.List.{list_any}
 use Rattle.topo_core.specs.declared.rows.Rows.{Rows}
 use Rattle.topo_core.specs.Picture.{darts}
@@ -62,12 +62,35 @@ IsSettled price g bound heights k = (slice_index heights (next_name g k) ≤ sli
 abbrev pub IsReached : Named → List ℕ → ℕ → Type 0
 IsReached g heights k = IsName g k × (slice_index heights k ≢ unreached)
 
--- Heights are costs, and each dart lower than the bound, but the one in hand, is settled or waits with
--- its height. What waits is of darts that have been reached, and may be of a height from before.
-pub record Spreads (price : Pricing) (g : Named) (v bound : ℕ) (heights waiting : List ℕ) (in_hand : ℕ) : Type 0 where
+-- Heights are costs, and each dart lower than its top, but the one in hand, is settled as far as the reach or waits with its height.
+-- What waits is of darts that have been reached, and may be of a height from before.
+pub record Spreads (price : Pricing) (g : Named) (v : ℕ) (top : ℕ → ℕ) (reach : ℕ) (heights waiting : List ℕ) (in_hand : ℕ) : Type 0 where
   pub costs : AreCosts price g v heights
-  pub others : (k : ℕ) → IsName g k → k ≢ in_hand → slice_index heights k < bound → is_pending heights waiting k ≡ false → IsSettled price g bound heights k
+  pub others : (k : ℕ) → IsName g k → k ≢ in_hand → slice_index heights k < top k → is_pending heights waiting k ≡ false → IsSettled price g reach heights k
   pub reached_waits : (item : ℕ) → is_waiting waiting item ≡ true → IsReached g heights (dart_of_item item)
+
+-- all darts lower than the reach are settled or wait
+abbrev pub SpreadsTo : Pricing → Named → ℕ → ℕ → List ℕ → List ℕ → Type 0
+SpreadsTo price g v reach heights waiting = Spreads price g v (λ k. reach) reach heights waiting g.size
+
+-- ---- Heights from two ends
+
+-- what a list says at a place, and the greatest number past its end
+abbrev pub number_at : List ℕ → ℕ → ℕ
+number_at numbers k = slice_index_or numbers k unreached
+
+-- one more than the least sum, as far as numbers go
+abbrev pub reach_of : ℕ → ℕ
+reach_of least = min (least + 1) unreached
+
+-- no sum of a height and the dart's height above the other end is less than the least, which is one of them where it is reached
+pub record AreSums (g : Named) (heights others : List ℕ) (least : ℕ) : Type 0 where
+  pub sums : (k : ℕ) → IsName g k → least ≤ slice_index heights k + number_at others k
+  pub attained : least ≢ unreached → (k : ℕ) × IsName g k × (slice_index heights k + number_at others k ≤ least)
+
+-- heights up to here are below the level, or make up no more than the price with the dart's height above the other end
+abbrev pub top_of : ℕ → ℕ → List ℕ → ℕ → ℕ
+top_of level most others k = max level (most + 1 - number_at others k)
 
 -- no height is above what it was
 abbrev pub AreLowered : List ℕ → List ℕ → Type 0
@@ -76,3 +99,12 @@ AreLowered before after = (k : ℕ) → slice_index after k ≤ slice_index befo
 -- what falls with each step: the heights, and then how many wait
 abbrev pub effort : List ℕ → List ℕ → ℕ
 effort heights waiting = sum_by (λ h. h) heights + length waiting
+
+-- One step of a search, or more: heights that spread below any tops still do, with another dart in hand
+pub record Relaxes (price : Pricing) (g : Named) (v : ℕ) (others heights waiting : List ℕ) (least in_hand : ℕ) (heights' waiting' : List ℕ) (least' in_hand' : ℕ) : Type 0 where
+  pub spreads : (top : ℕ → ℕ) → Spreads price g v top (reach_of least) heights waiting in_hand → Spreads price g v top (reach_of least') heights' waiting' in_hand'
+  pub costs : AreCosts price g v heights'
+  pub sums : AreSums g heights' others least'
+  pub less : least' ≤ least
+  pub falls : effort heights' waiting' ≤ effort heights waiting
+  pub lower : AreLowered heights heights'

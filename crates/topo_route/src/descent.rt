@@ -12,7 +12,7 @@ ghost use Rattle.topo_route.specs.Plans.{HasNoneBefore, IsLeastAt};
 ghost use Rattle.topo_route.specs.Settling.{ArePrices};
 
 use crate::graph::Graph;
-use crate::sheet::Sheet;
+use crate::stamped_array::StampedArray;
 use crate::steps::{across, corner_at, next_along};
 use crate::walked::Walked;
 use std::alloc::{AllocError, Global};
@@ -21,7 +21,7 @@ use topo_price::tariff::Asks;
 
 /// The least height of a corner, and the greatest number where there is none. No corner is asked after
 /// one of height 0.
-pub(crate) fn least_corner<W: Walked>(walked: &W, u: u32, heights: &Sheet) -> u64
+pub(crate) fn least_corner<W: Walked>(walked: &W, u: u32, heights: &StampedArray) -> u64
     requires { length heights.now ≡ (W.named walked.now).size }
     ensures low { (p : ℕ) → (c : Dart) → corner (W.named walked.now).rows u p ≡ Some c → result ≤ height_of (W.named walked.now) heights.now c }
     ensures attained { result ≢ unreached → IsLeastAt (W.named walked.now).rows u (height_of (W.named walked.now) heights.now) result }
@@ -45,7 +45,7 @@ pub(crate) fn least_corner<W: Walked>(walked: &W, u: u32, heights: &Sheet) -> u6
 fn corner_of_height<W: Walked>(
     walked: &W,
     u: u32,
-    heights: &Sheet,
+    heights: &StampedArray,
     height: u64,
 ) -> Option<(u32, u32)>
     requires { length heights.now ≡ (W.named walked.now).size }
@@ -64,7 +64,11 @@ fn corner_of_height<W: Walked>(
 }
 
 /// The first corner with the least height of all, if one is reached: its position and its dart.
-pub(crate) fn start_corner<W: Walked>(walked: &W, u: u32, heights: &Sheet) -> Option<(u32, u32)>
+pub(crate) fn start_corner<W: Walked>(
+    walked: &W,
+    u: u32,
+    heights: &StampedArray,
+) -> Option<(u32, u32)>
     requires { length heights.now ≡ (W.named walked.now).size }
     ensures { MatchOption result (HasNoStart (W.named walked.now) u heights.now) (λ r. IsStart (W.named walked.now) u heights.now r.0 r.1) }
 {
@@ -93,7 +97,7 @@ pub(crate) fn end_corner<W: Walked>(walked: &W, v: u32, last: u32) -> Option<u32
 }
 
 /// Whether crossing the dart costs just what its height is above that of its twin.
-fn is_tight<W: Walked, F: Asks>(graph: &Graph<W, F>, heights: &Sheet, dart: u32) -> bool
+fn is_tight<W: Walked, F: Asks>(graph: &Graph<W, F>, heights: &StampedArray, dart: u32) -> bool
     requires right { ArePrices (prices_of (F.answers graph.now.tariff.now)) (W.named graph.now.walked.now) graph.now.prices.items }
     requires one_each { length heights.now ≡ (W.named graph.now.walked.now).size }
     requires name { IsName (W.named graph.now.walked.now) dart }
@@ -114,7 +118,7 @@ fn is_tight<W: Walked, F: Asks>(graph: &Graph<W, F>, heights: &Sheet, dart: u32)
 /// the two comes first.
 fn first_of<W: Walked, F: Asks>(
     graph: &Graph<W, F>,
-    heights: &Sheet,
+    heights: &StampedArray,
     first: Option<u32>,
     dart: u32,
 ) -> Option<u32>
@@ -142,7 +146,7 @@ fn first_of<W: Walked, F: Asks>(
 /// The first tight dart of the face of `at`, whose height is known and above 0: there is one.
 fn first_tight<W: Walked, F: Asks>(
     graph: &Graph<W, F>,
-    heights: &Sheet,
+    heights: &StampedArray,
     v: u32,
     at: u32,
 ) -> Option<u32>
@@ -169,7 +173,7 @@ fn first_tight<W: Walked, F: Asks>(
 pub(crate) fn descend<W: Walked, F: Asks>(
     alloc: Global,
     graph: &Graph<W, F>,
-    heights: &Sheet,
+    heights: &StampedArray,
     v: u32,
     from: u32,
 ) -> Result<(Vec<Dart>, u32), AllocError>

@@ -9,6 +9,8 @@
 //! first: its Ok means that the route is the first of the least, whoever made the plan.
 #![tactic(auto)]
 
+mod both_ends;
+mod bucket_queue;
 pub mod check;
 mod descent;
 mod direct;
@@ -18,10 +20,9 @@ mod graph;
 mod heights;
 pub mod plan;
 pub mod search;
-mod sheet;
 mod spread;
+mod stamped_array;
 mod steps;
-mod waiting;
 pub mod walked;
 mod walks;
 pub mod workspace;

@@ -8,14 +8,13 @@ ghost use Rattle.topo_route.specs.Descents.{AreHeightsFor, IsFirstRoute};
 ghost use Rattle.topo_route.specs.Plans.{IsPlan};
 ghost use Rattle.topo_route.specs.Settling.{ArePrices};
 
+use crate::both_ends::{heights_for, least_heights};
 use crate::descent::{descend, end_corner, start_corner};
 use crate::direct::direct_route;
 use crate::dual::Dual;
 use crate::graph::{Graph, segment_prices};
 use crate::plan::{Plan, PricedRoute};
-use crate::sheet::Sheet;
-use crate::spread::{heights_for, least_heights};
-use crate::waiting::Waiting;
+use crate::stamped_array::StampedArray;
 use crate::walked::Walked;
 use crate::workspace::Workspace;
 use std::alloc::{AllocError, Global};
@@ -29,7 +28,7 @@ fn route_by_heights<W: Walked, F: Asks>(
     graph: &Graph<W, F>,
     u: u32,
     v: u32,
-    heights: &Sheet,
+    heights: &StampedArray,
 ) -> Result<Option<PricedRoute>, AllocError>
     requires right { ArePrices (prices_of (F.answers graph.now.tariff.now)) (W.named graph.now.walked.now) graph.now.prices.items }
     requires known { AreHeightsFor (prices_of (F.answers graph.now.tariff.now)) (W.named graph.now.walked.now) u v heights.now }
@@ -81,11 +80,10 @@ pub fn search<D: Dual, F: Asks>(
         tariff,
         prices,
     };
-    let mut heights = Sheet::new(alloc);
-    let mut waiting = Waiting::new(alloc, dual.size() as usize)?;
-    least_heights(&graph, v, &mut heights, &mut waiting)?;
-    let numbers = heights.numbers(alloc)?;
-    let found = route_by_heights(alloc, &graph, u, v, &heights)?;
+    let mut work = Workspace::with_room(alloc, dual.size() as usize)?;
+    least_heights(&graph, v, &mut work)?;
+    let numbers = work.to_end.heights.numbers(alloc)?;
+    let found = route_by_heights(alloc, &graph, u, v, &work.to_end.heights)?;
     match found {
         Some(PricedRoute { route, price }) => Ok(Some(Plan {
             route,
@@ -135,7 +133,7 @@ pub fn first_route<W: Walked, F: Asks>(
         tariff,
         prices: Vec::new(alloc),
     };
-    heights_for(&graph, u, v, &mut work.heights, &mut work.waiting)?;
-    let found = route_by_heights(alloc, &graph, u, v, &work.heights)?;
+    heights_for(&graph, u, v, work)?;
+    let found = route_by_heights(alloc, &graph, u, v, &work.to_end.heights)?;
     Ok(found)
 }

@@ -1,232 +1,243 @@
-//! Heights spread from the target over the picture.
+//! Heights spread from one end over the picture.
 
-ghost use Rattle.std.specs.Prelude.{◌≡◌, ◌≢◌, ◌<◌, ◌≤◌, ◌^◌, ℕ, IfOk, IfSome, MatchOption, OnOk, false, length, slice_index, true};
+ghost use Rattle.std.specs.Prelude.{◌≡◌, ◌≢◌, ◌+◌, ◌<◌, ◌≤◌, ◌^◌, [], ℕ, IfOk, IfSome, MatchOption, OnOk, false, length, min, replicate, slice_index, slice_set, true};
 ghost use Rattle.topo_core.specs.Picture.{darts};
 ghost use Rattle.topo_price.specs.Prices.{prices_of};
 ghost use Rattle.topo_core.specs.Routes.{unreached};
-ghost use Rattle.topo_route.specs.Descents.{AreHeightsFor, HasCornerBelow};
-ghost use Rattle.topo_route.specs.Names.{height_of};
+ghost use Rattle.topo_route.specs.Names.{IsName, height_of};
 ghost use Rattle.topo_route.specs.Plans.{AreHeights, IsZeroAt};
-ghost use Rattle.topo_route.specs.Settling.{AreLowered, ArePrices, IsCrossed, IsReached, Spreads, dart_of_item, effort, is_pending, is_waiting};
+ghost use Rattle.topo_route.specs.Settling.{AreCosts, AreLowered, ArePrices, AreSums, IsCrossed, IsReached, IsSettled, Relaxes, Spreads, SpreadsTo, dart_of_item, effort, is_pending, is_waiting, number_at, reach_of, top_of};
 
-use crate::descent::least_corner;
+use crate::bucket_queue::{BucketQueue, dart_of_item, item_of, least_height};
 use crate::graph::Graph;
-use crate::sheet::Sheet;
+use crate::stamped_array::StampedArray;
 use crate::steps::{across, corner_at, next_along};
-use crate::waiting::{Waiting, dart_of_item, item_of, least_height};
 use crate::walked::Walked;
-use std::alloc::AllocError;
+use std::alloc::{AllocError, Global};
 use topo_price::tariff::Asks;
 
-/// Crosses a dart backwards: its twin reaches the target over it. A height that this lowers, and
-/// brings below the bound, waits. The price is not asked where not even 1 would do so.
-fn cross_back<W: Walked, F: Asks>(
-    graph: &Graph<W, F>,
-    heights: &mut Sheet,
-    waiting: &mut Waiting,
-    v: u32,
-    bound: u64,
-    dart: u32,
-) -> Result<(), AllocError>
-    requires right { ArePrices (prices_of (F.answers graph.now.tariff.now)) (W.named graph.now.walked.now) graph.now.prices.items }
-    requires spreads { Spreads (prices_of (F.answers graph.now.tariff.now)) (W.named graph.now.walked.now) v bound heights.old waiting.old dart }
-    requires in_hand { IsReached (W.named graph.now.walked.now) heights.old dart }
-    ensures spreads { IfOk result (λ _. Spreads (prices_of (F.answers graph.now.tariff.now)) (W.named graph.now.walked.now) v bound heights.new waiting.new dart) }
-    ensures crossed { IfOk result (λ _. IsCrossed (prices_of (F.answers graph.now.tariff.now)) (W.named graph.now.walked.now) bound heights.new dart) }
-    ensures same { IfOk result (λ _. slice_index heights.new dart ≡ slice_index heights.old dart) }
-    ensures falls { IfOk result (λ _. effort heights.new waiting.new ≤ effort heights.old waiting.old) }
-    ensures lower { IfOk result (λ _. AreLowered heights.old heights.new) }
-{
-    let other = across(graph.walked, dart);
-    let height = heights.get(dart);
-    let there = heights.get(other);
-    let high = there.min(bound);
-    if high.saturating_sub(height) <= 1 {
-        return Ok(());
-    }
-    match graph.price(dart) {
-        Some(price) => {
-            let price = price as u64;
-            if height < high.saturating_sub(price) {
-                heights.set(other, height + price);
-                waiting.push(height + price, item_of(other, height + price))?;
-            }
-            Ok(())
-        }
-        None => Ok(()),
-    }
+/// What a search knows of the darts from one of its ends: how high they lie above it, and those that wait.
+#[derive(Drop)]
+pub(crate) struct Labels {
+    pub heights: StampedArray,
+    pub waiting: BucketQueue,
 }
 
-/// Spreads the height of one dart round its face and over the segments along it, as far as it lowers
-/// what is there. Nothing spreads from a dart that is not below the bound.
-fn spread_one<W: Walked, F: Asks>(
-    graph: &Graph<W, F>,
-    heights: &mut Sheet,
-    waiting: &mut Waiting,
-    v: u32,
-    bound: u64,
-    dart: u32,
-) -> Result<(), AllocError>
-    requires right { ArePrices (prices_of (F.answers graph.now.tariff.now)) (W.named graph.now.walked.now) graph.now.prices.items }
-    requires spreads { Spreads (prices_of (F.answers graph.now.tariff.now)) (W.named graph.now.walked.now) v bound heights.old waiting.old dart }
-    requires in_hand { IsReached (W.named graph.now.walked.now) heights.old dart }
-    ensures spreads { IfOk result (λ _. Spreads (prices_of (F.answers graph.now.tariff.now)) (W.named graph.now.walked.now) v bound heights.new waiting.new (W.named graph.now.walked.now).size) }
-    ensures falls { IfOk result (λ _. effort heights.new waiting.new ≤ effort heights.old waiting.old) }
-    ensures lower { IfOk result (λ _. AreLowered heights.old heights.new) }
-{
-    if heights.get(dart) >= bound {
-        return Ok(());
+impl Labels {
+    /// Those of a picture without darts, with room for so many that wait.
+    pub(crate) fn new(alloc: Global, room: usize) -> Result<Self, AllocError>
+        ensures { IfOk result (λ labels. (labels.heights ≡ []) × (labels.waiting ≡ [])) }
+    {
+        Ok(Labels {
+            heights: StampedArray::new(alloc),
+            waiting: BucketQueue::new(alloc, room)?,
+        })
     }
-    let mut at = dart;
-    loop {
-        let next = next_along(graph.walked, at);
-        cross_back(graph, heights, waiting, v, bound, at)?;
-        let height = heights.get(at);
-        let there = heights.get(next);
-        if there <= height {
+
+    /// Reaches no dart, and none waits.
+    pub(crate) fn clear(&mut self, len: usize) -> Result<(), AllocError>
+        ensures heights { OnOk result (self.new.heights ≡ replicate len unreached) }
+        ensures waiting { OnOk result (self.new.waiting ≡ []) }
+    {
+        self.heights.clear(len)?;
+        self.waiting.clear();
+        Ok(())
+    }
+
+    /// Gives a dart a height. With that above the other end it may be the least sum.
+    fn lower(&mut self, other: &StampedArray, least: &mut u64, dart: u32, height: u64)
+        requires { dart < length self.old.heights }
+        ensures heights { self.new.heights ≡ slice_set self.old.heights dart height }
+        ensures waiting { self.new.waiting ≡ self.old.waiting }
+        ensures least { least.new ≡ min least.old (height + number_at other.now dart) }
+    {
+        self.heights.set(dart, height);
+        *least = (*least).min(height.saturating_add(other.number_at(dart)));
+    }
+
+    /// Crosses a dart backwards: its twin reaches the end over it. A height that this lowers, and brings
+    /// down to the least sum, waits. The price is not asked where not even 1 would do so.
+    fn relax_twin<W: Walked, F: Asks>(
+        &mut self,
+        graph: &Graph<W, F>,
+        other: &StampedArray,
+        least: &mut u64,
+        v: u32,
+        dart: u32,
+        height: u64,
+    ) -> Result<(), AllocError>
+        requires right { ArePrices (prices_of (F.answers graph.now.tariff.now)) (W.named graph.now.walked.now) graph.now.prices.items }
+        requires costs { AreCosts (prices_of (F.answers graph.now.tariff.now)) (W.named graph.now.walked.now) v self.old.heights }
+        requires in_hand { IsReached (W.named graph.now.walked.now) self.old.heights dart }
+        requires height { height ≡ slice_index self.old.heights dart }
+        requires sums { AreSums (W.named graph.now.walked.now) self.old.heights other.now least.old }
+        ensures relaxes { IfOk result (λ _. Relaxes (prices_of (F.answers graph.now.tariff.now)) (W.named graph.now.walked.now) v other.now self.old.heights self.old.waiting least.old dart self.new.heights self.new.waiting least.new dart) }
+        ensures crossed { IfOk result (λ _. IsCrossed (prices_of (F.answers graph.now.tariff.now)) (W.named graph.now.walked.now) (reach_of least.new) self.new.heights dart) }
+        ensures same { IfOk result (λ _. slice_index self.new.heights dart ≡ height) }
+    {
+        let twin = across(graph.walked, dart);
+        let high = self.heights.get(twin).min((*least).saturating_add(1));
+        if high.saturating_sub(height) <= 1 {
             return Ok(());
         }
-        heights.set(next, height);
-        at = next;
+        match graph.price(dart) {
+            Some(price) => {
+                let price = price as u64;
+                if height < high.saturating_sub(price) {
+                    self.lower(other, least, twin, height + price);
+                    self.waiting
+                        .push(height + price, item_of(twin, height + price))?;
+                }
+                Ok(())
+            }
+            None => Ok(()),
+        }
+    }
+
+    /// Spreads the height of one dart round its face and over the segments along it, as far as it lowers
+    /// what is there.
+    fn relax_face<W: Walked, F: Asks>(
+        &mut self,
+        graph: &Graph<W, F>,
+        other: &StampedArray,
+        least: &mut u64,
+        v: u32,
+        dart: u32,
+    ) -> Result<(), AllocError>
+        requires right { ArePrices (prices_of (F.answers graph.now.tariff.now)) (W.named graph.now.walked.now) graph.now.prices.items }
+        requires costs { AreCosts (prices_of (F.answers graph.now.tariff.now)) (W.named graph.now.walked.now) v self.old.heights }
+        requires in_hand { IsReached (W.named graph.now.walked.now) self.old.heights dart }
+        requires sums { AreSums (W.named graph.now.walked.now) self.old.heights other.now least.old }
+        ensures relaxes { IfOk result (λ _. Relaxes (prices_of (F.answers graph.now.tariff.now)) (W.named graph.now.walked.now) v other.now self.old.heights self.old.waiting least.old dart self.new.heights self.new.waiting least.new (W.named graph.now.walked.now).size) }
+    {
+        let height = self.heights.get(dart);
+        let mut at = dart;
+        loop {
+            let next = next_along(graph.walked, at);
+            self.relax_twin(graph, other, least, v, at, height)?;
+            if self.heights.get(next) <= height {
+                return Ok(());
+            }
+            self.lower(other, least, next, height);
+            at = next;
+        }
+    }
+
+    /// Spreads the heights of all that wait and are lower than the level, or whose sum with the height
+    /// above the other end is neither above `most` nor above the least.
+    pub(crate) fn spread<W: Walked, F: Asks>(
+        &mut self,
+        graph: &Graph<W, F>,
+        other: &StampedArray,
+        least: &mut u64,
+        v: u32,
+        level: u64,
+        most: u64,
+    ) -> Result<(), AllocError>
+        requires right { ArePrices (prices_of (F.answers graph.now.tariff.now)) (W.named graph.now.walked.now) graph.now.prices.items }
+        requires spreads { Spreads (prices_of (F.answers graph.now.tariff.now)) (W.named graph.now.walked.now) v (top_of level (min most least.old) other.now) (reach_of least.old) self.old.heights self.old.waiting (W.named graph.now.walked.now).size }
+        requires sums { AreSums (W.named graph.now.walked.now) self.old.heights other.now least.old }
+        ensures costs { IfOk result (λ _. AreCosts (prices_of (F.answers graph.now.tariff.now)) (W.named graph.now.walked.now) v self.new.heights) }
+        ensures settled { IfOk result (λ _. (k : ℕ) → IsName (W.named graph.now.walked.now) k → slice_index self.new.heights k < top_of level (min most least.new) other.now k → IsSettled (prices_of (F.answers graph.now.tariff.now)) (W.named graph.now.walked.now) (reach_of least.new) self.new.heights k) }
+        ensures sums { IfOk result (λ _. AreSums (W.named graph.now.walked.now) self.new.heights other.now least.new) }
+        ensures less { IfOk result (λ _. least.new ≤ least.old) }
+        ensures lower { IfOk result (λ _. AreLowered self.old.heights self.new.heights) }
+    {
+        let _darts = graph.walked.size();
+        while let Some(dart) = next_pending(
+            &self.heights,
+            &mut self.waiting,
+            other,
+            level,
+            most.min(*least),
+        ) {
+            self.relax_face(graph, other, least, v, dart)?;
+        }
+        Ok(())
+    }
+
+    /// Spreads the height of one that waits and is not above the least sum, if there is one: its height.
+    pub(crate) fn spread_next<W: Walked, F: Asks>(
+        &mut self,
+        graph: &Graph<W, F>,
+        other: &StampedArray,
+        least: &mut u64,
+        v: u32,
+    ) -> Result<Option<u64>, AllocError>
+        requires right { ArePrices (prices_of (F.answers graph.now.tariff.now)) (W.named graph.now.walked.now) graph.now.prices.items }
+        requires spreads { SpreadsTo (prices_of (F.answers graph.now.tariff.now)) (W.named graph.now.walked.now) v (reach_of least.old) self.old.heights self.old.waiting }
+        requires sums { AreSums (W.named graph.now.walked.now) self.old.heights other.now least.old }
+        ensures spreads { IfOk result (λ _. SpreadsTo (prices_of (F.answers graph.now.tariff.now)) (W.named graph.now.walked.now) v (reach_of least.new) self.new.heights self.new.waiting) }
+        ensures sums { IfOk result (λ _. AreSums (W.named graph.now.walked.now) self.new.heights other.now least.new) }
+        ensures less { IfOk result (λ _. least.new ≤ least.old) }
+        ensures falls { IfOk result (λ found. IfSome found (λ _. effort self.new.heights self.new.waiting < effort self.old.heights self.old.waiting)) }
+        ensures lower { IfOk result (λ _. AreLowered self.old.heights self.new.heights) }
+    {
+        let _darts = graph.walked.size();
+        let reach = (*least).saturating_add(1);
+        match next_pending(&self.heights, &mut self.waiting, other, reach, 0) {
+            Some(dart) => {
+                let height = self.heights.get(dart);
+                self.relax_face(graph, other, least, v, dart)?;
+                Ok(Some(height))
+            }
+            None => Ok(None),
+        }
+    }
+
+    /// Gives the corners of the end height 0, and puts them among the items that wait.
+    pub(crate) fn start_at<W: Walked, F: Asks>(
+        &mut self,
+        graph: &Graph<W, F>,
+        other: &StampedArray,
+        least: &mut u64,
+        v: u32,
+    ) -> Result<(), AllocError>
+        requires costs { AreCosts (prices_of (F.answers graph.now.tariff.now)) (W.named graph.now.walked.now) v self.old.heights }
+        requires sums { AreSums (W.named graph.now.walked.now) self.old.heights other.now least.old }
+        ensures relaxes { IfOk result (λ _. Relaxes (prices_of (F.answers graph.now.tariff.now)) (W.named graph.now.walked.now) v other.now self.old.heights self.old.waiting least.old (W.named graph.now.walked.now).size self.new.heights self.new.waiting least.new (W.named graph.now.walked.now).size) }
+        ensures ends { IfOk result (λ _. IsZeroAt (W.named graph.now.walked.now).rows v (height_of (W.named graph.now.walked.now) self.new.heights)) }
+    {
+        for position in 0..graph.walked.degree(v) {
+            if let Some(corner) = corner_at(graph.walked, v, position) {
+                if self.heights.get(corner) > 0 {
+                    self.lower(other, least, corner, 0);
+                    self.waiting.push(0, item_of(corner, 0))?;
+                }
+            }
+        }
+        Ok(())
     }
 }
 
-/// Takes out the next dart that waits with the height that it has. An item of another height is passed
-/// over: the dart was lowered since, and then a walk round its face spread its new height, or that
-/// waits too. So is one whose height is not below the bound, and no height is read for it.
-fn next_pending(heights: &Sheet, waiting: &mut Waiting, bound: u64) -> Option<u32>
+/// Takes out the next dart that waits with the height that it has, and that is lower than the level or
+/// makes up no more than `most` with its height above the other end. An item of another height is passed
+/// over: the dart was lowered since, and then a walk round its face spread its new height, or that waits
+/// too. No height is read for an item that says that it is too high.
+fn next_pending(
+    heights: &StampedArray,
+    waiting: &mut BucketQueue,
+    other: &StampedArray,
+    level: u64,
+    most: u64,
+) -> Option<u32>
     requires within { (item : ℕ) → is_waiting waiting.old item ≡ true → dart_of_item item < length heights.now }
     ensures pending { IfSome result (λ dart. is_pending heights.now waiting.old dart ≡ true) }
-    ensures others { MatchOption result ((k : ℕ) → k < 2 ^ 32 → slice_index heights.now k < bound → is_pending heights.now waiting.old k ≡ false)
-        (λ dart. (k : ℕ) → k < 2 ^ 32 → slice_index heights.now k < bound → k ≢ dart → is_pending heights.now waiting.new k ≡ is_pending heights.now waiting.old k) }
+    ensures others { MatchOption result ((k : ℕ) → k < 2 ^ 32 → slice_index heights.now k < top_of level most other.now k → is_pending heights.now waiting.old k ≡ false)
+        (λ dart. (k : ℕ) → k < 2 ^ 32 → slice_index heights.now k < top_of level most other.now k → k ≢ dart → is_pending heights.now waiting.new k ≡ is_pending heights.now waiting.old k) }
     ensures fewer { (item : ℕ) → is_waiting waiting.new item ≡ true → is_waiting waiting.old item ≡ true }
     ensures len { IfSome result (λ _. length waiting.new < length waiting.old) }
 {
+    let bound = level.max(most.saturating_add(1));
     while let Some(item) = waiting.pop() {
         if least_height(item) < bound {
             let dart = dart_of_item(item);
-            if item_of(dart, heights.get(dart)) == item {
+            let height = heights.get(dart);
+            let is_low = height < level || height.saturating_add(other.number_at(dart)) <= most;
+            if is_low && item_of(dart, height) == item {
                 return Some(dart);
             }
         }
     }
     None
-}
-
-/// Spreads the heights of all that wait.
-fn spread_all<W: Walked, F: Asks>(
-    graph: &Graph<W, F>,
-    heights: &mut Sheet,
-    waiting: &mut Waiting,
-    v: u32,
-) -> Result<(), AllocError>
-    requires right { ArePrices (prices_of (F.answers graph.now.tariff.now)) (W.named graph.now.walked.now) graph.now.prices.items }
-    requires spreads { Spreads (prices_of (F.answers graph.now.tariff.now)) (W.named graph.now.walked.now) v unreached heights.old waiting.old (W.named graph.now.walked.now).size }
-    requires target { IsZeroAt (W.named graph.now.walked.now).rows v (height_of (W.named graph.now.walked.now) heights.old) }
-    requires some { 0 < length (darts (W.named graph.now.walked.now).rows) }
-    ensures are_heights { IfOk result (λ _. AreHeights (prices_of (F.answers graph.now.tariff.now)) (W.named graph.now.walked.now) v heights.new) }
-    ensures in_range { IfOk result (λ _. (k : ℕ) → slice_index heights.new k ≤ unreached) }
-{
-    let _darts = graph.walked.size();
-    while let Some(dart) = next_pending(heights, waiting, u64::MAX) {
-        spread_one(graph, heights, waiting, v, u64::MAX, dart)?;
-    }
-    Ok(())
-}
-
-/// A bound above the heights that routes from `u` come through: one more than the least of a corner.
-fn bound_at<W: Walked>(walked: &W, u: u32, heights: &Sheet) -> u64
-    requires { length heights.now ≡ (W.named walked.now).size }
-    ensures { result ≢ unreached → HasCornerBelow (W.named walked.now) u heights.now result }
-{
-    least_corner(walked, u, heights).saturating_add(1)
-}
-
-/// Spreads the heights of those that wait, as far up as routes from `u` come. Once a corner of `u` is
-/// reached, nothing spreads any more from darts that are higher than it. Its corners are looked at
-/// once in as many steps as it has corners, so looking costs no more than the steps do.
-fn spread_up_to<W: Walked, F: Asks>(
-    graph: &Graph<W, F>,
-    heights: &mut Sheet,
-    waiting: &mut Waiting,
-    u: u32,
-    v: u32,
-) -> Result<(), AllocError>
-    requires right { ArePrices (prices_of (F.answers graph.now.tariff.now)) (W.named graph.now.walked.now) graph.now.prices.items }
-    requires spreads { Spreads (prices_of (F.answers graph.now.tariff.now)) (W.named graph.now.walked.now) v unreached heights.old waiting.old (W.named graph.now.walked.now).size }
-    requires target { IsZeroAt (W.named graph.now.walked.now).rows v (height_of (W.named graph.now.walked.now) heights.old) }
-    requires some { 0 < length (darts (W.named graph.now.walked.now).rows) }
-    ensures { IfOk result (λ _. AreHeightsFor (prices_of (F.answers graph.now.tariff.now)) (W.named graph.now.walked.now) u v heights.new) }
-{
-    let _darts = graph.walked.size();
-    let mut bound = u64::MAX;
-    let mut steps = 0;
-    while let Some(dart) = next_pending(heights, waiting, bound) {
-        spread_one(graph, heights, waiting, v, bound, dart)?;
-        if steps == 0 {
-            bound = bound.min(bound_at(graph.walked, u, heights));
-            steps = graph.walked.degree(u);
-        } else {
-            steps -= 1;
-        }
-    }
-    Ok(())
-}
-
-/// Gives the corners of the target height 0, and puts them among the items that wait.
-fn start_at<W: Walked, F: Asks>(
-    graph: &Graph<W, F>,
-    heights: &mut Sheet,
-    waiting: &mut Waiting,
-    v: u32,
-) -> Result<(), AllocError>
-    requires spreads { Spreads (prices_of (F.answers graph.now.tariff.now)) (W.named graph.now.walked.now) v unreached heights.old waiting.old (W.named graph.now.walked.now).size }
-    ensures spreads { IfOk result (λ _. Spreads (prices_of (F.answers graph.now.tariff.now)) (W.named graph.now.walked.now) v unreached heights.new waiting.new (W.named graph.now.walked.now).size) }
-    ensures target { IfOk result (λ _. IsZeroAt (W.named graph.now.walked.now).rows v (height_of (W.named graph.now.walked.now) heights.new)) }
-{
-    for position in 0..graph.walked.degree(v) {
-        if let Some(corner) = corner_at(graph.walked, v, position) {
-            if heights.get(corner) > 0 {
-                heights.set(corner, 0);
-                waiting.push(0, item_of(corner, 0))?;
-            }
-        }
-    }
-    Ok(())
-}
-
-/// For each dart the least price from its face to a face at the target.
-pub(crate) fn least_heights<W: Walked, F: Asks>(
-    graph: &Graph<W, F>,
-    v: u32,
-    heights: &mut Sheet,
-    waiting: &mut Waiting,
-) -> Result<(), AllocError>
-    requires right { ArePrices (prices_of (F.answers graph.now.tariff.now)) (W.named graph.now.walked.now) graph.now.prices.items }
-    requires some { 0 < length (darts (W.named graph.now.walked.now).rows) }
-    ensures are_heights { OnOk result (AreHeights (prices_of (F.answers graph.now.tariff.now)) (W.named graph.now.walked.now) v heights.new) }
-    ensures in_range { OnOk result ((k : ℕ) → slice_index heights.new k ≤ unreached) }
-{
-    heights.clear(graph.walked.size() as usize)?;
-    waiting.clear();
-    start_at(graph, heights, waiting, v)?;
-    spread_all(graph, heights, waiting, v)
-}
-
-/// The least prices of the darts' faces to a face at the target, as far up as routes from `u` come.
-pub(crate) fn heights_for<W: Walked, F: Asks>(
-    graph: &Graph<W, F>,
-    u: u32,
-    v: u32,
-    heights: &mut Sheet,
-    waiting: &mut Waiting,
-) -> Result<(), AllocError>
-    requires right { ArePrices (prices_of (F.answers graph.now.tariff.now)) (W.named graph.now.walked.now) graph.now.prices.items }
-    requires some { 0 < length (darts (W.named graph.now.walked.now).rows) }
-    ensures { OnOk result (AreHeightsFor (prices_of (F.answers graph.now.tariff.now)) (W.named graph.now.walked.now) u v heights.new) }
-{
-    heights.clear(graph.walked.size() as usize)?;
-    waiting.clear();
-    start_at(graph, heights, waiting, v)?;
-    spread_up_to(graph, heights, waiting, u, v)
 }

@@ -1,24 +1,32 @@
 //! What searches write on.
 
-use crate::sheet::Sheet;
-use crate::waiting::Waiting;
+ghost use Rattle.std.specs.Prelude.{◌≡◌, [], IfOk};
+
+use crate::spread::Labels;
 use std::alloc::{AllocError, Global};
 
-/// The heights of darts and the queue of a search, kept for the next one. Each search begins
+/// What a search knows of the darts from both of its ends, kept for the next one. Each search begins
 /// with all of it blank, whatever the one before it left, and that takes no time that grows with the
 /// picture, but where the picture has more darts than any before.
 #[derive(Drop)]
 pub struct Workspace {
-    pub(crate) heights: Sheet,
-    pub(crate) waiting: Waiting,
+    pub(crate) to_end: Labels,
+    pub(crate) to_start: Labels,
 }
 
 impl Workspace {
     /// One for pictures of any size.
     pub fn new(alloc: Global) -> Result<Self, AllocError> {
+        Workspace::with_room(alloc, 0)
+    }
+
+    /// One with room for so many darts that wait for the target, before it asks for more.
+    pub(crate) fn with_room(alloc: Global, room: usize) -> Result<Self, AllocError>
+        ensures { IfOk result (λ work. work.to_start.heights ≡ []) }
+    {
         Ok(Workspace {
-            heights: Sheet::new(alloc),
-            waiting: Waiting::new(alloc, 0)?,
+            to_end: Labels::new(alloc, room)?,
+            to_start: Labels::new(alloc, 0)?,
         })
     }
 }

@@ -20,7 +20,7 @@ use topo_route::search::{first_route, search};
 use topo_route::workspace::Workspace;
 
 /// Whether both are vertices, and different ones.
-fn are_ends(picture: &Picture, u: u32, v: u32) -> bool
+pub(crate) fn are_ends(picture: &Picture, u: u32, v: u32) -> bool
     ensures u_there { IsTrue result → u < length picture.now.rows.rotations }
     ensures v_there { IsTrue result → v < length picture.now.rows.rotations }
     ensures apart { IsTrue result → u ≢ v }
@@ -222,7 +222,7 @@ fn is_same(found: &Option<PricedRoute>, plan: &Option<Plan>) -> bool {
 }
 
 /// Whether a search from nothing finds what was found.
-fn is_planned<F: Asks>(
+pub(crate) fn is_planned<F: Asks>(
     rt: &impl Abort,
     alloc: Global,
     frozen: &Frozen,

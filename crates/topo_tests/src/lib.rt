@@ -6,6 +6,8 @@
 #[cfg(test)]
 mod books;
 #[cfg(test)]
+mod both_ends;
+#[cfg(test)]
 mod calls;
 #[cfg(test)]
 mod embeddings;

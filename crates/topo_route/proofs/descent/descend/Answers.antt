@@ -1,16 +1,18 @@
-use Rattle.std.proofs.Common.{◌<◌, arith, subst, sym}
+use Rattle.std.proofs.Common.{arith, subst, sym}
 use Rattle.topo_price.specs.Prices.{prices_of}
 use Rattle.topo_route.specs.Descents.{Descends}
-use Rattle.topo_route.specs.Names.{dart_named, height_of}
-use Rattle.topo_route.proofs.Descending.{at_start, at_target, descends_on, lower}
+use Rattle.topo_route.proofs.Descending.{at_start, at_target, below_on, descends_on, lower}
 use Rattle.topo_route.proofs.Names.{height_named, name_some}
 use Rattle.topo_route.proofs.descent.descend.Goals as goal
 
 pub loop-dart-init : goal.loop-dart-init
-loop-dart-init g c = grind (arith, at_start)
-
-pub first_tight-requires-clause-known : goal.first_tight-requires-clause-known
-first_tight-requires-clause-known g c = grind (arith, height_named)
+loop-dart-init g c =
+    let named = g.W.Walked.named c.args.graph.now.walked.now in
+    let price = prices_of (g.F.Asks.answers c.args.graph.now.tariff.now) in
+    record {
+      descends = subst (λ xs. Descends price named c.args.heights.now c.args.from xs c.args.from) (sym c.new-crossed.ensures.items) (at_start price named c.args.heights.now c.args.from c.requires.name);
+      known = c.requires.known;
+    }
 
 pub first_tight-requires-clause-above : goal.first_tight-requires-clause-above
 first_tight-requires-clause-above g c = grind (arith, height_named)
@@ -23,9 +25,9 @@ loop-dart-smaller g c =
     let price = prices_of (g.F.Asks.answers c.args.graph.now.tariff.now) in
     let heights = c.args.heights.now in
     let promise = c.requires.right.promise (name_some named c.args.from c.requires.name) in
-    let below : height_of named heights (dart_named named c.args.from) < c.requires.known.bound = omega (arith, height_named named has heights c.args.from c.requires.name, c.requires.known.below) in
-    let less = lower price named lawful has c.args.v c.requires.known.bound heights c.requires.known.known promise c.args.from c.loop-dart.at c.in-Some.dart c.across-at.result c.loop-dart.crossed.items c.dart.result
-    c.loop-dart.invariant c.in-Some.ensures (sym c.dart.ensures) c.across-at.ensures.twin below in
+    let known = c.loop-dart.invariant.known in
+    let less = lower price named lawful has c.args.v known.top heights known.known promise c.args.from c.loop-dart.at c.in-Some.dart c.across-at.result c.loop-dart.crossed.items c.dart.result
+    c.loop-dart.invariant.descends c.in-Some.ensures (sym c.dart.ensures) c.across-at.ensures.twin known.below in
     grind (arith, height_named)
 
 pub loop-dart-preserved : goal.loop-dart-preserved
@@ -36,15 +38,22 @@ loop-dart-preserved g c =
     let price = prices_of (g.F.Asks.answers c.args.graph.now.tariff.now) in
     let heights = c.args.heights.now in
     let promise = c.requires.right.promise (name_some named c.args.from c.requires.name) in
-    let below : height_of named heights (dart_named named c.args.from) < c.requires.known.bound = omega (arith, height_named named has heights c.args.from c.requires.name, c.requires.known.below) in
-    subst (λ xs. Descends price named heights c.args.from xs c.across-at.result) (sym c.in_ok-push-in-Some.ensures.items)
-    (descends_on price named lawful has c.args.v c.requires.known.bound heights c.requires.known.known promise c.args.from c.loop-dart.at c.in-Some.dart c.across-at.result c.loop-dart.crossed.items c.dart.result
-    c.loop-dart.invariant c.in-Some.ensures (sym c.dart.ensures) c.across-at.ensures.twin below)
+    let known = c.loop-dart.invariant.known in
+    record {
+      descends = subst (λ xs. Descends price named heights c.args.from xs c.across-at.result) (sym c.in_ok-push-in-Some.ensures.items)
+          (descends_on price named lawful has c.args.v known.top heights known.known promise c.args.from c.loop-dart.at c.in-Some.dart c.across-at.result c.loop-dart.crossed.items c.dart.result
+          c.loop-dart.invariant.descends c.in-Some.ensures (sym c.dart.ensures) c.across-at.ensures.twin known.below);
+      known = record {
+        top = known.top;
+        known = known.known;
+        below = below_on price named lawful has c.args.v known.top heights known.known promise c.args.from c.loop-dart.at c.in-Some.dart c.across-at.result c.loop-dart.crossed.items c.dart.result
+            c.loop-dart.invariant.descends c.in-Some.ensures (sym c.dart.ensures) c.across-at.ensures.twin known.below;
+      };
+    }
 
 pub returns : goal.returns
 returns g c =
     let named = g.W.Walked.named c.args.graph.now.walked.now in
-    let lawful = g.met.W.Walked.lawful c.args.graph.now.walked.now in
-    let has = g.met.W.Walked.has_names c.args.graph.now.walked.now in
-    let height = height_named named has c.args.heights.now c.loop-dart.at c.loop-dart.invariant.name in
-    at_target (prices_of (g.F.Asks.answers c.args.graph.now.tariff.now)) named lawful has c.args.v c.requires.known.bound c.args.heights.now c.requires.known.known c.args.from c.loop-dart.at c.loop-dart.crossed.items c.loop-dart.invariant (omega arith)
+    let descends = c.loop-dart.invariant.descends in
+    let height = height_named named (g.met.W.Walked.has_names c.args.graph.now.walked.now) c.args.heights.now c.loop-dart.at descends.name in
+    at_target (prices_of (g.F.Asks.answers c.args.graph.now.tariff.now)) named c.args.heights.now c.args.from c.loop-dart.at c.loop-dart.crossed.items descends (omega arith)

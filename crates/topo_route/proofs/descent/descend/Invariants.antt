@@ -1,10 +1,17 @@
 use Rattle.topo_price.specs.Prices.{prices_of}
 use Rattle.std.specs.Prelude.{slice_index}
-use Rattle.topo_route.specs.Descents.{Descends}
+use Rattle.topo_route.specs.Descents.{AreHeightsUpTo, Descends}
 use Rattle.topo_route.proofs.descent.descend.Given as goal
 
+-- a walk down so far, and heights that are known as far up as where it is
 abbrev pub invariant-loop-dart : goal.invariant-loop-dart
-invariant-loop-dart g l = Descends (prices_of (g.F.Asks.answers l.graph.tariff.now)) (g.W.Walked.named l.graph.walked.now) l.heights l.from l.crossed.items l.at
+invariant-loop-dart g l =
+    let named = g.W.Walked.named l.graph.walked.now in
+    let price = prices_of (g.F.Asks.answers l.graph.tariff.now) in
+    record {
+      descends : Descends price named l.heights l.from l.crossed.items l.at;
+      known : AreHeightsUpTo price named l.v l.heights l.at;
+    }
 
 abbrev pub decreases-loop-dart : goal.decreases-loop-dart
 decreases-loop-dart g l = slice_index l.heights l.at

@@ -3,7 +3,6 @@ use Rattle.topo_core.specs.Cycles.{after}
 use Rattle.topo_price.specs.Prices.{prices_of}
 use Rattle.topo_route.specs.Names.{next_name}
 use Rattle.topo_route.proofs.Descending.{first_all, first_home, first_step, has_tight, known_so_far, none_so_far}
-use Rattle.topo_route.proofs.Names.{height_named}
 use Rattle.topo_route.proofs.Rounds.{after-one}
 use Rattle.topo_route.proofs.descent.first_tight.Goals as goal
 
@@ -25,7 +24,7 @@ returns-then-dart-at g c =
     let home : next_name named (after (next_name named) i c.args.at) ≡ c.args.at = ap (next_name named) (sym place) ∙ sym c.next_along-dart.ensures.next ∙ c.if-dart-at.true in
     first_home price named c.args.heights.now c.args.at lawful has c.requires.name i c.first_of-first.result
     (first_step price named c.args.heights.now c.args.at lawful has c.requires.name i c.loop-steps.dart c.loop-steps.first c.first_of-first.result place c.loop-steps.invariant.name c.loop-steps.invariant.so_far c.first_of-first.ensures)
-    home (has_tight price named lawful has c.args.v c.requires.known.bound c.args.heights.now c.requires.known.known c.args.at c.requires.name (omega (arith, height_named named has c.args.heights.now c.args.at c.requires.name, c.requires.known.below)) c.requires.above)
+    home (has_tight price named lawful has c.args.v c.requires.known.top c.args.heights.now c.requires.known.known c.args.at c.requires.name c.requires.known.below c.requires.above)
 
 pub loop-steps-preserved : goal.loop-steps-preserved
 loop-steps-preserved g c =
@@ -48,4 +47,4 @@ returns g c =
     let has = g.met.W.Walked.has_names c.args.graph.now.walked.now in
     let price = prices_of (g.F.Asks.answers c.args.graph.now.tariff.now) in
     first_all price named c.args.heights.now c.args.at lawful has c.requires.name c.loop-steps._steps c.loop-steps.first (omega arith) c.loop-steps.invariant.so_far
-    (has_tight price named lawful has c.args.v c.requires.known.bound c.args.heights.now c.requires.known.known c.args.at c.requires.name (omega (arith, height_named named has c.args.heights.now c.args.at c.requires.name, c.requires.known.below)) c.requires.above)
+    (has_tight price named lawful has c.args.v c.requires.known.top c.args.heights.now c.requires.known.known c.args.at c.requires.name c.requires.known.below c.requires.above)

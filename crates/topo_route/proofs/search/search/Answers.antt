@@ -27,14 +27,21 @@ pub route_by_heights-requires-clause-known : goal.route_by_heights-requires-clau
 route_by_heights-requires-clause-known g c =
     let dual = c.args.dual.now in
     let done = c.in_ok-least_heights.ensures in
-    for_all (prices_of (g.F.Asks.answers c.args.tariff.now)) (g.D.Walked.named dual) (g.met.D.Walked.lawful dual) (g.met.D.Walked.has_names dual) c.args.u c.args.v c.least_heights.new.heights done.in_range done.are_heights
+    for_all (prices_of (g.F.Asks.answers c.args.tariff.now)) (g.D.Walked.named dual) (g.met.D.Walked.lawful dual) (g.met.D.Walked.has_names dual) c.args.u c.args.v c.least_heights.new.work.to_end.heights done.in_range done.are_heights
 
 pub returns-in-Some : goal.returns-in-Some
 returns-in-Some g c =
     let rows = g.D.Dual.shows c.args.dual.now in
     let numbered = g.met.D.Dual.numbered c.args.dual.now in
     let price = prices_of (g.F.Asks.answers c.args.tariff.now) in
-    let heights = c.least_heights.new.heights in
+    let heights = c.least_heights.new.work.to_end.heights in
     let by_numbers = subst (λ (n : Named). MatchOption c.in_ok-found.found (HasNoRoute price n.rows c.args.u c.args.v) (IsFirstRoute price n c.args.u c.args.v heights)) numbered c.in_ok-found.ensures in
     let found = subst (λ o. MatchOption o (HasNoRoute price rows c.args.u c.args.v) (IsFirstRoute price (canonical rows) c.args.u c.args.v heights)) c.in-Some.is by_numbers in
     is_plan price rows c.args.u c.args.v heights c.in-Some.field-0 _ (subst (λ (n : Named). AreHeights price n c.args.v heights) numbered c.in_ok-least_heights.ensures.are_heights) found refl refl (c.from_vec.ensures ∙ c.in_ok-numbers.ensures)
+
+pub returns : goal.returns
+returns g c =
+    let price = prices_of (g.F.Asks.answers c.args.tariff.now) in
+    let named = g.D.Walked.named c.args.dual.now in
+    let found = subst (λ o. MatchOption o (HasNoRoute price named.rows c.args.u c.args.v) (IsFirstRoute price named c.args.u c.args.v c.least_heights.new.work.to_end.heights)) c.in-None.is c.in_ok-found.ensures in
+    subst (λ (n : Named). HasNoRoute price n.rows c.args.u c.args.v) (g.met.D.Dual.numbered c.args.dual.now) found

@@ -1,0 +1,18 @@
+use Rattle.std.proofs.Common.{◌≤◌}
+use Rattle.std.specs.Prelude.{min}
+use Rattle.topo_price.specs.Prices.{prices_of}
+use Rattle.topo_route.specs.Settling.{AreLowered, AreSums, Spreads, effort, reach_of, top_of}
+use Rattle.topo_route.proofs.spread.Labels.spread.Given as goal
+
+abbrev pub invariant-loop-dart : goal.invariant-loop-dart
+invariant-loop-dart g l =
+    let named = g.W.Walked.named l.graph.walked.now in
+    record {
+      spreads : Spreads (prices_of (g.F.Asks.answers l.graph.tariff.now)) named l.v (top_of l.level (min l.most l.least) l.other) (reach_of l.least) l.self.heights l.self.waiting named.size;
+      sums : AreSums named l.self.heights l.other l.least;
+      less : l.least ≤ l.initial.least;
+      lower : AreLowered l.initial.self.heights l.self.heights;
+    }
+
+abbrev pub decreases-loop-dart : goal.decreases-loop-dart
+decreases-loop-dart g l = effort l.self.heights l.self.waiting

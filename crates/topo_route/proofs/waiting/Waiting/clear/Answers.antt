@@ -1,6 +1,0 @@
-use Rattle.std.proofs.Common.{arith}
-use Rattle.topo_route.proofs.Buckets.{all_empty, all_zero}
-use Rattle.topo_route.proofs.waiting.Waiting.clear.Goals as goal
-
-pub returns : goal.returns
-returns c = grind (arith, all_empty, all_zero)

@@ -1,0 +1,142 @@
+//! The search from both ends.
+
+ghost use Rattle.std.specs.Prelude.{◌≡◌, ◌<◌, ◌≤◌, [], ℕ, IfOk, OnOk, length, slice_index};
+ghost use Rattle.topo_core.specs.Picture.{darts};
+ghost use Rattle.topo_core.specs.Routes.{unreached};
+ghost use Rattle.topo_price.specs.Prices.{prices_of};
+ghost use Rattle.topo_route.specs.Descents.{AreHeightsFor};
+ghost use Rattle.topo_route.specs.Meeting.{SpreadsBoth};
+ghost use Rattle.topo_route.specs.Plans.{AreHeights};
+ghost use Rattle.topo_route.specs.Settling.{ArePrices};
+
+use crate::graph::Graph;
+use crate::walked::Walked;
+use crate::workspace::Workspace;
+use std::alloc::AllocError;
+use topo_price::tariff::Asks;
+
+/// No two heights that are reached make up more than this.
+const MOST: u64 = u64::MAX - 1;
+
+/// Gives the corners of both ends height 0: the least sum of the two heights of a dart so far.
+fn start_both<W: Walked, F: Asks>(
+    graph: &Graph<W, F>,
+    work: &mut Workspace,
+    u: u32,
+    v: u32,
+) -> Result<u64, AllocError>
+    ensures { IfOk result (λ least. SpreadsBoth (prices_of (F.answers graph.now.tariff.now)) (W.named graph.now.walked.now) u v work.new.to_end.heights work.new.to_end.waiting work.new.to_start.heights work.new.to_start.waiting least) }
+{
+    let size = graph.walked.size() as usize;
+    work.to_end.clear(size)?;
+    work.to_start.clear(size)?;
+    let mut least = u64::MAX;
+    work.to_end
+        .start_at(graph, &work.to_start.heights, &mut least, v)?;
+    work.to_start
+        .start_at(graph, &work.to_end.heights, &mut least, u)?;
+    Ok(least)
+}
+
+/// Spreads from both ends until no dart that waits can be on a route that is cheaper than the cheapest
+/// found, or until one end has nothing left. The end that has put fewer darts among those that wait goes
+/// on. The answer is how high the darts are that the target's end has taken. What is known does not rest
+/// on it: whatever the number, what is left to do from there is done.
+fn spread_both<W: Walked, F: Asks>(
+    graph: &Graph<W, F>,
+    work: &mut Workspace,
+    least: &mut u64,
+    u: u32,
+    v: u32,
+) -> Result<u64, AllocError>
+    requires right { ArePrices (prices_of (F.answers graph.now.tariff.now)) (W.named graph.now.walked.now) graph.now.prices.items }
+    requires both { SpreadsBoth (prices_of (F.answers graph.now.tariff.now)) (W.named graph.now.walked.now) u v work.old.to_end.heights work.old.to_end.waiting work.old.to_start.heights work.old.to_start.waiting least.old }
+    ensures { IfOk result (λ _. SpreadsBoth (prices_of (F.answers graph.now.tariff.now)) (W.named graph.now.walked.now) u v work.new.to_end.heights work.new.to_end.waiting work.new.to_start.heights work.new.to_start.waiting least.new) }
+{
+    let mut level = 0;
+    let mut far = 0u64;
+    while far.saturating_add(level) <= *least {
+        if work.to_start.waiting.pushed() < work.to_end.waiting.pushed() {
+            match work
+                .to_start
+                .spread_next(graph, &work.to_end.heights, least, u)?
+            {
+                Some(height) => far = height,
+                None => return Ok(1),
+            }
+        } else {
+            match work
+                .to_end
+                .spread_next(graph, &work.to_start.heights, least, v)?
+            {
+                Some(height) => level = height,
+                None => return Ok(u64::MAX),
+            }
+        }
+    }
+    Ok(level)
+}
+
+/// From where the two ends have met: spreads from the start to all darts that a route which passes the
+/// level can have on its way there, and then from the target to all below the level, and on along the
+/// cheapest routes alone.
+fn finish<W: Walked, F: Asks>(
+    graph: &Graph<W, F>,
+    work: &mut Workspace,
+    mut least: u64,
+    u: u32,
+    v: u32,
+    level: u64,
+) -> Result<(), AllocError>
+    requires right { ArePrices (prices_of (F.answers graph.now.tariff.now)) (W.named graph.now.walked.now) graph.now.prices.items }
+    requires some { 0 < length (darts (W.named graph.now.walked.now).rows) }
+    requires both { SpreadsBoth (prices_of (F.answers graph.now.tariff.now)) (W.named graph.now.walked.now) u v work.old.to_end.heights work.old.to_end.waiting work.old.to_start.heights work.old.to_start.waiting least }
+    ensures { OnOk result (AreHeightsFor (prices_of (F.answers graph.now.tariff.now)) (W.named graph.now.walked.now) u v work.new.to_end.heights) }
+{
+    let _darts = graph.walked.size();
+    let reach = least.saturating_add(1);
+    let level = level.clamp(1, reach);
+    work.to_start.spread(graph, &work.to_end.heights, &mut least, u, reach - level, 0)?;
+    let level = level.min(least.saturating_add(1));
+    work.to_end
+        .spread(graph, &work.to_start.heights, &mut least, v, level, MOST)?;
+    Ok(())
+}
+
+/// The least prices of the darts' faces to a face at the target, as far as routes from `u` need them.
+pub(crate) fn heights_for<W: Walked, F: Asks>(
+    graph: &Graph<W, F>,
+    u: u32,
+    v: u32,
+    work: &mut Workspace,
+) -> Result<(), AllocError>
+    requires right { ArePrices (prices_of (F.answers graph.now.tariff.now)) (W.named graph.now.walked.now) graph.now.prices.items }
+    requires some { 0 < length (darts (W.named graph.now.walked.now).rows) }
+    ensures { OnOk result (AreHeightsFor (prices_of (F.answers graph.now.tariff.now)) (W.named graph.now.walked.now) u v work.new.to_end.heights) }
+{
+    let mut least = start_both(graph, work, u, v)?;
+    let level = spread_both(graph, work, &mut least, u, v)?;
+    finish(graph, work, least, u, v, level)
+}
+
+/// For each dart the least price from its face to a face at the target.
+pub(crate) fn least_heights<W: Walked, F: Asks>(
+    graph: &Graph<W, F>,
+    v: u32,
+    work: &mut Workspace,
+) -> Result<(), AllocError>
+    requires right { ArePrices (prices_of (F.answers graph.now.tariff.now)) (W.named graph.now.walked.now) graph.now.prices.items }
+    requires some { 0 < length (darts (W.named graph.now.walked.now).rows) }
+    requires alone { work.old.to_start.heights ≡ [] }
+    ensures are_heights { OnOk result (AreHeights (prices_of (F.answers graph.now.tariff.now)) (W.named graph.now.walked.now) v work.new.to_end.heights) }
+    ensures in_range { OnOk result ((k : ℕ) → slice_index work.new.to_end.heights k ≤ unreached) }
+{
+    let size = graph.walked.size();
+    work.to_end.clear(size as usize)?;
+    let mut least = u64::MAX;
+    work.to_end
+        .start_at(graph, &work.to_start.heights, &mut least, v)?;
+    work.to_end
+        .spread(graph, &work.to_start.heights, &mut least, v, u64::MAX, 0)?;
+    Ok(())
+}

@@ -1,0 +1,208 @@
+//! Searches from both ends on pictures that grow at random, beside searches from one end.
+
+ghost use Rattle.topo_price.specs.Prices.{IsPromise};
+
+use crate::calls::{book_of, made};
+use crate::first_routes::{are_ends, is_planned};
+use crate::generated::{Numbers, next_call, next_ids};
+use crate::pictures::SEED;
+use crate::searches::table_of;
+use std::alloc::{AllocError, Global};
+use std::process::Abort;
+use std::test::Fail;
+use topo_book::Book;
+use topo_core::calls::Call;
+use topo_core::rows::Facts;
+use topo_picture::{Frozen, Picture};
+use topo_price::tariff::{Asks, Tariff};
+use topo_route::search::first_route;
+use topo_route::workspace::Workspace;
+
+/// The price of all kinds but some, and of those.
+type Prices = (Option<u32>, &'static [(usize, Option<u32>)]);
+
+/// Prices with many ties, with few, and with edges that are closed.
+const PRICES: &[Prices] = &[
+    (Some(1), &[]),
+    (Some(1), &[(1, Some(5)), (2, Some(2))]),
+    (Some(1), &[(0, None), (3, Some(7))]),
+    (Some(1000), &[(1, Some(999)), (3, None)]),
+    (None, &[(2, Some(1)), (3, Some(3))]),
+];
+
+/// How many pairs of vertices are asked for on each picture with each of the prices.
+const PAIRS: usize = 8;
+
+/// How many calls lead from the first picture of a run to its last.
+const CALLS: u32 = 40;
+
+/// The runs: where the numbers begin, and how many vertices most new edges end at.
+const RUNS: &[(u32, u32)] = &[(1, 40), (2, 1), (3, 3), (4, 12)];
+
+/// The two searches of a pair find the same.
+fn is_agreed<F: Asks>(
+    rt: &impl Abort,
+    alloc: Global,
+    picture: &Picture,
+    frozen: &Frozen,
+    tariff: &Tariff<F>,
+    ends: (u32, u32),
+    work: &mut Workspace,
+) -> Result<(), Fail> {
+    let (u, v) = ends;
+    assert!(rt; are_ends(picture, u, v));
+    let found = first_route(alloc, &picture.embedded(), tariff, u, v, work)?;
+    let same = is_planned(rt, alloc, frozen, tariff, ends, &found);
+    drop(found);
+    assert!(rt; same?, "{ends:?}");
+    Ok(())
+}
+
+/// So do those of some pairs.
+fn are_agreed<F: Asks>(
+    rt: &impl Abort,
+    alloc: Global,
+    picture: &Picture,
+    frozen: &Frozen,
+    tariff: &Tariff<F>,
+    numbers: &mut Numbers,
+    work: &mut Workspace,
+) -> Result<(), Fail> {
+    let vertices = picture.counts().vertices;
+    for _pair in 0..PAIRS {
+        let u = numbers.below(vertices);
+        let v = numbers.below(vertices);
+        if u != v {
+            is_agreed(rt, alloc, picture, frozen, tariff, (u, v), work)?;
+        }
+    }
+    Ok(())
+}
+
+/// The same with the prices of a closure.
+fn are_agreed_at<F: Asks + Drop>(
+    rt: &impl Abort,
+    alloc: Global,
+    picture: &Picture,
+    frozen: &Frozen,
+    ask: F,
+    numbers: &mut Numbers,
+    work: &mut Workspace,
+) -> Result<(), Fail>
+    requires callable { F.can_ask ask }
+    requires promise { IsPromise (F.answers ask) }
+{
+    let tariff = Tariff::new(ask);
+    are_agreed(rt, alloc, picture, frozen, &tariff, numbers, work)
+}
+
+/// The same with each of the prices.
+fn are_agreed_on(
+    rt: &impl Abort,
+    alloc: Global,
+    picture: &Picture,
+    frozen: &Frozen,
+    numbers: &mut Numbers,
+    work: &mut Workspace,
+) -> Result<(), Fail> {
+    for (rest, entries) in PRICES {
+        let table = table_of(rt, *rest, entries);
+        let ask = |facts: &Facts| table.price(facts.kind);
+        are_agreed_at(rt, alloc, picture, frozen, ask, numbers, work)?;
+    }
+    Ok(())
+}
+
+/// The same of a picture.
+fn is_searched(
+    rt: &impl Abort,
+    alloc: Global,
+    picture: &Picture,
+    numbers: &mut Numbers,
+    work: &mut Workspace,
+) -> Result<(), Fail> {
+    let frozen = picture.freeze(alloc)?;
+    let told = are_agreed_on(rt, alloc, picture, &frozen, numbers, work);
+    drop(frozen);
+    told
+}
+
+/// A call that may lead an edge to one of a few vertices, or to a near one.
+fn call_to(numbers: &mut Numbers, vertices: u32, edges: u32, hubs: u32) -> Call {
+    let kind = numbers.below(4);
+    if numbers.below(2) == 0 {
+        return next_call(numbers, vertices, edges);
+    }
+    Call::Insert {
+        u: numbers.below(vertices),
+        v: numbers.below(hubs),
+        kind,
+    }
+}
+
+/// One call more.
+fn go_on<F: Asks>(
+    alloc: Global,
+    book: &mut Book<F>,
+    numbers: &mut Numbers,
+    hubs: u32,
+) -> Result<(), AllocError> {
+    let vertices = book.picture().counts().vertices;
+    let (edges, _crossings) = next_ids(alloc, book.picture())?;
+    let call = call_to(numbers, vertices, edges, hubs);
+    let reply = made(alloc, book, 0, call)?;
+    drop(reply);
+    Ok(())
+}
+
+/// The two searches agree on each picture of a run.
+fn run<F: Asks>(
+    rt: &impl Abort,
+    alloc: Global,
+    book: &mut Book<F>,
+    run: (u32, u32),
+    work: &mut Workspace,
+) -> Result<(), Fail> {
+    let (state, hubs) = run;
+    let mut numbers = Numbers { state };
+    for _ in 0..CALLS {
+        go_on(alloc, book, &mut numbers, hubs)?;
+        is_searched(rt, alloc, book.picture(), &mut numbers, work)?;
+    }
+    Ok(())
+}
+
+/// The run of a book that begins with the seed.
+fn run_from_seed<F: Asks + Drop>(
+    rt: &impl Abort,
+    alloc: Global,
+    of: (u32, u32),
+    ask: F,
+    work: &mut Workspace,
+) -> Result<(), Fail>
+    requires callable { F.can_ask ask }
+    requires promise { IsPromise (F.answers ask) }
+{
+    let mut book = book_of(alloc, SEED, (40, 1_000, 2_000), ask)?;
+    let told = run(rt, alloc, &mut book, of, work);
+    drop(book);
+    told
+}
+
+/// All runs.
+fn run_all(rt: &impl Abort, alloc: Global, work: &mut Workspace) -> Result<(), Fail> {
+    for of in RUNS {
+        let table = table_of(rt, Some(1), &[(1, Some(5)), (2, Some(2)), (3, None)]);
+        let ask = |facts: &Facts| table.price(facts.kind);
+        run_from_seed(rt, alloc, *of, ask, work)?;
+    }
+    Ok(())
+}
+
+#[test]
+fn searches_from_both_ends_and_from_one_agree(rt: HostRuntime) -> Result<(), Fail> {
+    let mut work = Workspace::new(rt.alloc())?;
+    let told = run_all(&rt, rt.alloc(), &mut work);
+    drop(work);
+    told
+}
