@@ -18,3 +18,5 @@ pub mod Unreached
 pub mod Names
 pub mod Canonical
 pub mod Uncrossed
+pub mod Surviving
+pub mod Searched

@@ -8,3 +8,4 @@ pub mod Numbers
 pub mod Plans
 pub mod Settling
 pub mod Sheets
+pub mod Surviving
