@@ -20,3 +20,5 @@ pub mod Canonical
 pub mod Uncrossed
 pub mod Surviving
 pub mod Searched
+pub mod Levels
+pub mod BothEnds

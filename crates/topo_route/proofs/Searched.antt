@@ -12,12 +12,12 @@ use Rattle.topo_core.specs.Picture.{corner, darts, system}
 use Rattle.topo_core.specs.RouteLaws.{IsFirstByHeights, IsTight, TakesFirstDarts}
 use Rattle.topo_core.specs.Routes.{Costs, Crosses, IsCertificate, IsFirst, KeepsPromise, Pricing}
 use Rattle.topo_core.specs.Systems.{SameFace, face_step, has_dart}
-use Rattle.topo_core.proofs.Certificates.{face_height, face_in, height_bounds}
 use Rattle.topo_core.proofs.Numbering.{twin_in}
 use Rattle.topo_core.proofs.RouteDarts.{corner_in}
 use Rattle.topo_core.proofs.SimpleRoutes.{face_back}
-use Rattle.topo_route.specs.Surviving.{CoversRoute, CoversSearch, KeepsEnds, KeepsFaces, Renaming, moved}
-use Rattle.topo_route.proofs.Numbers.{face_stays}
+use Rattle.topo_route.specs.Names.{IsNamed, Named}
+use Rattle.topo_route.specs.Surviving.{CoversKnown, CoversRoute, CoversSearch, KeepsEnds, KeepsFaces, Renaming, moved}
+use Rattle.topo_route.proofs.Levels.{capped, falls_on, first_by_capped, one_level, start_level}
 use Rattle.topo_route.proofs.Surviving.{covered_survives, face_inside}
 
 -- ---- Two numbers
@@ -94,44 +94,25 @@ module _ (price : Pricing) (promise : KeepsPromise price) (old : Rows) (lawful :
 
   -- ---- Down the walk
 
-  one_height : (c d : Dart) → has_dart (darts old) c ≡ true → SameFace (system old) c d → height d ≡ height c
-  one_height = face_height price old (system old) (darts old) height (face_stays old lawful) (twin_in old) covers.certificate.even covers.certificate.gentle
-
-  bounds : (xs : List Dart) (c to : Dart) (n : ℕ) → has_dart (darts old) c ≡ true → Crosses (system old) c xs to → Costs price old xs n → height to ≡ 0 → height c ≤ n
-  bounds = height_bounds price old (system old) (darts old) height (face_stays old lawful) (twin_in old) covers.certificate.even covers.certificate.gentle
-
-  in_face : (c d : Dart) → has_dart (darts old) c ≡ true → SameFace (system old) c d → has_dart (darts old) d ≡ true
-  in_face = face_in price old (system old) (darts old) height (face_stays old lawful) (twin_in old) covers.certificate.even covers.certificate.gentle
-
-  -- what holds behind the first dart of a walk that costs the height of its face
-  record Falls (x : Dart) (rest : ℕ) : Type 0 where
-    has : has_dart (darts old) (dart_twin x) ≡ true
-    falls : height (dart_twin x) ≡ rest
-    below : rest < p
-    is_inside : m.inside (dart_twin x) ≡ true
-
-  falls_on : (x : Dart) (xs : List Dart) (c to : Dart) (n : ℕ) → has_dart (darts old) c ≡ true → Crosses (system old) c (x ∷ xs) to → (cost : Costs price old (x ∷ xs) n)
-      → height to ≡ 0 → height c ≡ n → n ≤ p → Falls x cost.1
-  falls_on x xs c to n h walk cost down same low =
-      let there = in_face c x h walk.0 in
-      let other = twin_in old x there in
-      let one = one_height c x h walk.0 in
-      let climb = covers.certificate.gentle x cost.0 there cost.2 in
-      let rest = bounds xs (dart_twin x) to cost.1 other walk.1 cost.3 down in
+  -- behind each dart of a walk that costs no more than the price, darts are lower than the price and inside
+  inside_on : (x : Dart) (xs : List Dart) (c to : Dart) (n : ℕ) → has_dart (darts old) c ≡ true → Crosses (system old) c (x ∷ xs) to → (cost : Costs price old (x ∷ xs) n)
+      → height to ≡ 0 → height c ≡ n → n ≤ p → (cost.1 < p) × (m.inside (dart_twin x) ≡ true)
+  inside_on x xs c to n h walk cost down same low =
+      let next = falls_on price old lawful v height covers.certificate x xs c to n h walk cost down same in
+      let lands = next.to in
       let some = promise.positive cost.2.facts cost.0 cost.2.asked in
       let total = cost.4 in
       let lower : cost.1 < p = omega arith in
-      let is : height (dart_twin x) ≡ cost.1 = omega arith in
-      record { has = other; falls = is; below = lower; is_inside = covers.near (dart_twin x) other (omega arith) }
+      (lower, covers.near (dart_twin x) next.there (omega arith))
 
   -- the walk stays inside
   crosses_inside : (xs : List Dart) (c to : Dart) (n : ℕ) → has_dart (darts old) c ≡ true → Crosses (system old) c xs to → Costs price old xs n → height to ≡ 0 → height c ≡ n → n ≤ p
       → AllByRecursion (λ x. m.inside (dart_twin x) ≡ true) xs
   crosses_inside [] c to n h walk cost down same low = tt
   crosses_inside (x ∷ xs) c to n h walk cost down same low =
-      let next = falls_on x xs c to n h walk cost down same low in
-      let below = next.below in
-      (next.is_inside, crosses_inside xs (dart_twin x) to cost.1 next.has walk.1 cost.3 down next.falls (omega arith))
+      let next = falls_on price old lawful v height covers.certificate x xs c to n h walk cost down same in
+      let (below, stays_in) = inside_on x xs c to n h walk cost down same low in
+      (stays_in, crosses_inside xs (dart_twin x) to cost.1 next.there walk.1 cost.3 down next.to (omega arith))
 
   -- a dart that is tight by the heights cut off is tight
   tight_uncut : (y : Dart) (n : ℕ) → m.inside y ≡ true → height y ≡ n → n ≤ p → IsTight price old level y → IsTight price old height y
@@ -145,10 +126,10 @@ module _ (price : Pricing) (promise : KeepsPromise price) (old : Rows) (lawful :
       → TakesFirstDarts price old height c xs → TakesFirstDarts price old level c xs
   first_cut [] c to n h l walk cost down same low takes = tt
   first_cut (x ∷ xs) c to n h l walk cost down same low takes =
-      let next = falls_on x xs c to n h walk cost down same low in
-      let below = next.below in (
-        (λ y y_in face tight. takes.0 y y_in face (tight_uncut y n (stays c y l face) (one_height c y h face ∙ same) low tight)),
-        first_cut xs (dart_twin x) to cost.1 next.has next.is_inside walk.1 cost.3 down next.falls (omega arith) takes.1,
+      let next = falls_on price old lawful v height covers.certificate x xs c to n h walk cost down same in
+      let (below, stays_in) = inside_on x xs c to n h walk cost down same low in (
+        (λ y y_in face tight. takes.0 y y_in face (tight_uncut y n (stays c y l face) (one_level price old lawful v height covers.certificate c y h face ∙ same) low tight)),
+        first_cut xs (dart_twin x) to cost.1 next.there stays_in walk.1 cost.3 down next.to (omega arith) takes.1,
       )
 
   -- ---- The route
@@ -163,10 +144,7 @@ module _ (price : Pricing) (promise : KeepsPromise price) (old : Rows) (lawful :
   ends_down = covers.certificate.target r.end covers.first.priced.route.to covers.first.priced.route.ends
 
   from_height : height from ≡ p
-  from_height =
-      let high = covers.first.least_height r.start from covers.first.priced.route.starts in
-      let low = bounds r.crossed from covers.first.priced.route.to p from_in covers.first.priced.route.walk covers.first.priced.cost ends_down in
-      omega arith
+  from_height = start_level price old lawful v height covers.certificate u r p from covers.first covers.first.priced.route.starts
 
   by_level : IsFirstByHeights price old u v level r p
   by_level = record {
@@ -199,3 +177,16 @@ survives price old new m u v height r p promise lawful lawful_new keeps ends cov
     let stays = face_inside old new m keeps in
     covered_survives price old new m u v (level price promise old lawful m u v height r p keeps.round stays covers) p r p keeps ends
     (covers_search price promise old lawful m u v height r p keeps.round stays covers new) promise lawful_new
+
+-- the same of the heights that a search leaves
+pub found_survives : (price : Pricing) (g : Named) (new : Rows) (m : Renaming) (u v : ℕ) (top : ℕ → ℕ) (heights : List ℕ) (r : Route) (p : ℕ) → KeepsPromise price → Lawful g.rows → IsNamed g → Lawful new
+    → KeepsFaces g.rows new m → KeepsEnds g.rows new m u v r.start → CoversKnown price g m u v top heights r p → IsFirst price new u v (moved m r) p
+found_survives price g new m u v top heights r p promise lawful has lawful_new keeps ends covers =
+    survives price g.rows new m u v (capped price g lawful has u v top heights covers.known) r p promise lawful lawful_new keeps ends
+    (record {
+      some = covers.some;
+      certificate = covers.known.certificate;
+      first = first_by_capped price g lawful has u v top heights covers.known r p covers.first covers.below;
+      near = covers.near;
+      starts = covers.starts;
+    })

@@ -20,8 +20,8 @@ use Rattle.topo_core.proofs.DartLaws.{twin-twin}
 use Rattle.topo_core.proofs.Numbering.{twin_in}
 use Rattle.topo_core.proofs.RouteDarts.{certified}
 use Rattle.topo_core.proofs.SimpleRoutes.{face_back}
-use Rattle.topo_route.specs.Surviving.{CoversRoute, KeepsEnds, KeepsFaces, Renaming, moved, unmoved}
-use Rattle.topo_route.proofs.Numbers.{face_stays}
+use Rattle.topo_route.specs.Surviving.{CoversRoute, CoversSearch, KeepsEnds, KeepsFaces, Renaming, moved, unmoved}
+use Rattle.topo_route.proofs.Numbers.{corner_below, face_stays}
 
 -- a dart to which an option leads comes from one before
 from_mapped : (f : Dart → Dart) (o : Option Dart) (c : Dart) → option_map f o ≡ Some c → (d : Dart) × (o ≡ Some d) × (f d ≡ c)
@@ -323,25 +323,37 @@ module _ (price : Pricing) (old new : Rows) (m : Renaming) (u v : ℕ) (height :
 
 -- ---- A picture and itself
 
--- nothing has moved, and all faces and corners are kept
-pub keeps_itself : (rows : Rows) → Lawful rows → (u v start : ℕ) → KeepsFaces rows rows (unmoved rows) × KeepsEnds rows rows (unmoved rows) u v start
-keeps_itself rows lawful u v start = (
-  record {
-    of_before = λ d h. h;
-    of_after = λ e h. h;
-    there = λ d h. (h, refl);
-    here = λ e h. (h, refl);
-    round = face_stays rows lawful;
-    step = λ d h. refl;
-    twin_kept = λ d h. refl;
-    twin_moves = λ d h l. refl;
-    order = λ c d h l. refl;
-    edge = λ d h. refl;
-    same_edge = λ d h. record { id = refl; a = refl; b = refl; kind = refl };
-  },
-  record {
-    target = λ q. sym (option_map_id (corner rows v q));
-    starts = λ q before. sym (option_map_id (corner rows u q));
-    behind = λ q c at h. (q, at);
-  },
-)
+-- nothing has moved, and all faces are kept
+pub keeps_faces : (rows : Rows) → Lawful rows → KeepsFaces rows rows (unmoved rows)
+keeps_faces rows lawful = record {
+  of_before = λ d h. h;
+  of_after = λ e h. h;
+  there = λ d h. (h, refl);
+  here = λ e h. (h, refl);
+  round = face_stays rows lawful;
+  step = λ d h. refl;
+  twin_kept = λ d h. refl;
+  twin_moves = λ d h l. refl;
+  order = λ c d h l. refl;
+  edge = λ d h. refl;
+  same_edge = λ d h. record { id = refl; a = refl; b = refl; kind = refl };
+}
+
+-- and all corners
+pub keeps_ends : (rows : Rows) (u v start : ℕ) → KeepsEnds rows rows (unmoved rows) u v start
+keeps_ends rows u v start = record {
+  target = λ q. sym (option_map_id (corner rows v q));
+  starts = λ q before. sym (option_map_id (corner rows u q));
+  behind = λ q c at h. (q, at);
+}
+
+-- which cover each search
+pub covers_itself : (price : Pricing) (rows : Rows) → Lawful rows → (u v : ℕ) (height : Dart → ℕ) (r : Route) (p : ℕ) → 0 < p → IsCertificate price rows v height → IsFirstByHeights price rows u v height r p
+    → CoversSearch price rows (unmoved rows) u v height r p
+covers_itself price rows lawful u v height r p some certificate first = record {
+  some = some;
+  certificate = certificate;
+  first = first;
+  near = λ d there low. there;
+  starts = λ q c before at. corner_below rows lawful u q c at;
+}

@@ -1,5 +1,5 @@
 -- Routes that survive what changed elsewhere: a later picture still has the faces of a region, and in them the same first route.
-use Rattle.std.specs.Prelude.{◌≡◌, ℕ, ◌<◌, ◌≤◌, Bool, true, false, Some, map, option_map}
+use Rattle.std.specs.Prelude.{◌≡◌, ℕ, ◌+◌, ◌<◌, ◌≤◌, Bool, true, false, List, Some, map, min, option_map}
 use Rattle.std.specs.List.{AllByRecursion}
 use Rattle.topo_core.specs.declared.darts.Dart.{Dart}
 use Rattle.topo_core.specs.declared.rows.EdgeRow.{EdgeRow}
@@ -11,6 +11,9 @@ use Rattle.topo_core.specs.Picture.{corner, darts, edge_at, system}
 use Rattle.topo_core.specs.RouteLaws.{IsFirstByHeights}
 use Rattle.topo_core.specs.Routes.{IsCertificate, IsFirst, KeepsPromise, Pricing}
 use Rattle.topo_core.specs.Systems.{face_step, has_dart}
+use Rattle.topo_route.specs.Meeting.{Meets}
+use Rattle.topo_route.specs.Names.{IsNamed, Named, height_of}
+use Rattle.topo_route.specs.Plans.{AreHeightsBelow}
 
 -- ---- Faces that are kept
 
@@ -77,6 +80,29 @@ pub record CoversRoute (price : Pricing) (before after : Rows) (m : Renaming) (u
   pub starts : (q : ℕ) (c : Dart) → q ≤ r.start → corner before u q ≡ Some c → m.inside c ≡ true
   pub new : (q : ℕ) (c : Dart) → corner after u q ≡ Some c → m.kept c ≡ false → p ≤ outside
 
+-- ---- What a search leaves
+
+-- Heights that are known below the tops, and the route is first by them. All darts whose height, cut off at the top, is lower
+-- than the price lie inside, with the corners of u as far as the start.
+pub record CoversKnown (price : Pricing) (g : Named) (m : Renaming) (u v : ℕ) (top : ℕ → ℕ) (heights : List ℕ) (r : Route) (p : ℕ) : Type 0 where
+  pub some : 0 < p
+  pub known : AreHeightsBelow price g v top heights
+  pub first : IsFirstByHeights price g.rows u v (height_of g heights) r p
+  pub below : (q : ℕ) (c : Dart) → corner g.rows u q ≡ Some c → p < top (g.name c)
+  pub near : (d : Dart) → has_dart (darts g.rows) d ≡ true → min (height_of g heights d) (top (g.name d)) < p → m.inside d ≡ true
+  pub starts : (q : ℕ) (c : Dart) → q ≤ r.start → corner g.rows u q ≡ Some c → m.inside c ≡ true
+
+-- What a search from both ends knows, and the route is first by its heights. The darts lower than the level lie inside, and so
+-- do those whose distance makes up no more than the least price with the level. Where corners of u are among those, all of
+-- them are the same.
+pub record CoversMeeting (price : Pricing) (g : Named) (after : Rows) (m : Renaming) (u v : ℕ) (heights distances : List ℕ) (level least : ℕ) (r : Route) : Type 0 where
+  pub met : Meets price g u v heights distances level least
+  pub first : IsFirstByHeights price g.rows u v (height_of g heights) r least
+  pub near_target : (d : Dart) → has_dart (darts g.rows) d ≡ true → height_of g heights d < level → m.inside d ≡ true
+  pub near_start : (d : Dart) → has_dart (darts g.rows) d ≡ true → height_of g distances d + level ≤ least → m.inside d ≡ true
+  pub starts : (q : ℕ) (c : Dart) → q ≤ r.start → corner g.rows u q ≡ Some c → m.inside c ≡ true
+  pub all_starts : level ≤ least → (q : ℕ) → corner after u q ≡ option_map m.move (corner g.rows u q)
+
 -- ---- The laws
 
 -- where each face that the search has seen is still there, so is the first route, at the same price
@@ -89,10 +115,21 @@ abbrev pub CoveredRoutesSurvive : Pricing → Type 0
 CoveredRoutesSurvive price = (before after : Rows) (m : Renaming) (u v : ℕ) (height : Dart → ℕ) (outside : ℕ) (r : Route) (p : ℕ) → KeepsPromise price → Lawful after
     → KeepsFaces before after m → KeepsEnds before after m u v r.start → CoversRoute price before after m u v height outside r p → IsFirst price after u v (moved m r) p
 
+-- the same of the heights that a search leaves
+abbrev pub FoundRoutesSurvive : Pricing → Type 0
+FoundRoutesSurvive price = (g : Named) (after : Rows) (m : Renaming) (u v : ℕ) (top : ℕ → ℕ) (heights : List ℕ) (r : Route) (p : ℕ) → KeepsPromise price → Lawful g.rows → IsNamed g → Lawful after
+    → KeepsFaces g.rows after m → KeepsEnds g.rows after m u v r.start → CoversKnown price g m u v top heights r p → IsFirst price after u v (moved m r) p
+
+-- and of what a search from both ends leaves: what it has seen from either end is enough
+abbrev pub MetRoutesSurvive : Pricing → Type 0
+MetRoutesSurvive price = (g : Named) (after : Rows) (m : Renaming) (u v : ℕ) (heights distances : List ℕ) (level least : ℕ) (r : Route) → KeepsPromise price → Lawful g.rows → IsNamed g → Lawful after
+    → KeepsFaces g.rows after m → KeepsEnds g.rows after m u v r.start → CoversMeeting price g after m u v heights distances level least r → IsFirst price after u v (moved m r) least
+
 -- nothing has moved
 abbrev pub unmoved : Rows → Renaming
 unmoved rows = record { inside = has_dart (darts rows); kept = has_dart (darts rows); move = λ d. d; back = λ d. d }
 
--- a picture keeps all its own faces and corners
-abbrev pub PicturesKeepThemselves : Type 0
-PicturesKeepThemselves = (rows : Rows) (u v start : ℕ) → Lawful rows → KeepsFaces rows rows (unmoved rows) × KeepsEnds rows rows (unmoved rows) u v start
+-- a picture keeps all its own faces and corners, and they cover each search
+abbrev pub PicturesKeepThemselves : Pricing → Type 0
+PicturesKeepThemselves price = (rows : Rows) (u v : ℕ) (height : Dart → ℕ) (r : Route) (p : ℕ) → Lawful rows → 0 < p → IsCertificate price rows v height → IsFirstByHeights price rows u v height r p
+    → KeepsFaces rows rows (unmoved rows) × KeepsEnds rows rows (unmoved rows) u v r.start × CoversSearch price rows (unmoved rows) u v height r p

@@ -1,6 +1,6 @@
 //! Laws of routes in two pictures. The functions do nothing: their contracts are the laws.
 
-ghost use Rattle.topo_route.specs.Surviving.{CoveredRoutesSurvive, PicturesKeepThemselves, RoutesSurvive};
+ghost use Rattle.topo_route.specs.Surviving.{CoveredRoutesSurvive, FoundRoutesSurvive, MetRoutesSurvive, PicturesKeepThemselves, RoutesSurvive};
 
 use topo_core::prices::Prices;
 
@@ -15,7 +15,19 @@ pub fn covered_routes_survive<P: Prices>()
     ensures { CoveredRoutesSurvive P.price }
 {}
 
-/// A picture keeps all its own faces and corners, so what the two laws ask for can be had.
-pub fn pictures_keep_themselves()
-    ensures { PicturesKeepThemselves }
+/// The same of the heights that a search leaves.
+pub fn found_routes_survive<P: Prices>()
+    ensures { FoundRoutesSurvive P.price }
+{}
+
+/// The same of what a search from both ends leaves: the darts that it has settled from either end are
+/// enough.
+pub fn met_routes_survive<P: Prices>()
+    ensures { MetRoutesSurvive P.price }
+{}
+
+/// A picture keeps all its own faces and corners, and they cover each search: what the first law asks
+/// for can be had.
+pub fn pictures_keep_themselves<P: Prices>()
+    ensures { PicturesKeepThemselves P.price }
 {}

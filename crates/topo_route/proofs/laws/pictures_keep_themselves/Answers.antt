@@ -1,5 +1,6 @@
-use Rattle.topo_route.proofs.Surviving.{keeps_itself}
+use Rattle.topo_route.proofs.Surviving.{covers_itself, keeps_ends, keeps_faces}
 use Rattle.topo_route.proofs.laws.pictures_keep_themselves.Goals as goal
 
 pub returns : goal.returns
-returns c rows u v start lawful = keeps_itself rows lawful u v start
+returns g c rows u v height r p lawful some certificate first =
+    (keeps_faces rows lawful, keeps_ends rows u v r.start, covers_itself g.P.Prices.price rows lawful u v height r p some certificate first)
