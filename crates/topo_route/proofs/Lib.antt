@@ -22,3 +22,4 @@ pub mod Surviving
 pub mod Searched
 pub mod Levels
 pub mod BothEnds
+pub mod Staying

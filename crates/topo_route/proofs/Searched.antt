@@ -1,5 +1,5 @@
 -- The region that a search has seen: heights cut off above the price of the first route, and one number everywhere else.
-use Rattle.std.proofs.Common.{◌≡◌, ℕ, ◌+◌, ◌<◌, ◌≤◌, Bool, true, false, cond, List, [], ◌∷◌, Some, inl, inr, refl, sym, ap, ◌∙◌, arith}
+use Rattle.std.proofs.Common.{◌≡◌, ℕ, ◌+◌, ◌<◌, ◌≤◌, Bool, true, false, cond, List, [], ◌∷◌, inl, inr, refl, sym, ap, ◌∙◌, arith}
 use Rattle.std.specs.Prelude.{min}
 use Rattle.std.specs.List.{AllByRecursion}
 use Rattle.std.proofs.lemmas.Bool.{cases_Bool, cases_lt, false≢true}
@@ -8,7 +8,7 @@ use Rattle.topo_core.specs.declared.rows.Rows.{Rows}
 use Rattle.topo_core.specs.declared.routes.Route.{Route}
 use Rattle.topo_core.specs.Darts.{dart_twin}
 use Rattle.topo_core.specs.Lawful.{Lawful}
-use Rattle.topo_core.specs.Picture.{corner, darts, system}
+use Rattle.topo_core.specs.Picture.{darts, system}
 use Rattle.topo_core.specs.RouteLaws.{IsFirstByHeights, IsTight, TakesFirstDarts}
 use Rattle.topo_core.specs.Routes.{Costs, Crosses, IsCertificate, IsFirst, KeepsPromise, Pricing}
 use Rattle.topo_core.specs.Systems.{SameFace, face_step, has_dart}
@@ -75,12 +75,6 @@ module _ (price : Pricing) (promise : KeepsPromise price) (old : Rows) (lawful :
     ]
   ]
 
-  target_inside : (q : ℕ) (c : Dart) → corner old v q ≡ Some c → m.inside c ≡ true
-  target_inside q c at =
-      let down = covers.certificate.target q c at in
-      let some = covers.some in
-      covers.near c (corner_in old lawful.embedding.well_formed v q c at) (omega arith)
-
   level_certificate : IsCertificate price old v level
   level_certificate = record {
     even = λ d there.
@@ -89,7 +83,7 @@ module _ (price : Pricing) (promise : KeepsPromise price) (old : Rows) (lawful :
         let other = twin_in old d there in
         cut_gentle (m.inside d) (m.inside (dart_twin d)) p c (height d) (height (dart_twin d)) (promise.positive asked.facts c asked.asked)
         (covers.certificate.gentle d c there asked) (far d there) (far (dart_twin d) other);
-    target = λ q c at. let down = covers.certificate.target q c at in omega (arith, level_inside c (target_inside q c at));
+    target = λ q c at. let down = covers.certificate.target q c at in omega (arith, level_inside c (covers.target q c at));
   }
 
   -- ---- Down the walk
@@ -165,7 +159,7 @@ module _ (price : Pricing) (promise : KeepsPromise price) (old : Rows) (lawful :
     first = by_level;
     level = λ d there h. level_outside d h;
     crossed = crosses_inside r.crossed from covers.first.priced.route.to p from_in covers.first.priced.route.walk covers.first.priced.cost ends_down from_height (omega arith);
-    target = target_inside;
+    target = covers.target;
     starts = covers.starts;
     new = λ q c at h. omega arith;
   }
@@ -184,9 +178,9 @@ pub found_survives : (price : Pricing) (g : Named) (new : Rows) (m : Renaming) (
 found_survives price g new m u v top heights r p promise lawful has lawful_new keeps ends covers =
     survives price g.rows new m u v (capped price g lawful has u v top heights covers.known) r p promise lawful lawful_new keeps ends
     (record {
-      some = covers.some;
       certificate = covers.known.certificate;
       first = first_by_capped price g lawful has u v top heights covers.known r p covers.first covers.below;
       near = covers.near;
+      target = covers.target;
       starts = covers.starts;
     })

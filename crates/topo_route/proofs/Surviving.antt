@@ -4,7 +4,6 @@ use Rattle.std.specs.Prelude.{Option, map, option_map}
 use Rattle.std.specs.List.{AllByRecursion}
 use Rattle.std.specs.declared.cmp.Ordering.TheVariants.{Greater}
 use Rattle.std.proofs.lemmas.Bool.{cases_Bool, false≢true}
-use Rattle.std.proofs.lemmas.Iterator.Adapters.{option_map_id}
 use Rattle.topo_core.specs.declared.darts.Dart.{Dart}
 use Rattle.topo_core.specs.declared.rows.Rows.{Rows}
 use Rattle.topo_core.specs.declared.routes.Route.{Route}
@@ -20,8 +19,7 @@ use Rattle.topo_core.proofs.DartLaws.{twin-twin}
 use Rattle.topo_core.proofs.Numbering.{twin_in}
 use Rattle.topo_core.proofs.RouteDarts.{certified}
 use Rattle.topo_core.proofs.SimpleRoutes.{face_back}
-use Rattle.topo_route.specs.Surviving.{CoversRoute, CoversSearch, KeepsEnds, KeepsFaces, Renaming, moved, unmoved}
-use Rattle.topo_route.proofs.Numbers.{corner_below, face_stays}
+use Rattle.topo_route.specs.Surviving.{CoversRoute, KeepsEnds, KeepsFaces, Renaming, moved}
 
 -- a dart to which an option leads comes from one before
 from_mapped : (f : Dart → Dart) (o : Option Dart) (c : Dart) → option_map f o ≡ Some c → (d : Dart) × (o ≡ Some d) × (f d ≡ c)
@@ -320,40 +318,3 @@ module _ (price : Pricing) (old new : Rows) (m : Renaming) (u v : ℕ) (height :
   covered_survives promise lawful =
       first_by_heights price new u v there (certified price new u v there lawful.embedding.well_formed (certificate_moved lawful))
       (λ d n asked. promise.positive asked.facts n asked.asked) (moved m r) p by_heights_moved
-
--- ---- A picture and itself
-
--- nothing has moved, and all faces are kept
-pub keeps_faces : (rows : Rows) → Lawful rows → KeepsFaces rows rows (unmoved rows)
-keeps_faces rows lawful = record {
-  of_before = λ d h. h;
-  of_after = λ e h. h;
-  there = λ d h. (h, refl);
-  here = λ e h. (h, refl);
-  round = face_stays rows lawful;
-  step = λ d h. refl;
-  twin_kept = λ d h. refl;
-  twin_moves = λ d h l. refl;
-  order = λ c d h l. refl;
-  edge = λ d h. refl;
-  same_edge = λ d h. record { id = refl; a = refl; b = refl; kind = refl };
-}
-
--- and all corners
-pub keeps_ends : (rows : Rows) (u v start : ℕ) → KeepsEnds rows rows (unmoved rows) u v start
-keeps_ends rows u v start = record {
-  target = λ q. sym (option_map_id (corner rows v q));
-  starts = λ q before. sym (option_map_id (corner rows u q));
-  behind = λ q c at h. (q, at);
-}
-
--- which cover each search
-pub covers_itself : (price : Pricing) (rows : Rows) → Lawful rows → (u v : ℕ) (height : Dart → ℕ) (r : Route) (p : ℕ) → 0 < p → IsCertificate price rows v height → IsFirstByHeights price rows u v height r p
-    → CoversSearch price rows (unmoved rows) u v height r p
-covers_itself price rows lawful u v height r p some certificate first = record {
-  some = some;
-  certificate = certificate;
-  first = first;
-  near = λ d there low. there;
-  starts = λ q c before at. corner_below rows lawful u q c at;
-}

@@ -1,5 +1,5 @@
 -- Routes that survive what changed elsewhere: a later picture still has the faces of a region, and in them the same first route.
-use Rattle.std.specs.Prelude.{◌≡◌, ℕ, ◌+◌, ◌<◌, ◌≤◌, Bool, true, false, List, Some, map, min, option_map}
+use Rattle.std.specs.Prelude.{◌≡◌, ℕ, ◌+◌, ◌<◌, ◌≤◌, Bool, true, false, ◌&&◌, List, Some, map, min, option_map}
 use Rattle.std.specs.List.{AllByRecursion}
 use Rattle.topo_core.specs.declared.darts.Dart.{Dart}
 use Rattle.topo_core.specs.declared.rows.EdgeRow.{EdgeRow}
@@ -60,13 +60,13 @@ moved m r = record { start = r.start; crossed = map m.move r.crossed; end = r.en
 
 -- ---- The region that a search has seen
 
--- The route is first by heights that certify it, and all darts lower than its price lie inside, with the corners of u as far as
--- the start.
+-- The route is first by heights that certify it, and all darts lower than its price lie inside, with the corners of v, and with
+-- those of u as far as the start.
 pub record CoversSearch (price : Pricing) (before : Rows) (m : Renaming) (u v : ℕ) (height : Dart → ℕ) (r : Route) (p : ℕ) : Type 0 where
-  pub some : 0 < p
   pub certificate : IsCertificate price before v height
   pub first : IsFirstByHeights price before u v height r p
   pub near : (d : Dart) → has_dart (darts before) d ≡ true → height d < p → m.inside d ≡ true
+  pub target : (q : ℕ) (c : Dart) → corner before v q ≡ Some c → m.inside c ≡ true
   pub starts : (q : ℕ) (c : Dart) → q ≤ r.start → corner before u q ≡ Some c → m.inside c ≡ true
 
 -- The same of any region: outside of it all darts are equally high, and neither the route nor the corners that matter are
@@ -83,13 +83,13 @@ pub record CoversRoute (price : Pricing) (before after : Rows) (m : Renaming) (u
 -- ---- What a search leaves
 
 -- Heights that are known below the tops, and the route is first by them. All darts whose height, cut off at the top, is lower
--- than the price lie inside, with the corners of u as far as the start.
+-- than the price lie inside, with the corners of v, and with those of u as far as the start.
 pub record CoversKnown (price : Pricing) (g : Named) (m : Renaming) (u v : ℕ) (top : ℕ → ℕ) (heights : List ℕ) (r : Route) (p : ℕ) : Type 0 where
-  pub some : 0 < p
   pub known : AreHeightsBelow price g v top heights
   pub first : IsFirstByHeights price g.rows u v (height_of g heights) r p
   pub below : (q : ℕ) (c : Dart) → corner g.rows u q ≡ Some c → p < top (g.name c)
   pub near : (d : Dart) → has_dart (darts g.rows) d ≡ true → min (height_of g heights d) (top (g.name d)) < p → m.inside d ≡ true
+  pub target : (q : ℕ) (c : Dart) → corner g.rows v q ≡ Some c → m.inside c ≡ true
   pub starts : (q : ℕ) (c : Dart) → q ≤ r.start → corner g.rows u q ≡ Some c → m.inside c ≡ true
 
 -- What a search from both ends knows, and the route is first by its heights. The darts lower than the level lie inside, and so
@@ -125,11 +125,35 @@ abbrev pub MetRoutesSurvive : Pricing → Type 0
 MetRoutesSurvive price = (g : Named) (after : Rows) (m : Renaming) (u v : ℕ) (heights distances : List ℕ) (level least : ℕ) (r : Route) → KeepsPromise price → Lawful g.rows → IsNamed g → Lawful after
     → KeepsFaces g.rows after m → KeepsEnds g.rows after m u v r.start → CoversMeeting price g after m u v heights distances level least r → IsFirst price after u v (moved m r) least
 
--- nothing has moved
-abbrev pub unmoved : Rows → Renaming
-unmoved rows = record { inside = has_dart (darts rows); kept = has_dart (darts rows); move = λ d. d; back = λ d. d }
+-- ---- Regions that stay, and moves one after the other
 
--- a picture keeps all its own faces and corners, and they cover each search
-abbrev pub PicturesKeepThemselves : Pricing → Type 0
-PicturesKeepThemselves price = (rows : Rows) (u v : ℕ) (height : Dart → ℕ) (r : Route) (p : ℕ) → Lawful rows → 0 < p → IsCertificate price rows v height → IsFirstByHeights price rows u v height r p
-    → KeepsFaces rows rows (unmoved rows) × KeepsEnds rows rows (unmoved rows) u v r.start × CoversSearch price rows (unmoved rows) u v height r p
+-- whole faces of the picture
+pub record IsRegion (rows : Rows) (inside : Dart → Bool) : Type 0 where
+  pub of_rows : (d : Dart) → inside d ≡ true → has_dart (darts rows) d ≡ true
+  pub round : (d : Dart) → inside d ≡ true → inside (face_step (system rows) d) ≡ true
+
+-- nothing has moved
+abbrev pub unmoved : (Dart → Bool) → Renaming
+unmoved inside = record { inside = inside; kept = inside; move = λ d. d; back = λ d. d }
+
+-- a picture keeps its own faces and corners
+abbrev pub PicturesKeepThemselves : Type 0
+PicturesKeepThemselves = (rows : Rows) (inside : Dart → Bool) (u v start : ℕ) → IsRegion rows inside → KeepsFaces rows rows (unmoved inside) × KeepsEnds rows rows (unmoved inside) u v start
+
+-- all its darts are a region, which covers each search
+abbrev pub PicturesCoverSearches : Pricing → Type 0
+PicturesCoverSearches price = (rows : Rows) (u v : ℕ) (height : Dart → ℕ) (r : Route) (p : ℕ) → Lawful rows → IsCertificate price rows v height → IsFirstByHeights price rows u v height r p
+    → IsRegion rows (has_dart (darts rows)) × CoversSearch price rows (unmoved (has_dart (darts rows))) u v height r p
+
+-- moved, and then moved on
+abbrev pub followed : Renaming → Renaming → Renaming
+followed m on = record { inside = m.inside; kept = λ e. on.kept e && m.kept (on.back e); move = λ d. on.move (m.move d); back = λ e. m.back (on.back e) }
+
+-- where a third picture keeps all faces that the second has kept, it keeps what the first picture's region has become
+abbrev pub KeptFacesStay : Type 0
+KeptFacesStay = (before between after : Rows) (m on : Renaming) → KeepsFaces before between m → KeepsFaces between after on → ((d : Dart) → m.kept d ≡ true → on.inside d ≡ true)
+    → KeepsFaces before after (followed m on)
+
+-- and so it is with the corners of both ends
+abbrev pub KeptEndsStay : Type 0
+KeptEndsStay = (before between after : Rows) (m on : Renaming) (u v start : ℕ) → KeepsEnds before between m u v start → KeepsEnds between after on u v start → KeepsEnds before after (followed m on) u v start

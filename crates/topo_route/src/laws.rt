@@ -1,6 +1,6 @@
 //! Laws of routes in two pictures. The functions do nothing: their contracts are the laws.
 
-ghost use Rattle.topo_route.specs.Surviving.{CoveredRoutesSurvive, FoundRoutesSurvive, MetRoutesSurvive, PicturesKeepThemselves, RoutesSurvive};
+ghost use Rattle.topo_route.specs.Surviving.{CoveredRoutesSurvive, FoundRoutesSurvive, KeptEndsStay, KeptFacesStay, MetRoutesSurvive, PicturesCoverSearches, PicturesKeepThemselves, RoutesSurvive};
 
 use topo_core::prices::Prices;
 
@@ -26,8 +26,24 @@ pub fn met_routes_survive<P: Prices>()
     ensures { MetRoutesSurvive P.price }
 {}
 
-/// A picture keeps all its own faces and corners, and they cover each search: what the first law asks
-/// for can be had.
-pub fn pictures_keep_themselves<P: Prices>()
-    ensures { PicturesKeepThemselves P.price }
+/// A picture keeps its own faces and corners, in any region of whole faces.
+pub fn pictures_keep_themselves()
+    ensures { PicturesKeepThemselves }
+{}
+
+/// All darts of a picture are a region, and it covers each search: what the first law asks for can be
+/// had.
+pub fn pictures_cover_searches<P: Prices>()
+    ensures { PicturesCoverSearches P.price }
+{}
+
+/// Faces that are kept from one picture to the next, and from there to a third, are kept from the first
+/// to the third.
+pub fn kept_faces_stay()
+    ensures { KeptFacesStay }
+{}
+
+/// So are the corners at both ends.
+pub fn kept_ends_stay()
+    ensures { KeptEndsStay }
 {}
