@@ -21,3 +21,8 @@ pub mod Ending
 pub mod Names
 pub mod Canonical
 pub mod Uncrossed
+pub mod Surviving
+pub mod Searched
+pub mod Levels
+pub mod BothEnds
+pub mod Staying

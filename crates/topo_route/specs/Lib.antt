@@ -7,4 +7,6 @@ pub mod Names
 pub mod Numbers
 pub mod Plans
 pub mod Settling
+pub mod Sheets
 pub mod StampedArrays
+pub mod Surviving

@@ -18,6 +18,7 @@ pub mod dual;
 mod faces;
 mod graph;
 mod heights;
+pub mod laws;
 pub mod plan;
 pub mod search;
 mod spread;

@@ -1,0 +1,5 @@
+use Rattle.topo_route.proofs.Searched.{found_survives}
+use Rattle.topo_route.proofs.laws.found_routes_survive.Goals as goal
+
+pub returns : goal.returns
+returns g c = found_survives g.P.Prices.price

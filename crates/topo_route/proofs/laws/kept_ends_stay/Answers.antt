@@ -1,0 +1,5 @@
+use Rattle.topo_route.proofs.Staying.{kept_ends_on}
+use Rattle.topo_route.proofs.laws.kept_ends_stay.Goals as goal
+
+pub returns : goal.returns
+returns c = kept_ends_on

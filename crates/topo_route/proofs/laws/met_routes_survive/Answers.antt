@@ -1,0 +1,5 @@
+use Rattle.topo_route.proofs.BothEnds.{met_survives}
+use Rattle.topo_route.proofs.laws.met_routes_survive.Goals as goal
+
+pub returns : goal.returns
+returns g c = met_survives g.P.Prices.price

@@ -1,0 +1,5 @@
+use Rattle.topo_route.proofs.Searched.{survives}
+use Rattle.topo_route.proofs.laws.routes_survive.Goals as goal
+
+pub returns : goal.returns
+returns g c = survives g.P.Prices.price

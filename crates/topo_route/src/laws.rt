@@ -1,0 +1,49 @@
+//! Laws of routes in two pictures. The functions do nothing: their contracts are the laws.
+
+ghost use Rattle.topo_route.specs.Surviving.{CoveredRoutesSurvive, FoundRoutesSurvive, KeptEndsStay, KeptFacesStay, MetRoutesSurvive, PicturesCoverSearches, PicturesKeepThemselves, RoutesSurvive};
+
+use topo_core::prices::Prices;
+
+/// A later picture that still has each face whose darts are lower than the price of the first route,
+/// and the corners at both ends, has the same first route at the same price.
+pub fn routes_survive<P: Prices>()
+    ensures { RoutesSurvive P.price }
+{}
+
+/// The same of any region of whole faces outside of which all darts are equally high.
+pub fn covered_routes_survive<P: Prices>()
+    ensures { CoveredRoutesSurvive P.price }
+{}
+
+/// The same of the heights that a search leaves.
+pub fn found_routes_survive<P: Prices>()
+    ensures { FoundRoutesSurvive P.price }
+{}
+
+/// The same of what a search from both ends leaves: the darts that it has settled from either end are
+/// enough.
+pub fn met_routes_survive<P: Prices>()
+    ensures { MetRoutesSurvive P.price }
+{}
+
+/// A picture keeps its own faces and corners, in any region of whole faces.
+pub fn pictures_keep_themselves()
+    ensures { PicturesKeepThemselves }
+{}
+
+/// All darts of a picture are a region, and it covers each search: what the first law asks for can be
+/// had.
+pub fn pictures_cover_searches<P: Prices>()
+    ensures { PicturesCoverSearches P.price }
+{}
+
+/// Faces that are kept from one picture to the next, and from there to a third, are kept from the first
+/// to the third.
+pub fn kept_faces_stay()
+    ensures { KeptFacesStay }
+{}
+
+/// So are the corners at both ends.
+pub fn kept_ends_stay()
+    ensures { KeptEndsStay }
+{}
