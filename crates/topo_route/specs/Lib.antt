@@ -7,6 +7,5 @@ pub mod Names
 pub mod Numbers
 pub mod Plans
 pub mod Settling
-pub mod Sheets
 pub mod StampedArrays
 pub mod Surviving
