@@ -97,18 +97,17 @@ pub fn search<D: Dual, F: Asks>(
 /// The first of the least routes from `u` to `v`, two different vertices, with its price; none where
 /// no route crosses only edges that have a price.
 ///
-/// As `search`, for a call that hands out no heights: it spreads them only as far up as to `u`, so
-/// its time follows the darts that are nearer to `v` than `u` is, and the degrees of both. What it
-/// writes on is handed in, and costs nothing for the rest of the picture. An edge is asked for its
-/// price each time that it is needed.
+/// As `search`, for a call that hands out no heights. It searches from both ends until the two searches
+/// meet, so its time follows the darts of two discs, one round each end, which together reach as far as
+/// the route is dear. What it writes on is handed in, and costs nothing for the rest of the picture. An
+/// edge is asked for its price each time that it is needed.
 ///
-/// Where a face at one of the first corners of `u` is also at `v`, nothing is crossed, and no heights are
-/// spread.
+/// If a face at one of the first corners of `u` is also at `v`, nothing is crossed and nothing is searched.
 ///
-/// Shortest paths in the dual graph (Dijkstra 1959) from `v`, by buckets of equal height (Dial 1969),
-/// stopped at `u`. Heights that are cut off at any bound are still a certificate, since a minimum
-/// with a constant keeps their inequalities: this is what proves the route, whatever the order in
-/// which darts were taken.
+/// Shortest paths in the dual graph (Dijkstra 1959) from `v` and from `u`, by buckets of equal height (Dial
+/// 1969). The heights from `v` below some level, those of the darts on cheapest routes, and for all others
+/// what their distances from `u` leave of the price, are a certificate: this is what proves the route,
+/// whatever the order in which darts were taken (`Meeting.Meets`).
 pub fn first_route<W: Walked, F: Asks>(
     alloc: Global,
     walked: &W,
