@@ -1,2 +1,3 @@
+pub mod OneList
 pub mod Passing
 pub mod Telling

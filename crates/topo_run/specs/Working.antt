@@ -1,6 +1,7 @@
 -- What the passes of a run have done of its lists.
-use Rattle.std.specs.Prelude.{◌≡◌, ◌<◌, ℕ, List, [], length, map, slice_index_or, ⊤}
+use Rattle.std.specs.Prelude.{◌≡◌, ◌<◌, ℕ, All, List, [], length, map, slice_index_or, ⊤}
 use Rattle.topo_core.specs.declared.calls.Command.{Command}
+use Rattle.topo_core.specs.declared.calls.Entry.{Entry}
 use Rattle.topo_core.specs.History.{call_of}
 use Rattle.topo_service.specs.Passes.{PassState}
 use Rattle.topo_settings.specs.declared.fault.RunFault.{RunFault}
@@ -19,6 +20,11 @@ pub record HasWorked (number : ℕ) (list : List Command) (pass : PassState) : T
 pub record HaveWorked (lists : List (List Command)) (passes : List PassState) : Type 0 where
   pub count : length passes ≡ length lists
   pub each : (i : ℕ) (p : PassState) → i < length lists → HasWorked i (slice_index_or lists i []) (slice_index_or passes i p)
+
+-- the entries are the calls of the list's commands, in order, all of caller 0
+pub record HasEntered (list : List Command) (history : List Entry) : Type 0 where
+  pub calls : map (λ entry. entry.call) history ≡ map call_of list
+  pub callers : All (λ entry. entry.caller ≡ 0) history
 
 -- a fault of the service: want of memory, no place for a list, or a receipt that differs
 abbrev pub IsOfService : RunFault → Type 0

@@ -24,7 +24,7 @@ use topo_settings::settings::setting;
 use topo_settings::writing::write_text;
 
 /// Reads a script, carries out its lists on its start under its limits and at its prices, each list in a
-/// thread of its own or in its turn where no thread can be made, and writes the text of the report and a
+/// thread of its own or in its turn where no thread can be made, one list alone in this thread, and writes the text of the report and a
 /// line feed. A command is carried out between the gate's calls for it. A refused command is entered and
 /// changes nothing, and the run goes on. The reader is read until its end, or until it has given one byte
 /// more than a script may have: in at most twice as many calls as a script may have bytes, and two; an

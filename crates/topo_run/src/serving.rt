@@ -7,26 +7,19 @@ ghost use Rattle.topo_price.specs.Prices.{prices_of};
 ghost use Rattle.topo_run.specs.Working.{AreOpened, HaveWorked, IsOfService};
 ghost use Rattle.topo_service.specs.Commands.{commands};
 
+use crate::alone::course_alone;
+use crate::course::{Course, course_of};
 use std::alloc::{AllocError, Global};
 use std::marker::Brand;
 use std::sync::{Arc, Wait};
 use std::thread::Threads;
-use topo_book::Book;
-use topo_core::calls::{Command, Entry};
+use topo_core::calls::Command;
 use topo_core::listed::Listed;
-use topo_core::rows::Rows;
 use topo_picture::Picture;
 use topo_price::tariff::{Asks, Tariff};
 use topo_service::{EndFault, FreshService, Gate, Pass, Service, WorkerEnd, run_workers};
 use topo_settings::RunFault;
 use topo_versions::{ServiceBrand, StoreReader};
-
-/// A history, and the picture at its end.
-#[derive(Drop)]
-pub(crate) struct Course {
-    pub(crate) history: Listed<Entry>,
-    pub(crate) picture: Rows,
-}
 
 /// Copies of lists of commands.
 pub(crate) fn lists_of(
@@ -125,21 +118,6 @@ fn work_all<
     }
 }
 
-/// The history of a book, and its picture.
-fn course_of<F: Asks + Drop>(alloc: Global, book: Book<F>) -> Result<Course, RunFault>
-    ensures history { IfOk result (λ course. course.history ≡ book.history) }
-    ensures picture { IfOk result (λ course. course.picture ≡ book.picture.rows) }
-    ensures fault { IfErr result IsOfService }
-{
-    let Ok(picture) = book.picture().rows(alloc) else {
-        return Err(RunFault::Memory);
-    };
-    Ok(Course {
-        history: Listed::from_vec(book.into_history()),
-        picture,
-    })
-}
-
 /// What the lists lead to from the start that K names, by a service of its own.
 fn serve<
     F: Asks + Drop + Send + Sync,
@@ -182,7 +160,8 @@ fn serve<
     }
 }
 
-/// What the lists lead to from a start, each carried out by a thread of its own.
+/// What the lists lead to from a start, each carried out by a thread of its own. One list alone is carried
+/// out on a book.
 pub(crate) fn course_from<F: Asks + Drop + Send + Sync, R: Threads + Wait + Sync, T: Gate>(
     rt: &R,
     alloc: Global,
@@ -194,5 +173,8 @@ pub(crate) fn course_from<F: Asks + Drop + Send + Sync, R: Threads + Wait + Sync
     ensures run { IfOk result (λ course. IsRun (prices_of (F.answers (arc_value tariff))) start.limits start.rows (map commands lists.now) course.history course.picture) }
     ensures fault { IfErr result IsOfService }
 {
-    serve::<F, Brand, R, T>(rt, alloc, FreshService::new(), start, tariff, lists, gate)
+    match lists {
+        [list] => course_alone(alloc, start, tariff, list.as_slice(), gate),
+        _ => serve::<F, Brand, R, T>(rt, alloc, FreshService::new(), start, tariff, lists, gate),
+    }
 }

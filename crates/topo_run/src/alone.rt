@@ -1,0 +1,80 @@
+//! A run of one list: on a book, with no lock and no versions, since nobody else takes part.
+
+ghost use Rattle.std.specs.Prelude.{◌≡◌, ◌++◌, ◌∷◌, [], IfErr, IfOk, true};
+ghost use Rattle.std.specs.Arc.{arc_value};
+ghost use Rattle.topo_book.specs.Books.{IsSameBook};
+ghost use Rattle.topo_core.specs.History.{IsRun, call_of};
+ghost use Rattle.topo_price.specs.Prices.{prices_of};
+ghost use Rattle.topo_run.specs.Working.{HasEntered, IsOfService};
+
+use crate::course::{Course, course_of};
+use std::alloc::{AllocError, Global};
+use std::sync::Arc;
+use topo_book::Book;
+use topo_core::calls::{Call, Command, Reply};
+use topo_picture::Picture;
+use topo_price::tariff::{Asks, Tariff};
+use topo_service::Gate;
+use topo_settings::RunFault;
+
+/// Carries a command out as the call of caller 0. A planned insertion is looked for as any other.
+fn enter<F: Asks>(
+    alloc: Global,
+    book: &mut Book<F>,
+    command: Command,
+) -> Result<Reply, AllocError>
+    ensures entered { IfOk result (λ reply. book.new.history ≡ book.old.history ++ record { caller = 0; call = call_of command; reply = reply } ∷ []) }
+    ensures same_book { IsSameBook book.old book.new }
+{
+    match command {
+        Command::Plain(Call::Grow { u, position, kind }) => book.grow(alloc, 0, u, position, kind),
+        Command::Plain(Call::Insert { u, v, kind }) => book.insert(alloc, 0, u, v, kind),
+        Command::Plain(Call::Delete { edge }) => book.delete(alloc, 0, edge),
+        Command::Planned { u, v, kind } => book.insert(alloc, 0, u, v, kind),
+    }
+}
+
+/// Carries a list out, each command between the gate's calls for it, until it is out of memory. Says
+/// whether all of it was carried out.
+fn carry_out<F: Asks, T: Gate>(
+    alloc: Global,
+    book: &mut Book<F>,
+    list: &[Command],
+    gate: &T,
+) -> bool
+    requires { book.old.history ≡ [] }
+    ensures entered { result ≡ true → HasEntered list.now book.new.history }
+    ensures same_book { IsSameBook book.old book.new }
+{
+    for (index, command) in list.iter().enumerate() {
+        gate.before(0, index);
+        let made = enter(alloc, book, *command);
+        gate.after(0, index);
+        let Ok(_reply) = made else {
+            return false;
+        };
+    }
+    true
+}
+
+/// What one list leads to from a start.
+pub(crate) fn course_alone<F: Asks + Drop, T: Gate>(
+    alloc: Global,
+    start: Picture,
+    tariff: Arc<Tariff<F>>,
+    list: &[Command],
+    gate: &T,
+) -> Result<Course, RunFault>
+    ensures run { IfOk result (λ course. IsRun (prices_of (F.answers (arc_value tariff))) start.limits start.rows (list.now ∷ []) course.history course.picture) }
+    ensures fault { IfErr result IsOfService }
+{
+    let Ok(mut book) = Book::new(alloc, start, tariff) else {
+        return Err(RunFault::Memory);
+    };
+    if carry_out(alloc, &mut book, list, gate) {
+        book.history();
+        course_of(alloc, book)
+    } else {
+        Err(RunFault::Memory)
+    }
+}
