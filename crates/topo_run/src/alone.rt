@@ -18,11 +18,7 @@ use topo_service::Gate;
 use topo_settings::RunFault;
 
 /// Carries a command out as the call of caller 0. A planned insertion is looked for as any other.
-fn enter<F: Asks>(
-    alloc: Global,
-    book: &mut Book<F>,
-    command: Command,
-) -> Result<Reply, AllocError>
+fn enter<F: Asks>(alloc: Global, book: &mut Book<F>, command: Command) -> Result<Reply, AllocError>
     ensures entered { IfOk result (λ reply. book.new.history ≡ book.old.history ++ record { caller = 0; call = call_of command; reply = reply } ∷ []) }
     ensures same_book { IsSameBook book.old book.new }
 {

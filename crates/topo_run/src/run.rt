@@ -23,13 +23,13 @@ use topo_settings::reading::read_bytes;
 use topo_settings::settings::setting;
 use topo_settings::writing::write_text;
 
-/// Reads a script, carries out its lists on its start under its limits and at its prices, each list in a
-/// thread of its own or in its turn where no thread can be made, one list alone in this thread, and writes the text of the report and a
-/// line feed. A command is carried out between the gate's calls for it. A refused command is entered and
-/// changes nothing, and the run goes on. The reader is read until its end, or until it has given one byte
-/// more than a script may have: in at most twice as many calls as a script may have bytes, and two; an
-/// interrupted call is one of them. ReadFault comes where a call fails otherwise or there are too few of
-/// them, WriteFault where a call of the writer fails.
+/// Reads a script, carries out its lists on its start under its limits and at its prices, and writes the
+/// text of the report and a line feed. Each list has a thread of its own, or its turn where no thread can be
+/// made; one list alone is carried out in this thread. A command is carried out between the gate's calls for
+/// it. A refused command is entered and changes nothing, and the run goes on. The reader is read until its
+/// end, or until it has given one byte more than a script may have: in at most twice as many calls as a
+/// script may have bytes, and two; an interrupted call is one of them. ReadFault comes where a call fails
+/// otherwise or there are too few of them, WriteFault where a call of the writer fails.
 pub fn run_io<R: Threads + Wait + Sync, I: Read, O: Write, T: Gate>(
     rt: &R,
     alloc: Global,
