@@ -23,3 +23,4 @@ pub mod Searched
 pub mod Levels
 pub mod BothEnds
 pub mod Staying
+pub mod ComputedFaces
