@@ -26,3 +26,4 @@ pub mod Searched
 pub mod Levels
 pub mod BothEnds
 pub mod Staying
+pub mod ComputedFaces

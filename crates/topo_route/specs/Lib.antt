@@ -9,3 +9,4 @@ pub mod Plans
 pub mod Settling
 pub mod StampedArrays
 pub mod Surviving
+pub mod SurvivingEvidence
