@@ -5,7 +5,7 @@
 //! `Dual` what it has to where the names are the numbers in canonical order. `search` takes a `Dual` and
 //! gives the first of the least routes with its price and, as a certificate, the least cost from
 //! each face to the target; `first_route` takes any `Walked`, gives the route and its price alone, and
-//! walks no further than to the start. `check` says of any plan whether it is that, and which test it fails
+//! walks from both ends, no further than to where they meet. `check` says of any plan whether it is that, and which test it fails
 //! first: its Ok means that the route is the first of the least, whoever made the plan.
 #![tactic(auto)]
 

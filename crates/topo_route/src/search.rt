@@ -97,18 +97,18 @@ pub fn search<D: Dual, F: Asks>(
 /// The first of the least routes from `u` to `v`, two different vertices, with its price; none where
 /// no route crosses only edges that have a price.
 ///
-/// As `search`, for a call that hands out no heights: it spreads them only as far up as to `u`, so
-/// its time follows the darts that are nearer to `v` than `u` is, and the degrees of both. What it
-/// writes on is handed in, and costs nothing for the rest of the picture. An edge is asked for its
-/// price each time that it is needed.
+/// As `search`, for a call that hands out no heights: it spreads heights from both ends until they meet,
+/// so its time follows the darts that are nearer to one of the two than about half of the price between
+/// them, and the degrees of both. What it writes on is handed in, and costs nothing for the rest of the
+/// picture. An edge is asked for its price each time that it is needed.
 ///
 /// Where a face at one of the first corners of `u` is also at `v`, nothing is crossed, and no heights are
 /// spread.
 ///
-/// Shortest paths in the dual graph (Dijkstra 1959) from `v`, by buckets of equal height (Dial 1969),
-/// stopped at `u`. Heights that are cut off at any bound are still a certificate, since a minimum
-/// with a constant keeps their inequalities: this is what proves the route, whatever the order in
-/// which darts were taken.
+/// Shortest paths in the dual graph (Dijkstra 1959) from both ends (Nicholson 1966), by buckets of equal
+/// height (Dial 1969). What is spread from `u` says how high above `v` a dart may be that no spread from
+/// `v` has reached: the heights, cut off there, are a certificate. This is what proves the route, whatever
+/// the order in which darts were taken and wherever the two ends met.
 pub fn first_route<W: Walked, F: Asks>(
     alloc: Global,
     walked: &W,
