@@ -16,11 +16,6 @@ use Rattle.topo_route.proofs.Sums.{sums_lowered}
 use Rattle.topo_route.proofs.Tests.{before_some}
 
 module _ (price : Pricing) (g : Named) (lawful : Lawful g.rows) (has : IsNamed g) (v : ℕ) (others : List ℕ) where
-  -- no step
-  pub still : (heights waiting : List ℕ) (least in_hand : ℕ) → AreCosts price g v heights → AreSums g heights others least
-      → Relaxes price g v others heights waiting least in_hand heights waiting least in_hand
-  still heights waiting least in_hand costs sums = record { spreads = λ top s. s; costs = costs; sums = sums; less = omega arith; falls = omega arith; lower = λ k. omega arith }
-
   -- one step after another
   pub both_steps : {hs ws : List ℕ} {l d : ℕ} {hs' ws' : List ℕ} {l' d' : ℕ} {hs'' ws'' : List ℕ} {l'' d'' : ℕ} → Relaxes price g v others hs ws l d hs' ws' l' d' → Relaxes price g v others hs' ws' l' d' hs'' ws'' l'' d''
       → Relaxes price g v others hs ws l d hs'' ws'' l'' d''

@@ -38,13 +38,6 @@ pub record AreHeightsFor (price : Pricing) (g : Named) (u v : ℕ) (heights : Li
   pub start : (position from : ℕ) → IsStart g u heights position from → (p : ℕ) (c : Dart) → corner g.rows u p ≡ Some c → slice_index heights from < top (g.name c)
   pub none : HasNoStart g u heights → HasNoRoute price g.rows u v
 
--- a corner of u lies lower than the bound
-pub record HasCornerBelow (g : Named) (u : ℕ) (heights : List ℕ) (bound : ℕ) : Type 0 where
-  pub position : ℕ
-  pub from : Dart
-  pub there : corner g.rows u position ≡ Some from
-  pub below : height_of g heights from < bound
-
 -- a route down the heights is first by them, and so it is the first route
 pub record IsFirstRoute (price : Pricing) (g : Named) (u v : ℕ) (heights : List ℕ) (found : PricedRoute) : Type 0 where
   pub first : IsFirst price g.rows u v found.route found.price

@@ -39,9 +39,9 @@ fn start_both<W: Walked, F: Asks>(
 }
 
 /// Spreads from both ends until no dart that waits can be on a route that is cheaper than the cheapest
-/// found, or until one end has nothing left. The end that has put fewer darts among those that wait goes
-/// on. The answer is how high the darts are that the target's end has taken. What is known does not rest
-/// on it: whatever the number, what is left to do from there is done.
+/// found, or until one end has nothing left. The end for which fewer wait goes on. The answer is how high
+/// the darts are that the target's end has taken. What is known does not rest on it: whatever the number,
+/// what is left to do from there is done.
 fn spread_both<W: Walked, F: Asks>(
     graph: &Graph<W, F>,
     work: &mut Workspace,
@@ -56,7 +56,7 @@ fn spread_both<W: Walked, F: Asks>(
     let mut level = 0;
     let mut far = 0u64;
     while far.saturating_add(level) <= *least {
-        if work.to_start.waiting.pushed() < work.to_end.waiting.pushed() {
+        if work.to_start.waiting.count() < work.to_end.waiting.count() {
             match work
                 .to_start
                 .spread_next(graph, &work.to_end.heights, least, u)?

@@ -28,6 +28,7 @@ pub(crate) struct BucketQueue {
     entries: Vec<Entry>,
     heads: Vec<usize>,
     first: usize,
+    count: usize,
 }
 
 impl Model for BucketQueue {
@@ -53,6 +54,7 @@ impl BucketQueue {
             entries,
             heads,
             first: 0,
+            count: 0,
         })
     }
 
@@ -63,11 +65,12 @@ impl BucketQueue {
         self.entries.clear();
         self.heads.fill(0);
         self.first = 0;
+        self.count = 0;
     }
 
-    /// How many items have been added since the last call of `clear`.
-    pub(crate) fn pushed(&self) -> usize {
-        self.entries.len()
+    /// How many items wait. No contract rests on it: it says which end of a search goes on.
+    pub(crate) fn count(&self) -> usize {
+        self.count
     }
 
     /// Adds an item of this height.
@@ -79,6 +82,7 @@ impl BucketQueue {
         let below = self.heads[bucket];
         self.entries.push(Entry { item, below })?;
         self.heads[bucket] = self.entries.len();
+        self.count = self.count.wrapping_add(1);
         Ok(())
     }
 
@@ -92,6 +96,7 @@ impl BucketQueue {
                 let entry = self.entries[self.heads[bucket] - 1];
                 self.first = bucket;
                 self.heads[bucket] = entry.below;
+                self.count = self.count.wrapping_sub(1);
                 Some(entry.item)
             }
             None => None,

@@ -104,10 +104,10 @@ pub fn search<D: Dual, F: Asks>(
 ///
 /// If a face at one of the first corners of `u` is also at `v`, nothing is crossed and nothing is searched.
 ///
-/// Shortest paths in the dual graph (Dijkstra 1959) from `v` and from `u`, by buckets of equal height (Dial
-/// 1969). The heights from `v` below some level, those of the darts on cheapest routes, and for all others
-/// what their distances from `u` leave of the price, are a certificate: this is what proves the route,
-/// whatever the order in which darts were taken (`Meeting.Meets`).
+/// Shortest paths in the dual graph (Dijkstra 1959) from both ends (Nicholson 1966), by buckets of equal
+/// height (Dial 1969). What is spread from `u` says how high above `v` a dart may be that no spread from
+/// `v` has reached: the heights, cut off there, are a certificate. This is what proves the route, whatever
+/// the order in which darts were taken and wherever the two ends met.
 pub fn first_route<W: Walked, F: Asks>(
     alloc: Global,
     walked: &W,

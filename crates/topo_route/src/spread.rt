@@ -84,9 +84,9 @@ impl Labels {
             Some(price) => {
                 let price = price as u64;
                 if height < high.saturating_sub(price) {
-                    self.lower(other, least, twin, height + price);
-                    self.waiting
-                        .push(height + price, item_of(twin, height + price))?;
+                    let lowered = height + price;
+                    self.lower(other, least, twin, lowered);
+                    self.waiting.push(lowered, item_of(twin, lowered))?;
                 }
                 Ok(())
             }

@@ -23,10 +23,10 @@ pub loop-least-preserved : goal.loop-least-preserved
 loop-least-preserved g c =
     let step = c.in_ok-height-2.ensures in
     stepped_on (prices_of (g.F.Asks.answers c.args.graph.now.tariff.now)) (g.W.Walked.named c.args.graph.now.walked.now) (g.met.W.Walked.lawful c.args.graph.now.walked.now) (g.met.W.Walked.has_names c.args.graph.now.walked.now) c.args.u c.args.v
-    c.loop-least.invariant c.spread_next-else-pushed.new.self.heights c.spread_next-else-pushed.new.self.waiting c.spread_next-else-pushed.new.least step.spreads step.sums step.less step.lower
+    c.loop-least.invariant c.spread_next-else-count.new.self.heights c.spread_next-else-count.new.self.waiting c.spread_next-else-count.new.least step.spreads step.sums step.less step.lower
 
 pub returns-in-None-2 : goal.returns-in-None-2
 returns-in-None-2 g c =
     let step = c.in_ok-height-2.ensures in
     stepped_on (prices_of (g.F.Asks.answers c.args.graph.now.tariff.now)) (g.W.Walked.named c.args.graph.now.walked.now) (g.met.W.Walked.lawful c.args.graph.now.walked.now) (g.met.W.Walked.has_names c.args.graph.now.walked.now) c.args.u c.args.v
-    c.loop-least.invariant c.spread_next-else-pushed.new.self.heights c.spread_next-else-pushed.new.self.waiting c.spread_next-else-pushed.new.least step.spreads step.sums step.less step.lower
+    c.loop-least.invariant c.spread_next-else-count.new.self.heights c.spread_next-else-count.new.self.waiting c.spread_next-else-count.new.least step.spreads step.sums step.less step.lower
