@@ -105,8 +105,9 @@ class Examples(unittest.TestCase):
         self.check_commands("docs/USING.md")
 
     def test_shown_code(self):
-        """The code that is shown is that of the program it is from."""
-        sources = "".join(file.read_text() for file in sorted((ROOT / "crates" / "planar_editors" / "src").glob("*.rt")))
+        """The code that is shown is that of the program or the tests it is from, which the gate proves and runs."""
+        folders = [ROOT / "crates" / name / "src" for name in ("planar_editors", "topo_tests")]
+        sources = "".join(file.read_text() for folder in folders for file in sorted(folder.glob("*.rt")))
         for page in PAGES:
             shown = re.findall(r"```rust\n(.*?)```", (ROOT / page).read_text(), re.DOTALL)
             self.assertTrue(shown, page)
