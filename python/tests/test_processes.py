@@ -24,7 +24,7 @@ except ImportError:
     nx = None
 
 SECONDS = 10.0  # for what should take a moment
-MOMENT = 3.0  # it is well below a second where processors are free
+MOMENT = 1.0
 
 ONE = """
 from fezdrok import Planarizer
