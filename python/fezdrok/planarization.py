@@ -151,16 +151,15 @@ def planarize(
     of the script, is passed over where another comes to one. Rounds end where the program has a fault, as 51 TooLong
     where the picture makes the script longer than the program takes, or the limits do not suffice. Any other failure
     of the program and Ctrl-C (KeyboardInterrupt) end the search. In each of these cases the best picture so far is
-    the result, and a PlanarWarning says what happened. Where there is no picture yet, what ends the search is raised,
-    or else the first failure: NotPlanarized where the program refuses an edge; Fault and other PlanarErrors as
-    Planarizer.run; KeyboardInterrupt.
+    the result, and a PlanarWarning says what happened; where there is no picture yet, the first failure is raised:
+    NotPlanarized where the program refuses an edge; Fault and other PlanarErrors as Planarizer.run; KeyboardInterrupt.
     """
     if tries < 1:
         raise ValueError("tries must be at least 1")
     source = read_graph(graph, price, forbidden)
     found: Dict[int, Planarization] = {}
     failures: List[str] = []
-    first: Optional[PlanarError] = None
+    first: Optional[BaseException] = None
     try:
         for attempt in range(tries):
             prepared = _prepare(source, begin, order if attempt == 0 else "random", f"{seed}/{attempt}", limits, program)
@@ -172,8 +171,7 @@ def planarize(
                 first = first or fault
                 failures.append(f"order {attempt + 1} of {tries}: {_words(fault)}")
     except _ENDS as end:
-        if not found:
-            raise
+        first = first or end
         failures.append(_words(end))
     if first is not None and not found:
         raise first
@@ -208,8 +206,7 @@ def prepare(
     limits: Optional[Limits] = None,
     program: Optional[PathLike] = None,
 ) -> Prepared:
-    """The one run that `planarize` with the same words makes, to write its script and to read its report elsewhere, also
-    in another process: the script is the same for a graph whose nodes and edges stand in the same order."""
+    """The one run that `planarize` with the same words makes, to write its script and to read its report elsewhere."""
     return _prepare(read_graph(graph, price, forbidden), begin, order, f"{seed}/0", limits, program)
 
 

@@ -74,10 +74,7 @@ class Kept(unittest.TestCase):
         self.assertEqual(result.tries, planarize(self.graph, tries=2).tries)
 
     def test_the_first_failure_is_raised_where_nothing_was_found(self):
-        later = f"[ $n = 2 ] || {{ {TOO_LONG}; }}\n{INTERRUPT}"
-        ways = [("*", TOO_LONG, Fault), ("*", KILLED, ProgramFailed), ("1", KILLED, ProgramFailed)]
-        ways += [("*", INTERRUPT, KeyboardInterrupt), ("*", later, KeyboardInterrupt)]
-        for calls, how, kind in ways:
+        for calls, how, kind in (("*", TOO_LONG, Fault), ("*", KILLED, ProgramFailed), ("1", KILLED, ProgramFailed), ("*", INTERRUPT, KeyboardInterrupt)):
             with self.subTest(kind), self.assertRaises(kind):
                 planarize(self.graph, tries=3, program=self.failing(calls, how))
 
