@@ -7,7 +7,7 @@ edges that must not be crossed, matplotlib for `draw`.
 
 from .drawing import chain, draw, positions
 from .embeddings import Dummy, from_networkx_embedding, to_networkx_embedding
-from .faults import Fault, MemoryFault, NotPlanarized, OtherReport, PlanarError, PlanarWarning, ProgramFailed, ProgramNotFound, Unfinished, UsageRefused
+from .faults import Fault, MemoryFault, NotPlanarized, OtherReport, PlanarError, PlanarWarning, ProgramFailed, ProgramNotFound, UsageRefused
 from .many import Bar, planarize_many
 from .pictures import Counts, Crossing, Dart, Edge, Picture, Point
 from .planarization import Planarization, Prepared, planarize, prepare, reinsert
@@ -47,7 +47,6 @@ __all__ = [
     "ProgramNotFound",
     "Refused",
     "Report",
-    "Unfinished",
     "UsageRefused",
     "chain",
     "draw",

@@ -11,7 +11,6 @@ from pathlib import Path
 from typing import Iterator, Optional, Set, Tuple, Union
 
 from .faults import Fault, MemoryFault, PlanarWarning, ProgramFailed, ProgramNotFound, UsageRefused, read_value
-from .processes import run
 
 PathLike = Union[str, "os.PathLike[str]"]
 
@@ -95,7 +94,7 @@ def _tell_if_old(script: str, built: Path) -> None:
 
 
 class Program:
-    """One program `planar`; each call of a method is one process, which does not outlive this one (see `processes`).
+    """One program `planar`; each call of a method is one process.
 
     It is looked for at the first call, so scripts can be written where no program is.
     """
@@ -125,10 +124,10 @@ class Program:
 
     def _call(self, verb: str, text: str) -> str:
         """What the program prints, or the exception that its status stands for."""
-        status, output, errors = run([self.path, verb], text.encode())
-        if status == 0:
-            return output.decode()
-        raise failure(status, errors.decode(errors="replace"))
+        done = subprocess.run([self.path, verb], input=text.encode(), stdout=subprocess.PIPE, stderr=subprocess.PIPE)
+        if done.returncode == 0:
+            return done.stdout.decode()
+        raise failure(done.returncode, done.stderr.decode(errors="replace"))
 
 
 def failure(status: int, text: str) -> Exception:
