@@ -2,7 +2,6 @@
 scripts, which hand on to the program itself until a call at which they fail."""
 
 import os
-import signal
 import tempfile
 import unittest
 import warnings
@@ -19,7 +18,6 @@ except ImportError:
 
 TOO_LONG = "echo 'planar: 51 TooLong' >&2; exit 1"
 KILLED = "kill -9 $$"
-INTERRUPT = "kill -INT $PPID; exec sleep 20"
 
 
 @needs_networkx
@@ -28,7 +26,6 @@ class Kept(unittest.TestCase):
     def setUp(self):
         self.graph = nx.complete_graph(8)
         self.once = planarize(self.graph)
-        self.addCleanup(signal.signal, signal.SIGINT, signal.signal(signal.SIGINT, signal.default_int_handler))
 
     def failing(self, calls: str, how: str) -> str:
         """A program that fails in this way at each call whose number is in this pattern of the shell."""
@@ -74,17 +71,9 @@ class Kept(unittest.TestCase):
         self.assertEqual(result.tries, planarize(self.graph, tries=2).tries)
 
     def test_the_first_failure_is_raised_where_nothing_was_found(self):
-        for calls, how, kind in (("*", TOO_LONG, Fault), ("*", KILLED, ProgramFailed), ("1", KILLED, ProgramFailed), ("*", INTERRUPT, KeyboardInterrupt)):
+        for calls, how, kind in (("*", TOO_LONG, Fault), ("*", KILLED, ProgramFailed), ("1", KILLED, ProgramFailed)):
             with self.subTest(kind), self.assertRaises(kind):
                 planarize(self.graph, tries=3, program=self.failing(calls, how))
-
-    def test_an_interrupt(self):
-        with self.warned("KeyboardInterrupt"):
-            result = planarize(self.graph, rounds=5, program=self.failing("2", INTERRUPT))
-        self.assertEqual(result.picture, self.once.picture)
-        with self.warned("KeyboardInterrupt"):
-            result = planarize(self.graph, tries=50, program=self.failing("4", INTERRUPT))
-        self.assertEqual(result.tries, planarize(self.graph, tries=3).tries)
 
     def test_limits(self):
         """Ids run out in a round, and crossings in some orders."""
@@ -99,7 +88,7 @@ class Kept(unittest.TestCase):
             planarize(self.graph, tries=10, seed=1, limits=Limits(8, 28, 5))
 
     def test_reinsert(self):
-        for how, words in ((TOO_LONG, "51 TooLong"), (INTERRUPT, "KeyboardInterrupt"), (KILLED, "ProgramFailed")):
+        for how, words in ((TOO_LONG, "51 TooLong"), (KILLED, "ProgramFailed")):
             with self.subTest(words), self.warned(words):
                 self.assertIs(reinsert(self.once, 3, program=self.failing("1", how)), self.once)
         with self.warned("TooLong"):
