@@ -6,6 +6,7 @@ pub mod Meeting
 pub mod Names
 pub mod Numbers
 pub mod Plans
+pub mod Regions
 pub mod Settling
 pub mod StampedArrays
 pub mod Surviving
