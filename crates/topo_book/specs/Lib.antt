@@ -3,3 +3,4 @@ pub mod FaultTexts
 pub mod Faults
 pub mod Hints
 pub mod Replicas
+pub mod Sparing

@@ -7,6 +7,7 @@ use crate::hint::Hint;
 use crate::next::Next;
 use crate::replicas::{Replica, Replicas};
 use crate::scratch::Scratch;
+use crate::sparing::have_spared;
 use crate::steps::{advance, advance_alone, decide};
 use std::alloc::{AllocError, Global};
 use std::marker::Model;
@@ -16,6 +17,7 @@ use topo_core::calls::{Call, Entry, Reply};
 use topo_picture::Picture;
 use topo_price::tariff::{Asks, Tariff};
 use topo_route::plan::{Plan, PricedRoute};
+use topo_route::region::Region;
 
 /// A picture that calls change, with the picture that it began with and every answer since. What its
 /// searches and the checks of plans write on is kept from one call to the next, so that a search writes
@@ -33,6 +35,9 @@ pub struct Book<F: Asks> {
     // Whether the picture now is the second of the two that take turns.
     is_second: bool,
 }
+
+/// So many entries are looked through at most for what they changed.
+const MAX_ENTRIES_BETWEEN: u32 = 256;
 
 /// The picture now of a new book that begins with this one, and what its calls write on.
 fn begun(alloc: Global, start: &Picture) -> Result<(Arc<Picture>, Replicas, Scratch), AllocError>
@@ -80,6 +85,7 @@ impl<F: Asks> Book<F> {
     ghost use Rattle.topo_price.specs.Prices.{prices_of};
     ghost use Rattle.topo_book.specs.Books.{CanFollow, IsDue, IsReplica, IsSameBook, IsUnchanged, ReplaysLawfully, picture_after};
     ghost use Rattle.topo_book.specs.Hints.{IsHintFor};
+    ghost use Rattle.topo_book.specs.Sparing.{HaveSpared};
 
     /// The book that begins with this picture and no entry.
     pub fn new(alloc: Global, start: Picture, tariff: Arc<Tariff<F>>) -> Result<Self, AllocError>
@@ -144,6 +150,14 @@ impl<F: Asks> Book<F> {
         ensures same_limits { self.now.picture.limits ≡ self.now.start.limits }
     {
         &self.picture
+    }
+
+    /// Whether the last calls, so many that `accepted` of them are accepted, all spare a region of the picture
+    /// that came before them. Where there are many of them it says no.
+    pub fn has_spared(&self, before: &Picture, region: &Region, accepted: u64) -> bool
+        ensures { result ≡ true → HaveSpared before.now.rows region.now self.now.history accepted }
+    {
+        have_spared(before, region, self.history.as_slice(), accepted, MAX_ENTRIES_BETWEEN)
     }
 
     /// The entries, the oldest first. The book ends.

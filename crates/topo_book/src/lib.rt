@@ -13,6 +13,7 @@ mod next;
 mod replaying;
 mod replicas;
 mod scratch;
+mod sparing;
 mod steps;
 
 pub use book::Book;

@@ -1,3 +1,4 @@
+pub mod Apart
 pub mod Growing
 pub mod Inserting
 pub mod Totals

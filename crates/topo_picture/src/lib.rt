@@ -8,6 +8,7 @@
 //! they fail.
 #![tactic(auto)]
 
+mod apart;
 pub mod counts;
 pub mod laws;
 pub mod picture;

@@ -1,5 +1,6 @@
 //! A picture, with its limits.
 
+use crate::apart::lies_apart;
 use crate::counts::{Counts, counted};
 use std::alloc::{AllocError, Global};
 use std::marker::Model;
@@ -14,6 +15,7 @@ use topo_core::rows::{EdgeRow, Rows};
 use topo_dual::{Frozen, NumberLists, Numbered};
 use topo_embedded::{Embedded, EmbeddedRows};
 use topo_route::plan::Plan;
+use topo_route::region::Region;
 use topo_rows::by_id::edge_place;
 use topo_rows::flat::turns_of;
 use topo_rows::load::{LoadFault, judge};
@@ -38,12 +40,13 @@ impl Model for Picture {
 }
 
 impl Picture {
-    ghost use Rattle.std.specs.Prelude.{◌≡◌, ◌⊎◌, ◌+◌, ◌<◌, ℕ, true, IfOk, IfErr, OnErr, length, is_some, Some, None};
+    ghost use Rattle.std.specs.Prelude.{◌≡◌, ◌⊎◌, ◌+◌, ◌<◌, ℕ, true, IfOk, IfErr, IfSome, OnErr, length, is_some, Some, None};
     ghost use Rattle.topo_core.specs.Pictures.{seed};
     ghost use Rattle.topo_core.specs.Routes.{IsSimpleRoute};
     ghost use Rattle.topo_core.specs.Changes.{IsCut, grown, shown, without};
     ghost use Rattle.topo_core.specs.Picture.{edge_row};
     ghost use Rattle.topo_core.specs.Steps.{HasRoomFor, grow_refusal, insert_refusal};
+    ghost use Rattle.topo_route.specs.Regions.{IsApart};
     ghost use Rattle.topo_rows.specs.Loading.{FailsFirst};
     ghost use Rattle.topo_rows.specs.Shown.{IsPicture};
     ghost use Rattle.topo_picture.specs.Totals.{AreCountsOf};
@@ -197,6 +200,21 @@ impl Picture {
         match self.embedded.first_cut(edge) {
             Some(segment) => Err(Refusal::Cut(segment)),
             None => Ok(()),
+        }
+    }
+
+    /// Whether an edge lies apart from a region of this picture: it is not of the region, ends at no vertex
+    /// of it, and crosses no edge of it. So does an edge that is not there.
+    #[tactic(auto, using(crate::proofs::Apart::is_apart))]
+    pub fn is_apart(&self, edge: u32, region: &Region) -> bool
+        ensures { result ≡ true → IfSome (edge_row self.now.rows edge) (IsApart self.now.rows region.now) }
+    {
+        let rows = self.embedded.rows();
+        let hints = self.embedded.hints();
+        let edges = rows.edges.as_slice();
+        match edge_place(edges, hints, edge) {
+            Some(place) => lies_apart(rows, hints, region, &edges[place]),
+            None => true,
         }
     }
 

@@ -26,6 +26,7 @@ mod graph;
 mod heights;
 pub mod laws;
 pub mod plan;
+pub mod region;
 pub mod search;
 mod spread;
 mod stamped_array;

@@ -1,11 +1,12 @@
 //! The search for the first of the least routes.
 
-ghost use Rattle.std.specs.Prelude.{◌≢◌, ◌<◌, IfOk, MatchOption, length};
+ghost use Rattle.std.specs.Prelude.{◌≢◌, ◌<◌, IfOk, IfSome, MatchOption, length};
 ghost use Rattle.topo_core.specs.Picture.{darts};
 ghost use Rattle.topo_core.specs.Routes.{HasNoRoute, IsFirst};
 ghost use Rattle.topo_price.specs.Prices.{prices_of};
 ghost use Rattle.topo_route.specs.Descents.{AreHeightsFor, IsFirstRoute};
 ghost use Rattle.topo_route.specs.Plans.{IsPlan};
+ghost use Rattle.topo_route.specs.Regions.{IsFirstWhileKept, IsRegionOf};
 ghost use Rattle.topo_route.specs.Settling.{ArePrices};
 
 use crate::both_ends::{heights_for, least_heights};
@@ -13,7 +14,7 @@ use crate::descent::{descend, end_corner, start_corner};
 use crate::direct::direct_route;
 use crate::dual::Dual;
 use crate::graph::{Graph, segment_prices};
-use crate::plan::{Plan, PricedRoute};
+use crate::plan::{Plan, PricedRoute, SeenRoute};
 use crate::stamped_array::StampedArray;
 use crate::walked::Walked;
 use crate::workspace::Workspace;
@@ -135,4 +136,31 @@ pub fn first_route<W: Walked, F: Asks>(
     heights_for(&graph, u, v, work)?;
     let found = route_by_heights(alloc, &graph, u, v, &work.to_end.heights)?;
     Ok(found)
+}
+
+/// As `first_route`, with the region that the search has seen.
+pub fn first_route_seen<W: Walked, F: Asks>(
+    alloc: Global,
+    walked: &W,
+    tariff: &Tariff<F>,
+    u: u32,
+    v: u32,
+    work: &mut Workspace,
+) -> Result<Option<SeenRoute>, AllocError>
+    requires u_there { u < length (W.named walked.now).rows.rotations }
+    requires v_there { v < length (W.named walked.now).rows.rotations }
+    requires apart { u ≢ v }
+    ensures first { IfOk result (λ found. MatchOption found
+        (HasNoRoute (prices_of (F.answers tariff.now)) (W.named walked.now).rows u v)
+        (λ r. IsFirst (prices_of (F.answers tariff.now)) (W.named walked.now).rows u v r.first.route r.first.price)) }
+    ensures region { IfOk result (λ found. IfSome found (λ r. IfSome r.region
+        (λ region. IsRegionOf (W.named walked.now).rows region × IsFirstWhileKept (prices_of (F.answers tariff.now)) (W.named walked.now).rows u v region r.first.route r.first.price))) }
+{
+    match first_route(alloc, walked, tariff, u, v, work)? {
+        Some(first) => Ok(Some(SeenRoute {
+            first,
+            region: None,
+        })),
+        None => Ok(None),
+    }
 }

@@ -5,6 +5,7 @@ use Rattle.topo_core.specs.declared.routes.Route.{Route}
 use Rattle.topo_core.specs.declared.calls.Entry.{Entry}
 use Rattle.topo_core.specs.History.{IsVersion}
 use Rattle.topo_core.specs.Routes.{IsFirst, Pricing}
+use Rattle.topo_route.specs.Regions.{IsFirstWhileKept, IsRegionOf, RegionState}
 use Rattle.topo_rows.specs.Shown.{Shown}
 
 -- the route from u to v with its price, and the accepted entries that lead to the picture on which it was found
@@ -20,3 +21,7 @@ pub record IsFoundRoute (price : Pricing) (start : Shown) (found : FoundState) :
   pub picture : Rows
   pub replayed : IsVersion price start.limits start.rows found.entries picture
   pub first : IsFirst price picture found.u found.v found.route found.price
+
+-- a region of the picture, and while it is kept the route is the first
+abbrev pub IsHeldBy : Pricing → Rows → ℕ → ℕ → Route → ℕ → RegionState → Type 0
+IsHeldBy price picture u v route cost region = IsRegionOf picture region × IsFirstWhileKept price picture u v region route cost

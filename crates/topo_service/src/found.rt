@@ -1,47 +1,53 @@
 //! A route that carries its proof.
 
-ghost use Rattle.std.specs.Prelude.{◌≡◌, ◌≢◌, IfErr, IfOk, OnOk, Some, true};
-ghost use Rattle.topo_core.specs.History.{IsPrefix};
+ghost use Rattle.std.specs.Prelude.{◌≡◌, ◌≢◌, IfErr, IfOk, IfSome, OnOk, Some, true};
+ghost use Rattle.topo_core.specs.History.{IsPrefix, versions};
 ghost use Rattle.topo_core.specs.Routes.{IsFirst};
 ghost use Rattle.topo_price.specs.Prices.{prices_of};
 ghost use Rattle.topo_versions.specs.Names.{prices_named};
 ghost use Rattle.topo_service.specs.Faults.{HasVertices, IsPlanFault, IsPlanRefusal};
-ghost use Rattle.topo_service.specs.Found.{IsFoundRoute};
+ghost use Rattle.topo_service.specs.Found.{IsFoundRoute, IsHeldBy};
 
 use crate::faults::PassFault;
 use crate::pass::PassOver;
 use std::alloc::Global;
-use std::marker::{Model, PhantomData};
+use std::marker::Model;
+use topo_book::Book;
 use topo_core::calls::Refusal;
 use topo_picture::Picture;
 use topo_price::tariff::{Asks, Tariff};
-use topo_route::plan::{Plan, PricedRoute};
-use topo_route::search::first_route;
+use topo_route::plan::{Plan, PricedRoute, SeenRoute};
+use topo_route::region::Region;
+use topo_route::search::first_route_seen;
 use topo_route::workspace::Workspace;
 use topo_versions::{LogPrefix, ServiceBrand, Version, VersionReader};
 
 /// The first of the cheapest routes between two vertices at the service's prices, as it was found on one
-/// version. It remembers which version that was, so that the service takes it with no check where that
-/// version is still the newest; it holds no share of the version's picture.
+/// version. It holds that version, and remembers what the search has seen of it. So the service takes the
+/// route with no search if that version is still the newest, and also if the calls since then have changed
+/// nothing that the search has seen.
 #[derive(Drop)]
 pub struct FoundRoute<F: Asks, K: ServiceBrand<F>> {
     u: u32,
     v: u32,
     first: PricedRoute,
-    // The accepted entries that lead to that version.
-    prefix: LogPrefix<F, K>,
-    of: PhantomData<F>,
+    // What the search has seen, where that is known.
+    region: Option<Region>,
+    version: Version<F, K>,
 }
 
 impl<F: Asks, K: ServiceBrand<F>> Model for FoundRoute<F, K> {
+    ghost use Rattle.std.specs.Prelude.{IfSome};
+    ghost use Rattle.topo_core.specs.Routes.{IsFirst};
     ghost use Rattle.topo_versions.specs.Names.{prices_named};
-    ghost use Rattle.topo_service.specs.Found.{FoundState, IsFoundRoute};
+    ghost use Rattle.topo_service.specs.Found.{FoundState, IsHeldBy};
 
     ghost Value = { FoundState };
 
-    ghost view = { λ f. record { u = f.u; v = f.v; route = f.first.route; price = f.first.price; entries = f.prefix } };
+    ghost view = { λ f. record { u = f.u; v = f.v; route = f.first.route; price = f.first.price; entries = f.version.entries } };
 
-    ghost invariant = { λ f. IsFoundRoute (prices_named F.answers K.closure) K.start (record { u = f.u; v = f.v; route = f.first.route; price = f.first.price; entries = f.prefix }) };
+    ghost invariant = { λ f. IsFirst (prices_named F.answers K.closure) f.version.picture.rows f.u f.v f.first.route f.first.price
+        × IfSome f.region (IsHeldBy (prices_named F.answers K.closure) f.version.picture.rows f.u f.v f.first.route f.first.price) };
 }
 
 impl<F: Asks, K: ServiceBrand<F>> FoundRoute<F, K> {
@@ -62,19 +68,43 @@ impl<F: Asks, K: ServiceBrand<F>> FoundRoute<F, K> {
         (self.u, self.v)
     }
 
-    /// Whether it leads between these and was found on the version after these entries.
-    pub(crate) fn is_of(&self, u: u32, v: u32, prefix: &LogPrefix<F, K>) -> bool
+    /// Whether it leads between these.
+    pub(crate) fn is_between(&self, u: u32, v: u32) -> bool
         ensures u { result ≡ true → self.now.u ≡ u }
         ensures v { result ≡ true → self.now.v ≡ v }
-        ensures entries { result ≡ true → self.now.entries ≡ prefix.now }
     {
-        self.u == u && self.v == v && self.prefix.same_as(prefix)
+        self.u == u && self.v == v
+    }
+
+    /// Whether it was found on the version after these entries.
+    pub(crate) fn is_of(&self, prefix: &LogPrefix<F, K>) -> bool
+        ensures { result ≡ true → self.now.entries ≡ prefix.now }
+    {
+        self.version.prefix().same_as(prefix)
+    }
+
+    /// Whether it is still the first on the picture of a book with these accepted entries, since the calls
+    /// since it was found have changed nothing that its search has seen. No price is asked.
+    pub(crate) fn outlives(&self, book: &Book<F>, prefix: &LogPrefix<F, K>) -> bool
+        requires begun { book.now.start ≡ K.start }
+        requires named { K.closure ≡ Some book.now.tariff }
+        requires entries { prefix.now ≡ versions book.now.history }
+        ensures { result ≡ true → IsFirst (prices_of (F.answers book.now.tariff)) book.now.picture.rows self.now.u self.now.v self.now.route self.now.price }
+    {
+        book.history();
+        self.version.picture();
+        let Some(region) = &self.region else {
+            return false;
+        };
+        let before = self.version.prefix();
+        before.is_prefix_of(prefix)
+            && book.has_spared(self.version.picture(), region, prefix.len() - before.len())
     }
 
     /// The search on a version.
     fn on(
         alloc: Global,
-        version: &Version<F, K>,
+        version: Version<F, K>,
         tariff: &Tariff<F>,
         ends: (u32, u32),
         work: &mut Option<Workspace>,
@@ -82,16 +112,17 @@ impl<F: Asks, K: ServiceBrand<F>> FoundRoute<F, K> {
         requires named { K.closure ≡ Some tariff.now }
         ensures u { IfOk result (λ f. f.u ≡ ends.0) }
         ensures v { IfOk result (λ f. f.v ≡ ends.1) }
-        ensures entries { IfOk result (λ f. f.entries ≡ version.now.entries) }
-        ensures refused { IfErr result (IsPlanRefusal (prices_named F.answers K.closure) version.now.picture.rows ends.0 ends.1) }
+        ensures entries { IfOk result (λ f. f.entries ≡ version.entries) }
+        ensures refused { IfErr result (IsPlanRefusal (prices_named F.answers K.closure) version.picture.rows ends.0 ends.1) }
     {
-        let first = first_on(alloc, version.picture(), tariff, ends.0, ends.1, work)?;
+        let SeenRoute { first, region } =
+            first_on(alloc, version.picture(), tariff, ends.0, ends.1, work)?;
         Ok(FoundRoute {
             u: ends.0,
             v: ends.1,
             first,
-            prefix: version.prefix().share(),
-            of: PhantomData,
+            region,
+            version,
         })
     }
 }
@@ -105,8 +136,9 @@ fn first_on<A: Asks>(
     u: u32,
     v: u32,
     work: &mut Option<Workspace>,
-) -> Result<PricedRoute, Refusal>
-    ensures first { IfOk result (λ r. IsFirst (prices_of (A.answers tariff.now)) picture.now.rows u v r.route r.price) }
+) -> Result<SeenRoute, Refusal>
+    ensures first { IfOk result (λ r. IsFirst (prices_of (A.answers tariff.now)) picture.now.rows u v r.first.route r.first.price) }
+    ensures region { IfOk result (λ r. IfSome r.region (IsHeldBy (prices_of (A.answers tariff.now)) picture.now.rows u v r.first.route r.first.price)) }
     ensures refused { IfErr result (IsPlanRefusal (prices_of (A.answers tariff.now)) picture.now.rows u v) }
     ensures there { OnOk result (HasVertices picture.now.rows u v) }
     ensures apart { OnOk result (u ≢ v) }
@@ -125,7 +157,7 @@ fn first_on<A: Asks>(
             Err(_) => return Err(Refusal::Memory),
         },
     };
-    let found = first_route(alloc, &picture.embedded(), tariff, u, v, &mut sheet);
+    let found = first_route_seen(alloc, &picture.embedded(), tariff, u, v, &mut sheet);
     *work = Some(sheet);
     match found {
         Ok(Some(first)) => Ok(first),
@@ -167,7 +199,7 @@ impl<F: Asks, K: ServiceBrand<F>, G: VersionReader<F, K>> PassOver<F, K, G> {
         ensures fault { IfErr result (IsPlanFault (prices_named F.answers K.closure) (prices_named F.answers K.closure) K.start self.new.seen u v) }
     {
         let version = self.view()?;
-        match FoundRoute::on(alloc, &version, tariff, (u, v), &mut self.work) {
+        match FoundRoute::on(alloc, version, tariff, (u, v), &mut self.work) {
             Ok(found) => {
                 found.first();
                 Ok(found)

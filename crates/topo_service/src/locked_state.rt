@@ -156,14 +156,15 @@ impl<F: Asks, K: ServiceBrand<F>, W: VersionWriter<F, K>> LockedState<F, K, W> {
         }
     }
 
-    /// Whether the route is the first between these ends on the picture of now, since it was found on the
-    /// version that is published.
+    /// Whether the route is known to be the first between these ends on the picture of now: it was found on
+    /// the version that is published, or nothing that its search has seen was changed since.
     fn stands(&self, found: &FoundRoute<F, K>, u: u32, v: u32) -> bool
         ensures { result ≡ true → IsFirst (prices_of (F.answers self.now.tariff)) self.now.picture.rows u v found.now.route found.now.price }
     {
         self.book.history();
         found.first();
-        found.is_of(u, v, &self.prefix)
+        found.is_between(u, v)
+            && (found.is_of(&self.prefix) || found.outlives(&self.book, &self.prefix))
     }
 
     /// What is known of the route of a call, by what the call brings along.
