@@ -3,4 +3,4 @@ pub mod Wrong
 pub mod ReplicaLaws
 pub mod Due
 pub mod Hinting
-pub mod Sparing
+pub mod Outliving

@@ -1,4 +1,4 @@
-pub mod Apart
+pub mod ApartEdges
 pub mod Growing
 pub mod Inserting
 pub mod Totals

@@ -205,7 +205,7 @@ impl Picture {
 
     /// Whether an edge lies apart from a region of this picture: it is not of the region, ends at no vertex
     /// of it, and crosses no edge of it. So does an edge that is not there.
-    #[tactic(auto, using(crate::proofs::Apart::is_apart))]
+    #[tactic(auto, using(crate::proofs::ApartEdges::is_apart))]
     pub fn is_apart(&self, edge: u32, region: &Region) -> bool
         ensures { result ≡ true → IfSome (edge_row self.now.rows edge) (IsApart self.now.rows region.now) }
     {

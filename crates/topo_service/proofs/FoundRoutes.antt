@@ -1,15 +1,22 @@
--- A route that was found on the version that is published is the first on the picture of now.
-use Rattle.std.proofs.Common.{◌≡◌, ℕ, List, [], Option, Some, sym, subst}
+-- A route that was found on the version that is published is the first on the picture of now. So is one that was found on an
+-- earlier version, if nothing that its search has seen was changed since.
+use Rattle.std.proofs.Common.{◌≡◌, ◌+◌, ℕ, List, [], Option, Some, length, sym, subst}
 use Rattle.topo_core.specs.declared.rows.Rows.{Rows}
 use Rattle.topo_core.specs.declared.limits.Limits.{Limits}
+use Rattle.topo_core.specs.declared.routes.Route.{Route}
 use Rattle.topo_core.specs.declared.calls.Entry.{Entry}
 use Rattle.topo_core.specs.Routes.{IsFirst, Pricing}
-use Rattle.topo_core.specs.History.{IsVersion, Replays, versions}
+use Rattle.topo_core.specs.History.{IsPrefix, IsVersion, Replays, versions}
 use Rattle.topo_rows.specs.Shown.{Shown}
 use Rattle.topo_price.specs.Prices.{Asking, prices_of}
 use Rattle.topo_versions.specs.Names.{prices_named}
+use Rattle.topo_book.specs.Books.{ReplaysLawfully}
+use Rattle.topo_book.specs.Sparing.{HaveSpared}
+use Rattle.topo_book.proofs.Outliving.{outlives}
 use Rattle.topo_book.proofs.ReplicaLaws.{one_replay}
-use Rattle.topo_service.specs.Found.{FoundState, IsFoundRoute}
+use Rattle.topo_route.specs.Regions.{RegionState}
+use Rattle.topo_versions.specs.Versions.{IsVersionFrom}
+use Rattle.topo_service.specs.Found.{FoundState, IsFoundRoute, IsHeldBy}
 use Rattle.topo_service.proofs.Versions.{is_version}
 
 -- accepted entries lead to one picture
@@ -33,3 +40,14 @@ first_now answers closure start from tariff history picture found u v named begi
     let at_start = subst (λ (s : Shown). IsFoundRoute (prices_of (answers tariff)) s found) (sym begins) at_tariff in
     let first = still_first (prices_of (answers tariff)) from history picture found way at_start same in
     rw (← is_u, ← is_v) first
+
+-- a route that outlives the calls since it was found, at the prices and the start that are named
+pub still_first_now : {F : Type 0} (answers : F → Asking) (closure : Option F) (start from : Shown) (tariff : F) (history entries : List Entry) (before : Shown) (now : Rows) (region : RegionState)
+    (u v : ℕ) (r : Route) (p accepted : ℕ) → closure ≡ Some tariff → from ≡ start → ReplaysLawfully (prices_of (answers tariff)) from.limits from.rows history now
+    → IsVersionFrom (prices_named answers closure) start entries before → IsPrefix entries (versions history) → length (versions history) ≡ length entries + accepted
+    → HaveSpared before.rows region history accepted → IsHeldBy (prices_named answers closure) before.rows u v r p region → IsFirst (prices_of (answers tariff)) now u v r p
+still_first_now answers closure start from tariff history entries before now region u v r p accepted named begins way was prefix count spared held =
+    let was_named = subst (λ (o : Option _). IsVersionFrom (prices_named answers o) start entries before) named was in
+    let was_here = subst (λ (s : Shown). IsVersionFrom (prices_of (answers tariff)) s entries before) (sym begins) was_named in
+    let held_here = subst (λ (o : Option _). IsHeldBy (prices_named answers o) before.rows u v r p region) named held in
+    outlives (prices_of (answers tariff)) from.limits from.rows before.rows now history entries region u v r p accepted way was_here.replayed prefix count spared was_here.lawful.lawful held_here.0 held_here.1

@@ -145,6 +145,7 @@ pub(crate) fn gather<
             reader: _reader,
             prefix,
             work: _work,
+            lookahead: _,
             of: _,
         } = pass;
         if !prefix.is_prefix_of(state.prefix()) {

@@ -14,6 +14,7 @@ pub mod close;
 pub mod faults;
 pub mod found;
 pub mod locked_state;
+mod lookahead;
 pub mod pass;
 pub mod service;
 mod share_pool;

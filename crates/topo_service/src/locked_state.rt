@@ -37,6 +37,8 @@ pub struct LockedState<F: Asks, K: ServiceBrand<F>, W: VersionWriter<F, K>> {
     // The accepted entries.
     prefix: LogPrefix<F, K>,
     writer: W,
+    // Whether the route of the last call was known when it came.
+    was_known: bool,
 }
 
 impl<F: Asks, K: ServiceBrand<F>, W: VersionWriter<F, K>> Model for LockedState<F, K, W> {
@@ -153,7 +155,13 @@ impl<F: Asks, K: ServiceBrand<F>, W: VersionWriter<F, K>> LockedState<F, K, W> {
             log_length,
             prefix,
             writer,
+            was_known: false,
         }
+    }
+
+    /// Whether the route of the last call was known when it came: nothing was searched for it.
+    pub(crate) fn was_known(&self) -> bool {
+        self.was_known
     }
 
     /// Whether the route is known to be the first between these ends on the picture of now: it was found on
@@ -201,6 +209,7 @@ impl<F: Asks, K: ServiceBrand<F>, W: VersionWriter<F, K>> LockedState<F, K, W> {
         ensures unchanged { OnErr result (IsUnchanged self.old self.new) }
     {
         let hint = self.hint(call, brought);
+        self.was_known = matches!(hint, Hint::First(_));
         let next = make_ready(&mut self.book, alloc, caller, call, hint)?;
         let answer = answer_ready::<F, K, W, R>(
             rt,
@@ -254,6 +263,7 @@ impl<F: Asks, K: ServiceBrand<F>, W: VersionWriter<F, K>> LockedState<F, K, W> {
             log_length: _head,
             prefix: _front,
             writer,
+            was_known: _was_known,
         } = self;
         writer.end(rt);
         book.history();

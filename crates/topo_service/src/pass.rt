@@ -10,6 +10,7 @@ ghost use Rattle.topo_versions.specs.Versions.{AreLegal, IsVersionFrom};
 ghost use Rattle.topo_service.specs.Faults.{HasVertices, IsPlanFault, IsPlanRefusal};
 
 use crate::faults::PassFault;
+use crate::lookahead::Lookahead;
 use std::alloc::Global;
 use std::marker::{Model, PhantomData};
 use std::sync::ledger::Share;
@@ -41,6 +42,8 @@ pub struct PassOver<F: Asks, K: ServiceBrand<F>, G: VersionReader<F, K>> {
     pub(crate) prefix: LogPrefix<F, K>,
     // What its searches write on, once there was one.
     pub(crate) work: Option<Workspace>,
+    // Whether its planned insertions look for their routes ahead.
+    pub(crate) lookahead: Lookahead,
     pub(crate) of: PhantomData<F>,
 }
 

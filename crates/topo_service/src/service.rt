@@ -14,6 +14,7 @@ use crate::answer::Answer;
 use crate::faults::ServiceFault;
 use crate::found::{Brought, FoundRoute};
 use crate::locked_state::LockedState;
+use crate::lookahead::Lookahead;
 use crate::pass::{PassOver, Receipt};
 use crate::share_pool::SharePool;
 use std::alloc::{AllocError, Global};
@@ -92,6 +93,7 @@ impl<F: Asks, K: ServiceBrand<F>, W: VersionWriter<F, K>> ServiceOver<F, K, W> {
             reader,
             prefix: self.nothing.share(),
             work: None,
+            lookahead: Lookahead::new(),
             of: PhantomData,
         })
     }
@@ -225,6 +227,7 @@ impl<F: Asks, K: ServiceBrand<F>, W: VersionWriter<F, K>> ServiceOver<F, K, W> {
     {
         pass.seen();
         pass.receipts.reserve(1)?;
+        let is_found = matches!(brought, Brought::Found(_));
         let mut guard = self.state.lock(rt);
         let state = &mut *guard;
         if !pass.prefix.is_prefix_of(state.prefix()) {
@@ -234,6 +237,9 @@ impl<F: Asks, K: ServiceBrand<F>, W: VersionWriter<F, K>> ServiceOver<F, K, W> {
         let Answer { told, kept } = made?;
         pass.receipts.push_reserved(Receipt { call, reply: kept });
         pass.prefix = state.prefix().share();
+        if is_found {
+            pass.lookahead.note(state.was_known());
+        }
         Ok(told)
     }
 }

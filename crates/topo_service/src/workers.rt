@@ -34,8 +34,8 @@ pub enum WorkerEnd {
     OutOfMemory(usize),
 }
 
-/// Carries a command out. A planned insertion looks for its route on a view first, without the lock; where
-/// that finds none, it is an insertion.
+/// Carries a command out. A planned insertion looks for its route on a view first, without the lock; if that
+/// finds none, or if the routes that the pass found last came too late, it is an insertion.
 fn carry_out<F: Asks, K: ServiceBrand<F>, W: VersionWriter<F, K>, G: VersionReader<F, K>, R: Wait>(
     rt: &R,
     alloc: Global,
@@ -50,10 +50,15 @@ fn carry_out<F: Asks, K: ServiceBrand<F>, W: VersionWriter<F, K>, G: VersionRead
 {
     match command {
         Command::Plain(call) => service.call(rt, pass, call, Brought::Nothing),
-        Command::Planned { u, v, kind } => match pass.find(alloc, service.tariff(), u, v) {
-            Ok(found) => service.insert_found(rt, pass, kind, &found),
-            Err(_) => service.insert(rt, pass, u, v, kind),
-        },
+        Command::Planned { u, v, kind } => {
+            if !pass.lookahead.is_due() {
+                return service.insert(rt, pass, u, v, kind);
+            }
+            match pass.find(alloc, service.tariff(), u, v) {
+                Ok(found) => service.insert_found(rt, pass, kind, &found),
+                Err(_) => service.insert(rt, pass, u, v, kind),
+            }
+        }
     }
 }
 

@@ -353,11 +353,14 @@ fn bipyramid_rows(alloc: Global) -> Result<Rows, AllocError> {
 
 /// A triangle between two apexes, 3 and 4; the edges of the triangle are of kinds 1, 2 and 3.
 pub(crate) fn bipyramid(rt: &impl Abort, alloc: Global) -> Result<Picture, AllocError> {
-    let limits = Limits::new(65_536, 65_536, 1_048_576).expect(rt, "the greatest limits");
     let rows = bipyramid_rows(alloc)?;
-    let loaded = Picture::load(alloc, limits, &rows);
-    drop(rows);
-    match loaded {
+    load(rt, alloc, &rows)
+}
+
+/// The picture with these rows, within the greatest limits.
+pub(crate) fn load(rt: &impl Abort, alloc: Global, rows: &Rows) -> Result<Picture, AllocError> {
+    let limits = Limits::new(65_536, 65_536, 1_048_576).expect(rt, "the greatest limits");
+    match Picture::load(alloc, limits, rows) {
         Ok(picture) => Ok(picture),
         Err(_) => Err(AllocError),
     }

@@ -12,4 +12,6 @@ mod harness;
 #[cfg(test)]
 mod plans;
 #[cfg(test)]
+mod survivors;
+#[cfg(test)]
 mod views;

@@ -1,0 +1,276 @@
+//! Routes that were found before other calls changed the picture.
+
+use crate::harness::{Story, even_prices, load, run};
+use std::alloc::{AllocError, Global};
+use std::process::Abort;
+use std::sync::Wait;
+use std::sync::atomic::{AtomicU64, Ordering};
+use std::test::Fail;
+use std::thread::Threads;
+use topo_core::calls::{Call, Reply};
+use topo_core::listed::Listed;
+use topo_core::rows::{EdgeRow, Facts, Rows};
+use topo_picture::Picture;
+use topo_price::tariff::Asks;
+use topo_service::{FoundRoute, Pass, Service, WorkerEnd};
+use topo_versions::ServiceBrand;
+
+/// So many vertices has a row of the grid, and so many rows it has.
+const WIDTH: u32 = 8;
+
+/// The route is looked for between these: from the vertex in row 1 and column 1 to the one in row 3 and
+/// column 2. It crosses one edge, the one below the face to the right of and below its start.
+const FROM: u32 = WIDTH + 1;
+const TO: u32 = 3 * WIDTH + 2;
+
+/// The first edge that is put in later.
+const FIRST_NEW: u32 = 2 * WIDTH * (WIDTH - 1);
+
+/// The edge from a vertex of the grid to the one on its right.
+const fn right_of(row: u32, column: u32) -> u32 {
+    row * (WIDTH - 1) + column
+}
+
+/// The edge from a vertex of the grid to the one below it.
+const fn below(row: u32, column: u32) -> u32 {
+    WIDTH * (WIDTH - 1) + row * WIDTH + column
+}
+
+/// The vertex in a row and a column.
+const fn at(row: u32, column: u32) -> u32 {
+    row * WIDTH + column
+}
+
+/// The edges round a vertex of the grid, clockwise from the one with the least id.
+fn around(alloc: Global, row: u32, column: u32) -> Result<Listed<u32>, AllocError> {
+    let mut edges = Vec::with_capacity(alloc, 4)?;
+    if column > 0 {
+        edges.push(right_of(row, column - 1))?;
+    }
+    if row > 0 {
+        edges.push(below(row - 1, column))?;
+    }
+    if column + 1 < WIDTH {
+        edges.push(right_of(row, column))?;
+    }
+    if row + 1 < WIDTH {
+        edges.push(below(row, column))?;
+    }
+    if column == 0 && row > 0 {
+        edges.rotate_left(1);
+    }
+    Ok(Listed::from_vec(edges))
+}
+
+/// An edge of the grid.
+fn edge(alloc: Global, id: u32, a: u32, b: u32) -> EdgeRow {
+    EdgeRow {
+        id,
+        a,
+        b,
+        kind: 0,
+        crossings: Listed::new(alloc),
+    }
+}
+
+/// The edges of the grid.
+fn edges(alloc: Global) -> Result<Listed<EdgeRow>, AllocError> {
+    let mut edges = Vec::new(alloc);
+    for row in 0..WIDTH {
+        for column in 0..WIDTH - 1 {
+            edges.push(edge(alloc, right_of(row, column), at(row, column), at(row, column + 1)))?;
+        }
+    }
+    for row in 0..WIDTH - 1 {
+        for column in 0..WIDTH {
+            edges.push(edge(alloc, below(row, column), at(row, column), at(row + 1, column)))?;
+        }
+    }
+    Ok(Listed::from_vec(edges))
+}
+
+/// The rotations of the grid.
+fn rotations(alloc: Global) -> Result<Listed<Listed<u32>>, AllocError> {
+    let mut rotations = Vec::new(alloc);
+    for row in 0..WIDTH {
+        for column in 0..WIDTH {
+            rotations.push(around(alloc, row, column)?)?;
+        }
+    }
+    Ok(Listed::from_vec(rotations))
+}
+
+/// The grid, in which each edge is of kind 0.
+fn grid(rt: &impl Abort, alloc: Global) -> Result<Picture, AllocError> {
+    let rotations = rotations(alloc)?;
+    let edges = edges(alloc)?;
+    let rows = Rows {
+        rotations,
+        edges,
+        crossings: Listed::new(alloc),
+        next_edge: FIRST_NEW,
+        next_crossing: 0,
+    };
+    load(rt, alloc, &rows)
+}
+
+/// A route that one pass found, an insertion along it after calls of another pass, and how many prices that
+/// insertion asked for.
+#[derive(Drop)]
+struct Late<'a> {
+    asked: &'a AtomicU64,
+    between: &'a [Call],
+}
+
+/// Makes a call, whatever is answered.
+fn make<F: Asks + Drop, K: ServiceBrand<F>, R: Wait>(
+    rt: &R,
+    service: &Service<F, K>,
+    pass: &mut Pass<F, K>,
+    call: Call,
+) -> Result<Reply, AllocError> {
+    match call {
+        Call::Grow { u, position, kind } => service.grow(rt, pass, u, position, kind),
+        Call::Insert { u, v, kind } => service.insert(rt, pass, u, v, kind),
+        Call::Delete { edge } => service.delete(rt, pass, edge),
+    }
+}
+
+impl Late<'_> {
+    /// The calls, and then an insertion along the route: whether it asked for a price, and its reply.
+    fn insert_late<F: Asks + Drop, K: ServiceBrand<F>, R: Wait>(
+        &self,
+        rt: &R,
+        alloc: Global,
+        service: &Service<F, K>,
+        (early, late): (&mut Pass<F, K>, &mut Pass<F, K>),
+        found: &FoundRoute<F, K>,
+    ) -> Result<String, Fail> {
+        for call in self.between {
+            drop(make(rt, service, early, *call)?);
+        }
+        let before = self.asked.load(Ordering::SeqCst);
+        let reply = service.insert_found(rt, late, 0, found)?;
+        let is_known = self.asked.load(Ordering::SeqCst) == before;
+        drop(reply);
+        Ok(format!(in alloc; "{is_known}")?)
+    }
+}
+
+impl Story for Late<'_> {
+    fn pass_count(&self) -> usize {
+        2
+    }
+
+    fn tell<F: Asks + Drop, K: ServiceBrand<F>, R: Wait>(
+        &self,
+        rt: &R,
+        alloc: Global,
+        service: &Service<F, K>,
+        passes: &mut Vec<Pass<F, K>>,
+        _ends: &[WorkerEnd],
+    ) -> Result<String, Fail> {
+        let Some((early, rest)) = passes.as_mut_slice().split_first_mut() else {
+            return Err("two passes".into());
+        };
+        let Some((late, _)) = rest.split_first_mut() else {
+            return Err("two passes".into());
+        };
+        let Ok(found) = late.find(alloc, service.tariff(), FROM, TO) else {
+            return Err("no route".into());
+        };
+        let told = self.insert_late(rt, alloc, service, (early, late), &found);
+        drop(found);
+        told
+    }
+}
+
+/// What an insertion along a route tells that was found before these calls.
+fn told_after<R: Threads + Wait + Abort + AllocGlobal + Sync>(
+    rt: &R,
+    between: &[Call],
+) -> Result<String, Fail> {
+    let asked = AtomicU64::new(0);
+    let table = even_prices(rt);
+    let start = grid(rt, rt.alloc())?;
+    let ask = |facts: &Facts| {
+        let _ = asked.fetch_add(1, Ordering::SeqCst);
+        table.price(facts.kind)
+    };
+    let story = Late {
+        asked: &asked,
+        between,
+    };
+    run(rt, rt.alloc(), ask, start, &story)
+}
+
+/// An insertion.
+const fn insert(u: u32, v: u32) -> Call {
+    Call::Insert { u, v, kind: 0 }
+}
+
+/// A growth.
+const fn grow(u: u32) -> Call {
+    Call::Grow {
+        u,
+        position: 0,
+        kind: 0,
+    }
+}
+
+/// A deletion.
+const fn delete(edge: u32) -> Call {
+    Call::Delete { edge }
+}
+
+/// Each row says what is called between, whether the route is then taken with no price asked, and how many calls
+/// there are in all.
+fn are_told<R: Threads + Wait + Abort + AllocGlobal + Sync>(
+    rt: &R,
+    rows: &[&[Call]],
+    is_known: bool,
+) -> Result<(), Fail> {
+    for between in rows {
+        let told = told_after(rt, between)?;
+        let calls = between.len() + 1;
+        let due = format!(in rt.alloc(); "{is_known}; {calls} calls, replayed: true")?;
+        assert_eq!(rt; told.as_str(), due.as_str());
+        drop((told, due));
+    }
+    Ok(())
+}
+
+#[test]
+fn a_route_outlives_what_changes_elsewhere(rt: HostRuntime) -> Result<(), Fail> {
+    are_told(
+        &rt,
+        &[
+            &[],
+            &[grow(at(7, 7))],
+            &[insert(at(5, 5), at(7, 6))],
+            &[delete(right_of(6, 5))],
+            &[insert(at(5, 5), at(7, 6)), delete(FIRST_NEW)],
+            &[grow(999), delete(999), insert(at(6, 6), at(6, 6))],
+            &[insert(at(5, 5), at(7, 6)), delete(below(5, 6)), grow(at(6, 6))],
+            &[insert(at(0, 6), at(2, 6)), insert(at(6, 0), at(7, 2))],
+        ],
+        true,
+    )
+}
+
+#[test]
+fn a_route_is_looked_for_again_if_its_region_changed(rt: HostRuntime) -> Result<(), Fail> {
+    are_told(
+        &rt,
+        &[
+            &[grow(FROM)],
+            &[grow(TO)],
+            &[insert(FROM, at(2, 2))],
+            &[insert(at(2, 0), at(3, 1))],
+            &[delete(below(1, 2))],
+            &[insert(at(1, 0), at(3, 1)), delete(FIRST_NEW)],
+            &[insert(at(5, 5), at(7, 6)), grow(at(2, 2))],
+        ],
+        false,
+    )
+}
