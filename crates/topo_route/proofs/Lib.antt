@@ -27,3 +27,5 @@ pub mod Levels
 pub mod BothEnds
 pub mod Staying
 pub mod ComputedFaces
+pub mod KeptRegions
+pub mod Sparing

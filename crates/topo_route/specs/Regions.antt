@@ -1,5 +1,5 @@
 -- Regions that searches have seen: where a later picture has kept one, the route that the search found is still the first.
-use Rattle.std.specs.Prelude.{◌≡◌, ℕ, Bool, true, false, List, All, IfSome, slice_index_or, is_some}
+use Rattle.std.specs.Prelude.{◌≡◌, ℕ, ◌<◌, Bool, true, false, List, Some, All, IfSome, length, slice_index_or, is_some}
 use Rattle.topo_core.specs.declared.calls.Call.{Call}
 use Rattle.topo_core.specs.declared.calls.Call.TheVariants.{Grow, Insert, Delete}
 use Rattle.topo_core.specs.declared.calls.Entry.{Entry}
@@ -27,9 +27,10 @@ holds_edge region e = slice_index_or region.edges e false
 abbrev pub holds_vertex : RegionState → ℕ → Bool
 holds_vertex region w = slice_index_or region.vertices w false
 
--- its edges are there, and it holds both ends of each
+-- its edges and vertices are there, and it holds both ends of each edge
 pub record IsRegionOf (rows : Rows) (region : RegionState) : Type 0 where
   pub there : (e : ℕ) → holds_edge region e ≡ true → is_some (edge_row rows e) ≡ true
+  pub vertices : (w : ℕ) → holds_vertex region w ≡ true → w < length rows.rotations
   pub a_held : (e : ℕ) → holds_edge region e ≡ true → holds_vertex region (edge_at rows e).a ≡ true
   pub b_held : (e : ℕ) → holds_edge region e ≡ true → holds_vertex region (edge_at rows e).b ≡ true
 
