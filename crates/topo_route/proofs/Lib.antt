@@ -28,4 +28,5 @@ pub mod BothEnds
 pub mod Staying
 pub mod ComputedFaces
 pub mod KeptRegions
+pub mod SeenRegions
 pub mod Sparing
