@@ -1,5 +1,6 @@
 //! Plans: a route with its price and the heights that certify it.
 
+use crate::region::Region;
 use std::error::Error;
 use std::fmt;
 use topo_core::listed::Listed;
@@ -10,6 +11,14 @@ use topo_core::routes::Route;
 pub struct PricedRoute {
     pub route: Route,
     pub price: u64,
+}
+
+/// A route, and the region that it rests on: while a picture keeps that, the route is its first too. None
+/// where nothing is known of it.
+#[derive(Drop)]
+pub struct SeenRoute {
+    pub first: PricedRoute,
+    pub region: Option<Region>,
 }
 
 /// A route, its price, and for each dart in canonical order its height: the least price from its
