@@ -29,4 +29,5 @@ pub mod Staying
 pub mod ComputedFaces
 pub mod KeptRegions
 pub mod SeenRegions
+pub mod Marking
 pub mod Sparing

@@ -1,7 +1,7 @@
 use Rattle.topo_price.specs.Prices.{prices_of}
 use Rattle.topo_route.proofs.Descending.{has_darts}
 use Rattle.topo_route.proofs.Uncrossed.{first_direct}
-use Rattle.topo_route.proofs.search.first_route.Goals as goal
+use Rattle.topo_route.proofs.search.find_route.Goals as goal
 
 pub heights_for-requires-clause-some : goal.heights_for-requires-clause-some
 heights_for-requires-clause-some g c = has_darts (g.W.Walked.named c.args.walked.now).rows (g.met.W.Walked.lawful c.args.walked.now) c.args.u c.requires.u_there
