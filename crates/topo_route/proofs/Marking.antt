@@ -10,16 +10,14 @@ use Rattle.topo_core.specs.declared.rows.Rows.{Rows}
 use Rattle.topo_core.specs.Items.{has_id}
 use Rattle.topo_core.specs.Lawful.{IsWellFormed}
 use Rattle.topo_core.specs.Picture.{darts, edge_at, edge_row}
-use Rattle.topo_core.specs.Routes.{AreFactsOf, Pricing, unreached}
+use Rattle.topo_core.specs.Routes.{AreFactsOf, unreached}
 use Rattle.topo_core.specs.Systems.{has_dart}
 use Rattle.topo_core.proofs.NumberOrder.{either}
 use Rattle.topo_core.proofs.Standing.{listed_test, of_rows_is_dart}
 use Rattle.topo_core.proofs.SystemDarts.{edge_at_row, path_facts, row_id, row_in}
-use Rattle.topo_route.specs.Meeting.{HasMet, Meets}
 use Rattle.topo_route.specs.Names.{IsName, IsNamed, Named, dart_named}
 use Rattle.topo_route.specs.Regions.{IsRegionOf, RegionState, holds_edge, holds_vertex}
-use Rattle.topo_route.specs.Seen.{AreNamed, HasSeen, HoldsBelow, HoldsMore}
-use Rattle.topo_route.specs.Settling.{AreCosts}
+use Rattle.topo_route.specs.Seen.{AreNamed, HoldsBelow, HoldsMore}
 use Rattle.topo_route.proofs.Names.{name_below}
 
 -- ---- Lists of numbers
@@ -139,12 +137,3 @@ holds_below g has heights bound places region named small all first k l low =
     let below = name_below g has k l in
     let (i, less, is) = listed_at places k (all k (omega arith) (λ e. omega arith)) in
     subst (λ j. slice_index heights j < bound → holds_edge region (dart_named g j).edge ≡ true) is (first i less) low
-
--- ---- What a search leaves
-
-pub has_seen : (price : Pricing) (g : Named) (u v : ℕ) (heights distances : List ℕ) (level least : ℕ) → HasMet price g u v heights distances level least → HasSeen g heights distances level least
-has_seen price g u v heights distances level least met = record {
-  to_end = λ some. let costs = (met.meets some).heights_cost in record { one_each = costs.one_each; named = costs.named };
-  to_start = λ some. let costs = (met.meets some).distances_cost in record { one_each = costs.one_each; named = costs.named };
-  within = met.within;
-}

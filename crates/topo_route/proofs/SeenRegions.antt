@@ -1,6 +1,6 @@
 -- What a search from both ends has seen is enough: its route is the first of each picture that has kept the region.
 use Rattle.std.proofs.Common.{◌≡◌, ℕ, zero, suc, ◌+◌, ◌-◌, ◌<◌, ◌≤◌, Bool, true, false, ◌&&◌, ◌||◌, ◌==◌, cond, List, [], ◌∷◌, length, Some, inl, inr, ◌⊎◌, refl, sym, ap, subst, ◌∙◌, arith}
-use Rattle.std.specs.Prelude.{Option, map, nat_lt, option_map, slice_get, slice_index, slice_index_or}
+use Rattle.std.specs.Prelude.{IfSome, IsSomeAnd, None, Option, map, nat_lt, option_map, slice_get, slice_index, slice_index_or}
 use Rattle.std.proofs.lemmas.Bool.{cases_Bool, cases_lt, eqb-true, false≢true}
 use Rattle.std.proofs.lemmas.Iterator.Adapters.{option_map_id}
 use Rattle.topo_core.specs.declared.darts.Dart.{Dart}
@@ -11,7 +11,7 @@ use Rattle.topo_core.specs.Items.{IsIn, occurrences}
 use Rattle.topo_core.specs.Lawful.{IsWellFormed, Lawful}
 use Rattle.topo_core.specs.Picture.{corner, darts, edge_at, edge_row, end_dart, rotation, system}
 use Rattle.topo_core.specs.RouteLaws.{IsFirstByHeights}
-use Rattle.topo_core.specs.Routes.{IsFirst, KeepsPromise, Pricing}
+use Rattle.topo_core.specs.Routes.{IsFirst, KeepsPromise, Pricing, unreached}
 use Rattle.topo_core.specs.Systems.{face_step, has_dart}
 use Rattle.topo_core.proofs.Counting.{le_of_test, lt_of_test, lt_test, one}
 use Rattle.topo_core.proofs.Members.{counted_at, left_true, right_true}
@@ -22,7 +22,8 @@ use Rattle.topo_core.proofs.SystemDarts.{edge_at_row, row_id, row_in, some_of, v
 use Rattle.topo_route.specs.Meeting.{Meets}
 use Rattle.topo_route.specs.Names.{IsName, IsNamed, Named, dart_named, height_of, next_name}
 use Rattle.topo_route.specs.Regions.{IsFirstWhileKept, IsKept, IsRegionOf, RegionState, holds_edge, holds_vertex}
-use Rattle.topo_route.specs.Seen.{HoldsSeen}
+use Rattle.topo_route.specs.Seen.{HoldsSeen, RestsOn}
+use Rattle.topo_route.specs.declared.both_ends.Stop.{Stop}
 use Rattle.topo_route.specs.Surviving.{CoversMeeting, IsRegion, moved, unmoved}
 use Rattle.topo_route.proofs.BothEnds.{met_survives}
 use Rattle.topo_route.proofs.KeptRegions.{kept_corners, kept_ends, kept_faces}
@@ -195,3 +196,14 @@ module _ (price : Pricing) (g : Named) (lawful : Lawful g.rows) (has : IsNamed g
         let survives = met_survives price g now (unmoved seen) u v heights distances level least r promise lawful has lawful_now faces ends covers in
         let same : moved (unmoved seen) r ≡ r = ap (λ xs. record { start = r.start; crossed = xs; end = r.end }) (unmoved_list r.crossed) in
         subst (λ s. IsFirst price now u v s p) same (subst (λ n. IsFirst price now u v (moved (unmoved seen) r) n) (sym is) survives)
+
+-- what a search hands out
+pub first_seen : (price : Pricing) (g : Named) (lawful : Lawful g.rows) (has : IsNamed g) (u v : ℕ) (heights distances : List ℕ) (stop : Option Stop) (r : Route) (p : ℕ) (found : Option RegionState) → KeepsPromise price
+    → IfSome stop (λ s. RestsOn price g u v heights distances s.level s.least r p)
+    → IfSome found (λ region. IsSomeAnd stop (λ s. (0 < s.least) × (s.least < unreached) × HoldsSeen g heights distances s.level s.least region))
+    → IfSome found (λ region. IsRegionOf g.rows region × IsFirstWhileKept price g.rows u v region r p)
+first_seen price g lawful has u v heights distances stop r p None promise rests seen = tt
+first_seen price g lawful has u v heights distances None r p (Some region) promise rests seen = absurd seen
+first_seen price g lawful has u v heights distances (Some stop) r p (Some region) promise rests seen =
+    let met = rests.met.meets seen.1 in
+    (seen.2.of_rows, first_while_kept price g lawful has u v heights distances stop.level stop.least met region seen.2 promise (rests.met.within seen.0) r p rests.first)
