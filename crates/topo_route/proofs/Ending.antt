@@ -1,12 +1,12 @@
 -- A search from both ends: its steps, and what it knows where it ends.
 use Rattle.std.proofs.Common.{◌≡◌, ℕ, ◌+◌, ◌-◌, ◌*◌, ◌^◌, ◌<◌, ◌≤◌, List, [], length, replicate, inl, inr, ap, sym, subst, arith, ◌∙◌}
-use Rattle.std.specs.Prelude.{min, slice_index}
+use Rattle.std.specs.Prelude.{max, min, slice_index}
 use Rattle.std.proofs.lemmas.Bool.{cases_lt, false≢true}
 use Rattle.std.proofs.lemmas.List.{get_or-replicate, get_or_past, length-replicate}
 use Rattle.topo_core.specs.Lawful.{Lawful}
 use Rattle.topo_core.specs.Routes.{HasNoRoute, IsPricedRoute, KeepsPromise, Pricing, unreached}
 use Rattle.topo_route.specs.Descents.{AreHeightsFor, HasNoStart}
-use Rattle.topo_route.specs.Meeting.{Meets, SpreadsBoth}
+use Rattle.topo_route.specs.Meeting.{HasMet, Meets, SpreadsBoth}
 use Rattle.topo_route.specs.Names.{IsName, IsNamed, Named, dart_named, height_of}
 use Rattle.topo_route.specs.Plans.{IsZeroAt}
 use Rattle.topo_route.specs.Settling.{AreCosts, AreLowered, AreSums, IsSettled, Relaxes, Spreads, SpreadsTo, is_waiting, number_at, reach_of, top_of}
@@ -40,6 +40,7 @@ module _ (price : Pricing) (g : Named) (lawful : Lawful g.rows) (has : IsNamed g
     blank_costs : AreCosts price g w heights
     blank_costs = record {
       one_each = ap length blank ∙ length-replicate g.size unreached;
+      named = λ k inside some. absurd (some (ap (λ (xs : List ℕ). slice_index xs k) blank ∙ get_or-replicate g.size k unreached 0 (subst (λ n. k < n) (ap length blank ∙ length-replicate g.size unreached) inside)));
       capped = capped;
       costs = λ k l some. absurd (some (all k l));
       bounded = λ k l some. absurd (some (all k l));
@@ -90,7 +91,7 @@ module _ (price : Pricing) (g : Named) (lawful : Lawful g.rows) (has : IsNamed g
 
   module _ (promise : KeepsPromise price) (small : g.size < 2 ^ 32) (heights distances : List ℕ) (first level second above least : ℕ) (on : AreCosts price g v heights) (back : AreCosts price g u distances)
       (at_target : IsZeroAt g.rows v (height_of g heights)) (at_start : IsZeroAt g.rows u (height_of g distances)) (sums : AreSums g heights distances least)
-      (positive : 0 < level) (within : level ≤ reach_of first) (less : second ≤ first) (lesser : least ≤ second) (in_range : first ≤ unreached) (is : above ≡ min level (reach_of second))
+      (positive : 0 < level) (within : level ≤ max 1 (min first 18446744073709551614)) (less : second ≤ first) (lesser : least ≤ second) (in_range : first ≤ unreached) (is : above ≡ min level (max second 1))
       (near : (k : ℕ) → IsName g k → slice_index distances k < reach_of first - level → IsSettled price g (reach_of second) distances k)
       (known : (k : ℕ) → IsName g k → slice_index heights k < top_of above (min 18446744073709551614 least) distances k → IsSettled price g (reach_of least) heights k) where
     in_list : (k : ℕ) → IsName g k → number_at distances k ≡ slice_index distances k
@@ -100,7 +101,7 @@ module _ (price : Pricing) (g : Named) (lawful : Lawful g.rows) (has : IsNamed g
     bounded : (w : ℕ) (hs : List ℕ) → AreCosts price g w hs → (k : ℕ) → IsName g k → slice_index hs k < unreached → slice_index hs k < 1000 * 4294967296
     bounded w hs costs k l less = omega (arith, costs.bounded k l (λ e. omega arith), reached_most hs, costs.one_each)
 
-    met : least < unreached → Meets price g u v heights distances (min above (least + 1)) least
+    met : least < unreached → Meets price g u v heights distances (min above (max least 1)) least
     met some = record {
       heights_cost = on;
       distances_cost = back;
@@ -145,6 +146,12 @@ module _ (price : Pricing) (g : Named) (lawful : Lawful g.rows) (has : IsNamed g
 
     pub for_both : AreHeightsFor price g u v heights
     for_both = elim (cases_lt least unreached) [
-      | inl some ↦ for_met price g lawful has u v heights distances (min above (least + 1)) least (met some)
+      | inl some ↦ for_met price g lawful has u v heights distances (min above (max least 1)) least (met some)
       | inr high ↦ for_none price g u v heights on.one_each (none (omega arith)) (no_start (omega arith))
     ]
+
+    pub has_met : (last : ℕ) → last ≡ min above (max least 1) → HasMet price g u v heights distances last least
+    has_met last e = record {
+      meets = λ some. subst (λ n. Meets price g u v heights distances n least) (sym e) (met some);
+      within = λ more. omega arith;
+    }

@@ -28,4 +28,6 @@ pub mod BothEnds
 pub mod Staying
 pub mod ComputedFaces
 pub mod KeptRegions
+pub mod SeenRegions
+pub mod Marking
 pub mod Sparing

@@ -3,6 +3,7 @@ use Rattle.std.proofs.Common.{◌≡◌, ℕ, ◌+◌, ◌-◌, ◌<◌, ◌≤�
 use Rattle.std.specs.Prelude.{max, min, slice_index}
 use Rattle.topo_core.specs.Lawful.{Lawful}
 use Rattle.topo_core.specs.declared.routes.Route.{Route}
+use Rattle.topo_core.specs.RouteLaws.{IsFirstByHeights}
 use Rattle.topo_core.specs.Routes.{HasNoRoute, IsCertificate, IsPricedRoute, Price, Pricing, Reaches}
 use Rattle.topo_core.proofs.Certificates.{route_bound}
 use Rattle.topo_core.proofs.RouteDarts.{certified}
@@ -11,6 +12,7 @@ use Rattle.topo_route.specs.Plans.{AreHeightsBelow}
 use Rattle.topo_route.specs.Meeting.{Meets}
 use Rattle.topo_route.specs.Names.{IsName, IsNamed, Named, dart_named, height_of, next_name, twin_name}
 use Rattle.topo_route.proofs.Names.{dart_of_name, even_names, even_round, gentle_names, height_named, name_is, twin_back, twin_is, twin_price}
+use Rattle.topo_route.proofs.Numbers.{corner_below}
 
 -- ---- One dart, and the next along its face or its twin
 
@@ -101,6 +103,19 @@ module _ (price : Pricing) (g : Named) (lawful : Lawful g.rows) (has : IsNamed g
       let bound = route_bound price g.rows u v (λ d. min (height_of g heights d) (top (g.name d)))
       (certified price g.rows u v (λ d. min (height_of g heights d) (top (g.name d))) lawful.embedding.well_formed met_certificate) r least from priced priced.route.starts in
       omega (arith, met.at_start r.start from priced.route.starts)
+
+  -- so what is first by the heights costs just that
+  pub met_price : (r : Route) (p : ℕ) → IsFirstByHeights price g.rows u v (height_of g heights) r p → p ≡ least
+  met_price r p first =
+      let (other, priced) = met.route in
+      let low = low_corner other priced in
+      let less = first.least_height other.start priced.route.from priced.route.starts in
+      let route = first.priced.route in
+      let from = route.from in
+      let bound = route_bound price g.rows u v (λ d. min (height_of g heights d) (top (g.name d)))
+      (certified price g.rows u v (λ d. min (height_of g heights d) (top (g.name d))) lawful.embedding.well_formed met_certificate) r p from first.priced route.starts in
+      let named = name_is g has from (corner_below g.rows lawful u r.start from route.starts) in
+      omega (arith, met.at_start r.start from route.starts, met.sums (g.name from) named)
 
   known_met : AreHeightsBelow price g v top heights
   known_met = record {

@@ -7,6 +7,7 @@ pub mod Names
 pub mod Numbers
 pub mod Plans
 pub mod Regions
+pub mod Seen
 pub mod Settling
 pub mod StampedArrays
 pub mod Surviving

@@ -30,3 +30,8 @@ pub record SpreadsBoth (price : Pricing) (g : Named) (u v : ℕ) (heights waitin
   pub sums : AreSums g heights distances least
   pub at_target : IsZeroAt g.rows v (height_of g heights)
   pub at_start : IsZeroAt g.rows u (height_of g distances)
+
+-- Where the two ends have met, the level is no higher than the least price, unless that is 0.
+pub record HasMet (price : Pricing) (g : Named) (u v : ℕ) (heights distances : List ℕ) (level least : ℕ) : Type 0 where
+  pub meets : least < unreached → Meets price g u v heights distances level least
+  pub within : 0 < least → level ≤ least

@@ -43,9 +43,10 @@ is_pending heights waiting k = is_waiting waiting (item_of k (slice_index height
 abbrev pub reached : List ℕ → ℕ
 reached heights = sum_by (λ h. cond {A = ℕ} (h == unreached) 0 1) heights
 
--- heights but the greatest number are costs of walks to v
+-- heights but the greatest number are those of darts, and costs of walks to v
 pub record AreCosts (price : Pricing) (g : Named) (v : ℕ) (heights : List ℕ) : Type 0 where
   pub one_each : length heights ≡ g.size
+  pub named : (k : ℕ) → k < length heights → slice_index heights k ≢ unreached → IsName g k
   pub capped : (k : ℕ) → slice_index heights k ≤ unreached
   pub costs : (k : ℕ) → IsName g k → slice_index heights k ≢ unreached → Reaches price g.rows v (dart_named g k) (slice_index heights k)
   pub bounded : (k : ℕ) → IsName g k → slice_index heights k ≢ unreached → slice_index heights k ≤ 1000 * reached heights

@@ -5,7 +5,7 @@ ghost use Rattle.topo_core.specs.Picture.{darts};
 ghost use Rattle.topo_core.specs.Routes.{unreached};
 ghost use Rattle.topo_price.specs.Prices.{prices_of};
 ghost use Rattle.topo_route.specs.Descents.{AreHeightsFor};
-ghost use Rattle.topo_route.specs.Meeting.{SpreadsBoth};
+ghost use Rattle.topo_route.specs.Meeting.{HasMet, SpreadsBoth};
 ghost use Rattle.topo_route.specs.Plans.{AreHeights};
 ghost use Rattle.topo_route.specs.Settling.{ArePrices};
 
@@ -17,6 +17,16 @@ use topo_price::tariff::Asks;
 
 /// No two heights that are reached make up more than this.
 const MOST: u64 = u64::MAX - 1;
+
+/// Where a search from both ends has stopped.
+#[derive(Clone, Copy)]
+pub(crate) struct Stop {
+    /// The target's end has settled all darts lower than this, and the start's end those that are no farther
+    /// from it than the rest of the least price.
+    pub level: u64,
+    /// The least price of a route; the greatest number where there is none.
+    pub least: u64,
+}
 
 /// Gives the corners of both ends height 0: the least sum of the two heights of a dart so far.
 fn start_both<W: Walked, F: Asks>(
@@ -79,7 +89,8 @@ fn spread_both<W: Walked, F: Asks>(
 
 /// From where the two ends have met: spreads from the start to all darts that a route which passes the
 /// level can have on its way there, and then from the target to all below the level, and on along the
-/// cheapest routes alone.
+/// cheapest routes alone. The level is no higher than the least price, so that the faces at the start are
+/// among those that its end has settled.
 fn finish<W: Walked, F: Asks>(
     graph: &Graph<W, F>,
     work: &mut Workspace,
@@ -87,20 +98,22 @@ fn finish<W: Walked, F: Asks>(
     u: u32,
     v: u32,
     level: u64,
-) -> Result<(), AllocError>
+) -> Result<Stop, AllocError>
     requires right { ArePrices (prices_of (F.answers graph.now.tariff.now)) (W.named graph.now.walked.now) graph.now.prices.items }
     requires some { 0 < length (darts (W.named graph.now.walked.now).rows) }
     requires both { SpreadsBoth (prices_of (F.answers graph.now.tariff.now)) (W.named graph.now.walked.now) u v work.old.to_end.heights work.old.to_end.waiting work.old.to_start.heights work.old.to_start.waiting least }
-    ensures { OnOk result (AreHeightsFor (prices_of (F.answers graph.now.tariff.now)) (W.named graph.now.walked.now) u v work.new.to_end.heights) }
+    ensures heights { OnOk result (AreHeightsFor (prices_of (F.answers graph.now.tariff.now)) (W.named graph.now.walked.now) u v work.new.to_end.heights) }
+    ensures met { IfOk result (λ stop. HasMet (prices_of (F.answers graph.now.tariff.now)) (W.named graph.now.walked.now) u v work.new.to_end.heights work.new.to_start.heights stop.level stop.least) }
 {
     let _darts = graph.walked.size();
     let reach = least.saturating_add(1);
-    let level = level.clamp(1, reach);
+    let level = level.clamp(1, least.clamp(1, MOST));
     work.to_start.spread(graph, &work.to_end.heights, &mut least, u, reach - level, 0)?;
-    let level = level.min(least.saturating_add(1));
+    let level = level.min(least.max(1));
     work.to_end
         .spread(graph, &work.to_start.heights, &mut least, v, level, MOST)?;
-    Ok(())
+    let level = level.min(least.max(1));
+    Ok(Stop { level, least })
 }
 
 /// The least prices of the darts' faces to a face at the target, as far as routes from `u` need them.
@@ -109,10 +122,11 @@ pub(crate) fn heights_for<W: Walked, F: Asks>(
     u: u32,
     v: u32,
     work: &mut Workspace,
-) -> Result<(), AllocError>
+) -> Result<Stop, AllocError>
     requires right { ArePrices (prices_of (F.answers graph.now.tariff.now)) (W.named graph.now.walked.now) graph.now.prices.items }
     requires some { 0 < length (darts (W.named graph.now.walked.now).rows) }
-    ensures { OnOk result (AreHeightsFor (prices_of (F.answers graph.now.tariff.now)) (W.named graph.now.walked.now) u v work.new.to_end.heights) }
+    ensures heights { OnOk result (AreHeightsFor (prices_of (F.answers graph.now.tariff.now)) (W.named graph.now.walked.now) u v work.new.to_end.heights) }
+    ensures met { IfOk result (λ stop. HasMet (prices_of (F.answers graph.now.tariff.now)) (W.named graph.now.walked.now) u v work.new.to_end.heights work.new.to_start.heights stop.level stop.least) }
 {
     let mut least = start_both(graph, work, u, v)?;
     let level = spread_both(graph, work, &mut least, u, v)?;

@@ -13,8 +13,8 @@ pub struct PricedRoute {
     pub price: u64,
 }
 
-/// A first route with what its search has seen: while that is kept, the route is the first. Where there is no
-/// region, nothing is known of what the route rests on.
+/// A route, and the region that it rests on: while a picture keeps that, the route is its first too. None
+/// where nothing is known of it.
 #[derive(Drop)]
 pub struct SeenRoute {
     pub first: PricedRoute,

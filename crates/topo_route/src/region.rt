@@ -1,11 +1,14 @@
 //! What a search has seen of a picture.
 
-ghost use Rattle.std.specs.Prelude.{◌≡◌, false, slice_index_or};
+ghost use Rattle.std.specs.Prelude.{◌≡◌, ◌==◌, ◌||◌, ℕ, OnOk, false, slice_index_or};
 ghost use Rattle.topo_route.specs.Regions.{holds_edge, holds_vertex};
 
+use std::alloc::{AllocError, Global};
 use std::marker::Model;
+use topo_core::rows::Facts;
 
-/// Edges and vertices of a picture, by their ids.
+/// Edges and vertices of a picture, marked by their ids. A picture that comes later keeps the region if its
+/// edges, with the crossings on them, and the edges round its vertices are as they were.
 #[derive(Drop)]
 pub struct Region {
     edges: Vec<bool>,
@@ -21,25 +24,60 @@ impl Model for Region {
 }
 
 impl Region {
-    /// Whether the edge with this id belongs to it.
+    /// One with nothing in it.
+    pub(crate) fn new(alloc: Global) -> Self
+        ensures edges { (e : ℕ) → holds_edge result e ≡ false }
+        ensures vertices { (w : ℕ) → holds_vertex result w ≡ false }
+    {
+        Region {
+            edges: Vec::new(alloc),
+            vertices: Vec::new(alloc),
+        }
+    }
+
+    /// Whether the edge is in it.
     pub fn has_edge(&self, edge: u32) -> bool
         ensures { result ≡ holds_edge self.now edge }
     {
         is_marked(self.edges.as_slice(), edge)
     }
 
-    /// Whether this vertex belongs to it.
+    /// Whether the vertex is in it.
     pub fn has_vertex(&self, vertex: u32) -> bool
         ensures { result ≡ holds_vertex self.now vertex }
     {
         is_marked(self.vertices.as_slice(), vertex)
     }
+
+    /// Puts the edge with these facts into it, and both ends of it.
+    pub(crate) fn mark(&mut self, facts: &Facts) -> Result<(), AllocError>
+        ensures edges { OnOk result ((e : ℕ) → holds_edge self.new e ≡ (facts.now.id == e || holds_edge self.old e)) }
+        ensures vertices { OnOk result ((w : ℕ) → holds_vertex self.new w ≡ (facts.now.b == w || (facts.now.a == w || holds_vertex self.old w))) }
+    {
+        mark_id(&mut self.edges, facts.id)?;
+        mark_id(&mut self.vertices, facts.a)?;
+        mark_id(&mut self.vertices, facts.b)
+    }
 }
 
-/// The mark at a place, and none past the end.
-fn is_marked(marks: &[bool], place: u32) -> bool
-    ensures { result ≡ slice_index_or marks.now place false }
+/// Whether an id is marked.
+fn is_marked(marks: &[bool], id: u32) -> bool
+    ensures { result ≡ slice_index_or marks.now id false }
 {
-    let place = place as usize;
-    place < marks.len() && marks[place]
+    match marks.get(id as usize) {
+        Some(marked) => *marked,
+        None => false,
+    }
+}
+
+/// Marks an id. The list grows as far as that takes.
+fn mark_id(marks: &mut Vec<bool>, id: u32) -> Result<(), AllocError>
+    ensures { OnOk result ((k : ℕ) → slice_index_or marks.new.items k false ≡ (id == k || slice_index_or marks.old.items k false)) }
+{
+    let place = id as usize;
+    if marks.len() <= place {
+        marks.resize(place + 1, false)?;
+    }
+    marks[place] = true;
+    Ok(())
 }

@@ -2,19 +2,21 @@
 
 ghost use Rattle.std.specs.Prelude.{◌≢◌, ◌<◌, IfOk, IfSome, MatchOption, length};
 ghost use Rattle.topo_core.specs.Picture.{darts};
-ghost use Rattle.topo_core.specs.Routes.{HasNoRoute, IsFirst};
+ghost use Rattle.topo_core.specs.Routes.{HasNoRoute, IsFirst, KeepsPromise};
 ghost use Rattle.topo_price.specs.Prices.{prices_of};
 ghost use Rattle.topo_route.specs.Descents.{AreHeightsFor, IsFirstRoute};
 ghost use Rattle.topo_route.specs.Plans.{IsPlan};
 ghost use Rattle.topo_route.specs.Regions.{IsFirstWhileKept, IsRegionOf};
+ghost use Rattle.topo_route.specs.Seen.{RestsOn};
 ghost use Rattle.topo_route.specs.Settling.{ArePrices};
 
-use crate::both_ends::{heights_for, least_heights};
+use crate::both_ends::{Stop, heights_for, least_heights};
 use crate::descent::{descend, end_corner, start_corner};
 use crate::direct::direct_route;
 use crate::dual::Dual;
 use crate::graph::{Graph, segment_prices};
 use crate::plan::{Plan, PricedRoute, SeenRoute};
+use crate::seen::seen_region;
 use crate::stamped_array::StampedArray;
 use crate::walked::Walked;
 use crate::workspace::Workspace;
@@ -95,6 +97,53 @@ pub fn search<D: Dual, F: Asks>(
     }
 }
 
+/// A route that was found, and where the search from both ends has stopped; none where there was no search.
+#[derive(Drop)]
+struct Found {
+    first: PricedRoute,
+    stop: Option<Stop>,
+}
+
+/// As `first_route`, with where the search has stopped.
+fn find_route<W: Walked, F: Asks>(
+    alloc: Global,
+    walked: &W,
+    tariff: &Tariff<F>,
+    u: u32,
+    v: u32,
+    work: &mut Workspace,
+) -> Result<Option<Found>, AllocError>
+    requires u_there { u < length (W.named walked.now).rows.rotations }
+    requires v_there { v < length (W.named walked.now).rows.rotations }
+    requires apart { u ≢ v }
+    ensures first { IfOk result (λ found. MatchOption found
+        (HasNoRoute (prices_of (F.answers tariff.now)) (W.named walked.now).rows u v)
+        (λ r. IsFirst (prices_of (F.answers tariff.now)) (W.named walked.now).rows u v r.first.route r.first.price)) }
+    ensures stop { IfOk result (λ found. IfSome found (λ r. IfSome r.stop (λ stop.
+        RestsOn (prices_of (F.answers tariff.now)) (W.named walked.now) u v work.new.to_end.heights work.new.to_start.heights stop.level stop.least r.first.route r.first.price))) }
+    ensures promise { KeepsPromise (prices_of (F.answers tariff.now)) }
+{
+    tariff.keeps_promise();
+    if let Some(route) = direct_route(alloc, walked, u, v) {
+        let first = PricedRoute { route, price: 0 };
+        return Ok(Some(Found { first, stop: None }));
+    }
+    let graph = Graph {
+        walked,
+        tariff,
+        prices: Vec::new(alloc),
+    };
+    let stop = heights_for(&graph, u, v, work)?;
+    let found = route_by_heights(alloc, &graph, u, v, &work.to_end.heights)?;
+    match found {
+        Some(first) => Ok(Some(Found {
+            first,
+            stop: Some(stop),
+        })),
+        None => Ok(None),
+    }
+}
+
 /// The first of the least routes from `u` to `v`, two different vertices, with its price; none where
 /// no route crosses only edges that have a price.
 ///
@@ -124,21 +173,18 @@ pub fn first_route<W: Walked, F: Asks>(
         (HasNoRoute (prices_of (F.answers tariff.now)) (W.named walked.now).rows u v)
         (λ r. IsFirst (prices_of (F.answers tariff.now)) (W.named walked.now).rows u v r.route r.price)) }
 {
-    tariff.keeps_promise();
-    if let Some(route) = direct_route(alloc, walked, u, v) {
-        return Ok(Some(PricedRoute { route, price: 0 }));
+    let found = find_route(alloc, walked, tariff, u, v, work)?;
+    match found {
+        Some(found) => Ok(Some(found.first)),
+        None => Ok(None),
     }
-    let graph = Graph {
-        walked,
-        tariff,
-        prices: Vec::new(alloc),
-    };
-    heights_for(&graph, u, v, work)?;
-    let found = route_by_heights(alloc, &graph, u, v, &work.to_end.heights)?;
-    Ok(found)
 }
 
-/// As `first_route`, with the region that the search has seen.
+/// As `first_route`, with what the search has seen: on each later picture that has kept that region, the
+/// route is still the first, at the same price. No region is handed out for a route that crosses nothing.
+///
+/// What is seen are the darts that the two ends have settled, so the time for listing them follows that of
+/// the search, and only the marks, a bit of memory for each id, grow with the picture.
 pub fn first_route_seen<W: Walked, F: Asks>(
     alloc: Global,
     walked: &W,
@@ -153,14 +199,16 @@ pub fn first_route_seen<W: Walked, F: Asks>(
     ensures first { IfOk result (λ found. MatchOption found
         (HasNoRoute (prices_of (F.answers tariff.now)) (W.named walked.now).rows u v)
         (λ r. IsFirst (prices_of (F.answers tariff.now)) (W.named walked.now).rows u v r.first.route r.first.price)) }
-    ensures region { IfOk result (λ found. IfSome found (λ r. IfSome r.region
-        (λ region. IsRegionOf (W.named walked.now).rows region × IsFirstWhileKept (prices_of (F.answers tariff.now)) (W.named walked.now).rows u v region r.first.route r.first.price))) }
+    ensures region { IfOk result (λ found. IfSome found (λ r. IfSome r.region (λ region.
+        IsRegionOf (W.named walked.now).rows region
+        × IsFirstWhileKept (prices_of (F.answers tariff.now)) (W.named walked.now).rows u v region r.first.route r.first.price))) }
 {
-    match first_route(alloc, walked, tariff, u, v, work)? {
-        Some(first) => Ok(Some(SeenRoute {
-            first,
-            region: None,
-        })),
+    let found = find_route(alloc, walked, tariff, u, v, work)?;
+    match found {
+        Some(Found { first, stop }) => {
+            let region = seen_region(alloc, walked, work, stop)?;
+            Ok(Some(SeenRoute { first, region }))
+        }
         None => Ok(None),
     }
 }

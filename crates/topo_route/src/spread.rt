@@ -45,14 +45,21 @@ impl Labels {
     }
 
     /// Gives a dart a height. With that above the other end it may be the least sum.
-    fn lower(&mut self, other: &StampedArray, least: &mut u64, dart: u32, height: u64)
+    fn lower(
+        &mut self,
+        other: &StampedArray,
+        least: &mut u64,
+        dart: u32,
+        height: u64,
+    ) -> Result<(), AllocError>
         requires { dart < length self.old.heights }
-        ensures heights { self.new.heights ≡ slice_set self.old.heights dart height }
-        ensures waiting { self.new.waiting ≡ self.old.waiting }
-        ensures least { least.new ≡ min least.old (height + number_at other.now dart) }
+        ensures heights { OnOk result (self.new.heights ≡ slice_set self.old.heights dart height) }
+        ensures waiting { OnOk result (self.new.waiting ≡ self.old.waiting) }
+        ensures least { OnOk result (least.new ≡ min least.old (height + number_at other.now dart)) }
     {
-        self.heights.set(dart, height);
+        self.heights.set(dart, height)?;
         *least = (*least).min(height.saturating_add(other.number_at(dart)));
+        Ok(())
     }
 
     /// Crosses a dart backwards: its twin reaches the end over it. A height that this lowers, and brings
@@ -85,7 +92,7 @@ impl Labels {
                 let price = price as u64;
                 if height < high.saturating_sub(price) {
                     let lowered = height + price;
-                    self.lower(other, least, twin, lowered);
+                    self.lower(other, least, twin, lowered)?;
                     self.waiting.push(lowered, item_of(twin, lowered))?;
                 }
                 Ok(())
@@ -118,7 +125,7 @@ impl Labels {
             if self.heights.get(next) <= height {
                 return Ok(());
             }
-            self.lower(other, least, next, height);
+            self.lower(other, least, next, height)?;
             at = next;
         }
     }
@@ -201,7 +208,7 @@ impl Labels {
         for position in 0..graph.walked.degree(v) {
             if let Some(corner) = corner_at(graph.walked, v, position) {
                 if self.heights.get(corner) > 0 {
-                    self.lower(other, least, corner, 0);
+                    self.lower(other, least, corner, 0)?;
                     self.waiting.push(0, item_of(corner, 0))?;
                 }
             }

@@ -1,6 +1,7 @@
 //! A list of numbers that is blank again in one step.
 
-ghost use Rattle.std.specs.Prelude.{◌≡◌, ◌<◌, ◌≤◌, [], ℕ, IfOk, OnOk, length, replicate, slice_index, slice_set};
+ghost use Rattle.std.specs.Prelude.{◌≡◌, ◌≢◌, ◌<◌, ◌≤◌, [], ℕ, IfOk, OnOk, length, replicate, slice_index, slice_set, true};
+ghost use Rattle.topo_core.specs.Items.{has_id};
 ghost use Rattle.topo_core.specs.Routes.{unreached};
 ghost use Rattle.topo_route.specs.Settling.{number_at};
 
@@ -10,12 +11,14 @@ use std::marker::Model;
 /// A list of numbers, each the greatest until another is written. Contracts see the list. A number
 /// counts in the epoch in which it was written and in no other, so a new epoch blanks the whole list,
 /// and a search that is given one takes no time for what it does not reach. The epochs have
-/// a list of their own: where nothing is written that is seen on four bytes.
+/// a list of their own: where nothing is written that is seen on four bytes. The places written in the
+/// epoch are listed too, each once: what a search has reached can be gone through.
 #[derive(Drop)]
 pub(crate) struct StampedArray {
     numbers: Vec<u64>,
     epochs: Vec<u32>,
     epoch: u32,
+    written: Vec<u32>,
 }
 
 impl Model for StampedArray {
@@ -26,7 +29,7 @@ impl Model for StampedArray {
 
     ghost view = { λ s. read_all s.epoch s.epochs.items s.numbers.items };
 
-    ghost invariant = { λ s. AreWritten s.epoch s.epochs.items s.numbers.items };
+    ghost invariant = { λ s. AreWritten s.epoch s.epochs.items s.numbers.items s.written.items };
 }
 
 impl StampedArray {
@@ -38,6 +41,7 @@ impl StampedArray {
             numbers: Vec::new(alloc),
             epochs: Vec::new(alloc),
             epoch: 0,
+            written: Vec::new(alloc),
         }
     }
 
@@ -49,11 +53,12 @@ impl StampedArray {
             self.epochs.clear();
             self.epoch = 0;
         }
+        self.written.clear();
+        self.epoch += 1;
         if self.numbers.len() < len {
             self.numbers.resize(len, 0)?;
         }
         self.epochs.resize(len, 0)?;
-        self.epoch += 1;
         Ok(())
     }
 
@@ -97,12 +102,24 @@ impl StampedArray {
     }
 
     /// Writes a number at a place.
-    pub(crate) fn set(&mut self, place: u32, number: u64)
+    pub(crate) fn set(&mut self, place: u32, number: u64) -> Result<(), AllocError>
         requires { place < length self.old }
-        ensures { self.new ≡ slice_set self.old place number }
+        ensures { OnOk result (self.new ≡ slice_set self.old place number) }
     {
+        if self.epochs[place as usize] != self.epoch {
+            self.written.push(place)?;
+        }
         self.numbers[place as usize] = number;
         self.epochs[place as usize] = self.epoch;
+        Ok(())
+    }
+
+    /// The places where something is written.
+    pub(crate) fn written(&self) -> &[u32]
+        ensures there { (k : ℕ) → has_id result.now k ≡ true → k < length self.now }
+        ensures all { (k : ℕ) → k < length self.now → slice_index self.now k ≢ unreached → has_id result.now k ≡ true }
+    {
+        self.written.as_slice()
     }
 
     /// The numbers.

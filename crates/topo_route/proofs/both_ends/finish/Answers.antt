@@ -1,8 +1,10 @@
-use Rattle.std.proofs.Common.{◌-◌, ◌<◌, ◌^◌, arith}
-use Rattle.std.specs.Prelude.{min}
+use Rattle.std.proofs.Common.{◌-◌, ◌<◌, ◌^◌, ◌≡◌, ◌≤◌, arith, ℕ}
+use Rattle.std.specs.Prelude.{max, min, slice_index}
+use Rattle.topo_core.specs.Routes.{unreached}
 use Rattle.topo_price.specs.Prices.{prices_of}
+use Rattle.topo_route.specs.Names.{IsName}
 use Rattle.topo_route.specs.Settling.{reach_of, top_of}
-use Rattle.topo_route.proofs.Ending.{back_sums, for_both}
+use Rattle.topo_route.proofs.Ending.{back_sums, for_both, has_met}
 use Rattle.topo_route.proofs.Settled.{meets_lower, narrowed}
 use Rattle.topo_route.proofs.Sums.{sums_swapped}
 use Rattle.topo_route.proofs.both_ends.finish.Goals as goal
@@ -21,7 +23,7 @@ spread-requires-clause-sums g c =
 pub spread-requires-2-clause-spreads : goal.spread-requires-2-clause-spreads
 spread-requires-2-clause-spreads g c =
     narrowed (prices_of (g.F.Asks.answers c.args.graph.now.tariff.now)) (g.W.Walked.named c.args.graph.now.walked.now) c.args.v (λ k. reach_of c.args.least) (top_of c.min-level.result (min 18446744073709551614 c.spread.new.least) c.spread.new.self.heights) (reach_of c.args.least) (reach_of c.spread.new.least)
-    c.args.work.now.to_end.heights c.args.work.now.to_end.waiting (g.W.Walked.named c.args.graph.now.walked.now).size c.requires.both.on (λ k. omega (arith, c.saturating_add.ensures, c.min-level.ensures, c.in_ok-spread.ensures.less)) (omega (arith, c.in_ok-spread.ensures.less))
+    c.args.work.now.to_end.heights c.args.work.now.to_end.waiting (g.W.Walked.named c.args.graph.now.walked.now).size c.requires.both.on (λ k. omega (arith, c.max.ensures, c.min-level.ensures, c.in_ok-spread.ensures.less)) (omega (arith, c.in_ok-spread.ensures.less))
 
 pub spread-requires-2-clause-sums : goal.spread-requires-2-clause-sums
 spread-requires-2-clause-sums g c =
@@ -30,13 +32,31 @@ spread-requires-2-clause-sums g c =
 
 pub returns : goal.returns
 returns g c =
+    let price = prices_of (g.F.Asks.answers c.args.graph.now.tariff.now) in
     let named = g.W.Walked.named c.args.graph.now.walked.now in
+    let lawful = g.met.W.Walked.lawful c.args.graph.now.walked.now in
+    let has = g.met.W.Walked.has_names c.args.graph.now.walked.now in
+    let promise = c.requires.right.promise c.requires.some in
     let small : named.size < 2 ^ 32 = omega (arith, c.size-darts.ensures, c.size-darts.type_inv) in
     let back = c.in_ok-spread.ensures in
     let on = c.in_ok-spread-2.ensures in
-    for_both (prices_of (g.F.Asks.answers c.args.graph.now.tariff.now)) named (g.met.W.Walked.lawful c.args.graph.now.walked.now) (g.met.W.Walked.has_names c.args.graph.now.walked.now) c.args.u c.args.v
-    (c.requires.right.promise c.requires.some) small c.spread-2.new.self.heights c.spread.new.self.heights c.args.least c.clamp-level.result c.spread.new.least c.min-level.result c.spread-2.new.least
-    on.costs back.costs (meets_lower named c.args.v c.args.work.now.to_end.heights c.spread-2.new.self.heights on.lower c.requires.both.at_target)
-    (meets_lower named c.args.u c.args.work.now.to_start.heights c.spread.new.self.heights back.lower c.requires.both.at_start) on.sums
-    (omega arith) (omega (arith, c.saturating_add-reach.ensures)) back.less on.less (omega arith) (omega (arith, c.saturating_add.ensures, c.min-level.ensures))
-    (λ k l low. back.settled k l (omega (arith, c.saturating_add-reach.ensures))) on.settled
+    let heights = c.spread-2.new.self.heights in
+    let distances = c.spread.new.self.heights in
+    let first = c.args.least in
+    let second = c.spread.new.least in
+    let least = c.spread-2.new.least in
+    let level = c.clamp-level.result in
+    let above = c.min-level.result in
+    let at_target = meets_lower named c.args.v c.args.work.now.to_end.heights heights on.lower c.requires.both.at_target in
+    let at_start = meets_lower named c.args.u c.args.work.now.to_start.heights distances back.lower c.requires.both.at_start in
+    let positive : 0 < level = omega arith in
+    let within : level ≤ max 1 (min first 18446744073709551614) = omega arith in
+    let in_range : first ≤ unreached = omega arith in
+    let is : above ≡ min level (max second 1) = omega (arith, c.max.ensures, c.min-level.ensures) in
+    let near = λ (k : ℕ) (l : IsName named k) (low : slice_index distances k < reach_of first - level). back.settled k l (omega (arith, c.saturating_add-reach.ensures)) in
+    record {
+      heights = for_both price named lawful has c.args.u c.args.v promise small heights distances first level second above least on.costs back.costs at_target at_start on.sums
+          positive within back.less on.less in_range is near on.settled;
+      met = has_met price named lawful has c.args.u c.args.v promise small heights distances first level second above least on.costs back.costs at_target at_start on.sums
+          positive within back.less on.less in_range is near on.settled c.min-level-2.result (omega (arith, c.max-2.ensures, c.min-level-2.ensures));
+    }

@@ -47,15 +47,15 @@ loop-self-preserved g c =
     let there = c.next_along-next.ensures.name in
     let within : next < length hs = has_height price named has v hs crossed.costs next there in
     let low : x < slice_index hs next = omega (arith, c.if-get-height.false, c.get.ensures) in
-    let is : c.lower.new.self.heights ≡ set hs next x = c.lower.ensures.heights in
+    let is : c.lower.new.self.heights ≡ set hs next x = c.in_ok-lower.ensures.heights in
     let now : slice_index c.lower.new.self.heights next ≡ x = ap (λ (xs : List ℕ). slice_index xs next) is ∙ lowered_there hs next x within in
     let on = next_relaxes price named lawful has v others hs ws least c.lower.new.least at next x (sym same) crossed.sums crossed.costs (here, some) c.in_ok-relax_twin.ensures.crossed
-    c.next_along-next.ensures.next there low c.lower.ensures.least in
+    c.next_along-next.ensures.next there low c.in_ok-lower.ensures.least in
     record {
       relaxes = both_steps price named lawful has v others c.loop-self.invariant.relaxes
           (both_steps price named lawful has v others crossed
           (subst (λ (xs : List ℕ). Relaxes price named v others hs ws least at xs c.lower.new.self.waiting c.lower.new.least next) (sym is)
-          (subst (λ (ys : List ℕ). Relaxes price named v others hs ws least at (set hs next x) ys c.lower.new.least next) (sym c.lower.ensures.waiting) on)));
+          (subst (λ (ys : List ℕ). Relaxes price named v others hs ws least at (set hs next x) ys c.lower.new.least next) (sym c.in_ok-lower.ensures.waiting) on)));
       in_hand = (there, λ e. some (same ∙ sym now ∙ e));
       same = now;
     }

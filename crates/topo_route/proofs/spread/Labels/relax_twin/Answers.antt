@@ -15,14 +15,14 @@ returns-in_ok-push-in-Some-clause-relaxes g c =
     let waiting = c.args.self.now.waiting in
     let twin = c.across-twin.result in
     let x : ℕ = slice_index heights c.args.dart + c.in-Some.price in
-    let is : c.lower.new.self.heights ≡ set heights twin x = c.lower.ensures.heights ∙ ap (λ (h : ℕ). set heights twin (h + c.in-Some.price)) c.requires.height in
+    let is : c.lower.new.self.heights ≡ set heights twin x = c.in_ok-lower-in-Some.ensures.heights ∙ ap (λ (h : ℕ). set heights twin (h + c.in-Some.price)) c.requires.height in
     let item : c.item_of.result ≡ item_of twin x = c.item_of.ensures ∙ ap (λ (h : ℕ). item_of twin (h + c.in-Some.price)) c.requires.height in
-    let longer : length c.push.new.self ≡ length waiting + 1 = c.in_ok-push-in-Some.ensures.len ∙ ap (λ (ws : List ℕ). length ws + 1) c.lower.ensures.waiting in
+    let longer : length c.push.new.self ≡ length waiting + 1 = c.in_ok-push-in-Some.ensures.len ∙ ap (λ (ws : List ℕ). length ws + 1) c.in_ok-lower-in-Some.ensures.waiting in
     subst (λ (hs : List ℕ). Relaxes price named c.args.v c.args.other.now heights waiting c.args.least.now c.args.dart hs c.push.new.self c.lower.new.least c.args.dart) (sym is)
     (twin_relaxes price named (g.met.W.Walked.lawful c.args.graph.now.walked.now) (g.met.W.Walked.has_names c.args.graph.now.walked.now) c.args.v c.args.other.now heights waiting c.push.new.self
     c.args.least.now c.lower.new.least c.args.dart twin c.in-Some.price c.requires.sums c.requires.costs c.requires.in_hand c.in-Some.ensures.promise c.in-Some.ensures.price c.across-twin.ensures.twin c.across-twin.ensures.name
-    (omega arith) c.across-twin.type_inv (omega arith)
-    (λ i. c.in_ok-push-in-Some.ensures.waits i ∙ ap (λ (j : ℕ). j == i || is_waiting c.lower.new.self.waiting i) item ∙ ap (λ (ws : List ℕ). item_of twin x == i || is_waiting ws i) c.lower.ensures.waiting)
+    (omega arith) c.across-twin.type_inv (omega (arith, c.in_ok-lower-in-Some.ensures.least))
+    (λ i. c.in_ok-push-in-Some.ensures.waits i ∙ ap (λ (j : ℕ). j == i || is_waiting c.lower.new.self.waiting i) item ∙ ap (λ (ws : List ℕ). item_of twin x == i || is_waiting ws i) c.in_ok-lower-in-Some.ensures.waiting)
     longer)
 
 pub returns-in_ok-push-in-Some-clause-crossed : goal.returns-in_ok-push-in-Some-clause-crossed
@@ -30,7 +30,7 @@ returns-in_ok-push-in-Some-clause-crossed g c =
     let heights = c.args.self.now.heights in
     let twin = c.across-twin.result in
     let x : ℕ = slice_index heights c.args.dart + c.in-Some.price in
-    let is : c.lower.new.self.heights ≡ set heights twin x = c.lower.ensures.heights ∙ ap (λ (h : ℕ). set heights twin (h + c.in-Some.price)) c.requires.height in
+    let is : c.lower.new.self.heights ≡ set heights twin x = c.in_ok-lower-in-Some.ensures.heights ∙ ap (λ (h : ℕ). set heights twin (h + c.in-Some.price)) c.requires.height in
     subst (λ (hs : List ℕ). IsCrossed (prices_of (g.F.Asks.answers c.args.graph.now.tariff.now)) (g.W.Walked.named c.args.graph.now.walked.now) (reach_of c.lower.new.least) hs c.args.dart) (sym is)
     (is_crossed (prices_of (g.F.Asks.answers c.args.graph.now.tariff.now)) (g.W.Walked.named c.args.graph.now.walked.now) (g.met.W.Walked.lawful c.args.graph.now.walked.now) (g.met.W.Walked.has_names c.args.graph.now.walked.now) c.args.v (reach_of c.args.least.now) heights c.args.self.now.waiting
     c.args.dart twin c.in-Some.price c.requires.costs c.requires.in_hand c.in-Some.ensures.promise c.in-Some.ensures.price c.across-twin.ensures.twin c.across-twin.ensures.name (omega arith) (reach_of c.lower.new.least))

@@ -11,7 +11,7 @@ use Rattle.topo_route.proofs.Relaxing.{both_steps, renamed, started, started_zer
 use Rattle.topo_route.proofs.Names.{height_named}
 use Rattle.topo_route.proofs.Tests.{before_all, before_past, before_some}
 use Rattle.topo_route.proofs.spread.Labels.start_at.Goals as goal
-use Rattle.topo_route.proofs.spread.Labels.start_at.Goals.{in-Some+then-get-gt0+in_ok-push, in-Some+else-get-gt0, in_default}
+use Rattle.topo_route.proofs.spread.Labels.start_at.Goals.{in-Some+then-get-gt0+in_ok-lower+in_ok-push, in-Some+else-get-gt0, in_default}
 
 pub loop-position-preserved : goal.loop-position-preserved
 loop-position-preserved g c =
@@ -30,19 +30,19 @@ loop-position-preserved g c =
     let heights = λ (labels : Labels). labels.heights in
     let waiting = λ (labels : Labels). labels.waiting in
     elim c.match-corner_at.branch [
-      | in-Some+then-get-gt0+in_ok-push w ↦
+      | in-Some+then-get-gt0+in_ok-lower+in_ok-push w ↦
           let k = w.in-Some.corner in
           let short : k < 2 ^ 32 = omega arith in
-          let is : c.match-corner_at.self.heights ≡ set hs k 0 = ap heights w.self-is ∙ w.lower.ensures.heights in
+          let is : c.match-corner_at.self.heights ≡ set hs k 0 = ap heights w.self-is ∙ w.in_ok-lower.ensures.heights in
           let added : (i : ℕ) → is_waiting w.push.new.self i ≡ (item_of k 0 == i || is_waiting ws i) = λ i.
-          w.in_ok-push.ensures.waits i ∙ ap (λ (j : ℕ). j == i || is_waiting w.lower.new.self.waiting i) w.item_of.ensures ∙ ap (λ (ys : List ℕ). item_of k 0 == i || is_waiting ys i) w.lower.ensures.waiting in
-          let longer : length w.push.new.self ≡ length ws + 1 = w.in_ok-push.ensures.len ∙ ap (λ (ys : List ℕ). length ys + 1) w.lower.ensures.waiting in
+          w.in_ok-push.ensures.waits i ∙ ap (λ (j : ℕ). j == i || is_waiting w.lower.new.self.waiting i) w.item_of.ensures ∙ ap (λ (ys : List ℕ). item_of k 0 == i || is_waiting ys i) w.in_ok-lower.ensures.waiting in
+          let longer : length w.push.new.self ≡ length ws + 1 = w.in_ok-push.ensures.len ∙ ap (λ (ys : List ℕ). length ys + 1) w.in_ok-lower.ensures.waiting in
           let high : 0 < slice_index hs k = omega (arith, w.if-get-gt0.true, w.get.ensures) in
           record {
             relaxes = renamed price named lawful has v others c.match-corner_at.self.heights c.match-corner_at.self.waiting c.match-corner_at.least is (ap waiting w.self-is) w.least-is
                 (both_steps price named lawful has v others was
                 (started price named lawful has v others hs ws w.push.new.self least w.lower.new.least i k was.costs was.sums w.in-Some.ensures.0 w.in-Some.ensures.1 high short
-                (omega (arith, w.lower.ensures.least)) added longer));
+                (omega (arith, w.in_ok-lower.ensures.least)) added longer));
             ends = subst Zero (sym is) (started_zero price named lawful has v others hs ws w.push.new.self least w.lower.new.least i k was.costs was.sums w.in-Some.ensures.0 w.in-Some.ensures.1 high short c.loop-position.invariant.ends);
           }
       | in-Some+else-get-gt0 w ↦

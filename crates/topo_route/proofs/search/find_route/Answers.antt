@@ -1,7 +1,7 @@
 use Rattle.topo_price.specs.Prices.{prices_of}
 use Rattle.topo_route.proofs.Descending.{has_darts}
 use Rattle.topo_route.proofs.Uncrossed.{first_direct}
-use Rattle.topo_route.proofs.search.first_route.Goals as goal
+use Rattle.topo_route.proofs.search.find_route.Goals as goal
 
 pub heights_for-requires-clause-some : goal.heights_for-requires-clause-some
 heights_for-requires-clause-some g c = has_darts (g.W.Walked.named c.args.walked.now).rows (g.met.W.Walked.lawful c.args.walked.now) c.args.u c.requires.u_there
@@ -9,6 +9,6 @@ heights_for-requires-clause-some g c = has_darts (g.W.Walked.named c.args.walked
 pub route_by_heights-requires-clause-some : goal.route_by_heights-requires-clause-some
 route_by_heights-requires-clause-some g c = has_darts (g.W.Walked.named c.args.walked.now).rows (g.met.W.Walked.lawful c.args.walked.now) c.args.u c.requires.u_there
 
-pub returns-in-Some : goal.returns-in-Some
-returns-in-Some g c =
+pub returns-in-Some-clause-first : goal.returns-in-Some-clause-first
+returns-in-Some-clause-first g c =
     first_direct (prices_of (g.F.Asks.answers c.args.tariff.now)) c.keeps_promise.ensures (g.W.Walked.named c.args.walked.now).rows c.args.u c.args.v c.in-Some.route c.in-Some.ensures

@@ -1,0 +1,13 @@
+use Rattle.topo_route.specs.Regions.{IsRegionOf}
+use Rattle.topo_route.specs.Seen.{HoldsMore}
+use Rattle.topo_route.proofs.Marking.{HoldsFirst}
+use Rattle.topo_route.proofs.seen.mark_below.Given as goal
+
+abbrev pub invariant-loop-i : goal.invariant-loop-i
+invariant-loop-i g l =
+    let named = g.W.Walked.named l.walked in
+    record {
+      of_rows : IsRegionOf named.rows l.region;
+      more : HoldsMore l.initial.region l.region;
+      first : HoldsFirst named l.heights l.bound l.places l.i l.region;
+    }

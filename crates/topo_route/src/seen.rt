@@ -1,0 +1,80 @@
+//! The region that a search from both ends has seen.
+
+ghost use Rattle.std.specs.Prelude.{◌<◌, ◌≤◌, IfOk, IfSome, IsSomeAnd, OnOk};
+ghost use Rattle.topo_core.specs.Routes.{unreached};
+ghost use Rattle.topo_route.specs.Regions.{IsRegionOf};
+ghost use Rattle.topo_route.specs.Seen.{AreNamed, HasSeen, HoldsBelow, HoldsMore, HoldsSeen};
+
+use crate::both_ends::Stop;
+use crate::region::Region;
+use crate::stamped_array::StampedArray;
+use crate::walked::Walked;
+use crate::workspace::Workspace;
+use std::alloc::{AllocError, Global};
+
+/// Marks the edge of each dart that is lower than the bound.
+fn mark_below<W: Walked>(
+    walked: &W,
+    heights: &StampedArray,
+    bound: u64,
+    region: &mut Region,
+) -> Result<(), AllocError>
+    requires named { AreNamed (W.named walked.now) heights.now }
+    requires of_rows { IsRegionOf (W.named walked.now).rows region.old }
+    ensures of_rows { OnOk result (IsRegionOf (W.named walked.now).rows region.new) }
+    ensures more { OnOk result (HoldsMore region.old region.new) }
+    ensures below { OnOk result (HoldsBelow (W.named walked.now) heights.now bound region.new) }
+{
+    let places = heights.written();
+    for i in 0..places.len() {
+        let dart = places[i];
+        if heights.get(dart) < bound {
+            region.mark(&walked.facts(dart))?;
+        }
+    }
+    Ok(())
+}
+
+/// The edges of all darts lower than the level, and of those no farther from the start than the rest of the
+/// least price.
+fn region_of<W: Walked>(
+    alloc: Global,
+    walked: &W,
+    work: &Workspace,
+    stop: Stop,
+) -> Result<Region, AllocError>
+    requires to_end { AreNamed (W.named walked.now) work.now.to_end.heights }
+    requires to_start { AreNamed (W.named walked.now) work.now.to_start.heights }
+    requires within { stop.level ≤ stop.least }
+    requires some { stop.least < unreached }
+    ensures { IfOk result (λ region. HoldsSeen (W.named walked.now) work.now.to_end.heights work.now.to_start.heights stop.level stop.least region) }
+{
+    let mut region = Region::new(alloc);
+    mark_below(walked, &work.to_end.heights, stop.level, &mut region)?;
+    let left = stop.least - stop.level + 1;
+    mark_below(walked, &work.to_start.heights, left, &mut region)?;
+    Ok(region)
+}
+
+/// What a search has seen where its two ends have met; none where they have not, or at the price 0.
+pub(crate) fn seen_region<W: Walked>(
+    alloc: Global,
+    walked: &W,
+    work: &Workspace,
+    stop: Option<Stop>,
+) -> Result<Option<Region>, AllocError>
+    requires { IfSome stop (λ s. HasSeen (W.named walked.now) work.now.to_end.heights work.now.to_start.heights s.level s.least) }
+    ensures { IfOk result (λ found. IfSome found (λ region. IsSomeAnd stop (λ s. (0 < s.least) × (s.least < unreached) × HoldsSeen (W.named walked.now) work.now.to_end.heights work.now.to_start.heights s.level s.least region))) }
+{
+    match stop {
+        Some(stop) => {
+            if stop.least > 0 && stop.least < u64::MAX {
+                let region = region_of(alloc, walked, work, stop)?;
+                Ok(Some(region))
+            } else {
+                Ok(None)
+            }
+        }
+        None => Ok(None),
+    }
+}
