@@ -1,9 +1,12 @@
 -- The last entries spare what a search has seen, and then its route is the first on the picture of now.
 use Rattle.std.proofs.Common.{◌≡◌, ◌≢◌, ℕ, ◌+◌, ◌-◌, Bool, true, false, List, [], ◌∷◌, ◌++◌, length, refl, sym, subst, ap, arith, append_assoc, length-append, ◌∙◌}
-use Rattle.std.specs.Prelude.{All, if◌then◌else◌}
+use Rattle.std.specs.Prelude.{All, if◌then◌else◌, not}
+use Rattle.std.specs.List.{list_all}
+use Rattle.std.proofs.lemmas.List.Sums.{AllPass-from_list_all}
 use Rattle.std.proofs.lemmas.List.{append-nil}
-use Rattle.std.proofs.lemmas.List.Elements.{All-head, All-nil, All-push, All-tail, filter-append}
+use Rattle.std.proofs.lemmas.List.Elements.{All-head, All-nil, All-push, All-tail, All-weaker, filter-append}
 use Rattle.topo_core.specs.declared.calls.Entry.{Entry}
+use Rattle.topo_core.specs.declared.darts.Dart.{Dart}
 use Rattle.topo_core.specs.declared.limits.Limits.{Limits}
 use Rattle.topo_core.specs.declared.routes.Route.{Route}
 use Rattle.topo_core.specs.declared.rows.Rows.{Rows}
@@ -13,7 +16,7 @@ use Rattle.topo_core.specs.Routes.{IsFirst, Pricing}
 use Rattle.topo_core.specs.Steps.{Step}
 use Rattle.topo_core.proofs.Replaying.{versions_replay}
 use Rattle.topo_rows.specs.Shown.{IsPicture}
-use Rattle.topo_route.specs.Regions.{AllSpare, IsFirstWhileKept, IsKept, IsRegionOf, RegionState, Spares}
+use Rattle.topo_route.specs.Regions.{AllSpare, IsFirstWhileKept, IsKept, IsRegionOf, RegionState, Spares, holds_edge}
 use Rattle.topo_route.proofs.Sparing.{spared}
 use Rattle.topo_book.specs.Books.{ReplaysLawfully}
 use Rattle.topo_book.specs.Sparing.{HaveSpared}
@@ -21,6 +24,14 @@ use Rattle.topo_book.proofs.Histories.{last_lawful, replays}
 use Rattle.topo_book.proofs.ReplicaLaws.{one_replay}
 
 -- ---- Entries one by one, from the last
+
+-- darts that all pass the test lie on no edge of the region
+pub crosses_none : (region : RegionState) (crossed : List Dart) → list_all (λ d. not (holds_edge region d.edge)) crossed ≡ true → All (λ d. holds_edge region d.edge ≡ false) crossed
+crosses_none region crossed passed = All-weaker (λ (d : Dart). not (holds_edge region d.edge) ≡ true) (λ (d : Dart). holds_edge region d.edge ≡ false) (λ d. off (holds_edge region d.edge)) crossed
+    (AllPass-from_list_all (λ (d : Dart). not (holds_edge region d.edge)) crossed passed) where
+  off : (b : Bool) → not b ≡ true → b ≡ false
+  off true is = cc
+  off false is = refl
 
 module _ (before : Rows) (region : RegionState) where
   spare : Entry → Type 0

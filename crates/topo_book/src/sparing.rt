@@ -1,6 +1,8 @@
 //! Whether the last calls have spared what a search has seen.
 
-ghost use Rattle.std.specs.Prelude.{◌≡◌, All, false, true};
+ghost use Rattle.std.specs.Prelude.{◌≡◌, not, true};
+ghost use Rattle.std.specs.List.{list_all};
+ghost use Rattle.topo_core.specs.History.{is_accepted};
 ghost use Rattle.topo_book.specs.Sparing.{HaveSpared};
 ghost use Rattle.topo_route.specs.Regions.{Spares, holds_edge};
 
@@ -11,17 +13,15 @@ use topo_route::region::Region;
 
 /// Whether none of the darts lies on an edge of the region.
 fn cross_none(region: &Region, crossed: &[Dart]) -> bool
-    ensures { result ≡ true → All (λ d. holds_edge region.now d.edge ≡ false) crossed.now }
+    ensures { result ≡ list_all (λ d. not (holds_edge region.now d.edge)) crossed.now }
 {
-    for dart in crossed {
-        if region.has_edge(dart.edge.number()) {
-            return false;
-        }
-    }
-    true
+    crossed
+        .iter()
+        .all(|dart| !region.has_edge(dart.edge.number()))
 }
 
 /// Whether a call that was answered so leaves alone what a search saw of a picture that came before.
+#[tactic(auto, using(crate::proofs::Outliving::crosses_none))]
 fn spares(before: &Picture, region: &Region, entry: &Entry) -> bool
     ensures { result ≡ true → Spares before.now.rows region.now entry.now.call entry.now.reply }
 {
@@ -47,6 +47,7 @@ fn is_accepted(reply: &Reply) -> bool
 
 /// Whether the last entries, so many that `accepted` of them are accepted, all spare the region. No more than
 /// `most` are looked at.
+#[tactic(auto, using(crate::proofs::Outliving::none_spared, crate::proofs::Outliving::last_spared))]
 pub(crate) fn have_spared(
     before: &Picture,
     region: &Region,

@@ -1,30 +1,48 @@
--- An edge apart from a region, crossing by crossing.
-use Rattle.std.proofs.Common.{◌≡◌, ℕ, List, [], ◌∷◌, Some, false, subst}
-use Rattle.std.specs.Prelude.{All, Contains, IfSome}
-use Rattle.std.proofs.lemmas.List.Elements.{All-contains}
+-- What the tests of an edge apart from a region say.
+use Rattle.std.proofs.Common.{◌≡◌, ℕ, Bool, true, false, List, Some, refl, ap, subst, sym, ◌∙◌}
+use Rattle.std.specs.Prelude.{IfSome, Option, not, slice_get, slice_index_or, ◌&&◌}
+use Rattle.std.specs.List.{list_all}
+use Rattle.std.proofs.lemmas.Option.{slice_get-get_or}
 use Rattle.topo_core.specs.declared.rows.CrossRow.{CrossRow}
 use Rattle.topo_core.specs.declared.rows.EdgeRow.{EdgeRow}
 use Rattle.topo_core.specs.declared.rows.Rows.{Rows}
 use Rattle.topo_core.specs.Items.{IsIn}
-use Rattle.topo_core.specs.Picture.{cross_row}
+use Rattle.topo_core.specs.Picture.{cross_row, edge_row}
+use Rattle.topo_core.proofs.Members.{left_true, right_true, test_of_each}
 use Rattle.topo_route.specs.Regions.{IsApart, RegionState, holds_edge, holds_vertex}
-use Rattle.topo_picture.specs.Apart.{CrossesNone}
+use Rattle.topo_rows.specs.Ids.{IsPlaceOf}
+use Rattle.topo_picture.specs.Apart.{is_of_others, lies_apart}
 
--- what holds of all items holds of one
-of_all : {X : Type 0} (P : X → Type 0) (xs : List X) (x : X) → All P xs → IsIn x xs → P x
-of_all P xs x all there = All-contains P xs x all (contained xs there) where
-  contained : (xs : List _) → IsIn x xs → Contains xs x
-  contained xs there = _
+off : (b : Bool) → not b ≡ true → b ≡ false
+off true is = cc
+off false is = refl
 
--- all that an edge apart has to be
-pub is_apart : (rows : Rows) (region : RegionState) (row : EdgeRow) → holds_edge region row.id ≡ false → holds_vertex region row.a ≡ false → holds_vertex region row.b ≡ false
-    → All (CrossesNone rows region) row.crossings → IsApart rows region row
-is_apart rows region row edge a b none = record {
-  edge = edge;
-  a = a;
-  b = b;
-  crossed = λ x c there is. (one x c there is).0;
-  newcomer = λ x c there is. (one x c there is).1;
-} where
-  one : (x : ℕ) (c : CrossRow) → IsIn x row.crossings → cross_row rows x ≡ Some c → (holds_edge region c.crossed ≡ false) × (holds_edge region c.newcomer ≡ false)
-  one x c there is = subst (λ o. IfSome o (λ c. (holds_edge region c.crossed ≡ false) × (holds_edge region c.newcomer ≡ false))) is (of_all (CrossesNone rows region) row.crossings x none there)
+-- an edge that passes them lies apart
+pub is_apart : (rows : Rows) (region : RegionState) (row : EdgeRow) → lies_apart rows region row ≡ true → IsApart rows region row
+is_apart rows region row passed =
+    let edge = not (holds_edge region row.id) in
+    let a = not (holds_vertex region row.a) in
+    let b = not (holds_vertex region row.b) in
+    let none = list_all (λ x. is_of_others region (cross_row rows x)) row.crossings in
+    let first = edge && a in
+    let ends : (first && b) ≡ true = left_true (first && b) none passed in
+    let last : none ≡ true = right_true (first && b) none passed in
+    let start : (edge && a) ≡ true = left_true first b ends in
+    record {
+      edge = off (holds_edge region row.id) (left_true edge a start);
+      a = off (holds_vertex region row.a) (right_true edge a start);
+      b = off (holds_vertex region row.b) (right_true first b ends);
+      crossed = λ x c there is. off (holds_edge region c.crossed) (left_true (not (holds_edge region c.crossed)) (not (holds_edge region c.newcomer)) (one x c last there is));
+      newcomer = λ x c there is. off (holds_edge region c.newcomer) (right_true (not (holds_edge region c.crossed)) (not (holds_edge region c.newcomer)) (one x c last there is));
+    } where
+  one : (x : ℕ) (c : CrossRow) → list_all (λ x. is_of_others region (cross_row rows x)) row.crossings ≡ true → IsIn x row.crossings → cross_row rows x ≡ Some c
+      → (not (holds_edge region c.crossed) && not (holds_edge region c.newcomer)) ≡ true
+  one x c passed there is = sym (ap (is_of_others region) is) ∙ test_of_each (λ x. is_of_others region (cross_row rows x)) x row.crossings passed there
+
+-- so does the edge that was found at a place
+pub found_apart : (rows : Rows) (region : RegionState) (edge place : ℕ) (row : EdgeRow) → IsPlaceOf rows.edges (λ r. r.id) edge place → row ≡ slice_index_or rows.edges place row
+    → lies_apart rows region row ≡ true → IfSome (edge_row rows edge) (IsApart rows region)
+found_apart rows region edge place row there read passed =
+    let same : Some row ≡ Some there.row = ap Some read ∙ sym (slice_get-get_or rows.edges place row there.within) ∙ there.at in
+    let one : row ≡ there.row = cc in
+    subst (λ o. IfSome o (IsApart rows region)) (sym there.found) (subst (IsApart rows region) one (is_apart rows region row passed))

@@ -1,10 +1,10 @@
 //! Edges that lie apart from what a search has seen.
 
-ghost use Rattle.std.specs.Prelude.{◌≡◌, All, IfSome, false, true};
+ghost use Rattle.std.specs.Prelude.{◌≡◌, true};
+ghost use Rattle.std.specs.List.{list_all};
 ghost use Rattle.topo_core.specs.Lawful.{has_good_crossings};
 ghost use Rattle.topo_core.specs.Picture.{cross_row};
-ghost use Rattle.topo_picture.specs.Apart.{CrossesNone};
-ghost use Rattle.topo_route.specs.Regions.{holds_edge, holds_vertex};
+ghost use Rattle.topo_picture.specs.Apart.{is_of_others, lies_apart};
 
 use topo_core::rows::{EdgeRow, Rows};
 use topo_route::region::Region;
@@ -14,7 +14,7 @@ use topo_rows::by_id::crossing_place;
 /// Whether a crossing, if it is there, is of two edges that are not of the region.
 fn is_of_others(rows: &Rows, hints: &Hints, region: &Region, crossing: u32) -> bool
     requires { has_good_crossings rows.now ≡ true }
-    ensures { result ≡ true → CrossesNone rows.now region.now crossing }
+    ensures { result ≡ is_of_others region.now (cross_row rows.now crossing) }
 {
     let crossings = rows.crossings.as_slice();
     match crossing_place(crossings, hints, crossing) {
@@ -27,28 +27,22 @@ fn is_of_others(rows: &Rows, hints: &Hints, region: &Region, crossing: u32) -> b
 }
 
 /// Whether all of these crossings are.
-fn cross_none(rows: &Rows, hints: &Hints, region: &Region, crossings: &[u32]) -> bool
+fn are_of_others(rows: &Rows, hints: &Hints, region: &Region, crossings: &[u32]) -> bool
     requires { has_good_crossings rows.now ≡ true }
-    ensures { result ≡ true → All (CrossesNone rows.now region.now) crossings.now }
+    ensures { result ≡ list_all (λ x. is_of_others region.now (cross_row rows.now x)) crossings.now }
 {
-    for crossing in crossings {
-        if !is_of_others(rows, hints, region, *crossing) {
-            return false;
-        }
-    }
-    true
+    crossings
+        .iter()
+        .all(|crossing| is_of_others(rows, hints, region, *crossing))
 }
 
 /// Whether an edge is not of the region, ends at no vertex of it, and crosses no edge of it.
 pub(crate) fn lies_apart(rows: &Rows, hints: &Hints, region: &Region, row: &EdgeRow) -> bool
     requires { has_good_crossings rows.now ≡ true }
-    ensures edge { result ≡ true → holds_edge region.now row.now.id ≡ false }
-    ensures a { result ≡ true → holds_vertex region.now row.now.a ≡ false }
-    ensures b { result ≡ true → holds_vertex region.now row.now.b ≡ false }
-    ensures crossings { result ≡ true → All (CrossesNone rows.now region.now) row.now.crossings }
+    ensures { result ≡ lies_apart rows.now region.now row.now }
 {
     !region.has_edge(row.id)
         && !region.has_vertex(row.a)
         && !region.has_vertex(row.b)
-        && cross_none(rows, hints, region, row.crossings.as_slice())
+        && are_of_others(rows, hints, region, row.crossings.as_slice())
 }
