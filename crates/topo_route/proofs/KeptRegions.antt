@@ -1,8 +1,8 @@
 -- A picture that has kept a region: its faces and corners in the region are those of the picture before.
 use Rattle.std.proofs.Common.{◌≡◌, ℕ, zero, suc, ◌+◌, ◌&&◌, ◌<◌, ◌≤◌, Bool, true, false, cond, ◌||◌, List, [], ◌∷◌, length, Some, None, inl, inr, refl, sym, ap, subst, ◌∙◌, arith}
-use Rattle.std.specs.Prelude.{◌⊎◌, ◌==◌, Option, find, is_some, map, nat_lt, option_map, slice_get, slice_index_or, unwrap_or}
+use Rattle.std.specs.Prelude.{◌⊎◌, ◌==◌, Option, map, option_map, slice_get, slice_index_or, unwrap_or}
 use Rattle.std.proofs.Math.ListN.{get_or-map}
-use Rattle.std.proofs.lemmas.Bool.{cases_Bool, eq-eqb, eqb-true, false≢true, or_cases, or_left, or_right}
+use Rattle.std.proofs.lemmas.Bool.{cases_Bool, eqb-true, or_cases, or_left}
 use Rattle.std.proofs.lemmas.Iterator.Adapters.{option_map_id}
 use Rattle.std.proofs.lemmas.Option.{slice_get-map}
 use Rattle.topo_core.specs.declared.darts.Dart.{Dart}
@@ -16,20 +16,19 @@ use Rattle.std.specs.List.{list_all, position_or_len}
 use Rattle.topo_core.specs.Darts.{dart_twin, same_dart, same_way}
 use Rattle.topo_core.specs.Items.{IsIn, occurrences}
 use Rattle.topo_core.specs.Lawful.{IsWellFormed, Lawful, is_good_crossing}
-use Rattle.topo_core.specs.Picture.{IsDart, ahead, around_crossing, around_vertex, behind, clockwise, corner, cross_row, darts, edge_at, edge_row, end_dart, rotation, segment_count, system, vertices}
+use Rattle.topo_core.specs.Picture.{ahead, around_crossing, around_vertex, behind, clockwise, corner, cross_row, darts, edge_at, edge_row, end_dart, rotation, system, vertices}
 use Rattle.topo_core.specs.Systems.{System, darts_in, face_step, follower, has_dart, turn}
-use Rattle.topo_core.proofs.Counting.{lt_of_test, le_of_test, one}
+use Rattle.topo_core.proofs.Counting.{one}
 use Rattle.topo_core.proofs.DartLaws.{same_dart_self, same_dart_true}
 use Rattle.topo_core.proofs.Growing.{in_append}
-use Rattle.topo_core.proofs.Members.{found, in_map, left_true, or_second}
-use Rattle.topo_core.proofs.NewDarts.{stands_in}
+use Rattle.topo_core.proofs.Members.{found, in_map, left_true}
 use Rattle.topo_core.proofs.Numbering.{distinct_system, twin_in}
 use Rattle.topo_core.proofs.Points.{point_of, turn_at_point}
-use Rattle.topo_core.proofs.RoundPoints.{NextOfFour, next_of_four}
+use Rattle.topo_core.proofs.RoundPoints.{next_of_four}
 use Rattle.topo_core.proofs.RouteDarts.{has_item}
 use Rattle.topo_core.proofs.ShownPlaces.{on_path_of}
 use Rattle.topo_core.proofs.ShownRows.{find_by_id, in_images}
-use Rattle.topo_core.proofs.Standing.{end_dart_edge, good_crossing, good_rotation, is_dart_of_rows, listed_test, of_rows_is_dart, system_test}
+use Rattle.topo_core.proofs.Standing.{end_dart_edge, good_rotation, is_dart_of_rows, listed_test, of_rows_is_dart, system_test}
 use Rattle.topo_core.proofs.SystemDarts.{crossing_point, edge_at_row, eqb_self, row_id, row_in, some_of, vertex_in, vertex_point}
 use Rattle.topo_core.proofs.Turning.{IsDistinct, distinct_left, distinct_right, next_around}
 use Rattle.topo_core.proofs.WovenPaths.{counted_in}

@@ -1,7 +1,7 @@
 -- Calls that spare a region leave it as it was.
-use Rattle.std.proofs.Common.{◌≡◌, ◌≢◌, ℕ, suc, ◌+◌, ◌<◌, ◌≤◌, Bool, true, false, cond, not, ◌&&◌, ◌||◌, List, [], ◌∷◌, ◌++◌, length, get_or, get_or-set_other, Some, inl, inr, refl, sym, ap, subst, ◌∙◌, arith}
-use Rattle.std.specs.Prelude.{◌⊎◌, ◌==◌, All, IfSome, Option, filter, is_some, map, nat_le, slice_index_or, unwrap_or}
-use Rattle.std.specs.List.{list_all, list_any}
+use Rattle.std.proofs.Common.{◌≡◌, ◌≢◌, ℕ, suc, ◌+◌, ◌<◌, ◌≤◌, Bool, true, false, not, ◌&&◌, ◌||◌, List, [], ◌∷◌, ◌++◌, length, get_or, get_or-set_other, Some, inl, inr, refl, sym, ap, subst, ◌∙◌, arith}
+use Rattle.std.specs.Prelude.{◌==◌, All, IfSome, Option, is_some, map, nat_le}
+use Rattle.std.specs.List.{list_all}
 use Rattle.std.proofs.Math.ListN.{get_or-append, length-set}
 use Rattle.std.proofs.lemmas.Bool.Decides.{nat_tests}
 use Rattle.std.proofs.lemmas.Bool.{cases_Bool, eq-eqb, eqb-true, false≢true, or_left, or_right}
@@ -15,7 +15,7 @@ use Rattle.topo_core.specs.declared.routes.Route.{Route}
 use Rattle.topo_core.specs.declared.rows.CrossRow.{CrossRow}
 use Rattle.topo_core.specs.declared.rows.EdgeRow.{EdgeRow}
 use Rattle.topo_core.specs.declared.rows.Rows.{Rows}
-use Rattle.topo_core.specs.Changes.{crossed_row, from_least, grown, new_crossing, new_on, numbered, shown, uncrossed_row, with_end, without, woven}
+use Rattle.topo_core.specs.Changes.{crossed_row, from_least, grown, new_crossing, new_on, numbered, shown, with_end, without, woven}
 use Rattle.topo_core.specs.Items.{IsIn, has_id}
 use Rattle.topo_core.specs.Lawful.{IsWellFormed, Lawful, has_good_rotation, is_good_crossing}
 use Rattle.topo_core.specs.Picture.{around_vertex, cross_row, edge_at, edge_row, end_dart, rotation, system, vertices}

@@ -1,18 +1,22 @@
 -- Regions that searches have seen: where a later picture has kept one, the route that the search found is still the first.
-use Rattle.std.specs.Prelude.{◌≡◌, ℕ, ◌<◌, Bool, true, false, List, Some, All, IfSome, length, slice_index_or, is_some}
+use Rattle.std.specs.Prelude.{◌≡◌, ℕ, ◌<◌, ◌≤◌, Bool, true, false, List, Some, All, IfSome, length, slice_index_or, is_some}
 use Rattle.topo_core.specs.declared.calls.Call.{Call}
 use Rattle.topo_core.specs.declared.calls.Call.TheVariants.{Grow, Insert, Delete}
 use Rattle.topo_core.specs.declared.calls.Entry.{Entry}
 use Rattle.topo_core.specs.declared.calls.Reply.{Reply}
 use Rattle.topo_core.specs.declared.calls.Reply.TheVariants.{Grown, Inserted as Put, Deleted, Refused}
+use Rattle.topo_core.specs.declared.darts.Dart.{Dart}
+use Rattle.topo_core.specs.declared.limits.Limits.{Limits}
 use Rattle.topo_core.specs.declared.rows.CrossRow.{CrossRow}
 use Rattle.topo_core.specs.declared.rows.EdgeRow.{EdgeRow}
 use Rattle.topo_core.specs.declared.rows.Rows.{Rows}
 use Rattle.topo_core.specs.declared.routes.Route.{Route}
 use Rattle.topo_core.specs.Items.{IsIn}
 use Rattle.topo_core.specs.Lawful.{Lawful}
-use Rattle.topo_core.specs.Picture.{cross_row, edge_at, edge_row, rotation}
+use Rattle.topo_core.specs.Picture.{corner, cross_row, edge_at, edge_row, rotation}
 use Rattle.topo_core.specs.Routes.{IsFirst, Pricing}
+use Rattle.topo_core.specs.Steps.{Step}
+use Rattle.topo_route.specs.Surviving.{IsRegion, KeepsEnds, KeepsFaces, unmoved}
 
 -- ---- Regions
 
@@ -71,3 +75,17 @@ Spares before region (Delete e) (Put made) = ⊥
 
 abbrev pub AllSpare : Rows → RegionState → List Entry → Type 0
 AllSpare before region entries = All (λ entry. Spares before region entry.call entry.reply) entries
+
+-- ---- The laws
+
+-- a picture that has kept a region keeps it when a call spares it
+abbrev pub SparedRegionsStayKept : Pricing → Type 0
+SparedRegionsStayKept price = (limits : Limits) (before p q : Rows) (region : RegionState) (call : Call) (reply : Reply) → Lawful before → Lawful p → IsRegionOf before region
+    → IsKept before p region → Step price limits p call reply q → Spares before region call reply → IsKept before q region
+
+-- where a picture has kept a region, it keeps the faces that lie in it, the corners of v, and those of u as far as the start
+abbrev pub KeptRegionsKeepFaces : Type 0
+KeptRegionsKeepFaces = (before now : Rows) (region : RegionState) (inside : Dart → Bool) (u v start : ℕ) → Lawful before → Lawful now → IsRegionOf before region → IsKept before now region
+    → IsRegion before inside → ((d : Dart) → inside d ≡ true → holds_edge region d.edge ≡ true) → holds_vertex region u ≡ true → holds_vertex region v ≡ true
+    → ((q : ℕ) (c : Dart) → q ≤ start → corner before u q ≡ Some c → inside c ≡ true) → ((q : ℕ) (c : Dart) → corner before v q ≡ Some c → inside c ≡ true)
+    → KeepsFaces before now (unmoved inside) × KeepsEnds before now (unmoved inside) u v start

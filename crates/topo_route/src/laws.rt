@@ -1,5 +1,6 @@
 //! Laws of routes in two pictures. The functions do nothing: their contracts are the laws.
 
+ghost use Rattle.topo_route.specs.Regions.{KeptRegionsKeepFaces, SparedRegionsStayKept};
 ghost use Rattle.topo_route.specs.Surviving.{CoveredRoutesSurvive, FoundRoutesSurvive, KeptEndsStay, KeptFacesStay, MetRoutesSurvive, PicturesCoverSearches, PicturesKeepThemselves, RoutesSurvive};
 
 use topo_core::prices::Prices;
@@ -46,4 +47,15 @@ pub fn kept_faces_stay()
 /// So are the corners at both ends.
 pub fn kept_ends_stay()
     ensures { KeptEndsStay }
+{}
+
+/// A picture that has kept a region that a search has seen keeps it when a call spares it.
+pub fn regions_stay_kept<P: Prices>()
+    ensures { SparedRegionsStayKept P.price }
+{}
+
+/// Where a picture has kept a region, it keeps the faces whose edges the region holds, and the corners
+/// at both ends.
+pub fn kept_regions_keep_faces()
+    ensures { KeptRegionsKeepFaces }
 {}

@@ -1,0 +1,5 @@
+use Rattle.topo_route.proofs.Sparing.{spared}
+use Rattle.topo_route.proofs.laws.regions_stay_kept.Goals as goal
+
+pub returns : goal.returns
+returns g c = spared g.P.Prices.price
