@@ -1,5 +1,5 @@
 -- A region grows by the edges of darts, and what is written is gone through.
-use Rattle.std.proofs.Common.{◌≡◌, ◌≢◌, ℕ, zero, suc, ◌+◌, ◌-◌, ◌<◌, ◌≤◌, ◌||◌, ◌==◌, Bool, true, false, List, [], ◌∷◌, length, Some, inl, inr, ◌⊎◌, refl, sym, ap, subst, eq-eqb, ◌∙◌, arith}
+use Rattle.std.proofs.Common.{◌≡◌, ◌≢◌, ℕ, zero, suc, ◌+◌, ◌<◌, ◌≤◌, ◌||◌, ◌==◌, true, List, [], ◌∷◌, length, Some, inl, inr, ◌⊎◌, refl, sym, ap, subst, eq-eqb, ◌∙◌, arith}
 use Rattle.std.specs.Prelude.{is_some, slice_index}
 use Rattle.std.proofs.Math.Bool.{or-true}
 use Rattle.std.proofs.lemmas.Bool.{cases_lt, eqb-true, false≢true}
@@ -15,7 +15,7 @@ use Rattle.topo_core.specs.Systems.{has_dart}
 use Rattle.topo_core.proofs.NumberOrder.{either}
 use Rattle.topo_core.proofs.Standing.{listed_test, of_rows_is_dart}
 use Rattle.topo_core.proofs.SystemDarts.{edge_at_row, path_facts, row_id, row_in}
-use Rattle.topo_route.specs.Names.{IsName, IsNamed, Named, dart_named}
+use Rattle.topo_route.specs.Names.{IsNamed, Named, dart_named}
 use Rattle.topo_route.specs.Regions.{IsRegionOf, RegionState, holds_edge, holds_vertex}
 use Rattle.topo_route.specs.Seen.{AreNamed, HoldsBelow, HoldsMore}
 use Rattle.topo_route.proofs.Names.{name_below}

@@ -1,27 +1,27 @@
 -- What a search from both ends has seen is enough: its route is the first of each picture that has kept the region.
-use Rattle.std.proofs.Common.{◌≡◌, ℕ, zero, suc, ◌+◌, ◌-◌, ◌<◌, ◌≤◌, Bool, true, false, ◌&&◌, ◌||◌, ◌==◌, cond, List, [], ◌∷◌, length, Some, inl, inr, ◌⊎◌, refl, sym, ap, subst, ◌∙◌, arith}
-use Rattle.std.specs.Prelude.{IfSome, IsSomeAnd, None, Option, map, nat_lt, option_map, slice_get, slice_index, slice_index_or}
-use Rattle.std.proofs.lemmas.Bool.{cases_Bool, cases_lt, eqb-true, false≢true}
+use Rattle.std.proofs.Common.{◌≡◌, ℕ, zero, suc, ◌+◌, ◌-◌, ◌<◌, ◌≤◌, Bool, true, false, ◌&&◌, ◌||◌, ◌==◌, List, [], ◌∷◌, length, Some, inl, inr, ◌⊎◌, refl, sym, ap, subst, ◌∙◌, arith}
+use Rattle.std.specs.Prelude.{IfSome, IsSomeAnd, None, Option, map, nat_lt, slice_get, slice_index, slice_index_or}
+use Rattle.std.proofs.lemmas.Bool.{cases_lt, eqb-true}
 use Rattle.std.proofs.lemmas.Iterator.Adapters.{option_map_id}
 use Rattle.topo_core.specs.declared.darts.Dart.{Dart}
 use Rattle.topo_core.specs.declared.rows.EdgeRow.{EdgeRow}
 use Rattle.topo_core.specs.declared.rows.Rows.{Rows}
 use Rattle.topo_core.specs.declared.routes.Route.{Route}
-use Rattle.topo_core.specs.Items.{IsIn, occurrences}
+use Rattle.topo_core.specs.Items.{occurrences}
 use Rattle.topo_core.specs.Lawful.{IsWellFormed, Lawful}
 use Rattle.topo_core.specs.Picture.{corner, darts, edge_at, edge_row, end_dart, rotation, system}
 use Rattle.topo_core.specs.RouteLaws.{IsFirstByHeights}
 use Rattle.topo_core.specs.Routes.{IsFirst, KeepsPromise, Pricing, unreached}
 use Rattle.topo_core.specs.Systems.{face_step, has_dart}
-use Rattle.topo_core.proofs.Counting.{le_of_test, lt_of_test, lt_test, one}
+use Rattle.topo_core.proofs.Counting.{lt_of_test, lt_test, one}
 use Rattle.topo_core.proofs.Members.{counted_at, left_true, right_true}
 use Rattle.topo_core.proofs.NumberOrder.{either}
 use Rattle.topo_core.proofs.RouteDarts.{item_at}
 use Rattle.topo_core.proofs.Standing.{end_dart_edge, good_rotation}
 use Rattle.topo_core.proofs.SystemDarts.{edge_at_row, row_id, row_in, some_of, vertex_in}
 use Rattle.topo_route.specs.Meeting.{Meets}
-use Rattle.topo_route.specs.Names.{IsName, IsNamed, Named, dart_named, height_of, next_name}
-use Rattle.topo_route.specs.Regions.{IsFirstWhileKept, IsKept, IsRegionOf, RegionState, holds_edge, holds_vertex}
+use Rattle.topo_route.specs.Names.{IsNamed, Named, height_of, next_name}
+use Rattle.topo_route.specs.Regions.{IsFirstWhileKept, IsRegionOf, RegionState, holds_edge, holds_vertex}
 use Rattle.topo_route.specs.Seen.{HoldsSeen, RestsOn}
 use Rattle.topo_route.specs.declared.both_ends.Stop.{Stop}
 use Rattle.topo_route.specs.Surviving.{CoversMeeting, IsRegion, moved, unmoved}

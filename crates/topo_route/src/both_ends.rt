@@ -112,8 +112,10 @@ fn finish<W: Walked, F: Asks>(
     let level = level.min(least.max(1));
     work.to_end
         .spread(graph, &work.to_start.heights, &mut least, v, level, MOST)?;
-    let level = level.min(least.max(1));
-    Ok(Stop { level, least })
+    Ok(Stop {
+        level: level.min(least.max(1)),
+        least,
+    })
 }
 
 /// The least prices of the darts' faces to a face at the target, as far as routes from `u` need them.

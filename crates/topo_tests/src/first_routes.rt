@@ -60,7 +60,7 @@ fn route_at(
 }
 
 /// Whether a route is that of the answer, and its price.
-fn is_route(found: &PricedRoute, answer: &Answer) -> bool {
+pub(crate) fn is_route(found: &PricedRoute, answer: &Answer) -> bool {
     let crossed = found.route.crossed.as_slice();
     found.route.start == answer.start
         && found.route.end == answer.end

@@ -32,6 +32,8 @@ mod prices;
 #[cfg(test)]
 mod readers;
 #[cfg(test)]
+mod regions;
+#[cfg(test)]
 mod replicas;
 #[cfg(test)]
 mod searches;

@@ -58,5 +58,5 @@ returns g c =
       heights = for_both price named lawful has c.args.u c.args.v promise small heights distances first level second above least on.costs back.costs at_target at_start on.sums
           positive within back.less on.less in_range is near on.settled;
       met = has_met price named lawful has c.args.u c.args.v promise small heights distances first level second above least on.costs back.costs at_target at_start on.sums
-          positive within back.less on.less in_range is near on.settled c.min-level-2.result (omega (arith, c.max-2.ensures, c.min-level-2.ensures));
+          positive within back.less on.less in_range is near on.settled c.min.result (omega (arith, c.max-2.ensures, c.min.ensures));
     }

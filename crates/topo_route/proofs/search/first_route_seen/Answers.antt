@@ -1,4 +1,4 @@
-use Rattle.std.proofs.Common.{◌≡◌, subst, sym}
+use Rattle.std.proofs.Common.{subst}
 use Rattle.std.specs.Prelude.{IfSome}
 use Rattle.topo_price.specs.Prices.{prices_of}
 use Rattle.topo_route.specs.Seen.{RestsOn}

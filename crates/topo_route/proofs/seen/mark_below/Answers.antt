@@ -1,8 +1,7 @@
-use Rattle.std.proofs.Common.{◌+◌, ◌<◌, ◌≡◌, ◌≢◌, arith, length, subst, sym, ℕ}
+use Rattle.std.proofs.Common.{◌+◌, ◌≡◌, arith, length, subst, sym}
 use Rattle.std.specs.Prelude.{slice_index}
-use Rattle.topo_core.specs.Routes.{unreached}
 use Rattle.topo_route.specs.Names.{IsName, dart_named}
-use Rattle.topo_route.specs.Regions.{IsRegionOf, RegionState, holds_edge}
+use Rattle.topo_route.specs.Regions.{IsRegionOf, RegionState}
 use Rattle.topo_route.specs.Seen.{HoldsMore}
 use Rattle.topo_route.proofs.Marking.{HoldsFirst, holds_below, holds_next, listed_index, marked, more_on, no_more}
 use Rattle.topo_route.proofs.seen.mark_below.Goals as goal
