@@ -183,8 +183,8 @@ pub fn first_route<W: Walked, F: Asks>(
 /// As `first_route`, with what the search has seen: on each later picture that has kept that region, the
 /// route is still the first, at the same price. No region is handed out for a route that crosses nothing.
 ///
-/// What is seen are the darts that the two ends have settled, so the time for listing them follows that of
-/// the search, and only the marks, a bit of memory for each id, grow with the picture.
+/// What is seen are the darts that the two ends have settled, so to go through them takes less time than
+/// the search did. The marks take a byte for each id up to the greatest that was seen.
 pub fn first_route_seen<W: Walked, F: Asks>(
     alloc: Global,
     walked: &W,
