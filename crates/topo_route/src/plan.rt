@@ -1,7 +1,7 @@
 //! Plans: a route with its price and the heights that certify it.
 
-use std::error::Error;
 use std::fmt;
+use thiserror::Error;
 use topo_core::listed::Listed;
 use topo_core::routes::Route;
 
@@ -22,7 +22,7 @@ pub struct Plan {
 }
 
 /// The first test that a plan fails.
-#[derive(Clone, Copy, Debug, Drop, PartialEq, Eq)]
+#[derive(Clone, Copy, Debug, Drop, PartialEq, Eq, Error)]
 pub enum PlanFault {
     /// There is not one height for each dart.
     WrongLength,
@@ -87,5 +87,3 @@ impl fmt::Display for PlanFault {
         write!(f, "{number} {name}")
     }
 }
-
-impl Error for PlanFault {}
