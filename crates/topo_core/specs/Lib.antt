@@ -4,6 +4,7 @@ pub mod Darts
 pub mod Deletions
 pub mod Edits
 pub mod Evidence
+pub mod FaultTexts
 pub mod History
 pub mod Insertions
 pub mod Items

@@ -5,6 +5,8 @@ ghost use Rattle.std.specs.Prelude.{◌≡◌, IfOk};
 use crate::ids::{EdgeId, VertexId};
 use crate::routes::Inserted;
 use std::alloc::{AllocError, Global};
+use std::fmt;
+use thiserror::Error;
 
 /// A change that is asked for, with the numbers as they were handed in.
 #[derive(Clone, Copy, Debug, PartialEq, Eq)]
@@ -25,8 +27,8 @@ pub enum Command {
     Planned { u: u32, v: u32, kind: u32 },
 }
 
-/// Why a call changes nothing.
-#[derive(Clone, Copy, Debug, PartialEq, Eq)]
+/// Why a call changes nothing. It is printed as its number, its name and its segment.
+#[derive(Clone, Copy, Debug, PartialEq, Eq, Error)]
 pub enum Refusal {
     /// 1: a number names no vertex.
     NoVertex,
@@ -65,6 +67,41 @@ impl Refusal {
             Refusal::Full => 7,
             Refusal::Memory => 8,
             Refusal::NoRoute => 9,
+        }
+    }
+
+    ghost use Rattle.topo_core.specs.FaultTexts.{refusal_name};
+
+    /// The name of the refusal.
+    pub fn name(self) -> &'static str
+        ensures { result.now ≡ refusal_name self }
+    {
+        match self {
+            Refusal::NoVertex => "NoVertex",
+            Refusal::SameEnds => "SameEnds",
+            Refusal::NoPosition => "NoPosition",
+            Refusal::NoEdge => "NoEdge",
+            Refusal::BadKind => "BadKind",
+            Refusal::Cut(_) => "Cut",
+            Refusal::Full => "Full",
+            Refusal::Memory => "Memory",
+            Refusal::NoRoute => "NoRoute",
+        }
+    }
+}
+
+impl fmt::Display for Refusal {
+    ghost use Rattle.std.specs.Prelude.{Some};
+    ghost use Rattle.topo_core.specs.FaultTexts.{refusal_text};
+
+    ghost output = { λ refusal. Some (refusal_text refusal) };
+
+    fn fmt<W: fmt::Write>(&self, f: &mut fmt::Formatter<W>) -> fmt::Result {
+        let number = self.number();
+        let name = self.name();
+        match self {
+            Refusal::Cut(segment) => write!(f, "{number} {name} {segment}"),
+            _ => write!(f, "{number} {name}"),
         }
     }
 }

@@ -4,11 +4,11 @@ ghost use Rattle.std.specs.Prelude.{◌≡◌, Some};
 ghost use Rattle.topo_forms.specs.FaultTexts.{fault_name, fault_number, fault_text};
 
 use crate::path::Path;
-use std::error::Error;
 use std::fmt;
+use thiserror::Error;
 
 /// The first fault of a text, or want of memory. It is printed as its number, its name and its place.
-#[derive(Clone, Copy, Debug, PartialEq, Eq)]
+#[derive(Clone, Copy, Debug, PartialEq, Eq, Error)]
 pub enum ScriptFault {
     /// A growth of memory was refused.
     Memory,
@@ -67,5 +67,3 @@ impl fmt::Display for ScriptFault {
         }
     }
 }
-
-impl Error for ScriptFault {}

@@ -3,14 +3,14 @@
 ghost use Rattle.std.specs.Prelude.{◌≡◌, ◌<◌, ◌≤◌, Some, None, Err, IfSome, IsSomeAnd, MatchResult, slice_get, length};
 ghost use Rattle.topo_price.specs.Prices.{first_bad, is_good};
 
-use std::error::Error;
 use std::fmt;
 use std::marker::Model;
+use thiserror::Error;
 
 /// The kinds of edges are below this number.
 pub const KINDS: usize = 64;
 
-#[derive(Clone, Copy, Debug, Drop, PartialEq, Eq)]
+#[derive(Clone, Copy, Debug, Drop, PartialEq, Eq, Error)]
 pub enum PriceFault {
     /// The least kind whose price is 0 or above 1000.
     BadPrice(u8),
@@ -51,8 +51,6 @@ impl fmt::Display for PriceFault {
         }
     }
 }
-
-impl Error for PriceFault {}
 
 /// Whether a table may have this entry.
 fn is_good_price(entry: Option<u32>) -> bool

@@ -1,8 +1,8 @@
 //! Plans: a route with its price and the heights that certify it.
 
 use crate::region::Region;
-use std::error::Error;
 use std::fmt;
+use thiserror::Error;
 use topo_core::listed::Listed;
 use topo_core::routes::Route;
 
@@ -31,7 +31,7 @@ pub struct Plan {
 }
 
 /// The first test that a plan fails.
-#[derive(Clone, Copy, Debug, Drop, PartialEq, Eq)]
+#[derive(Clone, Copy, Debug, Drop, PartialEq, Eq, Error)]
 pub enum PlanFault {
     /// There is not one height for each dart.
     WrongLength,
@@ -96,5 +96,3 @@ impl fmt::Display for PlanFault {
         write!(f, "{number} {name}")
     }
 }
-
-impl Error for PlanFault {}

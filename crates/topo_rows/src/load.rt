@@ -4,15 +4,15 @@ use crate::faults::{are_crossings_good, are_paths_good, are_rotations_good, with
 use crate::flat::{Turns, hinted_turns};
 use crate::hints::Hints;
 use std::alloc::{AllocError, Global};
-use std::error::Error;
 use std::fmt;
+use thiserror::Error;
 use topo_core::limits::Limits;
 use topo_core::listed::Listed;
 use topo_core::rows::Rows;
 use topo_perm::{cycles, is_connected};
 
 /// Why rows are not loaded.
-#[derive(Clone, Copy, Debug, Drop, PartialEq, Eq)]
+#[derive(Clone, Copy, Debug, Drop, PartialEq, Eq, Error)]
 pub enum LoadFault {
     /// There are more vertices than the limit, or a counter is above its limit.
     TooMany,
@@ -80,8 +80,6 @@ impl fmt::Display for LoadFault {
         write!(f, "{number} {name}")
     }
 }
-
-impl Error for LoadFault {}
 
 ghost use Rattle.std.specs.Prelude.{◌≡◌, ◌≢◌, ◌==◌, ◌+◌, ◌%◌, ◌<◌, ◌≤◌, ◌*◌, ◌^◌, ◌↔◌, IfErr, IfOk, IsTrue, length, sum_by};
 ghost use Rattle.std.specs.List.{list_any};
