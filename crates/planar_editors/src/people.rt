@@ -44,7 +44,7 @@ pub(crate) fn edit<F: Asks + Drop, K: ServiceBrand<F>, R: Wait>(
 }
 
 /// A new edge. Where it goes is looked for on a view, while others make their calls. The service takes that
-/// route as it is where no call changed the picture meanwhile, and else looks for it under the lock.
+/// route as it is if no call meanwhile changed what the search has seen, and else looks for it under the lock.
 fn draw<F: Asks + Drop, K: ServiceBrand<F>, R: Wait>(
     rt: &R,
     alloc: Global,
