@@ -1,13 +1,13 @@
 //! Routes that were found before other calls changed the picture.
 
-use crate::harness::{Story, even_prices, load, run};
+use crate::harness::{Still, Story, Work, even_prices, load, run, run_work};
 use std::alloc::{AllocError, Global};
 use std::process::Abort;
 use std::sync::Wait;
 use std::sync::atomic::{AtomicU64, Ordering};
 use std::test::Fail;
 use std::thread::Threads;
-use topo_core::calls::{Call, Reply};
+use topo_core::calls::{Call, Command, Reply};
 use topo_core::listed::Listed;
 use topo_core::rows::{EdgeRow, Facts, Rows};
 use topo_picture::Picture;
@@ -273,4 +273,85 @@ fn a_route_is_looked_for_again_if_its_region_changed(rt: HostRuntime) -> Result<
         ],
         false,
     )
+}
+
+/// How many prices the workers' lists asked for, and how they ended.
+#[derive(Drop)]
+struct Prices<'a> {
+    asked: &'a AtomicU64,
+}
+
+impl Story for Prices<'_> {
+    fn pass_count(&self) -> usize {
+        1
+    }
+
+    fn tell<F: Asks + Drop, K: ServiceBrand<F>, R: Wait>(
+        &self,
+        _rt: &R,
+        alloc: Global,
+        _service: &Service<F, K>,
+        _passes: &mut Vec<Pass<F, K>>,
+        ends: &[WorkerEnd],
+    ) -> Result<String, Fail> {
+        let asked = self.asked.load(Ordering::SeqCst);
+        Ok(format!(in alloc; "{asked} {ends:?}")?)
+    }
+}
+
+/// What one worker's list tells.
+fn told_of_list<R: Threads + Wait + Abort + AllocGlobal + Sync>(
+    rt: &R,
+    lists: &[Vec<Command>],
+) -> Result<String, Fail> {
+    let asked = AtomicU64::new(0);
+    let table = even_prices(rt);
+    let start = grid(rt, rt.alloc())?;
+    let ask = |facts: &Facts| {
+        let _ = asked.fetch_add(1, Ordering::SeqCst);
+        table.price(facts.kind)
+    };
+    let work = Work::Lists(lists, &Still);
+    run_work(rt, rt.alloc(), ask, start, work, &Prices { asked: &asked })
+}
+
+/// One list with an insertion between each two ends, of which some have the greater number first, planned or
+/// not.
+fn list_of(alloc: Global, is_planned: bool) -> Result<Vec<Vec<Command>>, AllocError> {
+    let ends = [
+        (FROM, TO),
+        (TO, FROM),
+        (at(5, 5), at(7, 6)),
+        (at(7, 0), at(0, 7)),
+        (at(6, 6), at(1, 2)),
+    ];
+    let mut list = Vec::new(alloc);
+    for (u, v) in ends {
+        list.push(if is_planned {
+            Command::Planned { u, v, kind: 0 }
+        } else {
+            Command::Plain(insert(u, v))
+        })?;
+    }
+    Ok(vec![in alloc; list]?)
+}
+
+/// What one list tells whose insertions are planned, or not.
+fn told_of_insertions<R: Threads + Wait + Abort + AllocGlobal + Sync>(
+    rt: &R,
+    is_planned: bool,
+) -> Result<String, Fail> {
+    let lists = list_of(rt.alloc(), is_planned)?;
+    let told = told_of_list(rt, lists.as_slice());
+    drop(lists);
+    told
+}
+
+#[test]
+fn planned_insertions_of_one_list_ask_for_no_more_prices(rt: HostRuntime) -> Result<(), Fail> {
+    let planned = told_of_insertions(&rt, true)?;
+    let plain = told_of_insertions(&rt, false)?;
+    assert_eq!(&rt; planned.as_str(), plain.as_str());
+    drop((planned, plain));
+    Ok(())
 }
