@@ -57,6 +57,7 @@ impl<F: Asks, K: ServiceBrand<F>> FoundRoute<F, K> {
         ensures price { result.now.price ≡ self.now.price }
         ensures found { IsFoundRoute (prices_named F.answers K.closure) K.start self.now }
     {
+        self.version.picture();
         &self.first
     }
 
