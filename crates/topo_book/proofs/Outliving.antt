@@ -1,9 +1,10 @@
 -- The last entries spare what a search has seen, and then its route is the first on the picture of now.
-use Rattle.std.proofs.Common.{◌≡◌, ◌≢◌, ℕ, ◌+◌, ◌-◌, Bool, true, false, List, [], ◌∷◌, ◌++◌, length, refl, sym, subst, ap, arith, append_assoc, length-append, ◌∙◌}
-use Rattle.std.specs.Prelude.{All, if◌then◌else◌, not}
+use Rattle.std.proofs.Common.{◌≡◌, ◌≢◌, ℕ, ◌+◌, ◌-◌, ◌≤◌, Bool, true, false, List, [], ◌∷◌, ◌++◌, length, take, refl, sym, subst, ap, arith, append_assoc, length-append, ◌∙◌}
+use Rattle.std.specs.Prelude.{All, if◌then◌else◌, not, slice_index_or}
+use Rattle.std.proofs.Math.Seq.{take-length}
 use Rattle.std.specs.List.{list_all}
 use Rattle.std.proofs.lemmas.List.Sums.{AllPass-from_list_all}
-use Rattle.std.proofs.lemmas.List.{append-nil}
+use Rattle.std.proofs.lemmas.List.{append-nil, take_more}
 use Rattle.std.proofs.lemmas.List.Elements.{All-head, All-nil, All-push, All-tail, All-weaker, filter-append}
 use Rattle.topo_core.specs.declared.calls.Entry.{Entry}
 use Rattle.topo_core.specs.declared.darts.Dart.{Dart}
@@ -34,7 +35,7 @@ crosses_none region crossed passed = All-weaker (λ (d : Dart). not (holds_edge 
   off false is = refl
 
 module _ (before : Rows) (region : RegionState) where
-  spare : Entry → Type 0
+  abbrev pub spare : Entry → Type 0
   spare entry = Spares before region entry.call entry.reply
 
   -- none of them
@@ -57,6 +58,21 @@ module _ (before : Rows) (region : RegionState) where
     counted : (b : Bool) → is_accepted entry.reply ≡ b → length (versions (others.recent ++ entry ∷ [])) ≡ (if is_accepted entry.reply then left + 1 else left)
     counted true on = rw (more, on) (omega (arith, length-append (versions others.recent) (entry ∷ []), others.count))
     counted false off = rw (more, off) (omega (arith, length-append (versions others.recent) [], others.count))
+
+  -- the last entry, of which so many more are accepted
+  pub ended_spared : (entries : List Entry) (entry : Entry) (accepted left : ℕ) (b : Bool) → 1 ≤ length entries → entry ≡ slice_index_or entries (length entries - 1) entry → accepted ≢ 0
+      → b ≡ is_accepted entry.reply → left ≡ (if b then accepted - 1 else accepted) → spare entry → HaveSpared before region (take (length entries - 1) entries) left
+      → HaveSpared before region entries accepted
+  ended_spared entries entry accepted left b some last more kind less one others =
+      subst (HaveSpared before region entries) (counts b kind less) (last_spared entries (take (length entries - 1) entries) entry left parts one others) where
+    parts : entries ≡ take (length entries - 1) entries ++ entry ∷ []
+    parts = ends (length entries - 1) (omega (arith, some)) last where
+      ends : (i : ℕ) → length entries ≡ i + 1 → entry ≡ slice_index_or entries i entry → entries ≡ take i entries ++ entry ∷ []
+      ends i is at = sym (take-length entries) ∙ ap (λ n. take n entries) is ∙ take_more entries i entry (omega (arith, is)) ∙ ap (λ e. take i entries ++ e ∷ []) (sym at)
+
+    counts : (b : Bool) → b ≡ is_accepted entry.reply → left ≡ (if b then accepted - 1 else accepted) → (if is_accepted entry.reply then left + 1 else left) ≡ accepted
+    counts true kind less = rw (← kind) (omega (arith, less, more))
+    counts false kind less = rw (← kind) less
 
 -- ---- What has been kept
 
@@ -82,7 +98,15 @@ module _ (price : Pricing) (limits : Limits) where
 
 -- as many items at the front are the same ones
 front : (xs ys more rest : List Entry) → xs ++ more ≡ ys ++ rest → length more ≡ length rest → xs ≡ ys
-front xs ys more rest same long = _
+front [] [] more rest same long = refl
+front [] (y ∷ ys) more rest same long = absurd (omega (arith, ap length same, length-append ys rest, long))
+front (x ∷ xs) [] more rest same long = absurd (omega (arith, ap length same, length-append xs more, long))
+front (x ∷ xs) (y ∷ ys) more rest same long =
+    let first : x ≡ y = cc in
+    let others : xs ++ more ≡ ys ++ rest = cc in
+    cc_cons first (front xs ys more rest others long) where
+  cc_cons : x ≡ y → xs ≡ ys → x ∷ xs ≡ y ∷ ys
+  cc_cons p q = rw (p, q) refl
 
 -- A route that was the first while the region is kept, found after the first accepted entries, is the first on the picture of
 -- now, where the entries since have spared the region.
