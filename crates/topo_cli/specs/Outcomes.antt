@@ -1,10 +1,11 @@
 -- How the program ends, and what it writes to standard output and standard error.
-use Rattle.std.specs.Prelude.{◌≡◌, ◌≢◌, ◌⊎◌, ℕ, List, [], Option, Some, IsTrue, codes, true}
+use Rattle.std.specs.Prelude.{◌≡◌, ◌≢◌, ◌⊎◌, ℕ, List, [], Option, Some, IsFalse, IsTrue, codes, true}
 use Rattle.std.specs.Io.KnownBytes.{Appends, Keeps}
 use Rattle.std.specs.Prelude.{string_bytes, ⊤}
 use Rattle.topo_settings.specs.declared.fault.RunFault.{RunFault}
 use Rattle.topo_settings.specs.declared.fault.RunFault.TheVariants.{Memory as NoMemory}
 use Rattle.topo_settings.specs.Statuses.{fault_line, status_of}
+use Rattle.topo_settings.specs.Writing.{AppendsPart}
 use Rattle.topo_cli.specs.declared.Verb.{Verb}
 use Rattle.topo_cli.specs.Words.{asked_verb, word_faults}
 use Rattle.topo_cli.specs.declared.program.Outcome.{Outcome}
@@ -32,9 +33,10 @@ IsUnread words Memory = ⊤
 
 -- ---- Standard error
 
--- where standard error took what it was given, this text and nothing else was added
-abbrev pub IsToldBy : List ℕ → Outcome → Option (List ℕ) → Option (List ℕ) → Type 0
-IsToldBy text outcome old_told new_told = IsTrue outcome.is_told → Appends old_told new_told text
+-- where standard error took what it was given, this text and nothing else was added; else a beginning of the text
+pub record IsToldBy (text : List ℕ) (outcome : Outcome) (old_told new_told : Option (List ℕ)) : Type 0 where
+  pub whole : IsTrue outcome.is_told → Appends old_told new_told text
+  pub part : IsFalse outcome.is_told → AppendsPart old_told new_told text
 
 -- the program ends by a fault: with its status, and its line
 pub record EndsBy (fault : RunFault) (outcome : Outcome) (old_told new_told : Option (List ℕ)) : Type 0 where

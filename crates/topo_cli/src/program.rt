@@ -1,8 +1,8 @@
 //! What the program does with the words of a command line.
 
-ghost use Rattle.std.specs.Io.KnownBytes.{Appends, Keeps};
-ghost use Rattle.std.specs.Prelude.{◌≡◌, IfErr, IfOk, IsTrue, codes, map};
-ghost use Rattle.topo_cli.specs.Outcomes.{CarriesOut, IsCommand, IsUnread, Performs, Refuses, Tells};
+ghost use Rattle.std.specs.Io.KnownBytes.{Keeps};
+ghost use Rattle.std.specs.Prelude.{◌≡◌, IfErr, IfOk, codes, map};
+ghost use Rattle.topo_cli.specs.Outcomes.{CarriesOut, IsCommand, IsToldBy, IsUnread, Performs, Refuses, Tells};
 ghost use Rattle.topo_settings.specs.Statuses.{fault_line, status_of};
 
 use crate::Verb;
@@ -140,7 +140,7 @@ fn turn_down<E: Write>(unread: &Unread, err: &mut E) -> Outcome
 /// Writes a fault, and ends with its status.
 fn end_by<E: Write>(fault: &RunFault, err: &mut E) -> Outcome
     ensures status { result.status ≡ status_of fault.now }
-    ensures line { IsTrue result.is_told → Appends (E.contents err.old) (E.contents err.new) (fault_line fault.now) }
+    ensures line { IsToldBy (fault_line fault.now) result (E.contents err.old) (E.contents err.new) }
 {
     Outcome {
         status: fault.status(),

@@ -1,23 +1,34 @@
 //! What goes to standard error.
 
 ghost use Rattle.std.specs.Io.KnownBytes.{Appends};
-ghost use Rattle.std.specs.Prelude.{◌++◌, ◌∷◌, [], IsTrue, codes};
+ghost use Rattle.std.specs.Prelude.{◌++◌, ◌∷◌, [], IsFalse, IsTrue, codes};
 ghost use Rattle.topo_settings.specs.Statuses.{fault_line};
+ghost use Rattle.topo_settings.specs.Writing.{AppendsPart};
 
-use std::io::Write;
+use std::fmt::{InlineText, Write};
+use std::io;
 use topo_settings::RunFault;
 use topo_settings::writing::write_text;
 
-/// Writes the line of a fault, and gives whether the writer took it and passed it on.
-pub(crate) fn tell_fault<E: Write>(fault: &RunFault, err: &mut E) -> bool
-    ensures { IsTrue result → Appends (E.contents err.old) (E.contents err.new) (fault_line fault.now) }
+/// The room for the line of a fault, in bytes. The longest has 149: `planar: 54 BadNumber $`, six indices of 20
+/// digits, each behind a `/`, and the line feed.
+const LINE: usize = 160;
+
+/// Writes the line of a fault, and gives whether the writer took it and passed it on. The line is laid out
+/// first, which takes no memory.
+#[tactic(auto, using(crate::proofs::InlineTexts::holds_written))]
+pub(crate) fn tell_fault<E: io::Write>(fault: &RunFault, err: &mut E) -> bool
+    ensures whole { IsTrue result → Appends (E.contents err.old) (E.contents err.new) (fault_line fault.now) }
+    ensures part { IsFalse result → AppendsPart (E.contents err.old) (E.contents err.new) (fault_line fault.now) }
 {
-    writeln!(err, "planar: {fault}").is_ok() && err.flush().is_ok()
+    let mut line: InlineText<LINE> = InlineText::new();
+    writeln!(line, "planar: {fault}").is_ok() && tell(line.as_str(), err)
 }
 
 /// Writes a text, and gives whether the writer took it and passed it on.
-pub(crate) fn tell<E: Write>(text: &str, err: &mut E) -> bool
-    ensures { IsTrue result → Appends (E.contents err.old) (E.contents err.new) text.now }
+pub(crate) fn tell<E: io::Write>(text: &str, err: &mut E) -> bool
+    ensures whole { IsTrue result → Appends (E.contents err.old) (E.contents err.new) text.now }
+    ensures part { IsFalse result → AppendsPart (E.contents err.old) (E.contents err.new) text.now }
 {
     write_text(err, text).is_ok()
 }

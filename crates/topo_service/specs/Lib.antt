@@ -1,5 +1,6 @@
 pub mod Answers
 pub mod Commands
+pub mod FaultTexts
 pub mod Faults
 pub mod Found
 pub mod Passes

@@ -6,6 +6,8 @@ mod closed;
 #[cfg(test)]
 mod crowds;
 #[cfg(test)]
+mod faults;
+#[cfg(test)]
 mod gates;
 #[cfg(test)]
 mod harness;

@@ -3,14 +3,14 @@
 ghost use Rattle.std.specs.Prelude.{◌≡◌, Some};
 ghost use Rattle.topo_settings.specs.Statuses.{fault_name, fault_number, fault_text, status_of};
 
-use std::error::Error;
 use std::fmt;
+use thiserror::Error;
 use topo_forms::ScriptFault;
 use topo_price::table::PriceFault;
 use topo_rows::LoadFault;
 
 /// Why a command has no answer. Each fault is printed as its number, its name and its value.
-#[derive(Clone, Copy, Debug, PartialEq, Eq)]
+#[derive(Clone, Copy, Debug, PartialEq, Eq, Error)]
 pub enum RunFault {
     /// A growth of memory was refused.
     Memory,
@@ -102,5 +102,3 @@ impl fmt::Display for RunFault {
         }
     }
 }
-
-impl Error for RunFault {}

@@ -1,9 +1,12 @@
 //! The number and the text of each fault.
 
 use std::alloc::Global;
+use std::error::Error;
 use std::process::Abort;
 use std::test::Fail;
 use topo_book::ReplayFault;
+use topo_core::calls::Refusal;
+use topo_core::limits::LimitsFault;
 use topo_forms::ScriptFault;
 use topo_forms::path::{Key, Path};
 use topo_price::table::PriceFault;
@@ -30,10 +33,28 @@ fn check_text(
     Ok(())
 }
 
+/// The fault as an error of any kind.
+fn pass_on<E: Error>(fault: E) -> anyhow::Result<()> {
+    Err(fault)?
+}
+
+/// A fault that `?` has made an error of any kind is printed as this text.
+fn check_error<E: Error>(rt: &impl Abort, alloc: Global, fault: E, text: &str) -> Result<(), Fail> {
+    match pass_on(fault) {
+        Ok(()) => assert!(rt; false, "no error"),
+        Err(error) => {
+            let printed = format!(in alloc; "{error}")?;
+            assert!(rt; printed.as_str() == text, "{printed}");
+        }
+    }
+    Ok(())
+}
+
 /// A fault is printed as this text, which begins with its number.
 fn check_fault(rt: &impl Abort, alloc: Global, fault: &RunFault, text: &str) -> Result<(), Fail> {
     let printed = format!(in alloc; "{fault}")?;
-    check_text(rt, alloc, printed.as_str(), text, fault.number())
+    check_text(rt, alloc, printed.as_str(), text, fault.number())?;
+    check_error(rt, alloc, *fault, text)
 }
 
 /// The faults of commands that name no path, as they are printed.
@@ -76,6 +97,7 @@ fn faults_of_commands(rt: HostRuntime) -> Result<(), Fail> {
 
 /// A fault of a script that names a path is printed as this text.
 fn check_path(rt: &impl Abort, alloc: Global, fault: ScriptFault, text: &str) -> Result<(), Fail> {
+    check_error(rt, alloc, fault, text)?;
     let fault = RunFault::Script(fault);
     check_fault(rt, alloc, &fault, text)?;
     assert!(rt; fault.status() == 1);
@@ -111,6 +133,7 @@ fn faults_of_replays(rt: HostRuntime) -> Result<(), Fail> {
     for (fault, text) in REPLAY_FAULTS {
         let printed = format!(in rt.alloc(); "{fault}")?;
         check_text(&rt, rt.alloc(), printed.as_str(), text, fault.number())?;
+        check_error(&rt, rt.alloc(), *fault, text)?;
     }
     Ok(())
 }
@@ -131,6 +154,54 @@ fn faults_of_plans(rt: HostRuntime) -> Result<(), Fail> {
     for (fault, text) in PLAN_FAULTS {
         let printed = format!(in rt.alloc(); "{fault}")?;
         check_text(&rt, rt.alloc(), printed.as_str(), text, fault.number())?;
+        check_error(&rt, rt.alloc(), *fault, text)?;
     }
+    Ok(())
+}
+
+/// The refusals, as they are printed.
+const REFUSALS: &[(Refusal, &str)] = &[
+    (Refusal::NoVertex, "1 NoVertex"),
+    (Refusal::SameEnds, "2 SameEnds"),
+    (Refusal::NoPosition, "3 NoPosition"),
+    (Refusal::NoEdge, "4 NoEdge"),
+    (Refusal::BadKind, "5 BadKind"),
+    (Refusal::Cut(3), "6 Cut 3"),
+    (Refusal::Full, "7 Full"),
+    (Refusal::Memory, "8 Memory"),
+    (Refusal::NoRoute, "9 NoRoute"),
+];
+
+#[test]
+fn refusals_are_errors(rt: HostRuntime) -> Result<(), Fail> {
+    for (why, text) in REFUSALS {
+        let printed = format!(in rt.alloc(); "{why}")?;
+        check_text(&rt, rt.alloc(), printed.as_str(), text, why.number())?;
+        check_error(&rt, rt.alloc(), *why, text)?;
+    }
+    Ok(())
+}
+
+#[test]
+fn faults_below_commands(rt: HostRuntime) -> Result<(), Fail> {
+    let alloc = rt.alloc();
+    check_error(&rt, alloc, LimitsFault::BadLimits, "11 BadLimits")?;
+    check_error(&rt, alloc, PriceFault::BadPrice(63), "10 BadPrice 63")?;
+    check_error(&rt, alloc, LoadFault::NotPlanar, "25 NotPlanar")?;
+    check_error(&rt, alloc, ScriptFault::BadVersion, "53 BadVersion")
+}
+
+/// The room that the program has for the line of a fault.
+const LINE: usize = 160;
+
+#[test]
+fn the_longest_line(rt: HostRuntime) -> Result<(), Fail> {
+    let mut path = Path::WHOLE;
+    for _ in 0..6 {
+        path = path.element(usize::MAX);
+    }
+    let fault = RunFault::Script(ScriptFault::BadNumber(path));
+    let line = format!(in rt.alloc(); "planar: {fault}\n")?;
+    assert!(rt; line.len() == 149 && line.len() <= LINE);
     Ok(())
 }
