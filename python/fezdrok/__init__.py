@@ -7,8 +7,10 @@ edges that must not be crossed, matplotlib for `draw`.
 
 from .drawing import chain, draw, positions
 from .embeddings import Dummy, from_networkx_embedding, to_networkx_embedding
-from .faults import Fault, MemoryFault, NotPlanarized, OtherReport, PlanarError, PlanarWarning, ProgramFailed, ProgramNotFound, UsageRefused
+from .exchange import Segment
+from .faults import Fault, MemoryFault, ModuleMissing, NotPlanarized, OtherReport, PlanarError, PlanarWarning, ProgramFailed, ProgramNotFound, UsageRefused
 from .many import Bar, planarize_many
+from .orthogonal import Box, OrthogonalDrawing, orthogonal_drawing
 from .pictures import Counts, Crossing, Dart, Edge, Picture, Point
 from .planarization import Planarization, Prepared, planarize, prepare, reinsert
 from .planarizer import Planarizer
@@ -17,6 +19,7 @@ from .reports import Delete, Deleted, Entry, Grow, Grown, Insert, Inserted, Limi
 
 __all__ = [
     "Bar",
+    "Box",
     "Counts",
     "Crossing",
     "Dart",
@@ -32,7 +35,9 @@ __all__ = [
     "Inserted",
     "Limits",
     "MemoryFault",
+    "ModuleMissing",
     "NotPlanarized",
+    "OrthogonalDrawing",
     "OtherReport",
     "Picture",
     "PlanarError",
@@ -47,11 +52,13 @@ __all__ = [
     "ProgramNotFound",
     "Refused",
     "Report",
+    "Segment",
     "UsageRefused",
     "chain",
     "draw",
     "find_program",
     "from_networkx_embedding",
+    "orthogonal_drawing",
     "planarize",
     "planarize_many",
     "positions",

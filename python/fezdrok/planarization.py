@@ -8,10 +8,11 @@ from dataclasses import dataclass, field, replace
 from functools import cached_property
 from typing import Any, Dict, FrozenSet, Iterable, Iterator, List, Optional, Sequence, Tuple, Union
 
-from .embeddings import picture_of
+from .embeddings import Dummy, picture_of
+from .exchange import Segment, segments, to_json
 from .faults import Fault, NotPlanarized, OtherReport, PlanarError, PlanarWarning
 from .graphs import GraphEdge, Node, Price, PricedGraph, Pricing, bridges, incidence, places_of, rank, read_graph
-from .pictures import Edge, Picture
+from .pictures import Dart, Edge, Picture, Point
 from .planarizer import Planarizer
 from .program import PathLike
 from .reports import Inserted, Limits, Refused, Report, difference
@@ -53,6 +54,28 @@ class Planarization:
         if self.graph.is_directed() or (u, v, *key) in self.id_of:
             return self.id_of[(u, v, *key)]
         return self.id_of[(v, u, *key)]
+
+    @property
+    def outer_face(self) -> int:
+        """The place in `picture.faces` of the face that drawings have outside: the longest one, of equal ones the first."""
+        return self.picture.outer_face
+
+    def face_of(self, dart: Dart) -> int:
+        """The place in `picture.faces` of the face on the left of a dart; KeyError where there is no such dart."""
+        return self.picture.face_of(dart)
+
+    def name_of(self, point: Point) -> Any:
+        """The node of the graph that a point of the picture is, or the Dummy of a crossing."""
+        return Dummy("crossing", point.id) if point.is_crossing else self.node_of[point.id]
+
+    def segments(self, u: Node, v: Node, *key: Any) -> Tuple[Segment, ...]:
+        """The segments of an edge in order, from u to v, with their ends and the faces on either side; KeyError where
+        the graph has no such edge."""
+        return segments(self, u, v, *key)
+
+    def to_json(self) -> Dict[str, Any]:
+        """The planarization as one JSON object, with the nodes as the graph names them; see `fezdrok.exchange`."""
+        return to_json(self)
 
     @property
     def crossings(self) -> int:
