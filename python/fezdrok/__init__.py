@@ -5,7 +5,7 @@
 edges that must not be crossed, matplotlib for `draw`.
 """
 
-from .drawing import chain, draw, positions
+from .drawing import chain, draw, positions, to_svg
 from .embeddings import Dummy, from_networkx_embedding, to_networkx_embedding
 from .exchange import Segment
 from .faults import Fault, MemoryFault, ModuleMissing, NotPlanarized, OtherReport, PlanarError, PlanarWarning, ProgramFailed, ProgramNotFound, UsageRefused
@@ -65,4 +65,5 @@ __all__ = [
     "prepare",
     "reinsert",
     "to_networkx_embedding",
+    "to_svg",
 ]

@@ -157,8 +157,9 @@ def _least_length(place: Sequence[int], gaps: Gaps, pull: Sequence[int]) -> List
     network = networkx.DiGraph()
     for it, number in enumerate(pull):
         network.add_node(it, demand=number)
+    room = sum(map(abs, pull))
     for (start, end), gap in gaps.items():
-        network.add_edge(start, end, weight=place[end] - place[start] - gap)
+        network.add_edge(start, end, weight=place[end] - place[start] - gap, capacity=room)
     flow = networkx.network_simplex(network)[1]
     tight = {(end, start): -gap for (start, end), gap in gaps.items() if flow[start][end] > 0}
     return _settled(len(pull), {**gaps, **tight})

@@ -8,6 +8,7 @@ from __future__ import annotations
 from dataclasses import dataclass
 from typing import TYPE_CHECKING, Any, Callable, Dict, FrozenSet, List, Mapping, Sequence, Tuple
 
+from .faults import wanted
 from .graphs import Node
 from .pictures import Dart, Edge, Picture, Point
 
@@ -42,8 +43,7 @@ def to_networkx_embedding(result: "Planarization") -> "networkx.PlanarEmbedding"
     crossing has `crossing`, its id, and `edges`, the two edges of the graph that cross there. Each half-edge has
     `edge`, the edge of the graph that it is a part of.
     """
-    import networkx
-
+    networkx = wanted("networkx", "embeddings")
     picture = result.picture
     names = _names(result)
     bends = _bends(picture)

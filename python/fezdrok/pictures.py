@@ -272,10 +272,11 @@ class Picture:
     @cached_property
     def outer_face(self) -> int:
         """The place in `faces` of the face that drawings have outside. A picture has no outer face of its own; this is
-        the longest one, and of equal ones the first. ValueError where there is no face, as there is no edge."""
+        the one with the most vertices along it, of equal ones the longest, then the first. ValueError where there is no
+        edge, and so no face."""
         if not self.faces:
             raise ValueError("the picture has no edge, and so no face")
-        return max(range(len(self.faces)), key=lambda place: len(self.faces[place]))
+        return max(range(len(self.faces)), key=lambda place: (sum(not self.start(dart).is_crossing for dart in self.faces[place]), len(self.faces[place])))
 
     @property
     def counts(self) -> Counts:

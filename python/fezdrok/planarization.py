@@ -10,7 +10,7 @@ from typing import Any, Dict, FrozenSet, Iterable, Iterator, List, Optional, Seq
 
 from .embeddings import Dummy, picture_of
 from .exchange import Segment, segments, to_json
-from .faults import Fault, NotPlanarized, OtherReport, PlanarError, PlanarWarning
+from .faults import Fault, NotPlanarized, OtherReport, PlanarError, PlanarWarning, wanted
 from .graphs import GraphEdge, Node, Price, PricedGraph, Pricing, bridges, incidence, places_of, rank, read_graph
 from .pictures import Dart, Edge, Picture, Point
 from .planarizer import Planarizer
@@ -57,7 +57,8 @@ class Planarization:
 
     @property
     def outer_face(self) -> int:
-        """The place in `picture.faces` of the face that drawings have outside: the longest one, of equal ones the first."""
+        """The place in `picture.faces` of the face that drawings have outside: the one with the most nodes of the graph
+        along it, of equal ones the longest, then the first."""
         return self.picture.outer_face
 
     def face_of(self, dart: Dart) -> int:
@@ -317,8 +318,7 @@ def _begin_tree(source: PricedGraph, places: Sequence[int]) -> _Beginning:
 def _begin_embedded(source: PricedGraph, places: Sequence[int], is_full: bool) -> _Beginning:
     """The edges that must not be crossed and edges that connect them, drawn by networkx without crossings; if
     `is_full`, then also every other edge that can be added in turn."""
-    import networkx
-
+    networkx = wanted("networkx", "edges that must not be crossed and planar beginnings")
     chosen = _joined(source, places)
     plain = networkx.Graph()
     plain.add_edges_from(source.edges[place][:2] for place in chosen.values())
@@ -337,8 +337,7 @@ def _begin_embedded(source: PricedGraph, places: Sequence[int], is_full: bool) -
 
 def _add_planar(plain: Any, pairs: List[Tuple[Node, ...]]) -> None:
     """Adds to a planar networkx graph each of these edges in turn, if it stays planar with it."""
-    import networkx
-
+    networkx = wanted("networkx", "planar beginnings")
     plain.add_edges_from(pairs)
     if not pairs or networkx.check_planarity(plain)[0]:
         return

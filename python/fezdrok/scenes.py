@@ -12,6 +12,7 @@ from typing import TYPE_CHECKING, Any, Dict, List, Mapping, NamedTuple, Optional
 
 from .graphs import Node, Price, rank
 from .orthogonal import OrthogonalDrawing
+from .pictures import Point
 
 if TYPE_CHECKING:
     from .planarization import Planarization
@@ -27,8 +28,9 @@ FORBIDDEN = "#222222"
 LETTER_HEIGHT = 9.0
 LETTER = 5.4
 LEAST_NODE = 15.0
-#: How many pixels a step of the grid is in orthogonal drawings.
+#: How many pixels a step of the grid is in orthogonal drawings, and in those with arrows.
 GRID_UNIT = 22.0
+ARROW_UNIT = 34.0
 
 
 class Look(NamedTuple):
@@ -128,46 +130,74 @@ def grid_sizes(nodes: Sequence[Node]) -> Dict[Node, Tuple[int, int]]:
 def orthogonal_scene(result: "Planarization", drawing: OrthogonalDrawing, labels: bool = True, color: str = PLAIN) -> Scene:
     """The scene of an orthogonal drawing. Crossings have no mark: two lines cross at right angles."""
     kinds, legend = looks(result, color)
+    unit = ARROW_UNIT if result.graph.is_directed() else GRID_UNIT
     spots = []
     for node, box in drawing.boxes.items():
         label = str(node) if labels else ""
-        width, height = (box.right - box.left, box.top - box.bottom) if not box.is_point else (LEAST_NODE / GRID_UNIT,) * 2
+        width, height = (box.right - box.left, box.top - box.bottom) if not box.is_point else (LEAST_NODE / unit,) * 2
         spots.append(Spot(node, label, box.middle, width, height, not box.is_point))
     strokes = [Stroke(edge_id, line, False, kinds[result.picture.edge(edge_id).kind]) for edge_id, line in drawing.lines.items()]
-    scene = Scene(GRID_UNIT, tuple(strokes), tuple(spots), (), legend)
+    scene = Scene(unit, tuple(strokes), tuple(spots), (), legend)
     return with_arrows(result, scene) if result.graph.is_directed() else scene
 
 
 # ---- Straight drawings
 
 
-def straight_scene(result: "Planarization", chains: Mapping[int, Sequence[Position]], places: Mapping[Any, Position], dots: Sequence[Position], unit: float, labels: bool = True, color: str = PLAIN) -> Scene:
-    """The scene of a drawing whose edges lead over these chains of points; they pass them without a corner.
-
-    `places` has the point of each node of the graph, `dots` those of the crossings.
-    """
+def straight_scene(result: "Planarization", chains: Mapping[int, Sequence[Any]], places: Mapping[Any, Position], unit: float, labels: bool = True, color: str = PLAIN) -> Scene:
+    """The scene of a drawing whose edges lead over these chains of nodes, each of which has a place; they pass them
+    without a corner."""
     kinds, legend = looks(result, color)
     spots = []
     for node in result.node_of:
         width, height = label_size(str(node) if labels else "")
         spots.append(Spot(node, str(node) if labels else "", places[node], width / unit, height / unit, False))
+    ways = crossing_ways(result, chains, places)
     strokes = []
     for edge_id, chain in chains.items():
-        curve = smooth(chain)
-        strokes.append(Stroke(edge_id, curve or (chain[0], chain[-1]), bool(curve), kinds[result.picture.edge(edge_id).kind]))
-    scene = Scene(unit, tuple(strokes), tuple(spots), tuple(dots), legend)
+        curve = smooth([places[node] for node in chain], [ways.get((edge_id, node)) for node in chain])
+        strokes.append(Stroke(edge_id, curve or (places[chain[0]], places[chain[-1]]), bool(curve), kinds[result.picture.edge(edge_id).kind]))
+    dots = tuple(places[result.name_of(point)] for point in result.picture.points if point.is_crossing)
+    scene = Scene(unit, tuple(strokes), tuple(spots), dots, legend)
     return with_arrows(result, scene) if result.graph.is_directed() else scene
 
 
-def smooth(chain: Sequence[Position]) -> Tuple[Position, ...]:
-    """A chain of points as cubic curves that pass each of them in one direction: that between the directions of the
-    lines before and behind it. Empty where the chain is as good as straight."""
+def crossing_ways(result: "Planarization", chains: Mapping[int, Sequence[Any]], places: Mapping[Any, Position]) -> Dict[Tuple[int, Any], Position]:
+    """For an edge and a crossing on it, as a node of its chain, the direction in which the edge would pass if both
+    edges met at right angles, turned as little as they can be."""
+    found: Dict[Tuple[int, Any], Position] = {}
+    for row in result.picture.crossings:
+        point = Point(True, row.id)
+        name, darts = result.name_of(point), result.picture.around(point)
+        ways = []
+        for dart in darts:
+            nodes = chains[dart.edge]
+            ways.append(complex(*_toward(places[name], places[nodes[nodes.index(name) + (-1 if dart.back else 1)]])))
+        turned = sum(way * 1j**place for place, way in enumerate(ways))
+        for place, dart in enumerate(darts):
+            if not dart.back and abs(turned) > 1e-9:
+                way = turned / abs(turned) / 1j**place
+                found[dart.edge, name] = (way.real, way.imag)
+    return found
+
+
+def smooth(chain: Sequence[Position], ways: Sequence[Optional[Position]] = ()) -> Tuple[Position, ...]:
+    """A chain of points as cubic curves that pass each of them in one direction. Empty where the chain is as good as
+    straight.
+
+    The direction is between those of the lines before and behind the point; where `ways` has one, it is turned toward
+    that the more, the sharper the corner is.
+    """
     lines = [_toward(start, end) for start, end in zip(chain, chain[1:])]
     if all(_cross(lines[0], line) ** 2 < 1e-4 and lines[0][0] * line[0] + lines[0][1] * line[1] > 0 for line in lines):
         return ()
     passing = [lines[0]]
-    for before, after in zip(lines, lines[1:]):
+    for place, (before, after) in enumerate(zip(lines, lines[1:]), 1):
         middle = _toward((0.0, 0.0), (before[0] + after[0], before[1] + after[1]))
+        way = ways[place] if place < len(ways) else None
+        if way is not None:
+            share = min(1.0, 1.0 - (before[0] * after[0] + before[1] * after[1]))
+            middle = _toward((0.0, 0.0), (middle[0] + share * way[0], middle[1] + share * way[1]))
         passing.append(middle if middle != (0.0, 0.0) else after)
     passing.append(lines[-1])
     curve: List[Position] = [chain[0]]

@@ -3,7 +3,7 @@
 from __future__ import annotations
 
 from html import escape
-from typing import Iterable, List
+from typing import Dict, Iterable, List
 
 from .scenes import LETTER_HEIGHT, Position, Scene, Spot, Stroke
 
@@ -27,7 +27,7 @@ def svg_of(scene: Scene, node_color: str = "#d9e8f6", crossing_color: str = "#77
         lines.extend(write.head(stroke) for stroke in scene.strokes if stroke.look == (color, thick) and stroke.head)
     lines += [f'<g fill="{escape(crossing_color)}">', *(write.dot(dot) for dot in scene.dots), "</g>"] if scene.dots else []
     lines.append(f'<g fill="{escape(node_color)}" stroke="#333" stroke-width=".8">')
-    lines += [*(write.spot(spot) for spot in scene.spots), "</g>"]
+    lines += [*write.shapes(scene.spots), "</g>"]
     lines.append(f'<g font-family="sans-serif" font-size="{number(LETTER_HEIGHT)}" text-anchor="middle" fill="#111">')
     lines += [*(write.label(spot) for spot in scene.spots if spot.label), "</g>", *legend, "</svg>"]
     return "\n".join(lines) + "\n"
@@ -36,7 +36,8 @@ def svg_of(scene: Scene, node_color: str = "#d9e8f6", crossing_color: str = "#77
 def number(value: float) -> str:
     """A number with one decimal, which is left out where it is 0."""
     text = f"{value:.1f}"
-    return "0" if text in ("-0.0", "0.0") else text[:-2] if text.endswith(".0") else text
+    text = text[:-2] if text.endswith(".0") else text.replace("0.", ".", 1) if text.lstrip("-").startswith("0.") else text
+    return "0" if text in ("-0", "") else text
 
 
 class _Writer:
@@ -52,8 +53,15 @@ class _Writer:
         return [",".join(map(number, self.at(point))) for point in points]
 
     def stroke(self, stroke: Stroke) -> str:
-        first, *others = self.points(stroke.points)
-        return f'<path d="M{first}{"C" if stroke.curved else "L"}{" ".join(others)}"/>'
+        """The path of an edge, whose numbers are relative and so short: to the last end of a line or a curve."""
+        points = [tuple(round(part, 1) for part in self.at(point)) for point in stroke.points]
+        step = 3 if stroke.curved else 1
+        words: List[str] = []
+        for place, (x, y) in enumerate(points[1:]):
+            u, v = points[place - place % step]
+            words += [number(x - u), number(y - v)]
+        path = "".join(word if word.startswith("-") else " " + word for word in words)
+        return f'<path d="M{number(points[0][0])} {number(points[0][1])}{"c" if stroke.curved else "l"}{path.strip()}"/>'
 
     def head(self, stroke: Stroke) -> str:
         return f'<path fill="{escape(stroke.look.color)}" d="M{"L".join(self.points(stroke.head))}Z"/>'
@@ -62,11 +70,22 @@ class _Writer:
         x, y = map(number, self.at(dot))
         return f'<circle cx="{x}" cy="{y}" r="1.6"/>'
 
-    def spot(self, spot: Spot) -> str:
-        (x, y), width, height = self.at(spot.middle), spot.width * self.unit, spot.height * self.unit
+    def shapes(self, spots: Iterable[Spot]) -> List[str]:
+        """The nodes: each shape once, and where it is used."""
+        names: Dict[str, str] = {}
+        lines: List[str] = []
+        for spot in spots:
+            name = names.setdefault(self.shape(spot), f"n{len(names)}")
+            x, y = map(number, self.at(spot.middle))
+            lines.append(f'<use href="#{name}" x="{x}" y="{y}"/>')
+        return ["<defs>", *(shape.replace("/>", f' id="{name}"/>') for shape, name in names.items()), "</defs>", *lines]
+
+    def shape(self, spot: Spot) -> str:
+        """A node as it would be drawn at the upper left corner."""
+        width, height = spot.width * self.unit, spot.height * self.unit
         if not spot.box and abs(width - height) < 0.1:
-            return f'<circle cx="{number(x)}" cy="{number(y)}" r="{number(width / 2)}"/>'
-        size = f'x="{number(x - width / 2)}" y="{number(y - height / 2)}" width="{number(width)}" height="{number(height)}"'
+            return f'<circle r="{number(width / 2)}"/>'
+        size = f'x="{number(-width / 2)}" y="{number(-height / 2)}" width="{number(width)}" height="{number(height)}"'
         return f'<rect {size} rx="{number(3 if spot.box else height / 2)}"/>'
 
     def label(self, spot: Spot) -> str:
