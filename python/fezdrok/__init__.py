@@ -8,7 +8,7 @@ edges that must not be crossed, matplotlib for `draw`.
 from .drawing import chain, draw, positions, to_svg
 from .embeddings import Dummy, from_networkx_embedding, to_networkx_embedding
 from .exchange import Segment
-from .faults import Fault, MemoryFault, ModuleMissing, NotPlanarized, OtherReport, PlanarError, PlanarWarning, ProgramFailed, ProgramNotFound, UsageRefused
+from .faults import Fault, MemoryFault, ModuleMissing, NoReport, NotPlanarized, OtherReport, PlanarError, PlanarWarning, ProgramFailed, ProgramNotFound, ProgramNotStarted, UsageRefused
 from .many import Bar, planarize_many
 from .orthogonal import Box, OrthogonalDrawing, orthogonal_drawing
 from .pictures import Counts, Crossing, Dart, Edge, Picture, Point
@@ -36,6 +36,7 @@ __all__ = [
     "Limits",
     "MemoryFault",
     "ModuleMissing",
+    "NoReport",
     "NotPlanarized",
     "OrthogonalDrawing",
     "OtherReport",
@@ -50,6 +51,7 @@ __all__ = [
     "Program",
     "ProgramFailed",
     "ProgramNotFound",
+    "ProgramNotStarted",
     "Refused",
     "Report",
     "Segment",

@@ -8,12 +8,13 @@ orthogonal one it runs along a grid (see `orthogonal`). Lines meet at points of 
 from __future__ import annotations
 
 from math import sqrt
-from typing import TYPE_CHECKING, Any, Dict, Iterable, List, Mapping, Optional, Tuple
+from typing import TYPE_CHECKING, Any, Dict, Iterable, List, Mapping, Optional, Sequence, Tuple
 
 from .embeddings import Dummy, to_networkx_embedding
 from .faults import wanted
 from .graphs import GraphEdge
 from .orthogonal import orthogonal_drawing
+from .packing import shelves
 from .relaxation import between, spread
 from .scenes import LETTER_HEIGHT, PLAIN, Position, Scene, flat, grid_sizes, label_size, orthogonal_scene, straight_scene
 from .svg import svg_of
@@ -32,8 +33,11 @@ def positions(result: "Planarization", embedding: Optional["networkx.PlanarEmbed
 
     The points lie in the unit disk, spread so that faces are of like size and edges pass their crossings as straight as
     they can (see `relaxation`). Where that comes to no drawing without crossings, they are those of
-    `networkx.combinatorial_embedding_to_pos`, on a grid. ModuleMissing where networkx is not there.
+    `networkx.combinatorial_embedding_to_pos`, on a grid. The parts of a graph that is not connected lie side by side, each
+    in a disk whose area grows with its number of points. ModuleMissing where networkx is not there.
     """
+    if result.parts:
+        return _side_by_side(result, [positions(part) for part in result.parts])
     networkx = wanted("networkx", "drawings")
     embedding = to_networkx_embedding(result) if embedding is None else embedding
     rotations = {node: list(embedding.neighbors_cw_order(node)) for node in embedding}
@@ -47,6 +51,27 @@ def positions(result: "Planarization", embedding: Optional["networkx.PlanarEmbed
     if found is None:
         found = {node: (float(x), float(y)) for node, (x, y) in networkx.combinatorial_embedding_to_pos(embedding).items()}
     return found
+
+
+def _side_by_side(result: "Planarization", places: Sequence[Mapping[Any, Position]]) -> Dict[Any, Position]:
+    """The points of all parts, by the names that they have in the whole."""
+    scales = [sqrt(len(part)) for part in places]
+    least = [tuple(min(place[axis] for place in part.values()) for axis in (0, 1)) for part in places]
+    most = [tuple(max(place[axis] for place in part.values()) for axis in (0, 1)) for part in places]
+    sizes = [(scale * (far[0] - near[0]), scale * (far[1] - near[1])) for scale, near, far in zip(scales, least, most)]
+    found: Dict[Any, Position] = {}
+    for part, scale, (left, bottom), (x, y), (_, edge, crossing) in zip(places, scales, least, shelves(sizes, 1.0), result.offsets):
+        for name, (u, v) in part.items():
+            found[_name_in_whole(result, name, edge, crossing)] = (x + scale * (u - left), y + scale * (v - bottom))
+    return found
+
+
+def _name_in_whole(result: "Planarization", name: Any, edge: int, crossing: int) -> Any:
+    """The name that a node of a part's embedding has in that of the whole, where edge and crossing ids are so much larger."""
+    if name in result.vertex_of:
+        return name
+    of = name.of + crossing if name.kind == "crossing" else name.of._replace(edge=name.of.edge + edge)
+    return Dummy(name.kind, of, result.layer)
 
 
 def places_between(embedding: "networkx.PlanarEmbedding", pos: Mapping[Any, Position]) -> Dict[Any, Position]:

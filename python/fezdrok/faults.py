@@ -40,6 +40,14 @@ class ProgramFailed(PlanarError):
         return f"planar ended with status {self.status}: {self.text.strip()}"
 
 
+class ProgramNotStarted(PlanarError, OSError):
+    """The system refused to start the program, as where it is no program; the message says which, and why."""
+
+
+class NoReport(PlanarError, ValueError):
+    """A text was to be read as a report or as a picture, and is none."""
+
+
 class Fault(PlanarError):
     """Status 1: the first fault of the text that the program read, as `52 BadShape $/workers`.
 

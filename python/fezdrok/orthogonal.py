@@ -7,13 +7,14 @@ the right angles and the bends (see `bends`). `compact_mesh` makes coordinates o
 from __future__ import annotations
 
 from dataclasses import dataclass
-from typing import TYPE_CHECKING, Any, Dict, List, Mapping, NamedTuple, Optional, Tuple
+from typing import TYPE_CHECKING, Dict, List, Mapping, NamedTuple, Optional, Sequence, Tuple
 
 from .bends import Shape, least_bends
 from .compaction import Places, compact_mesh
 from .graphs import Node
 from .meshes import Expansion, expand
-from .pictures import Dart, Picture, Point
+from .packing import shelves
+from .pictures import Picture, Point
 
 if TYPE_CHECKING:
     from .planarization import Planarization
@@ -74,20 +75,42 @@ class OrthogonalDrawing:
 
 def orthogonal_drawing(result: "Planarization", sizes: Optional[Mapping[Node, Tuple[int, int]]] = None, *, by_flow: bool = True) -> OrthogonalDrawing:
     """An orthogonal drawing of a planarization: edges along the grid, with the fewest bends that its picture allows
-    where `result.outer_face` lies outside.
+    where `result.outer_face` lies outside. The parts of a graph that is not connected lie side by side.
 
     `sizes` gives the least width and height of nodes, in steps of the grid, as for their labels; such nodes are boxes. With
     `by_flow` False the lines are as long as longest paths make them, which takes less time. PlanarError where networkx
     is not there.
     """
     picture = result.picture
+    if result.parts:
+        return _side_by_side(result, [orthogonal_drawing(part, _sizes_in(part, sizes), by_flow=by_flow) for part in result.parts])
     if not picture.edges:
-        return OrthogonalDrawing({node: Box(0, 0, 0, 0) for node in result.node_of}, {}, {}, 0)
+        width, height = (sizes or {}).get(result.node_of[0], (0, 0))
+        return OrthogonalDrawing({result.node_of[0]: Box(0, 0, width, height)}, {}, {}, 0)
     wide = {Point(False, result.vertex_of[node]): size for node, size in (sizes or {}).items()}
     shape = least_bends(picture, picture.outer_face)
     expansion = expand(shape, wide)
     places = compact_mesh(expansion.mesh, expansion.sides, _room(expansion, wide), by_flow)
     return _drawing(result, shape, expansion, places)
+
+
+def _sizes_in(part: "Planarization", sizes: Optional[Mapping[Node, Tuple[int, int]]]) -> Dict[Node, Tuple[int, int]]:
+    """The sizes that are given for nodes of a part."""
+    return {node: size for node, size in (sizes or {}).items() if node in part.vertex_of}
+
+
+def _side_by_side(result: "Planarization", drawings: Sequence[OrthogonalDrawing]) -> OrthogonalDrawing:
+    """One drawing from those of the parts."""
+    boxes: Dict[Node, Box] = {}
+    crossings: Dict[int, GridPoint] = {}
+    lines: Dict[int, Tuple[GridPoint, ...]] = {}
+    corners = shelves([drawing.size for drawing in drawings], 2)
+    for drawing, (left, bottom), (_, edge, crossing) in zip(drawings, corners, result.offsets):
+        x, y = int(left), int(bottom)
+        boxes.update((node, box.moved(x, y)) for node, box in drawing.boxes.items())
+        crossings.update((crossing + place, (u + x, v + y)) for place, (u, v) in drawing.crossings.items())
+        lines.update((edge + place, tuple((u + x, v + y) for u, v in line)) for place, line in drawing.lines.items())
+    return OrthogonalDrawing(boxes, crossings, lines, sum(drawing.bends for drawing in drawings))
 
 
 def _room(expansion: Expansion, wide: Mapping[Point, Tuple[int, int]]) -> Tuple[Dict[Tuple[int, int], int], Dict[Tuple[int, int], int]]:

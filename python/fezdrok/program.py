@@ -10,7 +10,7 @@ import warnings
 from pathlib import Path
 from typing import Iterator, Optional, Set, Tuple, Union
 
-from .faults import Fault, MemoryFault, PlanarWarning, ProgramFailed, ProgramNotFound, UsageRefused, read_value
+from .faults import Fault, MemoryFault, PlanarWarning, ProgramFailed, ProgramNotFound, ProgramNotStarted, UsageRefused, read_value
 
 PathLike = Union[str, "os.PathLike[str]"]
 
@@ -124,9 +124,12 @@ class Program:
 
     def _call(self, verb: str, text: str) -> str:
         """What the program prints, or the exception that its status stands for."""
-        done = subprocess.run([self.path, verb], input=text.encode(), stdout=subprocess.PIPE, stderr=subprocess.PIPE)
+        try:
+            done = subprocess.run([self.path, verb], input=text.encode(), stdout=subprocess.PIPE, stderr=subprocess.PIPE)
+        except OSError as refused:
+            raise ProgramNotStarted(f"{self.path} cannot be run: {refused.strerror or refused}") from refused
         if done.returncode == 0:
-            return done.stdout.decode()
+            return done.stdout.decode(errors="replace")
         raise failure(done.returncode, done.stderr.decode(errors="replace"))
 
 
