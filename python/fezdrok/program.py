@@ -13,6 +13,8 @@ from typing import Iterator, Optional, Set, Tuple, Union
 from .faults import Fault, MemoryFault, PlanarWarning, ProgramFailed, ProgramNotFound, ProgramNotStarted, UsageRefused, read_value
 
 PathLike = Union[str, "os.PathLike[str]"]
+#: A text, or its bytes, which the program gets as they are.
+Text = Union[str, bytes]
 
 VARIABLE = "FEZDROK_PLANAR"
 
@@ -110,7 +112,7 @@ class Program:
             self._path = find_program(self._wanted)
         return self._path
 
-    def run(self, script: str) -> str:
+    def run(self, script: Text) -> str:
         """The report of a script, one line of JSON."""
         return self._call("run", script)
 
@@ -122,10 +124,10 @@ class Program:
         """The line `lawful vertices=.. ..`, or the fault that the picture is not lawful."""
         return self._call("check", picture)
 
-    def _call(self, verb: str, text: str) -> str:
+    def _call(self, verb: str, text: Text) -> str:
         """What the program prints, or the exception that its status stands for."""
         try:
-            done = subprocess.run([self.path, verb], input=text.encode(), stdout=subprocess.PIPE, stderr=subprocess.PIPE)
+            done = subprocess.run([self.path, verb], input=text.encode() if isinstance(text, str) else text, stdout=subprocess.PIPE, stderr=subprocess.PIPE)
         except OSError as refused:
             raise ProgramNotStarted(f"{self.path} cannot be run: {refused.strerror or refused}") from refused
         if done.returncode == 0:
