@@ -12,11 +12,11 @@ def shelves(sizes: Sequence[Tuple[float, float]], gap: float) -> List[Tuple[floa
     area = sum((width + gap) * (height + gap) for width, height in sizes)
     widest = max([sqrt(area) * 1.1, *(width for width, _ in sizes)])
     corners = [(0.0, 0.0)] * len(sizes)
-    x = y = row = type(gap)(0)
+    x = y = row = 0.0
     for place in sorted(range(len(sizes)), key=lambda place: -sizes[place][1]):
         width, height = sizes[place]
         if x > 0 and x + width > widest:
-            x, y, row = type(gap)(0), y + row + gap, type(gap)(0)
+            x, y, row = 0.0, y + row + gap, 0.0
         corners[place] = (x, y)
         x, row = x + width + gap, max(row, height)
     return corners

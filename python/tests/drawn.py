@@ -23,12 +23,8 @@ def grid_with_chords() -> Any:
 @lru_cache(maxsize=None)
 def pictured() -> Dict[str, Any]:
     """The four graphs whose pictures are shown, planarized."""
-    return {
-        "petersen": planarize(nx.petersen_graph(), tries=4, seed=1, rounds=5),
-        "k6": planarize(nx.complete_graph(6), tries=5, seed=1, rounds=5),
-        "grid": planarize(grid_with_chords(), begin="planar", rounds=5),
-        "scale_free": planarize(nx.barabasi_albert_graph(60, 2, seed=1), begin="planar", rounds=5),
-    }
+    graphs = {"petersen": nx.petersen_graph(), "k6": nx.complete_graph(6), "grid": grid_with_chords(), "scale_free": nx.barabasi_albert_graph(60, 2, seed=1)}
+    return {name: planarize(graph, begin="planar", rounds=10) for name, graph in graphs.items()}
 
 
 def planar_result(graph: Any) -> Planarization:
