@@ -26,6 +26,7 @@ if TYPE_CHECKING:
     from .planarization import Planarization
 
 STYLES = ("straight", "orthogonal")
+MANY = 600
 
 
 def positions(result: "Planarization", embedding: Optional["networkx.PlanarEmbedding"] = None) -> Dict[Any, Position]:
@@ -129,13 +130,13 @@ def scene_of(result: "Planarization", style: str = "straight", pos: Optional[Map
 
 def _unit(result: "Planarization", places: Mapping[Any, Position], labels: bool) -> float:
     """How many pixels a step of the points is: so many that the drawing has room for its points, and up to twice as
-    many where labels would lie on others."""
+    many where labels would lie on others, which is not looked at for more than MANY nodes."""
     xs, ys = [x for x, _ in places.values()], [y for _, y in places.values()]
     extent = max(max(xs) - min(xs), max(ys) - min(ys)) or 1.0
     least = min(900.0, max(200.0, 80.0 * sqrt(len(places)))) / extent
     sizes = [(*places[node], label_size(str(node) if labels else "")) for node in result.node_of]
     wanted_unit = least
-    for place, (x, y, (width, height)) in enumerate(sizes):
+    for place, (x, y, (width, height)) in enumerate(sizes if len(sizes) <= MANY else ()):
         for u, v, (other_width, other_height) in sizes[:place]:
             across, up = abs(x - u) or 1e-9, abs(y - v) or 1e-9
             wanted_unit = max(wanted_unit, min((width + other_width + 4) / 2 / across, (height + other_height + 4) / 2 / up))

@@ -22,8 +22,10 @@ Position = Tuple[float, float]
 LEAST_SWEEPS = 100
 FIRST_SWEEPS = 150
 MORE_SWEEPS = 400
-#: How often, at most, all nodes are moved after that, and the way of a node below which that is enough.
+#: How often, at most, all nodes are moved after that, and how many moves that may be; and the way of a node below which
+#: it is enough.
 SWEEPS = 140
+MOVES = 400_000
 STILL = 2e-3
 #: What a link that fills a face weighs beside an edge; how much triangles push, and those at the ring beside others;
 #: how much the halves of an edge pull each other into one line, and the two edges of a crossing into a right angle.
@@ -221,21 +223,26 @@ class _Forces:
             found.append(((x + u) / 2, (y + v) / 2, 2 * STRAIGHTEN) if is_crossing else (2 * x - u, 2 * y - v, STRAIGHTEN))
         return found
 
-    def way(self, node: int, points: Sequence[Position], pulls: Sequence[Tuple[float, float, float]]) -> Position:
-        """The step to where the energy of a node would be least, by its slope and an estimate of its curvature."""
+    def way(self, node: int, points: Sequence[Position], pulls: Sequence[Tuple[float, float, float]]) -> Tuple[float, float, float]:
+        """The step to where the energy of a node would be least, by its slope and an estimate of its curvature; and the
+        energy that it has now."""
         x, y = points[node]
-        slope_x = slope_y = curvature = 0.0
+        slope_x = slope_y = curvature = energy = 0.0
         for u, v, weight in pulls:
-            slope_x += weight * (x - u)
-            slope_y += weight * (y - v)
+            across, up = x - u, y - v
+            slope_x += weight * across
+            slope_y += weight * up
             curvature += weight
+            energy += weight * (across * across + up * up) / 2
         for first, second, push in self.triangles[node]:
             (u, v), (r, s) = points[first], points[second]
             area = (u - x) * (s - y) - (v - y) * (r - x)
-            slope_x -= push * (v - s) / area**2
-            slope_y -= push * (r - u) / area**2
-            curvature += push * ((v - s) ** 2 + (r - u) ** 2) / area**3
-        return -slope_x / curvature, -slope_y / curvature
+            across, up, force = v - s, r - u, push / (area * area)
+            slope_x -= force * across
+            slope_y -= force * up
+            curvature += force * (across * across + up * up) / area
+            energy += push / area
+        return -slope_x / curvature, -slope_y / curvature, energy
 
     def energy(self, node: int, x: float, y: float, points: Sequence[Position], pulls: Sequence[Tuple[float, float, float]]) -> float:
         """The energy of a node at a place; more than any other where a triangle would turn over."""
@@ -246,13 +253,16 @@ class _Forces:
             if area <= LEAST_AREA:
                 return float("inf")
             energy += push / area
-        return energy + sum(weight * ((x - u) ** 2 + (y - v) ** 2) for u, v, weight in pulls) / 2
+        for u, v, weight in pulls:
+            energy += weight * ((x - u) * (x - u) + (y - v) * (y - v)) / 2
+        return energy
 
 
 def _settle(filled: _Filled, points: List[Position]) -> None:
-    """Move the nodes that are not of the ring until they hardly move."""
+    """Move the nodes that are not of the ring until they hardly move, or have been moved often; in large graphs that is
+    less often."""
     forces, ring = _Forces(filled), set(filled.ring)
-    for _ in range(SWEEPS):
+    for _ in range(max(20, min(SWEEPS, MOVES // len(points)))):
         most = 0.0
         forces.square(points)
         for node in range(len(points)):
@@ -266,8 +276,7 @@ def _move(forces: _Forces, node: int, points: List[Position]) -> float:
     """Move a node along its way, or a part of it, if that makes its energy less; how far it went."""
     x, y = points[node]
     pulls = forces.pulls(node, points)
-    way_x, way_y = forces.way(node, points, pulls)
-    now = forces.energy(node, x, y, points, pulls)
+    way_x, way_y, now = forces.way(node, points, pulls)
     for _ in range(5):
         if forces.energy(node, x + way_x, y + way_y, points, pulls) < now:
             points[node] = (x + way_x, y + way_y)

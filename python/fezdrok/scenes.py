@@ -10,7 +10,7 @@ from dataclasses import dataclass, replace
 from math import hypot
 from typing import TYPE_CHECKING, Any, Dict, List, Mapping, NamedTuple, Optional, Sequence, Tuple
 
-from .graphs import Node, Price, rank
+from .graphs import Node, Price
 from .orthogonal import OrthogonalDrawing
 from .pictures import Point
 
@@ -104,7 +104,7 @@ def looks(result: "Planarization", color: str = PLAIN) -> Tuple[List[Look], Tupl
     shown = numbers if len(numbers) <= len(COLOURS) else [numbers[round(step * (len(numbers) - 1) / 4)] for step in range(5)]
     legend = [("not to be crossed", of_price[None])] if None in prices else []
     legend += [(f"price {price}", of_price[price]) for price in shown]
-    return [of_price[price] for price in sorted(prices, key=lambda price: -rank(price))], tuple(legend)
+    return [of_price[price] for price in prices], tuple(legend)
 
 
 def _between(part: float) -> str:
@@ -207,7 +207,7 @@ def smooth(chain: Sequence[Position], ways: Sequence[Optional[Position]] = ()) -
     return tuple(curve)
 
 
-def flat(stroke: Stroke, steps: int = 8) -> List[Position]:
+def flat(stroke: Stroke, steps: int = 16) -> List[Position]:
     """The points of a stroke as a chain of short straight lines, for what knows no curves."""
     if not stroke.curved:
         return list(stroke.points)

@@ -48,6 +48,8 @@ def is_between(p: Any, q: Any, r: Any) -> bool:
 def touch(first: Tuple[Any, Any], second: Tuple[Any, Any]) -> bool:
     """Whether two straight lines have a point in common."""
     (p, q), (r, s) = first, second
+    if any(max(p[axis], q[axis]) < min(r[axis], s[axis]) or max(r[axis], s[axis]) < min(p[axis], q[axis]) for axis in (0, 1)):
+        return False
     if side(p, q, r) != side(p, q, s) and side(r, s, p) != side(r, s, q):
         return True
     ends = ((p, q, r), (p, q, s), (r, s, p), (r, s, q))
