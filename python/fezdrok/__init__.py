@@ -7,7 +7,7 @@ edges that must not be crossed, matplotlib for `draw`.
 
 from .drawing import chain, draw, positions, to_svg
 from .embeddings import Dummy, from_networkx_embedding, to_networkx_embedding
-from .exchange import Segment
+from .exchange import Segment, to_networkx_graph
 from .faults import Fault, MemoryFault, ModuleMissing, NoReport, NotPlanarized, OtherReport, PlanarError, PlanarWarning, ProgramFailed, ProgramNotFound, ProgramNotStarted, UsageRefused
 from .many import Bar, planarize_many
 from .orthogonal import Box, OrthogonalDrawing, orthogonal_drawing
@@ -67,5 +67,6 @@ __all__ = [
     "prepare",
     "reinsert",
     "to_networkx_embedding",
+    "to_networkx_graph",
     "to_svg",
 ]

@@ -8,7 +8,7 @@ orthogonal one it runs along a grid (see `orthogonal`). Lines meet at points of 
 from __future__ import annotations
 
 from math import sqrt
-from typing import TYPE_CHECKING, Any, Dict, Iterable, List, Mapping, Optional, Sequence, Tuple
+from typing import TYPE_CHECKING, Any, Dict, Iterable, List, Mapping, Optional, Sequence
 
 from .embeddings import Dummy, to_networkx_embedding
 from .faults import wanted

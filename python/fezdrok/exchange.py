@@ -4,10 +4,13 @@ from __future__ import annotations
 
 from typing import TYPE_CHECKING, Any, Dict, List, NamedTuple, Tuple
 
+from .faults import wanted
 from .graphs import Node
 from .pictures import Dart, Point
 
 if TYPE_CHECKING:
+    import networkx
+
     from .planarization import Planarization
 
 
@@ -47,7 +50,8 @@ def to_json(result: "Planarization") -> Dict[str, Any]:
     `nodes` and `crossings` have the darts that leave them, clockwise, each as `[EDGE,SEGMENT,"forward"]` or `"back"`.
     `edges` have the nodes at their ends as the graph's `edges` gives them, the key in a multigraph, the price of a
     crossing, and their segments from the first of these nodes to the other, with the faces on their left and right.
-    `faces` have the darts along them, each face on its darts' left, and `outer_face` is the place of one of them.
+    `faces` have the darts along them, each face on its darts' left, and `outer_faces` are the places of those that
+    drawings have outside: one, or where the graph is not connected one for each part with an edge.
     A node that is no JSON value, as an object of a class, stands there by its `str`.
     """
     picture = result.picture
@@ -57,8 +61,34 @@ def to_json(result: "Planarization") -> Dict[str, Any]:
         "crossings": [{"id": row.id, "darts": _darts(result, Point(True, row.id))} for row in picture.crossings],
         "edges": [_edge(result, row.id) for row in picture.edges],
         "faces": [[dart.to_json() for dart in face] for face in picture.faces],
-        "outer_face": picture.outer_face if picture.faces else None,
+        "outer_faces": list(result.outer_faces),
     }
+
+
+def to_networkx_graph(result: "Planarization") -> "networkx.MultiGraph":
+    """The planarization as a networkx MultiGraph whose attributes are numbers and texts alone, so that networkx writes it
+    as GML or GraphML.
+
+    The nodes are `v0`, `v1`, .. for the vertices and `x0`, `x1`, .. for the crossings; `label` is the `str` of the node of
+    the graph, or the name of the crossing, and `crossing` is 1 for a crossing and else 0. Each segment is an edge with
+    the id of its edge as `edge`, its place along it as `segment`, and the price of crossing it as `price`, which is 0
+    where it must not be crossed. ModuleMissing where networkx is not there.
+    """
+    networkx = wanted("networkx", "graphs of a planarization")
+    picture = result.picture
+    graph = networkx.MultiGraph()
+    for point in picture.points:
+        graph.add_node(_short(point), label=str(result.name_of(point)), crossing=int(point.is_crossing))
+    for dart in picture.darts:
+        if not dart.back:
+            price = result.prices[picture.edge(dart.edge).kind] or 0
+            graph.add_edge(_short(picture.start(dart)), _short(picture.end(dart)), edge=dart.edge, segment=dart.segment, price=price)
+    return graph
+
+
+def _short(point: Point) -> str:
+    """A name for a point of the picture."""
+    return f"{'x' if point.is_crossing else 'v'}{point.id}"
 
 
 def plain(value: Any) -> Any:

@@ -68,8 +68,19 @@ class Planarization:
     @property
     def outer_face(self) -> int:
         """The place in `picture.faces` of the face that drawings have outside: the one with the most nodes of the graph
-        along it, of equal ones the longest, then the first."""
+        along it, of equal ones the longest, then the first. ValueError where there is no edge. See `outer_faces` for a
+        graph that is not connected."""
         return self.picture.outer_face
+
+    @property
+    def outer_faces(self) -> Tuple[int, ...]:
+        """The places in `picture.faces` of the outer faces of all parts that have an edge."""
+        found: List[int] = []
+        before = 0
+        for part in self.parts or (self,):
+            found += [before + part.outer_face] if part.picture.edges else []
+            before += len(part.picture.faces)
+        return tuple(found)
 
     def face_of(self, dart: Dart) -> int:
         """The place in `picture.faces` of the face on the left of a dart; KeyError where there is no such dart."""

@@ -1,9 +1,10 @@
 """What a layout reads: segments in order with the faces beside them, and one JSON object with the nodes' own names."""
 
+import io
 import json
 import unittest
 
-from fezdrok import Dummy, planarize
+from fezdrok import Dummy, planarize, to_networkx_graph
 
 from .support import needs_networkx, needs_program
 
@@ -44,7 +45,26 @@ class Exchange(unittest.TestCase):
         self.assertEqual(sorted(map(str, (node["id"] for node in value["nodes"]))), ["[1, 2]", "a", "c"])
         self.assertEqual([row["key"] for row in value["edges"] if set(map(str, row["ends"])) == {"a", "c"}], [0, 1])
         self.assertEqual({row["price"] for row in value["edges"]}, {3})
-        self.assertEqual((len(value["faces"]), value["outer_face"]), (3, 0))
+        self.assertEqual((len(value["faces"]), value["outer_faces"]), (3, [0]))
+
+    def test_outer_faces_of_parts(self):
+        result = planarize(nx.disjoint_union_all([nx.cycle_graph(3), nx.empty_graph(1), nx.cycle_graph(4), nx.path_graph(3)]))
+        faces = [result.picture.faces[place] for place in result.to_json()["outer_faces"]]
+        self.assertEqual([len(face) for face in faces], [3, 4, 4])
+        self.assertEqual([{result.picture.start(dart).id for dart in face} for face in faces], [{0, 1, 2}, {4, 5, 6, 7}, {8, 9, 10}])
+
+    def test_gml_and_graphml(self):
+        result = planarize(nx.complete_graph(5), price=lambda u, v, data: 1 + u, forbidden=[(0, 1)])
+        graph = to_networkx_graph(result)
+        self.assertEqual((len(graph), graph.number_of_edges()), (6, 12))
+        written = [io.BytesIO(), io.BytesIO()]
+        nx.write_gml(graph, written[0])
+        nx.write_graphml(graph, written[1])
+        read = [nx.parse_gml(written[0].getvalue().decode(), label="id"), nx.parse_graphml(written[1].getvalue().decode(), force_multigraph=True)]
+        for again in read:
+            self.assertEqual(sorted(data["crossing"] for _, data in again.nodes(data=True)), [0] * 5 + [1])
+            for value in ("edge", "segment", "price"):
+                self.assertEqual(sorted(row[value] for _, _, row in again.edges(data=True)), sorted(row[value] for _, _, row in graph.edges(data=True)))
 
     def test_the_object_is_whole(self):
         result = planarize(nx.petersen_graph())
