@@ -3,10 +3,12 @@ crossings as straight as they can.
 
 The faces are filled with further nodes, so that all of them are triangles, and a ring of nodes round the graph is fixed
 on a circle. First each other node is put, again and again, at the mean of its neighbours; at rest that drawing has no
-crossings (Tutte, How to Draw a Graph, 1963). Then the nodes are moved one by one so that an energy gets less: links
-pull their ends together, triangles push the more the smaller they are, and the two halves of an edge at a crossing pull
-each other into one line. A node goes only where each triangle round it still goes counterclockwise, so no step makes a
-crossing.
+crossings (Tutte, How to Draw a Graph, 1963). Then the nodes are moved one by one so that an energy gets less, as meshes
+are smoothed (Freitag and Plassmann, Local Optimization-Based Simplicial Mesh Untangling and Improvement, 2000): links
+pull their ends together, triangles push the more the smaller they are, the two halves of an edge at a crossing pull
+each other into one line, and two edges that cross into a right angle, which is easier to read (Huang, Eades and Hong,
+Larger Crossing Angles Make Graphs Easier to Read, 2014). A node goes only where each triangle round it still goes
+counterclockwise, so no step makes a crossing.
 """
 
 from __future__ import annotations
@@ -64,7 +66,8 @@ def spread(rotations: Mapping[Any, Sequence[Any]], crossings: FrozenSet[Any], ou
     neighbours of each node, clockwise; at least one edge is wanted. Straight lines between neighbours do not cross.
 
     At the nodes of `crossings`, which have four neighbours, two edges pass each other; they do it as straight as they
-    can. The face on the left of the dart `outer`, a node and a neighbour, lies outside. None where the points have not come to a drawing without crossings.
+    can. The face on the left of the dart `outer`, a node and a neighbour, lies outside. None where the points have not
+    come to a drawing without crossings.
     """
     number = {node: place for place, node in enumerate(rotations)}
     around = [[number[other] for other in others] for others in rotations.values()]

@@ -28,7 +28,7 @@ FORBIDDEN = "#222222"
 LETTER_HEIGHT = 9.0
 LETTER = 5.4
 LEAST_NODE = 15.0
-#: How many pixels a step of the grid is in orthogonal drawings, and in those with arrows.
+#: How many pixels a step of the grid is at least in orthogonal drawings, and in those with arrows.
 GRID_UNIT = 22.0
 ARROW_UNIT = 34.0
 
@@ -122,19 +122,27 @@ def label_size(label: str) -> Tuple[float, float]:
 
 
 def grid_sizes(nodes: Sequence[Node]) -> Dict[Node, Tuple[int, int]]:
-    """The width and height in steps of the grid for the nodes whose labels do not fit into a circle."""
-    widths = {node: label_size(str(node))[0] for node in nodes}
-    return {node: (-int(-(width + 4.0) // GRID_UNIT), 2) for node, width in widths.items() if width > 0.95 * GRID_UNIT}
+    """The width and height in steps of the grid for the nodes whose labels are too long for a point of the grid."""
+    wide = [node for node in nodes if _point_width(str(node)) > 0.93 * GRID_UNIT]
+    return {node: (-int(-(label_size(str(node))[0] + 4.0) // GRID_UNIT), 2) for node in wide}
+
+
+def _point_width(label: str) -> float:
+    """The width, in pixels, of a node that lies on a point of the grid."""
+    return max(LEAST_NODE, LETTER * len(label) + 4.0)
 
 
 def orthogonal_scene(result: "Planarization", drawing: OrthogonalDrawing, labels: bool = True, color: str = PLAIN) -> Scene:
     """The scene of an orthogonal drawing. Crossings have no mark: two lines cross at right angles."""
     kinds, legend = looks(result, color)
-    unit = ARROW_UNIT if result.graph.is_directed() else GRID_UNIT
+    widest = max((_point_width(str(node) if labels else "") for node, box in drawing.boxes.items() if box.is_point), default=LEAST_NODE)
+    unit = (ARROW_UNIT if result.graph.is_directed() else GRID_UNIT) + widest - LEAST_NODE
     spots = []
     for node, box in drawing.boxes.items():
         label = str(node) if labels else ""
-        width, height = (box.right - box.left, box.top - box.bottom) if not box.is_point else (LEAST_NODE / unit,) * 2
+        width, height = box.right - box.left, box.top - box.bottom
+        if box.is_point:
+            width, height = _point_width(label) / unit, LEAST_NODE / unit
         spots.append(Spot(node, label, box.middle, width, height, not box.is_point))
     strokes = [Stroke(edge_id, line, False, kinds[result.picture.edge(edge_id).kind]) for edge_id, line in drawing.lines.items()]
     scene = Scene(unit, tuple(strokes), tuple(spots), (), legend)

@@ -125,7 +125,7 @@ class Scenes(unittest.TestCase):
                 self.assertTrue(across > (first.width + second.width) / 2 or up > (first.height + second.height) / 2, (first, second))
 
     def test_labels_fit(self):
-        names = ["A", "Amsterdam", "Rio de Janeiro", "B", "C"]
+        names = ["A", "Amsterdam", "Rio de Janeiro", "B", "100"]
         result = planarize(nx.relabel_nodes(nx.complete_graph(5), dict(enumerate(names))))
         for style in ("straight", "orthogonal"):
             scene = scene_of(result, style)
