@@ -34,7 +34,7 @@ def compact_mesh(mesh: Mesh, sides: Container[Tuple[int, int]] = (), room: Tuple
     `sides` are the links, as start and end to the east or north, that are sides of boxes: they count SIDE times, so that
     boxes are small. `room[axis]` says of two nodes, of which the second lies further along the axis, how far apart they have to be; what
     is not named is at least 1 apart. With `by_flow` False the links have the lengths that longest paths give them.
-    The least coordinates are 0. PlanarError where networkx is not there and `by_flow` asks for it.
+    The least coordinates are 0. ModuleMissing where networkx is not there and `by_flow` asks for it.
     """
     cut = rectangles(mesh)
     axes = [_first_axis(cut, axis)[: len(mesh.links)] for axis in (0, 1)]

@@ -73,22 +73,27 @@ class OrthogonalDrawing:
         return sum(abs(x - u) + abs(y - v) for line in self.lines.values() for (x, y), (u, v) in zip(line, line[1:]))
 
 
-def orthogonal_drawing(result: "Planarization", sizes: Optional[Mapping[Node, Tuple[int, int]]] = None, *, by_flow: bool = True) -> OrthogonalDrawing:
+def orthogonal_drawing(
+    result: "Planarization", sizes: Optional[Mapping[Node, Tuple[int, int]]] = None, *, outer: Optional[int] = None, by_flow: bool = True
+) -> OrthogonalDrawing:
     """An orthogonal drawing of a planarization: edges along the grid, with the fewest bends that its picture allows
-    where `result.outer_face` lies outside. The parts of a graph that is not connected lie side by side.
+    where the face at the place `outer` lies outside, and without it `result.outer_face`. The parts of a graph that is
+    not connected lie side by side, each with its own outer face (ValueError where `outer` is given).
 
     `sizes` gives the least width and height of nodes, in steps of the grid, as for their labels; such nodes are boxes. With
-    `by_flow` False the lines are as long as longest paths make them, which takes less time. PlanarError where networkx
+    `by_flow` False the lines are as long as longest paths make them, which takes less time. ModuleMissing where networkx
     is not there.
     """
     picture = result.picture
     if result.parts:
+        if outer is not None:
+            raise ValueError("the graph is not connected, and each part has an outer face of its own: leave outer out")
         return _side_by_side(result, [orthogonal_drawing(part, _sizes_in(part, sizes), by_flow=by_flow) for part in result.parts])
     if not picture.edges:
         width, height = (sizes or {}).get(result.node_of[0], (0, 0))
         return OrthogonalDrawing({result.node_of[0]: Box(0, 0, width, height)}, {}, {}, 0)
     wide = {Point(False, result.vertex_of[node]): size for node, size in (sizes or {}).items()}
-    shape = least_bends(picture, picture.outer_face)
+    shape = least_bends(picture, picture.outer_face if outer is None else outer)
     expansion = expand(shape, wide)
     places = compact_mesh(expansion.mesh, expansion.sides, _room(expansion, wide), by_flow)
     return _drawing(result, shape, expansion, places)

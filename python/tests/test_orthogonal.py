@@ -108,7 +108,7 @@ class Checks(unittest.TestCase):
 @needs_networkx
 class Planar(Checks):
     def test_fewest_bends(self):
-        """The numbers for K4, the cube and the octahedron are the least that any drawing has."""
+        """The numbers are the least that any orthogonal drawing without crossings has."""
         known = {nx.complete_graph(4): 4, nx.octahedral_graph(): 12, nx.hypercube_graph(3): 4, nx.cycle_graph(3): 1, nx.cycle_graph(4): 0}
         for graph, bends in known.items():
             self.assertEqual(self.check(planar_result(graph)).bends, bends)
@@ -152,6 +152,15 @@ class Planar(Checks):
             self.assertIn(dart, picture.faces[picture.face_of(dart)])
         with self.assertRaises(KeyError):
             picture.face_of(Dart(99, 0))
+
+    def test_each_face_outside(self):
+        """The bends depend on the face; each drawing is right."""
+        result = planar_result(nx.wheel_graph(5))
+        bends = [orthogonal_drawing(result, outer=place).bends for place in range(len(result.picture.faces))]
+        self.assertEqual(sorted(bends), [4, 6, 6, 6, 6])
+        self.assertEqual(bends[result.outer_face], 4)
+        with self.assertRaisesRegex(ValueError, "there is no face 5: the picture has 5"):
+            orthogonal_drawing(result, outer=5)
 
     def test_without_networkx(self):
         result = planar_result(nx.path_graph(3))

@@ -75,15 +75,16 @@ class Examples(unittest.TestCase):
         self.check_pictures(Path(self.folder))
 
     def check_pictures(self, folder: Path):
-        """The pictures that are shown are small, and those that the examples wrote: as many lines, nodes and marks of each
-        sort, with the same names. Points may differ a little from machine to machine."""
+        """The pictures that are shown are small, and are those that the examples wrote: with as many lines, nodes and
+        marks, and the same names. Points may differ a little from machine to machine."""
         shown = re.findall(r"!\[[^]]+\]\((pictures/\S+\.svg)\)", (ROOT / "docs" / "USING.md").read_text())
         self.assertEqual(sorted(shown), sorted(f"pictures/{file.name}" for file in (ROOT / "docs" / "pictures").iterdir()))
         self.assertEqual(len(shown), 8)
         for name in shown:
             kept, written = ROOT / "docs" / name, folder / Path(name).name
             self.assertLess(kept.stat().st_size, 20000)
-            self.assertEqual(*([(it.tag, it.text) for it in ElementTree.parse(file).iter()] for file in (kept, written)))
+            shown_there, written_now = ([(it.tag, it.text) for it in ElementTree.parse(file).iter() if it.get("id") is None] for file in (kept, written))
+            self.assertEqual(shown_there, written_now)
 
     def checkout(self) -> Path:
         """A folder that is as the repository, with the program that the tests call as the one that is built there: so
