@@ -5,10 +5,12 @@
 edges that must not be crossed, matplotlib for `draw`.
 """
 
-from .drawing import chain, draw, positions
+from .drawing import chain, draw, positions, to_svg
 from .embeddings import Dummy, from_networkx_embedding, to_networkx_embedding
-from .faults import Fault, MemoryFault, NotPlanarized, OtherReport, PlanarError, PlanarWarning, ProgramFailed, ProgramNotFound, UsageRefused
+from .exchange import Segment, to_networkx_graph
+from .faults import Fault, MemoryFault, ModuleMissing, NoReport, NotPlanarized, OtherReport, PlanarError, PlanarWarning, ProgramFailed, ProgramNotFound, ProgramNotStarted, UsageRefused
 from .many import Bar, planarize_many
+from .orthogonal import Box, OrthogonalDrawing, orthogonal_drawing
 from .pictures import Counts, Crossing, Dart, Edge, Picture, Point
 from .planarization import Planarization, Prepared, planarize, prepare, reinsert
 from .planarizer import Planarizer
@@ -17,6 +19,7 @@ from .reports import Delete, Deleted, Entry, Grow, Grown, Insert, Inserted, Limi
 
 __all__ = [
     "Bar",
+    "Box",
     "Counts",
     "Crossing",
     "Dart",
@@ -32,7 +35,10 @@ __all__ = [
     "Inserted",
     "Limits",
     "MemoryFault",
+    "ModuleMissing",
+    "NoReport",
     "NotPlanarized",
+    "OrthogonalDrawing",
     "OtherReport",
     "Picture",
     "PlanarError",
@@ -45,17 +51,22 @@ __all__ = [
     "Program",
     "ProgramFailed",
     "ProgramNotFound",
+    "ProgramNotStarted",
     "Refused",
     "Report",
+    "Segment",
     "UsageRefused",
     "chain",
     "draw",
     "find_program",
     "from_networkx_embedding",
+    "orthogonal_drawing",
     "planarize",
     "planarize_many",
     "positions",
     "prepare",
     "reinsert",
     "to_networkx_embedding",
+    "to_networkx_graph",
+    "to_svg",
 ]

@@ -1,23 +1,28 @@
 """`python3 -m fezdrok`: reads scripts, one a line, and writes one line for each, in the same order.
 
 The line is the report, or `{"fault":[NUMBER,NAME,VALUE]}` for a script that the program refused, or
-`{"failed":TEXT}` where the program itself failed. So every line that is read has an answer, as a step of a pipe wants it. An
-empty line is a script too, and is refused. The status is 0 where every script had a report, 1 where one had none, and 2
-where there is no program.
+`{"failed":TEXT}` where the program itself failed. So every line that is read has an answer, as a step of a pipe wants it,
+also one that is no UTF-8: the program gets its bytes as they are. An empty line is a script too, and is refused. The
+status is 0 where every script had a report, 1 where one had none, and 2 where there is no program. Where nobody reads
+the answers any more, it ends without a word, with the status 141 as a program that the signal of a closed pipe ended.
 """
 
 from __future__ import annotations
 
 import argparse
+import os
 import sys
-from typing import List, Optional, TextIO
+from typing import BinaryIO, List, Optional, TextIO
 
 from .faults import Fault, PlanarError, ProgramNotFound
 from .pictures import compact
 from .program import Program
 
 
-def answer(program: Program, script: str) -> str:
+CLOSED = 141
+
+
+def answer(program: Program, script: bytes) -> str:
     """The line for one script."""
     try:
         return program.run(script).rstrip("\n")
@@ -27,8 +32,8 @@ def answer(program: Program, script: str) -> str:
         return compact({"failed": str(failure)})
 
 
-def main(words: Optional[List[str]] = None, source: Optional[TextIO] = None, target: Optional[TextIO] = None) -> int:
-    """Answer all lines of `source` on `target`; the status."""
+def main(words: Optional[List[str]] = None, source: Optional[BinaryIO] = None, target: Optional[TextIO] = None) -> int:
+    """Answer all lines of `source`, without it those of standard input, on `target`; the status."""
     parser = argparse.ArgumentParser(prog="python3 -m fezdrok", description="Run scripts, one a line; one line of answer for each.")
     parser.add_argument("--program", help="the path of planar; without it FEZDROK_PLANAR, the repository's script, or PATH")
     program = Program(parser.parse_args(words).program)
@@ -37,12 +42,24 @@ def main(words: Optional[List[str]] = None, source: Optional[TextIO] = None, tar
     except ProgramNotFound as missing:
         parser.error(str(missing))
     status = 0
-    for line in source or sys.stdin:
+    for line in source or sys.stdin.buffer:
         text = answer(program, line)
         status = status if text.startswith('{"history":') else 1
-        print(text, file=target or sys.stdout, flush=True)
+        try:
+            print(text, file=target or sys.stdout, flush=True)
+        except BrokenPipeError:
+            return CLOSED
+    return status
+
+
+def run() -> int:
+    """The status of a run as a program. What a closed output could not take is let go, so that nothing complains of it
+    at the end."""
+    status = main()
+    if status == CLOSED:
+        os.dup2(os.open(os.devnull, os.O_WRONLY), sys.stdout.fileno())
     return status
 
 
 if __name__ == "__main__":
-    sys.exit(main())
+    sys.exit(run())

@@ -8,6 +8,7 @@ from __future__ import annotations
 from dataclasses import dataclass
 from typing import TYPE_CHECKING, Any, Callable, Dict, FrozenSet, List, Mapping, Sequence, Tuple
 
+from .faults import wanted
 from .graphs import Node
 from .pictures import Dart, Edge, Picture, Point
 
@@ -23,13 +24,18 @@ class Dummy:
 
     `kind` is `crossing`, with the id of the crossing as `of`, or `bend`, with the dart in whose segment the point
     lies: networkx allows one edge between two nodes, so segments side by side each get such a point but one.
+
+    `layer` is 0, or where the graph itself has such nodes, as it does where a planarization is planarized again, one
+    more than theirs, so that no two are equal.
     """
 
     kind: str
     of: Any
+    layer: int = 0
 
     def __repr__(self) -> str:
-        return f"x{self.of}" if self.kind == "crossing" else f"bend({self.of.edge},{self.of.segment})"
+        mark = "'" * self.layer
+        return f"x{self.of}{mark}" if self.kind == "crossing" else f"bend({self.of.edge},{self.of.segment}){mark}"
 
 
 # ---- From a picture to an embedding
@@ -42,13 +48,13 @@ def to_networkx_embedding(result: "Planarization") -> "networkx.PlanarEmbedding"
     crossing has `crossing`, its id, and `edges`, the two edges of the graph that cross there. Each half-edge has
     `edge`, the edge of the graph that it is a part of.
     """
-    import networkx
-
+    networkx = wanted("networkx", "embeddings")
     picture = result.picture
     names = _names(result)
-    bends = _bends(picture)
+    bends = _bends(picture, result.layer)
     embedding = networkx.PlanarEmbedding()
     embedding.set_data(_neighbours(picture, names, bends))
+    embedding.add_nodes_from(names.values())
     for point, name in names.items():
         embedding.nodes[name].update(_point_data(result, point))
     for bend in bends.values():
@@ -63,17 +69,17 @@ def to_networkx_embedding(result: "Planarization") -> "networkx.PlanarEmbedding"
 
 def _names(result: "Planarization") -> Dict[Point, Any]:
     """The node of the embedding for each point of the picture."""
-    return {point: Dummy("crossing", point.id) if point.is_crossing else result.node_of[point.id] for point in result.picture.points}
+    return {point: result.name_of(point) for point in result.picture.points}
 
 
-def _bends(picture: Picture) -> Dict[Dart, Dummy]:
+def _bends(picture: Picture, layer: int) -> Dict[Dart, Dummy]:
     """For both darts of each segment that has an earlier one between the same points, the point put into it."""
     joined = set()
     bends: Dict[Dart, Dummy] = {}
     for dart in picture.darts:
         ends = frozenset((picture.start(dart), picture.end(dart)))
         if not dart.back and ends in joined:
-            bends[dart] = bends[dart.twin] = Dummy("bend", dart)
+            bends[dart] = bends[dart.twin] = Dummy("bend", dart, layer)
         joined.add(ends)
     return bends
 

@@ -2,6 +2,7 @@
 
 from __future__ import annotations
 
+from importlib import import_module
 from typing import Any, Optional, Union
 
 Value = Union[int, str, None]
@@ -37,6 +38,14 @@ class ProgramFailed(PlanarError):
 
     def __str__(self) -> str:
         return f"planar ended with status {self.status}: {self.text.strip()}"
+
+
+class ProgramNotStarted(PlanarError, OSError):
+    """The system refused to start the program, as where it is no program; the message says which, and why."""
+
+
+class NoReport(PlanarError, ValueError):
+    """A text was to be read as a report or as a picture, and is none."""
 
 
 class Fault(PlanarError):
@@ -85,6 +94,21 @@ class NotPlanarized(PlanarError):
 
     def __str__(self) -> str:
         return f"the edge {self.edge!r} was refused: {self.reply.number} {self.reply.name}"
+
+
+class ModuleMissing(PlanarError, ImportError):
+    """A package that is wanted for what was asked is not there; the message says which, and for what."""
+
+
+def wanted(module: str, purpose: str) -> Any:
+    """A module that is imported where it is used; ModuleMissing where it is not there."""
+    try:
+        return import_module(module)
+    except ModuleNotFoundError as missing:
+        package = module.split(".")[0]
+        if missing.name is None or missing.name.split(".")[0] != package:
+            raise
+        raise ModuleMissing(f"{purpose} want the package {package}, which is not there: pip install {package}") from missing
 
 
 def read_value(text: Optional[str]) -> Value:

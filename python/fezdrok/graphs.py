@@ -6,6 +6,7 @@ Nothing here imports networkx: a graph is asked by its own methods.
 from __future__ import annotations
 
 from dataclasses import dataclass
+from numbers import Real
 from operator import index
 from typing import Any, Callable, Dict, Hashable, Iterable, Iterator, List, Mapping, Optional, Sequence, Set, Tuple, Union
 
@@ -38,12 +39,14 @@ class PricedGraph:
 
 
 def read_graph(graph: Any, price: Pricing = None, forbidden: Optional[Iterable[GraphEdge]] = None) -> PricedGraph:
-    """The graph with its kinds, or a ValueError that says why it cannot be planarized."""
+    """The graph with its kinds, or a ValueError that says why it cannot be planarized. It need not be connected."""
     nodes = tuple(graph.nodes)
     multi = graph.is_multigraph()
     rows = list(graph.edges(keys=True, data=True)) if multi else list(graph.edges(data=True))
     edges = tuple(tuple(row[:-1]) for row in rows)
-    _judge_form(nodes, edges)
+    _judge_form(edges)
+    if isinstance(price, str):
+        _judge_attribute(price, [row[-1] for row in rows])
     price_of = _price_function(price, graph.is_directed())
     prices = [_judge_price(edge, price_of(edge, row[-1])) for edge, row in zip(edges, rows)]
     for place in _places(edges, forbidden or (), graph.is_directed()):
@@ -53,17 +56,55 @@ def read_graph(graph: Any, price: Pricing = None, forbidden: Optional[Iterable[G
     return PricedGraph(graph, nodes, edges, tuple(kind_of[price] for price in prices), table)
 
 
-def _judge_form(nodes: Sequence[Node], edges: Sequence[GraphEdge]) -> None:
-    """ValueError unless the graph is connected, has an edge and has no loop."""
+def _judge_form(edges: Sequence[GraphEdge]) -> None:
+    """ValueError unless the graph has an edge and no loop."""
     if not edges:
         raise ValueError("the graph has no edge: the smallest picture is one edge between two vertices")
     loop = next((edge for edge in edges if edge[0] == edge[1]), None)
     if loop is not None:
         raise ValueError(f"the graph has a loop at {loop[0]!r}: a picture has none")
-    reached = reach(edges, edges[0][0])
-    if len(reached) < len(nodes):
-        outside = next(node for node in nodes if node not in reached)
-        raise ValueError(f"the graph is not connected: {outside!r} cannot be reached from {edges[0][0]!r}")
+
+
+def _judge_attribute(name: str, data: Sequence[Dict[str, Any]]) -> None:
+    """ValueError where no edge has the attribute that prices are to be taken from."""
+    if not any(name in row for row in data):
+        known = sorted({repr(key) for row in data for key in row})
+        raise ValueError(f"no edge has the attribute {name!r} for its price: " + (f"there are {', '.join(known)}" if known else "edges have none at all"))
+
+
+def judge_connected(source: PricedGraph) -> None:
+    """ValueError unless the graph is connected."""
+    reached = reach(source.edges, source.edges[0][0])
+    if len(reached) < len(source.nodes):
+        outside = next(node for node in source.nodes if node not in reached)
+        raise ValueError(f"the graph is not connected: {outside!r} cannot be reached from {source.edges[0][0]!r}")
+
+
+def components(source: PricedGraph) -> List[PricedGraph]:
+    """The connected parts of a graph, in the order of their first nodes, with the kinds and prices of the whole. A node
+    without edges is a part."""
+    at = incidence(source.edges, range(len(source.edges)))
+    part_of: Dict[Node, int] = {}
+    count = 0
+    for node in source.nodes:
+        if node not in part_of:
+            part_of.update(dict.fromkeys(reach(source.edges, node, at), count))
+            count += 1
+    if count == 1:
+        return [source]
+    nodes: List[List[Node]] = [[] for _ in range(count)]
+    places: List[List[int]] = [[] for _ in range(count)]
+    for node in source.nodes:
+        nodes[part_of[node]].append(node)
+    for place, edge in enumerate(source.edges):
+        places[part_of[edge[0]]].append(place)
+    return [_part(source, nodes[part], places[part]) for part in range(count)]
+
+
+def _part(source: PricedGraph, nodes: Sequence[Node], places: Sequence[int]) -> PricedGraph:
+    """The part of a graph with these nodes and with the edges at these places."""
+    edges, kinds = (tuple(rows[place] for place in places) for rows in (source.edges, source.kinds))
+    return PricedGraph(source.graph.subgraph(nodes), tuple(nodes), edges, kinds, source.prices)
 
 
 def incidence(edges: Sequence[GraphEdge], places: Iterable[int]) -> Dict[Node, List[Tuple[int, Node]]]:
@@ -76,12 +117,13 @@ def incidence(edges: Sequence[GraphEdge], places: Iterable[int]) -> Dict[Node, L
     return found
 
 
-def reach(edges: Sequence[GraphEdge], root: Node) -> Set[Node]:
-    """The nodes that can be reached from the root, in whatever direction the edges go."""
-    at = incidence(edges, range(len(edges)))
+def reach(edges: Sequence[GraphEdge], root: Node, at: Optional[Dict[Node, List[Tuple[int, Node]]]] = None) -> Set[Node]:
+    """The nodes that can be reached from the root, in whatever direction the edges go; `at` is their `incidence`, where
+    it is known."""
+    at = incidence(edges, range(len(edges))) if at is None else at
     reached, waiting = {root}, [root]
     while waiting:
-        fresh = {other for _, other in at[waiting.pop()]} - reached
+        fresh = {other for _, other in at.get(waiting.pop(), ())} - reached
         reached |= fresh
         waiting.extend(fresh)
     return reached
@@ -138,16 +180,21 @@ def _names(edge: GraphEdge, directed: bool) -> List[GraphEdge]:
 
 
 def _judge_price(edge: GraphEdge, price: Any) -> Price:
-    """The price if it is None or a whole number from 1 to 1000, else a ValueError."""
+    """The price if it is None or a whole number from 1 to 1000, also as a float or a number of numpy; else a ValueError."""
     if price is None:
         return None
-    try:
-        number = index(price)
-    except TypeError:
-        number = 0
-    if not 1 <= number <= GREATEST_PRICE:
+    number = _whole(price)
+    if number is None or not 1 <= number <= GREATEST_PRICE:
         raise ValueError(f"the price of {edge!r} is {price!r}: it must be a whole number from 1 to {GREATEST_PRICE}, or None")
     return number
+
+
+def _whole(value: Any) -> Optional[int]:
+    """A number as an integer if it is one, also where it is written as a float; else None."""
+    try:
+        return index(value)
+    except TypeError:
+        return int(value) if isinstance(value, Real) and float(value).is_integer() else None
 
 
 def _places(edges: Sequence[GraphEdge], wanted: Iterable[GraphEdge], directed: bool) -> Set[int]:

@@ -261,6 +261,23 @@ class Picture:
                 seen.update(faces[-1])
         return tuple(faces)
 
+    @cached_property
+    def _face_of(self) -> Dict[Dart, int]:
+        return {dart: place for place, face in enumerate(self.faces) for dart in face}
+
+    def face_of(self, dart: Dart) -> int:
+        """The place in `faces` of the face on the left of a dart; KeyError where there is no such dart."""
+        return self._face_of[dart]
+
+    @cached_property
+    def outer_face(self) -> int:
+        """The place in `faces` of the face that drawings have outside. A picture has no outer face of its own; this is
+        the one with the most vertices along it, of equal ones the longest, then the first. ValueError where there is no
+        edge, and so no face."""
+        if not self.faces:
+            raise ValueError("the picture has no edge, and so no face")
+        return max(range(len(self.faces)), key=lambda place: (sum(not self.start(dart).is_crossing for dart in self.faces[place]), len(self.faces[place])))
+
     @property
     def counts(self) -> Counts:
         """How many vertices, crossings, edges, segments and faces there are."""

@@ -8,10 +8,11 @@ from dataclasses import dataclass, field, replace
 from functools import cached_property
 from typing import Any, Dict, FrozenSet, Iterable, Iterator, List, Optional, Sequence, Tuple, Union
 
-from .embeddings import picture_of
-from .faults import Fault, NotPlanarized, OtherReport, PlanarError, PlanarWarning
-from .graphs import GraphEdge, Node, Price, PricedGraph, Pricing, bridges, incidence, places_of, rank, read_graph
-from .pictures import Edge, Picture
+from .embeddings import Dummy, picture_of
+from .exchange import Segment, segments, to_json
+from .faults import Fault, NotPlanarized, OtherReport, PlanarError, PlanarWarning, wanted
+from .graphs import GraphEdge, Node, Price, PricedGraph, Pricing, bridges, components, incidence, judge_connected, places_of, rank, read_graph
+from .pictures import Crossing, Dart, Edge, Picture, Point
 from .planarizer import Planarizer
 from .program import PathLike
 from .reports import Inserted, Limits, Refused, Report, difference
@@ -28,6 +29,10 @@ class Planarization:
     id e in the picture, as the graph's `edges` gives it, and `id_of` leads back. `prices` are those of the kinds.
     `reports` are the reports of the program's runs, each of which starts where the one before it ended. `tries` has
     the number of crossings of each order that was tried and came to a picture.
+
+    Where the graph is not connected, `parts` has the planarization of each of its parts, in the order of their first
+    nodes. The picture then has the rows of all parts side by side, each with an outer face of its own, and is none that
+    the program takes. Where the graph is connected, `parts` is empty.
     """
 
     graph: Any
@@ -37,6 +42,7 @@ class Planarization:
     prices: Tuple[Price, ...]
     reports: Tuple[Report, ...] = field(repr=False)
     tries: Tuple[int, ...] = ()
+    parts: Tuple["Planarization", ...] = field(default=(), repr=False)
 
     @cached_property
     def vertex_of(self) -> Dict[Node, int]:
@@ -53,6 +59,50 @@ class Planarization:
         if self.graph.is_directed() or (u, v, *key) in self.id_of:
             return self.id_of[(u, v, *key)]
         return self.id_of[(v, u, *key)]
+
+    @property
+    def offsets(self) -> List[Tuple[int, int, int]]:
+        """For each of `parts` how much larger the ids of its vertices, edges and crossings are here than there."""
+        return _offsets(self.parts)
+
+    @property
+    def outer_face(self) -> int:
+        """The place in `picture.faces` of the face that drawings have outside: the one with the most nodes of the graph
+        along it, of equal ones the longest, then the first. ValueError where there is no edge. See `outer_faces` for a
+        graph that is not connected."""
+        return self.picture.outer_face
+
+    @property
+    def outer_faces(self) -> Tuple[int, ...]:
+        """The places in `picture.faces` of the outer faces of all parts that have an edge."""
+        found: List[int] = []
+        before = 0
+        for part in self.parts or (self,):
+            found += [before + part.outer_face] if part.picture.edges else []
+            before += len(part.picture.faces)
+        return tuple(found)
+
+    def face_of(self, dart: Dart) -> int:
+        """The place in `picture.faces` of the face on the left of a dart; KeyError where there is no such dart."""
+        return self.picture.face_of(dart)
+
+    def name_of(self, point: Point) -> Any:
+        """The node of the graph that a point of the picture is, or the Dummy of a crossing."""
+        return Dummy("crossing", point.id, self.layer) if point.is_crossing else self.node_of[point.id]
+
+    @cached_property
+    def layer(self) -> int:
+        """The layer of the Dummy nodes: 0, or one more than that of the Dummy nodes that the graph itself has."""
+        return max((node.layer + 1 for node in self.node_of if isinstance(node, Dummy)), default=0)
+
+    def segments(self, u: Node, v: Node, *key: Any) -> Tuple[Segment, ...]:
+        """The segments of an edge in order, from u to v, with their ends and the faces on either side; KeyError where
+        the graph has no such edge."""
+        return segments(self, u, v, *key)
+
+    def to_json(self) -> Dict[str, Any]:
+        """The planarization as one JSON object, with the nodes as the graph names them; see `fezdrok.exchange`."""
+        return to_json(self)
 
     @property
     def crossings(self) -> int:
@@ -129,7 +179,9 @@ def planarize(
     limits: Optional[Limits] = None,
     program: Optional[PathLike] = None,
 ) -> Planarization:
-    """A picture of a networkx graph, which must be connected and have an edge and no loop (else ValueError).
+    """A picture of a networkx graph, which must have an edge and no loop (else ValueError).
+
+    A graph that is not connected is planarized part by part; see `Planarization.parts`. What follows is done for each.
 
     The first edge is the start, a breadth-first tree is grown from it, and every other edge is inserted along a
     cheapest route, those that are cheap to cross last. With `begin="planar"` the start is as much of the graph as
@@ -155,29 +207,115 @@ def planarize(
     NotPlanarized where the program refuses an edge; Fault and other PlanarErrors as Planarizer.run; KeyboardInterrupt.
     """
     if tries < 1:
-        raise ValueError("tries must be at least 1")
+        raise ValueError(f"tries is {tries}: it must be at least 1")
+    _judge_rounds(rounds)
     source = read_graph(graph, price, forbidden)
-    found: Dict[int, Planarization] = {}
+    if not isinstance(order, (str, set, frozenset)):
+        order = [source.edges[place] for place in places_of(source.edges, order, graph.is_directed())]
+    results: List[Planarization] = []
     failures: List[str] = []
-    first: Optional[BaseException] = None
-    try:
-        for attempt in range(tries):
-            prepared = _prepare(source, begin, order if attempt == 0 else "random", f"{seed}/{attempt}", limits, program)
-            try:
-                found[attempt] = prepared.run()
-                for better in _rounds(found[attempt], rounds, limits, program):
-                    found[attempt] = better
-            except (Fault, NotPlanarized) as fault:
-                first = first or fault
-                failures.append(f"order {attempt + 1} of {tries}: {_words(fault)}")
-    except _ENDS as end:
-        first = first or end
-        failures.append(_words(end))
-    if first is not None and not found:
-        raise first
+    sources = components(source)
+    for part in sources:
+        search = _Search(part, begin, _order_in(part, order, len(sources)), tries, rounds, seed, limits, program)
+        results.append(search.run())
+        failures += search.failures
+        if search.is_ended:
+            tries, rounds = 1, 0
     _warn(failures)
-    best = min(found.values(), key=lambda result: result.score)
-    return replace(best, tries=tuple(result.crossings for result in found.values()))
+    return results[0] if len(results) == 1 else _joined_parts(source, results)
+
+
+def _judge_rounds(rounds: int) -> None:
+    """ValueError where there are to be fewer rounds than none."""
+    if rounds < 0:
+        raise ValueError(f"rounds is {rounds}: it must be 0 or more")
+
+
+def _order_in(part: PricedGraph, order: Order, count: int) -> Order:
+    """The order of the edges within one of so many parts."""
+    if count == 1 or isinstance(order, (str, set, frozenset)):
+        return order
+    nodes = set(part.nodes)
+    return [edge for edge in order if edge[0] in nodes]
+
+
+@dataclass
+class _Search:
+    """A search for a good picture of a connected graph; the words are those of `planarize`.
+
+    `failures` says what was not done, and `is_ended` whether the search was ended before its time.
+    """
+
+    source: PricedGraph
+    begin: str
+    order: Order
+    tries: int
+    rounds: int
+    seed: int
+    limits: Optional[Limits]
+    program: Optional[PathLike]
+    failures: List[str] = field(default_factory=list)
+    is_ended: bool = False
+
+    def run(self) -> Planarization:
+        """The best picture, or the first failure where there is none."""
+        if not self.source.edges:
+            return _single(self.source)
+        found: Dict[int, Planarization] = {}
+        first: Optional[BaseException] = None
+        try:
+            for attempt in range(self.tries):
+                order = self.order if attempt == 0 else "random"
+                prepared = _prepare(self.source, self.begin, order, f"{self.seed}/{attempt}", self.limits, self.program)
+                try:
+                    found[attempt] = prepared.run()
+                    for better in _rounds(found[attempt], self.rounds, self.limits, self.program):
+                        found[attempt] = better
+                except (Fault, NotPlanarized) as fault:
+                    first = first or fault
+                    self.failures.append(f"order {attempt + 1} of {self.tries}: {_words(fault)}")
+        except _ENDS as end:
+            first = first or end
+            self.failures.append(_words(end))
+            self.is_ended = True
+        if first is not None and not found:
+            raise first
+        best = min(found.values(), key=lambda result: result.score)
+        return replace(best, tries=tuple(result.crossings for result in found.values()))
+
+
+def _single(source: PricedGraph) -> Planarization:
+    """The picture of a node without edges, which the program does not know."""
+    return Planarization(source.graph, Picture(((),), ()), source.nodes, {}, source.prices, ())
+
+
+def _joined_parts(source: PricedGraph, parts: Sequence[Planarization]) -> Planarization:
+    """One planarization of a graph from those of its parts, whose rows come one after another."""
+    rotations: List[Tuple[int, ...]] = []
+    edges: List[Edge] = []
+    crossings: List[Crossing] = []
+    edge_of: Dict[int, GraphEdge] = {}
+    for part, (vertex, edge, crossing) in zip(parts, _offsets(parts)):
+        picture = part.picture
+        rotations += [tuple(edge + it for it in around) for around in picture.rotations]
+        edges += [Edge(edge + row.id, vertex + row.a, vertex + row.b, row.kind, tuple(crossing + it for it in row.crossings)) for row in picture.edges]
+        crossings += [Crossing(crossing + row.id, edge + row.crossed, edge + row.newcomer, row.sign) for row in picture.crossings]
+        edge_of.update((edge + edge_id, it) for edge_id, it in part.edge_of.items())
+    _, next_edge, next_crossing = _offsets([*parts, parts[0]])[-1]
+    picture = Picture(tuple(rotations), tuple(edges), tuple(crossings), next_edge, next_crossing)
+    nodes = tuple(node for part in parts for node in part.node_of)
+    reports = tuple(report for part in parts for report in part.reports)
+    tries = tuple(map(sum, zip(*(part.tries for part in parts if part.picture.edges))))
+    return Planarization(source.graph, picture, nodes, edge_of, source.prices, reports, tries, tuple(parts))
+
+
+def _offsets(parts: Sequence[Planarization]) -> List[Tuple[int, int, int]]:
+    """For each part how many vertices, edge ids and crossing ids those before it have."""
+    found = [(0, 0, 0)]
+    for part in parts[:-1]:
+        vertex, edge, crossing = found[-1]
+        found.append((vertex + len(part.picture.rotations), edge + part.picture.next_edge, crossing + part.picture.next_crossing))
+    return found
 
 
 #: What ends a search, while what was found so far is given.
@@ -206,8 +344,11 @@ def prepare(
     limits: Optional[Limits] = None,
     program: Optional[PathLike] = None,
 ) -> Prepared:
-    """The one run that `planarize` with the same words makes, to write its script and to read its report elsewhere."""
-    return _prepare(read_graph(graph, price, forbidden), begin, order, f"{seed}/0", limits, program)
+    """The one run that `planarize` with the same words makes, to write its script and to read its report elsewhere.
+    ValueError where the graph is not connected: then prepare each part."""
+    source = read_graph(graph, price, forbidden)
+    judge_connected(source)
+    return _prepare(source, begin, order, f"{seed}/0", limits, program)
 
 
 def _prepare(source: PricedGraph, begin: str, order: Order, seed: str, limits: Optional[Limits], program: Optional[PathLike]) -> Prepared:
@@ -294,8 +435,7 @@ def _begin_tree(source: PricedGraph, places: Sequence[int]) -> _Beginning:
 def _begin_embedded(source: PricedGraph, places: Sequence[int], is_full: bool) -> _Beginning:
     """The edges that must not be crossed and edges that connect them, drawn by networkx without crossings; if
     `is_full`, then also every other edge that can be added in turn."""
-    import networkx
-
+    networkx = wanted("networkx", "edges that must not be crossed and planar beginnings")
     chosen = _joined(source, places)
     plain = networkx.Graph()
     plain.add_edges_from(source.edges[place][:2] for place in chosen.values())
@@ -314,8 +454,7 @@ def _begin_embedded(source: PricedGraph, places: Sequence[int], is_full: bool) -
 
 def _add_planar(plain: Any, pairs: List[Tuple[Node, ...]]) -> None:
     """Adds to a planar networkx graph each of these edges in turn, if it stays planar with it."""
-    import networkx
-
+    networkx = wanted("networkx", "planar beginnings")
     plain.add_edges_from(pairs)
     if not pairs or networkx.check_planarity(plain)[0]:
         return
@@ -352,20 +491,31 @@ def reinsert(result: Planarization, rounds: int = 1, limits: Optional[Limits] = 
     """A picture of the same graph with as many crossings or fewer.
 
     In a round each crossed edge that has a price is taken out and inserted again, the most crossed first. At most
-    this many rounds are made, and none after one that saves nothing.
+    this many rounds are made, and none after one that saves nothing. ValueError where `rounds` is negative.
 
     What was found is never lost: where the program fails, as by 51 TooLong where the picture makes the script longer
     than the program takes, where the limits do not suffice, and at Ctrl-C (KeyboardInterrupt), the best picture so far
     is given, with a PlanarWarning that says what happened.
     """
+    _judge_rounds(rounds)
     failures: List[str] = []
+    parts = list(result.parts or (result,))
     try:
-        for better in _rounds(result, rounds, limits, program):
-            result = better
+        for place in range(len(parts)):
+            for better in _rounds(parts[place], rounds, limits, program):
+                parts[place] = better
     except _ENDS as end:
         failures.append(_words(end))
     _warn(failures)
-    return result
+    if not result.parts:
+        return parts[0]
+    return replace(_joined_like(result, parts), tries=result.tries)
+
+
+def _joined_like(result: Planarization, parts: Sequence[Planarization]) -> Planarization:
+    """The planarization of the same graph from other ones of its parts."""
+    source = PricedGraph(result.graph, result.node_of, tuple(result.edge_of.values()), (), result.prices)
+    return _joined_parts(source, parts)
 
 
 def _rounds(result: Planarization, rounds: int, limits: Optional[Limits], program: Optional[PathLike]) -> Iterator[Planarization]:
@@ -402,6 +552,8 @@ def _movable(result: Planarization) -> List[Edge]:
     """The crossed edges that have a price and without which the graph is connected, the most crossed first."""
     rows = [row for row in result.picture.edges if row.crossings and result.prices[row.kind] is not None]
     rows.sort(key=lambda row: -len(row.crossings))
+    if not rows:
+        return []
     ids = list(result.edge_of)
     held = {ids[place] for place in bridges([result.edge_of[edge_id] for edge_id in ids])}
     return [row for row in rows if row.id not in held]

@@ -6,7 +6,7 @@ import re
 from operator import index
 from typing import Any, Dict, List, Optional, Sequence
 
-from .faults import ProgramFailed
+from .faults import NoReport, ProgramFailed
 from .pictures import Counts, Picture, compact
 from .program import PathLike, Program
 from .reports import Call, Delete, Grow, Insert, Limits, Planned, Report, version_of
@@ -80,7 +80,11 @@ class Planarizer:
 
     def run(self) -> Report:
         """Carry out all commands from the start picture on. The commands stay, so a second run does the same."""
-        return Report.from_text(self.program.run(self.script_text()))
+        text = self.program.run(self.script_text())
+        try:
+            return Report.from_text(text)
+        except NoReport as fault:
+            raise ProgramFailed(0, f"{self.program.path} printed no report: {fault}") from fault
 
     def replay(self, report: Report) -> int:
         """Carry out the history of a report again: how many calls it has, or the Fault that it is not true."""

@@ -10,9 +10,11 @@ import warnings
 from pathlib import Path
 from typing import Iterator, Optional, Set, Tuple, Union
 
-from .faults import Fault, MemoryFault, PlanarWarning, ProgramFailed, ProgramNotFound, UsageRefused, read_value
+from .faults import Fault, MemoryFault, PlanarWarning, ProgramFailed, ProgramNotFound, ProgramNotStarted, UsageRefused, read_value
 
 PathLike = Union[str, "os.PathLike[str]"]
+#: A text, or its bytes, which the program gets as they are.
+Text = Union[str, bytes]
 
 VARIABLE = "FEZDROK_PLANAR"
 
@@ -110,7 +112,7 @@ class Program:
             self._path = find_program(self._wanted)
         return self._path
 
-    def run(self, script: str) -> str:
+    def run(self, script: Text) -> str:
         """The report of a script, one line of JSON."""
         return self._call("run", script)
 
@@ -122,11 +124,14 @@ class Program:
         """The line `lawful vertices=.. ..`, or the fault that the picture is not lawful."""
         return self._call("check", picture)
 
-    def _call(self, verb: str, text: str) -> str:
+    def _call(self, verb: str, text: Text) -> str:
         """What the program prints, or the exception that its status stands for."""
-        done = subprocess.run([self.path, verb], input=text.encode(), stdout=subprocess.PIPE, stderr=subprocess.PIPE)
+        try:
+            done = subprocess.run([self.path, verb], input=text.encode() if isinstance(text, str) else text, stdout=subprocess.PIPE, stderr=subprocess.PIPE)
+        except OSError as refused:
+            raise ProgramNotStarted(f"{self.path} cannot be run: {refused.strerror or refused}") from refused
         if done.returncode == 0:
-            return done.stdout.decode()
+            return done.stdout.decode(errors="replace")
         raise failure(done.returncode, done.stderr.decode(errors="replace"))
 
 

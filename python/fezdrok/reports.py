@@ -6,6 +6,7 @@ import json
 from dataclasses import dataclass
 from typing import Any, Callable, Dict, List, Optional, Sequence, Tuple, Union
 
+from .faults import NoReport
 from .pictures import Dart, Picture, compact
 
 Prices = Tuple[Optional[int], ...]
@@ -192,8 +193,13 @@ class Report:
 
     @staticmethod
     def from_text(text: str) -> "Report":
-        """The report of the line that `planar run` prints."""
-        return Report.from_json(json.loads(text))
+        """The report of the line that `planar run` prints. NoReport where the text is no JSON, or is of another form."""
+        try:
+            return Report.from_json(json.loads(text))
+        except json.JSONDecodeError as fault:
+            raise NoReport(f"the text is no report: it is no JSON: {fault}") from fault
+        except (KeyError, TypeError, ValueError, IndexError, AttributeError) as fault:
+            raise NoReport(f"the text is no report: {type(fault).__name__} {fault}") from fault
 
     @staticmethod
     def from_json(value: Dict[str, Any]) -> "Report":

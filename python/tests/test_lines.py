@@ -15,10 +15,13 @@ from fezdrok.__main__ import main
 from .support import EXAMPLES, fake, needs_program
 
 
+ENVIRONMENT = {**os.environ, "PYTHONPATH": str(Path(__file__).resolve().parent.parent)}
+
+
 class Lines(unittest.TestCase):
     def answers(self, text, *words):
         target = io.StringIO()
-        status = main(list(words), io.StringIO(text), target)
+        status = main(list(words), io.BytesIO(text if isinstance(text, bytes) else text.encode()), target)
         return status, target.getvalue().splitlines()
 
     def test_failures_have_a_line_too(self):
@@ -43,11 +46,26 @@ class Lines(unittest.TestCase):
         self.assertEqual(status, 1)
 
     @needs_program
+    def test_a_line_that_is_no_utf8(self):
+        script = Planarizer().script_text().encode()
+        status, lines = self.answers(script + b"\n\xff\xfe{}\n" + script + b"\r\n\x00\n" + script)
+        report = Planarizer().run().to_text()
+        self.assertEqual(lines, [report, '{"fault":[50,"NotJson"]}', report, '{"fault":[50,"NotJson"]}', report])
+        self.assertEqual(status, 1)
+
+    @needs_program
     def test_as_a_program(self):
         text = Planarizer().script_text() + "\n"
-        folder = Path(__file__).resolve().parent.parent
-        done = subprocess.run([sys.executable, "-m", "fezdrok"], input=text * 2, capture_output=True, text=True, env={**os.environ, "PYTHONPATH": str(folder)})
+        done = subprocess.run([sys.executable, "-m", "fezdrok"], input=text * 2, capture_output=True, text=True, env=ENVIRONMENT)
         self.assertEqual((done.returncode, done.stdout), (0, (Planarizer().run().to_text() + "\n") * 2))
+
+    def test_a_closed_pipe_ends_it_quietly(self):
+        words = [sys.executable, "-m", "fezdrok", "--program", fake(self, "cat > /dev/null; echo '{\"history\":[]}'")]
+        reader, writer = os.pipe()
+        os.close(reader)
+        with os.fdopen(writer, "wb") as closed:
+            done = subprocess.run(words, input=b"{}\n" * 3, stdout=closed, stderr=subprocess.PIPE, env=ENVIRONMENT)
+        self.assertEqual((done.returncode, done.stderr), (141, b""))
 
 
 if __name__ == "__main__":

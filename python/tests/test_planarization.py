@@ -3,6 +3,7 @@
 import random
 import unittest
 from collections import Counter
+from fractions import Fraction
 
 from fezdrok import Counts, Limits, NotPlanarized, Planarizer, Report, planarize, prepare, reinsert, to_networkx_embedding
 from fezdrok.graphs import bridges, read_graph
@@ -68,21 +69,43 @@ class Judged(unittest.TestCase):
             self.assertEqual(result.edge_id(*edge), edge_id)
 
 
+class Number:
+    """A whole number as numpy's are: it is none of Python's integers, and gives one."""
+
+    def __index__(self) -> int:
+        return 3
+
+
 @needs_networkx
 class Refusals(unittest.TestCase):
     """Graphs and words that are refused before the program is called."""
 
     def test_graphs(self):
         loop = nx.Graph([(0, 1), (1, 1)])
-        for graph, words in ((nx.empty_graph(3), "no edge"), (nx.Graph(), "no edge"), (loop, "loop at 1"), (nx.Graph([(0, 1), (2, 3)]), "not connected")):
+        for graph, words in ((nx.empty_graph(3), "no edge"), (nx.Graph(), "no edge"), (loop, "loop at 1")):
             with self.subTest(words), self.assertRaisesRegex(ValueError, words):
                 planarize(graph)
+        with self.assertRaisesRegex(ValueError, "not connected: 2 cannot be reached from 0"):
+            prepare(nx.Graph([(0, 1), (2, 3)]))
 
     def test_prices(self):
         graph = nx.path_graph(3)
-        for price in (0, 1001, 1.5, "dear"):
+        for price in (0, 1001, 1.5, "dear", float("nan"), float("inf")):
             with self.subTest(price), self.assertRaisesRegex(ValueError, "from 1 to 1000"):
                 planarize(graph, price=lambda u, v, data, price=price: price)
+
+    def test_prices_that_are_whole(self):
+        for price in (3, 3.0, Fraction(3), Number()):
+            self.assertEqual(read_graph(nx.path_graph(3), lambda u, v, data, price=price: price).prices, (3,))
+
+    def test_an_attribute_that_no_edge_has(self):
+        graph = nx.path_graph(3)
+        with self.assertRaisesRegex(ValueError, "no edge has the attribute 'weight' for its price: edges have none at all"):
+            planarize(graph, price="weight")
+        graph.edges[0, 1]["weight"] = 2
+        with self.assertRaisesRegex(ValueError, "no edge has the attribute 'wieght' for its price: there are 'weight'"):
+            planarize(graph, price="wieght")
+        self.assertEqual(read_graph(graph, "weight").prices, (2, 1))
 
     def test_64_prices_and_one_more(self):
         graph = nx.path_graph(66)
@@ -101,6 +124,8 @@ class Refusals(unittest.TestCase):
     def test_options(self):
         with self.assertRaisesRegex(ValueError, "tries"):
             planarize(nx.path_graph(3), tries=0)
+        with self.assertRaisesRegex(ValueError, "rounds is -1: it must be 0 or more"):
+            planarize(nx.path_graph(3), rounds=-1)
         for options in ({"order": "best"}, {"begin": "best"}):
             with self.assertRaisesRegex(ValueError, "not known"):
                 planarize(nx.path_graph(3), **options)

@@ -11,6 +11,7 @@ import unittest
 from importlib.util import find_spec
 from pathlib import Path
 from typing import List, Tuple
+from xml.etree import ElementTree
 
 from fezdrok import find_program
 
@@ -24,7 +25,7 @@ def python_examples(page: str) -> doctest.DocTest:
     """The examples in Python; without matplotlib those that draw are left out."""
     found = doctest.DocTestParser().get_doctest((ROOT / page).read_text(), {}, page, page, 0)
     if find_spec("matplotlib") is None:
-        found.examples = [example for example in found.examples if "draw" not in example.source]
+        found.examples = [example for example in found.examples if not re.search(r"\bdraw\b", example.source)]
     return found
 
 
@@ -71,6 +72,19 @@ class Examples(unittest.TestCase):
             self.assertTrue(examples.examples, page)
             result = doctest.DocTestRunner(optionflags=doctest.ELLIPSIS, verbose=False).run(examples, out=told.append)
             self.assertEqual(result.failed, 0, "".join(told))
+        self.check_pictures(Path(self.folder))
+
+    def check_pictures(self, folder: Path):
+        """The pictures that are shown are small, and are those that the examples wrote: with as many lines, nodes and
+        marks, and the same names. Points may differ a little from machine to machine."""
+        shown = re.findall(r"!\[[^]]+\]\((pictures/\S+\.svg)\)", (ROOT / "docs" / "USING.md").read_text())
+        self.assertEqual(sorted(shown), sorted(f"pictures/{file.name}" for file in (ROOT / "docs" / "pictures").iterdir()))
+        self.assertEqual(len(shown), 8)
+        for name in shown:
+            kept, written = ROOT / "docs" / name, folder / Path(name).name
+            self.assertLess(kept.stat().st_size, 20000)
+            shown_there, written_now = ([(it.tag, it.text) for it in ElementTree.parse(file).iter() if it.get("id") is None] for file in (kept, written))
+            self.assertEqual(shown_there, written_now)
 
     def checkout(self) -> Path:
         """A folder that is as the repository, with the program that the tests call as the one that is built there: so
