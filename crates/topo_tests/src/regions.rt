@@ -53,7 +53,9 @@ fn holds_route(region: &Region, ends: (u32, u32), crossed: &[Dart]) -> bool {
     let (u, v) = ends;
     region.has_vertex(u)
         && region.has_vertex(v)
-        && crossed.iter().all(|dart| region.has_edge(dart.edge.number()))
+        && crossed
+            .iter()
+            .all(|dart| region.has_edge(dart.edge.number()))
 }
 
 /// Whether a route that crosses an edge comes with a region that has it, and any other with none.
@@ -76,8 +78,18 @@ fn is_seen(
 ) -> Result<(), Fail> {
     let table = table_of(rt, question.rest, question.entries);
     let found = seen_at(rt, alloc, picture, &table, question.ends, work)?.ok_or("a route")?;
-    assert!(rt; is_route(&found.first, answer), "{:?}: {:?}", question.ends, found.first);
-    assert!(rt; has_region(&found, question.ends), "{:?}: {:?}", question.ends, found.first);
+    assert!(rt;
+        is_route(&found.first, answer),
+        "{:?}: {:?}",
+        question.ends,
+        found.first
+    );
+    assert!(rt;
+        has_region(&found, question.ends),
+        "{:?}: {:?}",
+        question.ends,
+        found.first
+    );
     drop(found);
     Ok(())
 }
