@@ -30,9 +30,9 @@ use Rattle.topo_book.proofs.ReplicaLaws.{one_replay}
 pub crosses_none : (region : RegionState) (crossed : List Dart) → list_all (λ d. not (holds_edge region d.edge)) crossed ≡ true → All (λ d. holds_edge region d.edge ≡ false) crossed
 crosses_none region crossed passed = All-weaker (λ (d : Dart). not (holds_edge region d.edge) ≡ true) (λ (d : Dart). holds_edge region d.edge ≡ false) (λ d. off (holds_edge region d.edge)) crossed
     (AllPass-from_list_all (λ (d : Dart). not (holds_edge region d.edge)) crossed passed) where
-  off : (b : Bool) → not b ≡ true → b ≡ false
-  off true is = cc
-  off false is = refl
+      off : (b : Bool) → not b ≡ true → b ≡ false
+      off true is = cc
+      off false is = refl
 
 module _ (before : Rows) (region : RegionState) where
   abbrev pub spare : Entry → Type 0
@@ -65,14 +65,14 @@ module _ (before : Rows) (region : RegionState) where
       → HaveSpared before region entries accepted
   ended_spared entries entry accepted left b some last more kind less one others =
       subst (HaveSpared before region entries) (counts b kind less) (last_spared entries (take (length entries - 1) entries) entry left parts one others) where
-    parts : entries ≡ take (length entries - 1) entries ++ entry ∷ []
-    parts = ends (length entries - 1) (omega (arith, some)) last where
-      ends : (i : ℕ) → length entries ≡ i + 1 → entry ≡ slice_index_or entries i entry → entries ≡ take i entries ++ entry ∷ []
-      ends i is at = sym (take-length entries) ∙ ap (λ n. take n entries) is ∙ take_more entries i entry (omega (arith, is)) ∙ ap (λ e. take i entries ++ e ∷ []) (sym at)
+        parts : entries ≡ take (length entries - 1) entries ++ entry ∷ []
+        parts = ends (length entries - 1) (omega (arith, some)) last where
+          ends : (i : ℕ) → length entries ≡ i + 1 → entry ≡ slice_index_or entries i entry → entries ≡ take i entries ++ entry ∷ []
+          ends i is at = sym (take-length entries) ∙ ap (λ n. take n entries) is ∙ take_more entries i entry (omega (arith, is)) ∙ ap (λ e. take i entries ++ e ∷ []) (sym at)
 
-    counts : (b : Bool) → b ≡ is_accepted entry.reply → left ≡ (if b then accepted - 1 else accepted) → (if is_accepted entry.reply then left + 1 else left) ≡ accepted
-    counts true kind less = rw (← kind) (omega (arith, less, more))
-    counts false kind less = rw (← kind) less
+        counts : (b : Bool) → b ≡ is_accepted entry.reply → left ≡ (if b then accepted - 1 else accepted) → (if is_accepted entry.reply then left + 1 else left) ≡ accepted
+        counts true kind less = rw (← kind) (omega (arith, less, more))
+        counts false kind less = rw (← kind) less
 
 -- ---- What has been kept
 
@@ -105,8 +105,8 @@ front (x ∷ xs) (y ∷ ys) more rest same long =
     let first : x ≡ y = cc in
     let others : xs ++ more ≡ ys ++ rest = cc in
     cc_cons first (front xs ys more rest others long) where
-  cc_cons : x ≡ y → xs ≡ ys → x ∷ xs ≡ y ∷ ys
-  cc_cons p q = rw (p, q) refl
+      cc_cons : x ≡ y → xs ≡ ys → x ∷ xs ≡ y ∷ ys
+      cc_cons p q = rw (p, q) refl
 
 -- A route that was the first while the region is kept, found after the first accepted entries, is the first on the picture of
 -- now, where the entries since have spared the region.

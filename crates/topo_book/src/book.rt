@@ -157,7 +157,13 @@ impl<F: Asks> Book<F> {
     pub fn has_spared(&self, before: &Picture, region: &Region, accepted: u64) -> bool
         ensures { result ≡ true → HaveSpared before.now.rows region.now self.now.history accepted }
     {
-        have_spared(before, region, self.history(), accepted, MAX_ENTRIES_BETWEEN)
+        have_spared(
+            before,
+            region,
+            self.history(),
+            accepted,
+            MAX_ENTRIES_BETWEEN,
+        )
     }
 
     /// The entries, the oldest first. The book ends.

@@ -116,8 +116,14 @@ impl<F: Asks, K: ServiceBrand<F>> FoundRoute<F, K> {
         ensures entries { IfOk result (λ f. f.entries ≡ version.entries) }
         ensures refused { IfErr result (IsPlanRefusal (prices_named F.answers K.closure) version.picture.rows ends.0 ends.1) }
     {
-        let SeenRoute { first, region } =
-            first_on(alloc, version.picture(), tariff, ends.0, ends.1, work)?;
+        let SeenRoute { first, region } = first_on(
+            alloc,
+            version.picture(),
+            tariff,
+            ends.0,
+            ends.1,
+            work,
+        )?;
         Ok(FoundRoute {
             u: ends.0,
             v: ends.1,

@@ -32,7 +32,11 @@ impl Lookahead {
         if is_taken {
             self.pause = 0;
         } else {
-            self.pause = self.pause.saturating_mul(2).saturating_add(1).min(MAX_PAUSE);
+            self.pause = self
+                .pause
+                .saturating_mul(2)
+                .saturating_add(1)
+                .min(MAX_PAUSE);
             self.left = self.pause;
         }
     }

@@ -21,6 +21,7 @@ const WIDTH: u32 = 8;
 /// The route is looked for between these: from the vertex in row 1 and column 1 to the one in row 3 and
 /// column 2. It crosses one edge, the one below the face to the right of and below its start.
 const FROM: u32 = WIDTH + 1;
+
 const TO: u32 = 3 * WIDTH + 2;
 
 /// The first edge that is put in later.
@@ -78,12 +79,22 @@ fn edges(alloc: Global) -> Result<Listed<EdgeRow>, AllocError> {
     let mut edges = Vec::new(alloc);
     for row in 0..WIDTH {
         for column in 0..WIDTH - 1 {
-            edges.push(edge(alloc, right_of(row, column), at(row, column), at(row, column + 1)))?;
+            edges.push(edge(
+                alloc,
+                right_of(row, column),
+                at(row, column),
+                at(row, column + 1),
+            ))?;
         }
     }
     for row in 0..WIDTH - 1 {
         for column in 0..WIDTH {
-            edges.push(edge(alloc, below(row, column), at(row, column), at(row + 1, column)))?;
+            edges.push(edge(
+                alloc,
+                below(row, column),
+                at(row, column),
+                at(row + 1, column),
+            ))?;
         }
     }
     Ok(Listed::from_vec(edges))
@@ -251,7 +262,11 @@ fn a_route_outlives_what_changes_elsewhere(rt: HostRuntime) -> Result<(), Fail> 
             &[delete(right_of(6, 5))],
             &[insert(at(5, 5), at(7, 6)), delete(FIRST_NEW)],
             &[grow(999), delete(999), insert(at(6, 6), at(6, 6))],
-            &[insert(at(5, 5), at(7, 6)), delete(below(5, 6)), grow(at(6, 6))],
+            &[
+                insert(at(5, 5), at(7, 6)),
+                delete(below(5, 6)),
+                grow(at(6, 6)),
+            ],
             &[insert(at(0, 6), at(2, 6)), insert(at(6, 0), at(7, 2))],
         ],
         true,
