@@ -206,12 +206,11 @@ impl<F: Asks, K: ServiceBrand<F>, G: VersionReader<F, K>> PassOver<F, K, G> {
         ensures fault { IfErr result (IsPlanFault (prices_named F.answers K.closure) (prices_named F.answers K.closure) K.start self.new.seen u v) }
     {
         let version = self.view()?;
-        match FoundRoute::on(alloc, version, tariff, (u, v), &mut self.work) {
-            Ok(found) => {
-                found.first();
-                Ok(found)
-            }
-            Err(why) => Err(PassFault::Refused(why)),
-        }
+        let found = match FoundRoute::on(alloc, version, tariff, (u, v), &mut self.work) {
+            Ok(found) => found,
+            Err(why) => return Err(PassFault::Refused(why)),
+        };
+        found.first();
+        Ok(found)
     }
 }

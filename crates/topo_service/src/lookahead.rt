@@ -27,11 +27,11 @@ impl Lookahead {
         false
     }
 
-    /// Takes note of whether a route that was found ahead was taken without a search.
-    pub(crate) fn note(&mut self, is_taken: bool) {
-        if is_taken {
+    /// Takes note, if a call brought a route that was found ahead, of whether it was taken without a search.
+    pub(crate) fn note(&mut self, is_found: bool, is_taken: bool) {
+        if is_found && is_taken {
             self.pause = 0;
-        } else {
+        } else if is_found {
             self.pause = self
                 .pause
                 .saturating_mul(2)

@@ -235,11 +235,9 @@ impl<F: Asks, K: ServiceBrand<F>, W: VersionWriter<F, K>> ServiceOver<F, K, W> {
         }
         let made = state.call(rt, self.alloc, &mut pass.share, pass.number, call, brought);
         let Answer { told, kept } = made?;
+        pass.lookahead.note(is_found, state.was_known());
         pass.receipts.push_reserved(Receipt { call, reply: kept });
         pass.prefix = state.prefix().share();
-        if is_found {
-            pass.lookahead.note(state.was_known());
-        }
         Ok(told)
     }
 }

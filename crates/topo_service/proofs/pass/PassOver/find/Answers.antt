@@ -5,8 +5,8 @@ use Rattle.topo_versions.specs.Versions.{IsVersionFrom}
 use Rattle.topo_service.specs.Passes.{PassState}
 use Rattle.topo_service.proofs.pass.PassOver.find.Goals as goal
 
-pub returns-clause-fault : goal.returns-clause-fault
-returns-clause-fault g c =
+pub returns-in-Err-clause-fault : goal.returns-in-Err-clause-fault
+returns-in-Err-clause-fault g c =
     let version = c.in_ok-version.version in
     let seen : version.entries ≡ c.self.inside.prefix = c.in_ok-version.ensures.seen ∙ sym (ap (λ (p : PassState). p.seen) c.self.view_is) in (
       version.picture,
