@@ -113,7 +113,9 @@ def _bend_between(embedding: "networkx.PlanarEmbedding", start: Any, end: Any, e
 # ---- Scenes
 
 
-def scene_of(result: "Planarization", style: str = "straight", pos: Optional[Mapping[Any, Position]] = None, labels: bool = True, color: str = PLAIN) -> Scene:
+def scene_of(
+    result: "Planarization", style: str = "straight", pos: Optional[Mapping[Any, Position]] = None, labels: bool = True, color: str = PLAIN
+) -> Scene:
     """What a drawing of a planarization shows; see `draw` for the words. ValueError for a style that is not known, and
     for `pos` with the style `orthogonal`, which has points of its own."""
     if style not in STYLES:

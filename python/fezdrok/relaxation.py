@@ -5,7 +5,7 @@ The faces are filled with further nodes, so that all of them are triangles, and 
 on a circle. First each other node is put, again and again, at the mean of its neighbours; at rest that drawing has no
 crossings (Tutte, How to Draw a Graph, 1963). Then the nodes are moved one by one so that an energy gets less, as meshes
 are smoothed (Freitag and Plassmann, Local Optimization-Based Simplicial Mesh Untangling and Improvement, 2000): links
-pull their ends together, triangles push the more the smaller they are, the two halves of an edge at a crossing pull
+pull their ends together, triangles push the more the smaller and the thinner they are, the two halves of an edge at a crossing pull
 each other into one line, and two edges that cross into a right angle, which is easier to read (Huang, Eades and Hong,
 Larger Crossing Angles Make Graphs Easier to Read, 2014). A node goes only where each triangle round it still goes
 counterclockwise, so no step makes a crossing.
@@ -29,11 +29,13 @@ MORE_SWEEPS = 400
 SWEEPS = 140
 MOVES = 400_000
 STILL = 2e-3
-#: What a link that fills a face weighs beside an edge; how much triangles push, and those at the ring beside others;
-#: how much the halves of an edge pull each other into one line, and the two edges of a crossing into a right angle.
+#: What a link that fills a face weighs beside an edge; how much triangles push, those at the ring beside others, and how
+#: much more where they are thin; how much the halves of an edge pull each other into one line, and the two edges of a
+#: crossing into a right angle.
 FILL = 0.5
 PUSH = 20.0
 PUSH_AT_RING = 0.5
+SHAPE = 0.4
 STRAIGHTEN = 0.5
 SQUARE = 0.5
 #: Twice the area that a triangle has at least; less cannot be told from nothing.
@@ -186,12 +188,13 @@ def _to_means(filled: _Filled, points: List[Position], is_weighed: bool) -> None
 
 
 class _Forces:
-    """What acts on each node: its links, the triangles at it as the other two corners and how much they push, and the
-    lines through crossings that it is a part of, as the two other nodes and whether it is the crossing itself, and where
-    right angles at crossings would put it."""
+    """What acts on each node: its links; the triangles at it, as the other two corners and how much they push, and
+    `shape`, which says how much more thin ones do; the lines through crossings that it is a part of, as the two other
+    nodes and whether it is the crossing itself; and where right angles at crossings would put it."""
 
     def __init__(self, filled: _Filled):
         self.links = filled.links
+        self.shape = SHAPE / len(filled.triangles)
         self.triangles: List[List[Tuple[int, int, float]]] = [[] for _ in filled.links]
         self.lines: List[List[Tuple[int, int, bool]]] = [[] for _ in filled.links]
         ring = set(filled.ring)
@@ -240,11 +243,13 @@ class _Forces:
         for first, second, push in self.triangles[node]:
             (u, v), (r, s) = points[first], points[second]
             area = (u - x) * (s - y) - (v - y) * (r - x)
-            across, up, force = v - s, r - u, push / (area * area)
-            slope_x -= force * across
-            slope_y -= force * up
-            curvature += force * (across * across + up * up) / area
-            energy += push / area
+            across, up = v - s, r - u
+            shape = self.shape * ((x - u) ** 2 + (y - v) ** 2 + (x - r) ** 2 + (y - s) ** 2 + across * across + up * up)
+            force = (push + shape) / (area * area)
+            slope_x += 2 * self.shape * (2 * x - u - r) / area - force * across
+            slope_y += 2 * self.shape * (2 * y - v - s) / area - force * up
+            curvature += force * (across * across + up * up) / area + 4 * self.shape / area
+            energy += (push + shape) / area
         return -slope_x / curvature, -slope_y / curvature, energy
 
     def energy(self, node: int, x: float, y: float, points: Sequence[Position], pulls: Sequence[Tuple[float, float, float]]) -> float:
@@ -255,7 +260,8 @@ class _Forces:
             area = (u - x) * (s - y) - (v - y) * (r - x)
             if area <= LEAST_AREA:
                 return float("inf")
-            energy += push / area
+            shape = self.shape * ((x - u) ** 2 + (y - v) ** 2 + (x - r) ** 2 + (y - s) ** 2 + (u - r) ** 2 + (v - s) ** 2)
+            energy += (push + shape) / area
         for u, v, weight in pulls:
             energy += weight * ((x - u) * (x - u) + (y - v) * (y - v)) / 2
         return energy

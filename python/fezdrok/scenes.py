@@ -152,7 +152,9 @@ def orthogonal_scene(result: "Planarization", drawing: OrthogonalDrawing, labels
 # ---- Straight drawings
 
 
-def straight_scene(result: "Planarization", chains: Mapping[int, Sequence[Any]], places: Mapping[Any, Position], unit: float, labels: bool = True, color: str = PLAIN) -> Scene:
+def straight_scene(
+    result: "Planarization", chains: Mapping[int, Sequence[Any]], places: Mapping[Any, Position], unit: float, labels: bool = True, color: str = PLAIN
+) -> Scene:
     """The scene of a drawing whose edges lead over these chains of nodes, each of which has a place; they pass them
     without a corner."""
     kinds, legend = looks(result, color)
