@@ -12,14 +12,14 @@ use crate::hint::Hint;
 use crate::scratch::Scratch;
 use crate::steps::{advance, decide};
 use std::alloc::{AllocError, Global};
-use std::error::Error;
 use std::fmt;
+use thiserror::Error;
 use topo_core::calls::Entry;
 use topo_picture::Picture;
 use topo_price::tariff::{Asks, Tariff};
 
 /// Why a list of entries has no replay.
-#[derive(Clone, Copy, Debug, Drop, PartialEq, Eq)]
+#[derive(Clone, Copy, Debug, Drop, PartialEq, Eq, Error)]
 pub enum ReplayFault {
     /// The entry at this place, counted from 0, is the first whose reply is not the one due.
     WrongReply(usize),
@@ -67,8 +67,6 @@ impl fmt::Display for ReplayFault {
         }
     }
 }
-
-impl Error for ReplayFault {}
 
 /// Carries an entry out where its reply is the one due, and answers whether it is.
 #[tactic(auto, using(crate::proofs::Hinting::nothing_is_owed))]
