@@ -7,6 +7,7 @@ pub mod SpelledReplies
 pub mod SpelledReports
 pub mod SpelledRows
 pub mod SpelledScripts
+pub mod SpelledSessions
 pub mod SpelledStarts
 pub mod Spellings
 pub mod Steps

@@ -24,36 +24,36 @@ use Rattle.topo_forms.proofs.Steps.{went}
 
 -- ---- Members that may be missing
 
-abbrev optional : List ℕ → Option Data → Members → Members
+abbrev pub optional : List ℕ → Option Data → Members → Members
 optional name None ms = ms
 optional name (Some d) ms = put name d ms
 
 -- what is read of such a member
-abbrev AreRead : {A : Type 0} → (Path → Data → Read A) → A → Option Data → A → Type 0
+abbrev pub AreRead : {A : Type 0} → (Path → Data → Read A) → A → Option Data → A → Type 0
 AreRead form default None a = default ≡ a
 AreRead form default (Some d) a = (path : Path) → form path d ≡ Ok a
 
-optional_read : {A : Type 0} (form : Path → Data → Read A) (default : A) (path : Path) (k : Key) (d : Data) (o : Option Data) (a : A) → get (key_name k) d ≡ o → AreRead form default o a
+pub optional_read : {A : Type 0} (form : Path → Data → Read A) (default : A) (path : Path) (k : Key) (d : Data) (o : Option Data) (a : A) → get (key_name k) d ≡ o → AreRead form default o a
     → member_or default form path k d ≡ Ok a
 unfolding member_or
 optional_read form default path k d None a there read = rw there (ap (λ x. Ok x) read)
 optional_read form default path k d (Some found) a there read = rw there (member_read form path k d found a there read)
 
 module _ {A : Type 0} (nesting : ℕ) (form : Path → Data → Read A) (name : List ℕ) (ts mid : List Token) where
-  abbrev data_of : (o : Option A) → SpellsOptional nesting form name ts o mid → Option Data
+  abbrev pub data_of : (o : Option A) → SpellsOptional nesting form name ts o mid → Option Data
   data_of None m = None
   data_of (Some a) m = Some m.2.spelled
 
-  optional_then : (outer : ℕ) (rest : List Token) (old ms : Members) (o : Option A) (m : SpellsOptional nesting form name ts o mid) → nesting ≤ outer
+  pub optional_then : (outer : ℕ) (rest : List Token) (old ms : Members) (o : Option A) (m : SpellsOptional nesting form name ts o mid) → nesting ≤ outer
       → MembersTo outer mid (optional name (data_of o m) old) ms rest → MembersTo outer ts old ms rest
   optional_then outer rest old ms None m within more = subst (λ us. MembersTo outer us old ms rest) (sym m) more
   optional_then outer rest old ms (Some a) m within more = member_then nesting outer form name ts a mid rest old ms m within more
 
-  or_default : (default : A) (o : Option A) (m : SpellsOptional nesting form name ts o mid) → AreRead form default (data_of o m) (unwrap_or o default)
+  pub or_default : (default : A) (o : Option A) (m : SpellsOptional nesting form name ts o mid) → AreRead form default (data_of o m) (unwrap_or o default)
   or_default default None m = refl
   or_default default (Some a) m = m.2.reads
 
-prices_or_none : (n : ℕ) (ts mid : List Token) (o : Option (List (Option ℕ))) (m : SpellsOptional 1 (list_form (price_form true)) (key_name Prices) ts o mid) (kept : List (Option ℕ))
+pub prices_or_none : (n : ℕ) (ts mid : List Token) (o : Option (List (Option ℕ))) (m : SpellsOptional 1 (list_form (price_form true)) (key_name Prices) ts o mid) (kept : List (Option ℕ))
     → (h : ArePricesOf n (unwrap_or o []) kept) → AreRead (prices_form h.0) [] (data_of 1 (list_form (price_form true)) (key_name Prices) ts mid o m) kept
 prices_or_none n ts mid None m kept h = sym h.4
 prices_or_none n ts mid (Some ps) m kept h = λ path. prices_read h.0 path m.2.spelled ps kept (m.2.reads path) h.2 h.3 h.4
@@ -94,7 +94,7 @@ all_found (Some l) None (Some s) v w = record { limits = refl; prices = refl; st
 all_found (Some l) (Some p) None v w = record { limits = refl; prices = refl; start = refl; version = refl; workers = refl }
 all_found (Some l) (Some p) (Some s) v w = record { limits = refl; prices = refl; start = refl; version = refl; workers = refl }
 
-version_read : (n : ℕ) (nulls : Bool) (ms : Members) (v : Data) → get (key_name Version) (object ms) ≡ Some v → ((path : Path) → number_form path v ≡ Ok n) → nulls_of n ≡ Ok nulls → nulls_in (object ms) ≡ Ok nulls
+pub version_read : (n : ℕ) (nulls : Bool) (ms : Members) (v : Data) → get (key_name Version) (object ms) ≡ Some v → ((path : Path) → number_form path v ≡ Ok n) → nulls_of n ≡ Ok nulls → nulls_in (object ms) ≡ Ok nulls
 unfolding nulls_in
 version_read n nulls ms v there read of = went _ _ tt refl ∙ went _ _ n (member_read number_form whole Version (object ms) v n there read) ∙ of
 

@@ -6,5 +6,6 @@ pub mod Reads
 pub mod ReplyForms
 pub mod RowForms
 pub mod Scripts
+pub mod Sessions
 pub mod Spelled
 pub mod SpelledParts

@@ -48,3 +48,9 @@ pub record SpellsLists (ts : List Token) (version : ℕ) (workers : List (List C
   pub first : SpellsMember 0 number_form (key_name Version) ts version mid
   pub second : SpellsMember 3 workers_form (key_name Workers) mid workers end
   pub closed : read_key end ≡ Some (None, rest)
+
+-- behind the members of an opening that may be missing, the tokens go on with its version to its end
+pub record SpellsVersion (ts : List Token) (version : ℕ) (rest : List Token) : Type 0 where
+  pub end : List Token
+  pub member : SpellsMember 0 number_form (key_name Version) ts version end
+  pub closed : read_key end ≡ Some (None, rest)

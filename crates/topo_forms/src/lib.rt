@@ -1,7 +1,7 @@
-//! The JSON forms of the project, read: scripts, pictures and reports.
+//! The JSON forms of the project, read: scripts, pictures, reports, and the lines of a session.
 //!
-//! `read_script`, `read_rows` and `read_report` give what the definitions of `specs/` give on the value
-//! of a text: the form, or its first fault with its path. `docs/FORMATS.md` has the forms in words.
+//! `read_script`, `read_rows`, `read_report`, `read_opening` and `read_request` give what the definitions of
+//! `specs/` give on the value of a text: the form, or its first fault with its path. `docs/FORMATS.md` has the forms in words.
 #![tactic(auto)]
 
 mod calls;
@@ -14,15 +14,18 @@ pub mod reports;
 pub mod row_forms;
 pub mod script_forms;
 pub mod scripts;
+pub mod sessions;
 mod spelled;
 mod spelled_calls;
 mod spelled_replies;
 mod spelled_reports;
 mod spelled_rows;
 mod spelled_scripts;
+mod spelled_sessions;
 
 pub use fault::ScriptFault;
 pub use reports::Report;
 pub use row_forms::read_rows;
 pub use script_forms::{read_report, read_script};
 pub use scripts::{LimitRows, Script};
+pub use sessions::{Opening, Request, read_opening, read_request};

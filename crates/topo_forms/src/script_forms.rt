@@ -79,7 +79,7 @@ fn nulls_of(version: u32) -> Result<bool, ScriptFault>
 }
 
 /// Whether a price may be null in the version of a script or a report.
-fn read_nulls(alloc: Global, value: &Value) -> Result<bool, ScriptFault>
+pub(crate) fn read_nulls(alloc: Global, value: &Value) -> Result<bool, ScriptFault>
     ensures { Gives result (nulls_in (view value.now)) }
 {
     check_object(Path::WHOLE, value)?;
@@ -110,7 +110,7 @@ fn read_price_member(
 }
 
 /// The prices of a script, which may be missing.
-fn read_prices_or_none(
+pub(crate) fn read_prices_or_none(
     alloc: Global,
     nulls: bool,
     value: &Value,

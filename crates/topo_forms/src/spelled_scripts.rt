@@ -99,7 +99,7 @@ fn optional_member<'a, T: Spelled>(
 
 /// Three members behind this key, where it and those that follow are the keys that are asked for, and the
 /// key that comes next.
-fn optional_members<'a, A: Spelled, B: Spelled, C: Spelled>(
+pub(crate) fn optional_members<'a, A: Spelled, B: Spelled, C: Spelled>(
     alloc: Global,
     first: Key,
     second: Key,

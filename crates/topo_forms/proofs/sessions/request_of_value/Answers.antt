@@ -1,0 +1,12 @@
+use Rattle.std.proofs.Common.{◌≡◌, Err, rules}
+use Rattle.topo_forms.specs.Sessions.{request_of}
+use Rattle.topo_forms.proofs.Steps.{gives_past, stops_at}
+use Rattle.topo_forms.proofs.sessions.request_of_value.Goals as goal
+
+pub returns-in_err-value : goal.returns-in_err-value
+unfolding request_of
+returns-in_err-value c = let same : c.from_residual.result ≡ Err c.in_err-value.field-0.0 = search rules in stops_at _ _ _ c.from_residual.result same c.in_err-value.ensures
+
+pub returns : goal.returns
+unfolding request_of
+returns c = gives_past _ _ _ c.read.result c.in_ok-value.ensures (c.read.ensures)
