@@ -9,6 +9,7 @@ from .drawing import chain, draw, positions, to_svg
 from .embeddings import Dummy, from_networkx_embedding, to_networkx_embedding
 from .exchange import Segment, to_networkx_graph
 from .faults import Fault, MemoryFault, ModuleMissing, NoReport, NotPlanarized, OtherReport, PlanarError, PlanarWarning, ProgramFailed, ProgramNotFound, ProgramNotStarted, SessionClosed, UsageRefused
+from .graph_session import GraphSession
 from .many import Bar, planarize_many
 from .orthogonal import Box, OrthogonalDrawing, orthogonal_drawing
 from .pictures import Counts, Crossing, Dart, Edge, Picture, Point
@@ -30,6 +31,7 @@ __all__ = [
     "Edge",
     "Entry",
     "Fault",
+    "GraphSession",
     "Grow",
     "Grown",
     "Insert",

@@ -18,7 +18,7 @@ from .program import PathLike, Program, failure
 from .reports import Call, Delete, Deleted, Grow, Grown, Insert, Inserted, Limits, Prices, Refused, Report, reply_from_json
 
 Value = TypeVar("Value")
-It = TypeVar("It", bound="Session")
+Own = TypeVar("Own", bound="Session")
 
 #: How many seconds a process has to end when its input was closed, before it is killed.
 PATIENCE = 3.0
@@ -266,7 +266,7 @@ class Session:
 
     # ---- Its end
 
-    def __enter__(self: It) -> It:
+    def __enter__(self: Own) -> Own:
         return self
 
     def __exit__(self, kind: Optional[Type[BaseException]], raised: Optional[BaseException], trace: Optional[TracebackType]) -> None:
