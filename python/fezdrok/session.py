@@ -1,134 +1,22 @@
-"""Sessions: one process of `planar serve`, whose picture is changed by one call after another."""
+"""Sessions: a picture in one process of the program, which is changed by one call after another."""
 
 from __future__ import annotations
 
 import json
-import os
-import subprocess
-import tempfile
 from operator import index
 from types import TracebackType
-from typing import Any, Callable, Dict, NamedTuple, NoReturn, Optional, Sequence, Tuple, Type, TypeVar, Union
+from typing import Any, Callable, Dict, NamedTuple, Optional, Sequence, Tuple, Type, TypeVar, Union
 
-from .faults import Fault, ProgramFailed, ProgramNotStarted, SessionClosed
+from .faults import Fault, ProgramFailed, SessionClosed
 from .pictures import Counts, Crossing, Edge, Picture
 from .pictures import compact as json_text
 from .planarizer import Planarizer
-from .program import PathLike, Program, failure
+from .program import PathLike, Program
 from .reports import Call, Delete, Deleted, Grow, Grown, Insert, Inserted, Limits, Prices, Refused, Report, reply_from_json
+from .serving import Lines
 
 Value = TypeVar("Value")
 Own = TypeVar("Own", bound="Session")
-
-#: How many seconds a process has to end when its input was closed, before it is killed.
-PATIENCE = 3.0
-_ROOM = 65536
-
-#: A line that is always refused, and its answer, which no other line of a session has.
-_MARK = '["delete",""]'
-_MARKED = b'{"fault":[52,"BadShape","$/1"]}'
-
-
-class Lines:
-    """A process of `planar serve`, which answers each line by a line.
-
-    Its standard error is a file, so that it never waits for somebody who reads it. It is in a session of its own, so that
-    Ctrl-C does not reach it. Where the process that began it ends, however that comes, its input ends, and so does it.
-    """
-
-    def __init__(self, path: str):
-        self.path = path
-        self._ahead = bytearray()
-        self._is_asking = False
-        self._errors = tempfile.TemporaryFile()
-        self._ended: Optional[Tuple[int, str]] = None
-        try:
-            self._process = subprocess.Popen(
-                [path, "serve"], stdin=subprocess.PIPE, stdout=subprocess.PIPE, stderr=self._errors, bufsize=0, start_new_session=True
-            )
-        except OSError as refused:
-            self._errors.close()
-            raise ProgramNotStarted(f"{path} cannot be run: {refused.strerror or refused}") from refused
-        assert self._process.stdin is not None and self._process.stdout is not None
-        self._input, self._output = self._process.stdin, self._process.stdout
-
-    @property
-    def process_id(self) -> int:
-        """The number of the process."""
-        return self._process.pid
-
-    @property
-    def is_over(self) -> bool:
-        """Whether nothing can be asked any more."""
-        return self._input.closed
-
-    def ask(self, line: str) -> bytes:
-        """The answer to a line, without its line feed.
-
-        Where the process ends without an answer, the exception of its status is raised. Where asking is interrupted, as by
-        Ctrl-C, the line may have come to the process or not; its answer is passed over when the next line is asked.
-        """
-        if self._is_asking:
-            self._catch_up()
-        self._is_asking = True
-        self._write(line)
-        answer = self._read()
-        self._is_asking = False
-        return answer
-
-    def _catch_up(self) -> None:
-        """Ends the line that may be written in part, and passes over the answers that may still come, up to the one to the
-        mark."""
-        self._ahead.clear()
-        self._write("\n" + _MARK)
-        while self._read() != _MARKED:
-            pass
-
-    def _write(self, line: str) -> None:
-        left = memoryview(f"{line}\n".encode())
-        try:
-            while left:
-                left = left[os.write(self._input.fileno(), left) :]
-        except BrokenPipeError:
-            self._fail()
-
-    def _read(self) -> bytes:
-        seen = 0
-        while (at := self._ahead.find(b"\n", seen)) < 0:
-            seen = len(self._ahead)
-            more = os.read(self._output.fileno(), _ROOM)
-            if not more:
-                self._fail()
-            self._ahead += more
-        answer = bytes(self._ahead[:at])
-        del self._ahead[: at + 1]
-        return answer
-
-    def _fail(self) -> NoReturn:
-        """Ends the process, and raises what its status and its standard error stand for."""
-        status, told = self.end()
-        raise failure(status, told)
-
-    def end(self) -> Tuple[int, str]:
-        """Ends the process, if it has not ended, and gives its status and what it wrote on standard error.
-
-        Its input is closed. If it has not ended some seconds later, it is killed.
-        """
-        self._input.close()
-        self._output.close()
-        try:
-            self._process.wait(PATIENCE)
-        except subprocess.TimeoutExpired:
-            pass
-        finally:
-            if self._process.poll() is None:
-                self._process.kill()
-                self._process.wait()
-        if self._ended is None:
-            self._errors.seek(0)
-            self._ended = (self._process.returncode, self._errors.read().decode(errors="replace"))
-            self._errors.close()
-        return self._ended
 
 
 class Renumbered(NamedTuple):
@@ -162,7 +50,8 @@ class Session:
     exception of its status is raised, with what it wrote on standard error: ProgramFailed, as for a signal, or another
     PlanarError. The session is then closed, and every further call is SessionClosed.
 
-    A call that was interrupted, as by Ctrl-C, may have been carried out; `report` says whether it was. The session goes on.
+    A call that was interrupted, as by Ctrl-C, may have been carried out; `report` says whether it was. The session goes on,
+    but where the next call is interrupted while it waits for the end of that one.
     """
 
     def __init__(

@@ -3,12 +3,15 @@
 import os
 import random
 import signal
+import subprocess
+import sys
+import time
 import unittest
 from unittest import mock
 
 from fezdrok import Counts, Deleted, Fault, Grown, Inserted, Limits, MemoryFault, PlanarError, Planarizer, ProgramFailed, ProgramNotFound
 from fezdrok import ProgramNotStarted, Refused, Renumbered, Session, SessionClosed, UsageRefused
-from fezdrok import session as session_module
+from fezdrok import serving
 
 from .support import fake, needs_program
 
@@ -29,12 +32,21 @@ def some_calls(count: int, seed: int):
 
 
 def ended(process_id: int) -> bool:
-    """Whether a process that this one began has ended and was waited for."""
+    """Whether a process has ended and was waited for."""
     try:
         os.kill(process_id, 0)
     except ProcessLookupError:
         return True
     return False
+
+
+def is_over(process_id: int) -> bool:
+    """Whether a process that another one began has ended, whoever is to wait for it now."""
+    try:
+        with open(f"/proc/{process_id}/stat") as file:
+            return file.read().rpartition(")")[2].split()[0] == "Z"
+    except (FileNotFoundError, ProcessLookupError):
+        return True
 
 
 @needs_program
@@ -197,15 +209,74 @@ class Ends(unittest.TestCase):
     @needs_program
     def test_a_call_that_is_interrupted(self):
         with Session() as session:
-            with mock.patch.object(session_module.os, "read", side_effect=KeyboardInterrupt):
+            with mock.patch.object(serving.os, "read", side_effect=KeyboardInterrupt):
                 with self.assertRaises(KeyboardInterrupt):
                     session.grow(0)
             self.assertEqual(session.grow(0), Grown(3, 2))
-            with mock.patch.object(session_module.os, "write", side_effect=KeyboardInterrupt):
+            with mock.patch.object(serving.os, "write", side_effect=KeyboardInterrupt):
                 with self.assertRaises(KeyboardInterrupt):
                     session.grow(0)
             self.assertEqual(session.counts().vertices, 4)
             self.assertEqual(session.report().replies, (Grown(2, 1), Grown(3, 2)))
+
+    @needs_program
+    def test_calls_that_are_interrupted_again_and_again(self):
+        """Before a line is written or an answer is read, or just after it."""
+        with Session() as session:
+            for name in ("read", "write"):
+                done = getattr(os, name)
+                for is_done in (False, True):
+
+                    def interrupted(*words, done=done, is_done=is_done):
+                        _ = done(*words) if is_done else None
+                        raise KeyboardInterrupt
+
+                    for _ in range(5):
+                        with mock.patch.object(serving.os, name, interrupted):
+                            with self.assertRaises(KeyboardInterrupt):
+                                session.insert(0, 0)
+                        self.assertEqual(session.counts(), Counts(2, 0, 1, 1, 1))
+                        self.assertEqual(session.delete(7), Refused(4, "NoEdge"))
+            self.assertEqual(session.report().replies.count(Refused(4, "NoEdge")), 20)
+            with mock.patch.object(serving.os, "read", side_effect=KeyboardInterrupt):
+                for is_closed in (False, True):
+                    with self.assertRaises(KeyboardInterrupt):
+                        session.grow(0)
+                    self.assertEqual(session.is_closed, is_closed)
+
+    def other(self, body: str) -> "subprocess.Popen[str]":
+        """Another Python in a group of its own, which has a session, prints the number of its process, and goes on so. At
+        Ctrl-C it prints what it is answered then."""
+        lines = ("from fezdrok import Session", "with Session() as session:", "  try:", "    print(session.process_id, flush=True)", f"    {body}")
+        caught = ("  except KeyboardInterrupt:", "    print(session.grow(0), session.report().replies[-1])")
+        words = {**os.environ, "PYTHONPATH": os.pathsep.join(sys.path)}
+        python = subprocess.Popen([sys.executable, "-c", "\n".join(lines + caught)], env=words, stdout=subprocess.PIPE, text=True, start_new_session=True)
+        self.addCleanup(python.wait)
+        self.addCleanup(python.kill)
+        self.addCleanup(python.stdout.close)
+        return python
+
+    @needs_program
+    def test_no_process_outlives_the_one_that_began_it(self):
+        for number in (signal.SIGTERM, signal.SIGKILL):
+            python = self.other("__import__('time').sleep(60)")
+            process = int(python.stdout.readline())
+            self.assertFalse(ended(process))
+            os.kill(python.pid, number)
+            self.assertEqual(python.wait(), -number)
+            due = time.monotonic() + 10
+            while not is_over(process) and time.monotonic() < due:
+                time.sleep(0.01)
+            self.assertTrue(is_over(process))
+
+    @needs_program
+    def test_ctrl_c_does_not_reach_the_program(self):
+        python = self.other("while True: session.insert(0, 0)")
+        python.stdout.readline()
+        time.sleep(0.05)
+        os.killpg(python.pid, signal.SIGINT)
+        self.assertEqual(python.stdout.readline(), "Grown(vertex=2, edge=1) Grown(vertex=2, edge=1)\n")
+        self.assertEqual(python.wait(), 0)
 
     def failure(self, body: str) -> PlanarError:
         """The exception of a session over a shell script that ends in its own way at the first call."""
@@ -248,7 +319,7 @@ class Ends(unittest.TestCase):
             self.assertEqual(session.counts(), Counts(2, 0, 1, 1, 1))
 
     def test_a_program_that_does_not_end(self):
-        with mock.patch.object(session_module, "PATIENCE", 0.1):
+        with mock.patch.object(serving, "PATIENCE", 0.1):
             with Session(program=fake(self, f"read line; echo '{COUNTS}'; exec sleep 30")) as session:
                 process = session.process_id
         self.assertTrue(ended(process))

@@ -1,0 +1,133 @@
+"""A process of `planar serve`: lines asked, lines answered, and its end."""
+
+from __future__ import annotations
+
+import os
+import subprocess
+import tempfile
+from typing import NoReturn, Optional, Tuple
+
+from .faults import ProgramNotStarted
+from .program import failure
+
+#: How many seconds a process has to end when its input was closed, before it is killed.
+PATIENCE = 3.0
+#: How many bytes are read in one call, and how many every pipe takes wholly or not at all.
+_ROOM = 65536
+_AT_ONCE = 512
+
+#: A line that is always refused, and its answer, which no other line of a session has.
+_MARK = '["delete",""]'
+_MARKED = b'{"fault":[52,"BadShape","$/1"]}'
+
+
+class Lines:
+    """A process of `planar serve`, which answers each line by a line.
+
+    Its standard error is a file, so that it never waits for somebody who reads it. It is in a session of its own, so that
+    Ctrl-C does not reach it. Where the process that began it ends, however that comes, its input ends, and so does it.
+    """
+
+    def __init__(self, path: str):
+        self.path = path
+        self._ahead = bytearray()
+        self._is_asking = False
+        self._errors = tempfile.TemporaryFile()
+        self._ended: Optional[Tuple[int, str]] = None
+        try:
+            self._process = subprocess.Popen(
+                [path, "serve"], stdin=subprocess.PIPE, stdout=subprocess.PIPE, stderr=self._errors, bufsize=0, start_new_session=True
+            )
+        except OSError as refused:
+            self._errors.close()
+            raise ProgramNotStarted(f"{path} cannot be run: {refused.strerror or refused}") from refused
+        assert self._process.stdin is not None and self._process.stdout is not None
+        self._input, self._output = self._process.stdin, self._process.stdout
+
+    @property
+    def process_id(self) -> int:
+        """The number of the process."""
+        return self._process.pid
+
+    @property
+    def is_over(self) -> bool:
+        """Whether nothing can be asked any more."""
+        return self._input.closed
+
+    def ask(self, line: str) -> bytes:
+        """The answer to a line, without its line feed.
+
+        Where the process ends without an answer, the exception of its status is raised. Where asking is interrupted, as by
+        Ctrl-C, the line may have come to the process or not; its answer is passed over when the next line is asked.
+        """
+        if self._is_asking:
+            self._catch_up()
+        self._is_asking = True
+        self._write(line)
+        answer = self._read()
+        self._is_asking = False
+        return answer
+
+    def _catch_up(self) -> None:
+        """Passes over the answer that may still come, up to that to the mark. Where this is interrupted too, the process is
+        ended: with two marks on their way, nobody could tell their answers apart."""
+        self._ahead.clear()
+        try:
+            self._write(_MARK)
+            while self._read() != _MARKED:
+                pass
+        except BaseException:
+            self.end()
+            raise
+
+    def _write(self, line: str) -> None:
+        """Writes a line wholly or not at all; where it was too long for this and is interrupted, the process is ended."""
+        left = memoryview(f"{line}\n".encode())
+        is_at_once = len(left) <= _AT_ONCE
+        try:
+            while left:
+                left = left[os.write(self._input.fileno(), left) :]
+        except BrokenPipeError:
+            self._fail()
+        except BaseException:
+            if not is_at_once:
+                self.end()
+            raise
+
+    def _read(self) -> bytes:
+        seen = 0
+        while (at := self._ahead.find(b"\n", seen)) < 0:
+            seen = len(self._ahead)
+            more = os.read(self._output.fileno(), _ROOM)
+            if not more:
+                self._fail()
+            self._ahead += more
+        answer = bytes(self._ahead[:at])
+        del self._ahead[: at + 1]
+        return answer
+
+    def _fail(self) -> NoReturn:
+        """Ends the process, and raises what its status and its standard error stand for."""
+        status, told = self.end()
+        raise failure(status, told)
+
+    def end(self) -> Tuple[int, str]:
+        """Ends the process, if it has not ended, and gives its status and what it wrote on standard error.
+
+        Its input is closed. If it has not ended some seconds later, it is killed.
+        """
+        self._input.close()
+        self._output.close()
+        try:
+            self._process.wait(PATIENCE)
+        except subprocess.TimeoutExpired:
+            pass
+        finally:
+            if self._process.poll() is None:
+                self._process.kill()
+                self._process.wait()
+        if self._ended is None:
+            self._errors.seek(0)
+            self._ended = (self._process.returncode, self._errors.read().decode(errors="replace"))
+            self._errors.close()
+        return self._ended
