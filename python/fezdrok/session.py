@@ -51,7 +51,7 @@ class Session:
     PlanarError. The session is then closed, and every further call is SessionClosed.
 
     A call that was interrupted, as by Ctrl-C, may have been carried out; `report` says whether it was. The session goes on,
-    but where the next call is interrupted while it waits for the end of that one.
+    but where the next call is interrupted while it waits for the end of that one. A session is for one thread.
     """
 
     def __init__(

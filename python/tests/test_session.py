@@ -76,6 +76,15 @@ class Calls(unittest.TestCase):
         self.assertGreater(max(len(reply.crossed) for reply in replies if isinstance(reply, Inserted)), 1)
         self.assertEqual(planarizer.replay(report), 150)
 
+    def test_a_thousand_insertions_are_one_process(self):
+        with Session() as session:
+            process = session.process_id
+            for vertex in range(98):
+                session.grow(vertex)
+            for place in range(1000):
+                self.assertEqual(session.insert(place % 99, place % 99 + 1).edge, 99 + place)
+            self.assertEqual((session.process_id, session.counts().edges), (process, 1099))
+
     def test_a_start(self):
         with Session() as session:
             for vertex in range(5):
