@@ -1,28 +1,25 @@
 -- The first line of a session, and the session behind it.
-use Rattle.std.proofs.Common.{◌≡◌, ℕ, Bool, true, false, List, [], ◌∷◌, ◌++◌, Option, Result, Ok, Err, IfOk, take, length, suc, ◌+◌, ◌<◌, ◌≤◌, not, inl, inr, refl, sym, ap, subst, ◌∙◌, arith, append_assoc, append-nil, length-append, ltb-true}
-use Rattle.std.specs.Io.KnownBytes.{Appends, Consumes, IsAtEnd, Keeps}
+use Rattle.std.proofs.Common.{◌≡◌, ℕ, Bool, true, false, List, [], ◌∷◌, ◌++◌, Option, Result, Ok, Err, IfOk, take, length, ◌<◌, inl, inr, refl, sym, ap, subst, ◌∙◌, arith, append_assoc, append-nil, length-append, ltb-true}
+use Rattle.std.specs.Io.KnownBytes.{Appends, Consumes, IsAtEnd}
 use Rattle.std.proofs.KnownBytes.{Appends-trans, Consumes-trans, Keeps-refl}
-use Rattle.std.proofs.lemmas.List.{length-take, length-take-le, take_all}
 use Rattle.std.proofs.lemmas.Bool.{false≢true}
-use Rattle.std.proofs.lemmas.Bool.Decides.{leb_tells}
 use Rattle.topo_core.specs.declared.limits.Limits.{Limits}
 use Rattle.topo_core.specs.Routes.{Pricing}
-use Rattle.topo_forms.specs.declared.fault.ScriptFault.{ScriptFault}
 use Rattle.topo_forms.specs.declared.fault.ScriptFault.TheVariants.{NotJson, TooLong}
 use Rattle.topo_forms.specs.declared.sessions.Opening.{Opening}
-use Rattle.topo_forms.specs.Reads.{IsFirstFault, Read, and_then, value_of}
-use Rattle.topo_forms.specs.Sessions.{opening_of, request_of}
+use Rattle.topo_forms.specs.Reads.{IsFirstFault, Read, and_then}
+use Rattle.topo_forms.specs.Sessions.{opening_of}
 use Rattle.topo_settings.specs.declared.fault.RunFault.{RunFault}
 use Rattle.topo_settings.specs.declared.fault.RunFault.TheVariants.{Memory, Script, BadLimits, Price, Load, NoSeat, Mismatch, WrongReply, WrongPicture, ReadFault, WriteFault}
 use Rattle.topo_settings.specs.Settings.{IsSound, IsUnsound, priced, start_of}
 use Rattle.topo_settings.proofs.Pricing.{Allows}
 use Rattle.topo_serve.specs.declared.ahead.Part.{Part}
-use Rattle.topo_serve.specs.declared.ahead.Part.TheVariants.{End, Feed, More}
-use Rattle.topo_serve.specs.Answers.{Answers, Standing, TellsCounts}
-use Rattle.topo_serve.specs.Lines.{BeginsWith, IsPlain, closed, first_line, lines_of}
-use Rattle.topo_serve.specs.Sessions.{AreAnswered, AreRead, IsCutShort, IsFailingOpening, IsFaultOfOpening, IsFirstRead, IsPartlyServed, IsServed, IsSession, OpensNone, ServeFailsBy, beginning}
-use Rattle.topo_serve.specs.Taking.{IsOver, OverUnless, Takes, TakesFirst, feed_if, feed_of}
-use Rattle.topo_serve.specs.Turns.{BeginFailsBy, BeginsAll, BeginsPart, BeginsSome, IsDone, LinesFailBy, OpenFailsBy, Opens, OpensNoneBy, RestServed, ServesAll, ServesPart, ServesSome, Streams, streams}
+use Rattle.topo_serve.specs.declared.ahead.Part.TheVariants.{More}
+use Rattle.topo_serve.specs.Answers.{Standing, TellsCounts}
+use Rattle.topo_serve.specs.Lines.{IsPlain, closed, first_line, lines_of}
+use Rattle.topo_serve.specs.Sessions.{AreAnswered, AreRead, IsCutShort, IsFaultOfOpening, IsFirstRead, IsPartlyServed, IsServed, IsSession, OpensNone, ServeFailsBy, beginning}
+use Rattle.topo_serve.specs.Taking.{OverUnless, Takes, TakesFirst, feed_if}
+use Rattle.topo_serve.specs.Turns.{BeginFailsBy, BeginsAll, BeginsPart, BeginsSome, LinesFailBy, OpenFailsBy, Opens, OpensNoneBy, RestServed, ServesAll, ServesPart, ServesSome, Streams, streams}
 use Rattle.topo_serve.proofs.KeptLines.{json_none, kept_long, opening_kept, value_long, value_none}
 use Rattle.topo_serve.proofs.AnswerLaws.{answered_run, answered_so}
 use Rattle.topo_serve.proofs.SessionLaws.{keeps_appends}

@@ -1,13 +1,11 @@
 -- Laws of sessions.
-use Rattle.std.proofs.Common.{◌≡◌, ◌==◌, ℕ, Bool, true, false, List, [], ◌∷◌, ◌++◌, Option, None, Some, Result, Ok, Err, IfOk, IfErr, take, length, suc, ◌+◌, ◌<◌, ◌≤◌, inl, inr, refl, sym, ap, subst, ◌∙◌, arith, append_assoc, append-nil}
-use Rattle.std.specs.Io.KnownBytes.{Appends, Consumes, IsAtEnd, Keeps}
+use Rattle.std.proofs.Common.{◌≡◌, ◌==◌, ℕ, Bool, true, false, List, [], ◌∷◌, ◌++◌, Option, None, Some, take, length, suc, inl, inr, refl, sym, ap, subst, ◌∙◌, append_assoc, append-nil}
+use Rattle.std.specs.Io.KnownBytes.{Appends, Consumes, Keeps}
 use Rattle.std.proofs.KnownBytes.{Appends-nil, Appends-trans, Consumes-trans}
 use Rattle.topo_core.specs.declared.limits.Limits.{Limits}
 use Rattle.topo_core.specs.Routes.{Pricing}
 use Rattle.topo_settings.specs.declared.fault.RunFault.{RunFault}
 use Rattle.topo_settings.specs.declared.fault.RunFault.TheVariants.{Memory, Script, BadLimits, Price, Load, NoSeat, Mismatch, WrongReply, WrongPicture, ReadFault, WriteFault}
-use Rattle.topo_settings.specs.Writing.{AppendsPart}
-use Rattle.topo_settings.proofs.Pricing.{Allows}
 use Rattle.topo_book.specs.Books.{BookState, IsSameBook}
 use Rattle.topo_forms.specs.declared.sessions.Opening.{Opening}
 use Rattle.topo_forms.specs.declared.sessions.Request.{Request}
@@ -15,11 +13,11 @@ use Rattle.topo_forms.specs.Reads.{Read}
 use Rattle.topo_rows.specs.Shown.{Shown}
 use Rattle.std.proofs.lemmas.Bool.{false≢true}
 use Rattle.topo_serve.specs.Answers.{Answers, Standing, standing_of}
-use Rattle.topo_serve.specs.Lines.{ArePlain, BeginsWith, IsPlain, closed, lines_of}
-use Rattle.topo_serve.specs.Sessions.{AppendsAllButLast, AreAnswered, AreRead}
-use Rattle.topo_serve.specs.Taking.{Consumed, IsOver, OverUnless, Takes, TakesLine, feed_if}
-use Rattle.topo_serve.specs.Turns.{AnswerFailsBy, BeginFailsBy, BeginsAll, BeginsSome, BreaksOff, HasServed, IsAnsweredBy, IsCutBy, IsOpened, IsTurn, LineFailsBy, LinesFailBy, OfLine, OpenedFailsBy, RestServed, ServesAll, ServesPart, ServesSome, Stays, Stops, Streams, TurnFailsBy, begins_at}
-use Rattle.topo_serve.proofs.AnswerLaws.{answered_snoc, answered_so}
+use Rattle.topo_serve.specs.Lines.{IsPlain, closed, lines_of}
+use Rattle.topo_serve.specs.Sessions.{AreAnswered, AreRead}
+use Rattle.topo_serve.specs.Taking.{IsOver, OverUnless, Takes, TakesLine, feed_if}
+use Rattle.topo_serve.specs.Turns.{AnswerFailsBy, BeginFailsBy, BeginsAll, BeginsSome, HasServed, IsAnsweredBy, IsCutBy, IsOpened, IsTurn, LineFailsBy, LinesFailBy, OfLine, OpenedFailsBy, RestServed, ServesAll, ServesPart, ServesSome, Stays, Stops, Streams, TurnFailsBy, begins_at}
+use Rattle.topo_serve.proofs.AnswerLaws.{answered_snoc}
 use Rattle.topo_serve.proofs.LineLaws.{closed_snoc, line_alone, lines_closed, plain_snoc}
 use Rattle.topo_serve.proofs.KeptLines.{request_kept}
 use Rattle.topo_serve.proofs.TakingLaws.{takes_none, takes_trans}

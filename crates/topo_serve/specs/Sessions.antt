@@ -1,10 +1,8 @@
 -- What a session reads and writes.
-use Rattle.std.specs.Prelude.{◌≡◌, ◌⊎◌, ◌<◌, ℕ, List, [], ◌∷◌, ◌++◌, length, Option, Some, Ok, Err, ⊤}
+use Rattle.std.specs.Prelude.{◌≡◌, ◌⊎◌, ◌<◌, ℕ, List, [], ◌∷◌, ◌++◌, length, Option, Ok, Err, ⊤}
 use Rattle.std.specs.Io.KnownBytes.{Appends, Consumes, IsAtEnd, Keeps}
 use Rattle.topo_core.specs.declared.calls.Command.{Command}
-use Rattle.topo_core.specs.declared.calls.Entry.{Entry}
 use Rattle.topo_core.specs.declared.limits.Limits.{Limits}
-use Rattle.topo_core.specs.declared.rows.Rows.{Rows}
 use Rattle.topo_core.specs.History.{IsRun}
 use Rattle.topo_core.specs.Routes.{Pricing}
 use Rattle.topo_forms.specs.declared.sessions.Opening.{Opening}
@@ -15,7 +13,6 @@ use Rattle.topo_forms.specs.Sessions.{opening_of, request_of}
 use Rattle.topo_settings.specs.declared.fault.RunFault.{RunFault}
 use Rattle.topo_settings.specs.declared.fault.RunFault.TheVariants.{Memory, Script, BadLimits, Price, Load, NoSeat, Mismatch, WrongReply, WrongPicture, ReadFault, WriteFault}
 use Rattle.topo_settings.specs.Settings.{IsSound, IsUnsound, priced, start_of}
-use Rattle.topo_settings.specs.Writing.{AppendsPart}
 use Rattle.topo_serve.specs.Answers.{Answers, Standing, TellsCounts}
 use Rattle.topo_serve.specs.Lines.{BeginsWith, closed, first_line, lines_of}
 

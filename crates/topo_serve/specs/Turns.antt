@@ -8,7 +8,7 @@ use Rattle.topo_forms.specs.declared.sessions.Opening.{Opening}
 use Rattle.topo_forms.specs.Reads.{IsFirstFault}
 use Rattle.topo_forms.specs.Sessions.{opening_of, request_of}
 use Rattle.topo_settings.specs.declared.fault.RunFault.{RunFault}
-use Rattle.topo_settings.specs.declared.fault.RunFault.TheVariants.{Memory, Script, BadLimits, Price, Load, NoSeat, Mismatch, WrongReply, WrongPicture, ReadFault, WriteFault}
+use Rattle.topo_settings.specs.declared.fault.RunFault.TheVariants.{Memory, Script, ReadFault, WriteFault}
 use Rattle.topo_settings.specs.Writing.{AppendsPart}
 use Rattle.topo_serve.specs.Answers.{Answers, Standing, TellsCounts}
 use Rattle.topo_serve.specs.Lines.{ArePlain, IsPlain, closed, lines_of}

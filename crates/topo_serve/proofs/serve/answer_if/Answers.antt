@@ -1,4 +1,4 @@
-use Rattle.std.proofs.Common.{◌≡◌, refl, [], rules, arith, false, length}
+use Rattle.std.proofs.Common.{◌≡◌, refl, [], rules, arith}
 use Rattle.std.proofs.KnownBytes.{Keeps-refl}
 use Rattle.std.proofs.lemmas.List.{nil_from_length}
 use Rattle.topo_settings.proofs.Pricing.{err_so, ok_so}

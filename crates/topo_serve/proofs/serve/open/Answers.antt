@@ -1,6 +1,6 @@
-use Rattle.std.proofs.Common.{◌≡◌, rules, sym, subst, ◌∙◌, [], true, false}
+use Rattle.std.proofs.Common.{◌∙◌, true, false}
 use Rattle.topo_settings.proofs.Pricing.{err_so}
-use Rattle.topo_serve.specs.declared.ahead.Part.TheVariants.{End, Feed, More}
+use Rattle.topo_serve.specs.declared.ahead.Part.TheVariants.{End, Feed}
 use Rattle.topo_serve.proofs.OpeningLaws.{both_so, first_long, first_so, none_so, opens_so}
 use Rattle.topo_serve.proofs.serve.open.Goals as goal
 

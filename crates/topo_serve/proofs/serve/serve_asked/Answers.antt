@@ -1,5 +1,3 @@
-use Rattle.std.proofs.Common.{inl}
-use Rattle.std.proofs.KnownBytes.{Keeps-refl}
 use Rattle.topo_price.specs.Prices.{prices_of}
 use Rattle.topo_settings.proofs.Pricing.{err_so, ok_so}
 use Rattle.topo_serve.specs.Turns.{BeginFailsBy, BeginsAll, streams}

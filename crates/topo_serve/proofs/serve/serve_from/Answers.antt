@@ -1,4 +1,4 @@
-use Rattle.std.proofs.Common.{◌≡◌, rules}
+use Rattle.std.proofs.Common.{rules}
 use Rattle.topo_settings.proofs.Pricing.{err_so, ok_so}
 use Rattle.topo_serve.proofs.OpeningLaws.{open_fails}
 use Rattle.topo_serve.proofs.serve.serve_from.Goals as goal

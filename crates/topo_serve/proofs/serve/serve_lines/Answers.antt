@@ -1,4 +1,4 @@
-use Rattle.std.proofs.Common.{◌≡◌, rules, refl, subst, sym, true, false, ◌∙◌}
+use Rattle.std.proofs.Common.{◌≡◌, rules, refl, subst, true, false, ◌∙◌}
 use Rattle.topo_price.specs.Prices.{prices_of}
 use Rattle.topo_serve.specs.Answers.{standing_of}
 use Rattle.topo_serve.specs.Turns.{IsTurn, LinesFailBy, TurnFailsBy, streams}

@@ -1,4 +1,3 @@
-use Rattle.std.proofs.Common.{◌≡◌}
 use Rattle.topo_book.specs.Books.{IsSameBook}
 use Rattle.topo_price.specs.Prices.{prices_of}
 use Rattle.topo_serve.specs.Answers.{standing_of}

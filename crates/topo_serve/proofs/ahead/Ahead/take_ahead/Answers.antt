@@ -1,4 +1,4 @@
-use Rattle.std.proofs.Common.{◌+◌, ◌∙◌, sym, take, arith}
+use Rattle.std.proofs.Common.{◌∙◌, sym, take, arith}
 use Rattle.topo_serve.proofs.LineLaws.{ahead_all, ahead_fed, lent, part_plain}
 use Rattle.topo_serve.proofs.ahead.Ahead.take_ahead.Goals as goal
 

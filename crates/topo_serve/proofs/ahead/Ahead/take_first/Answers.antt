@@ -1,5 +1,5 @@
-use Rattle.std.proofs.Common.{◌++◌, ◌≡◌, ◌∙◌, sym, length, rules}
-use Rattle.topo_serve.proofs.TakingLaws.{GoesOn, first_fed, first_long, first_over, line_on}
+use Rattle.std.proofs.Common.{◌++◌, ◌≡◌, length, rules}
+use Rattle.topo_serve.proofs.TakingLaws.{first_fed, first_long, first_over, line_on}
 use Rattle.topo_serve.proofs.ahead.Ahead.take_first.Goals as goal
 
 pub returns-in-Feed-clause-line : goal.returns-in-Feed-clause-line

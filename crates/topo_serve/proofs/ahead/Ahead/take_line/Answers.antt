@@ -1,5 +1,5 @@
 use Rattle.std.proofs.Common.{rules, ◌++◌}
-use Rattle.topo_serve.proofs.TakingLaws.{GoesOn, consumed_trans, line_fed, line_on, line_over, takes_consumed}
+use Rattle.topo_serve.proofs.TakingLaws.{consumed_trans, line_fed, line_on, line_over, takes_consumed}
 use Rattle.topo_serve.specs.Taking.{Consumed}
 use Rattle.topo_serve.proofs.ahead.Ahead.take_line.Goals as goal
 
