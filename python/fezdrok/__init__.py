@@ -1,14 +1,15 @@
 """Planarization of graphs by the proved program `planar`.
 
 `planarize` takes a networkx graph and gives a picture of it with few crossings; `planarize_many` takes many.
-`Planarizer` collects single commands. The package itself needs only Python; networkx is wanted for embeddings and for
+`Planarizer` collects single commands, and a `Session` answers each at once. The package itself needs only Python; networkx is wanted for embeddings and for
 edges that must not be crossed, matplotlib for `draw`.
 """
 
 from .drawing import chain, draw, positions, to_svg
 from .embeddings import Dummy, from_networkx_embedding, to_networkx_embedding
 from .exchange import Segment, to_networkx_graph
-from .faults import Fault, MemoryFault, ModuleMissing, NoReport, NotPlanarized, OtherReport, PlanarError, PlanarWarning, ProgramFailed, ProgramNotFound, ProgramNotStarted, UsageRefused
+from .faults import Fault, MemoryFault, ModuleMissing, NoReport, NotPlanarized, OtherReport, PlanarError, PlanarWarning, ProgramFailed, ProgramNotFound, ProgramNotStarted, SessionClosed, UsageRefused
+from .graph_session import GraphSession
 from .many import Bar, planarize_many
 from .orthogonal import Box, OrthogonalDrawing, orthogonal_drawing
 from .pictures import Counts, Crossing, Dart, Edge, Picture, Point
@@ -16,6 +17,7 @@ from .planarization import Planarization, Prepared, planarize, prepare, reinsert
 from .planarizer import Planarizer
 from .program import Program, find_program
 from .reports import Delete, Deleted, Entry, Grow, Grown, Insert, Inserted, Limits, Planned, Refused, Report
+from .session import Renumbered, Session
 
 __all__ = [
     "Bar",
@@ -29,6 +31,7 @@ __all__ = [
     "Edge",
     "Entry",
     "Fault",
+    "GraphSession",
     "Grow",
     "Grown",
     "Insert",
@@ -53,8 +56,11 @@ __all__ = [
     "ProgramNotFound",
     "ProgramNotStarted",
     "Refused",
+    "Renumbered",
     "Report",
     "Segment",
+    "Session",
+    "SessionClosed",
     "UsageRefused",
     "chain",
     "draw",

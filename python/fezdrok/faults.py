@@ -96,6 +96,10 @@ class NotPlanarized(PlanarError):
         return f"the edge {self.edge!r} was refused: {self.reply.number} {self.reply.name}"
 
 
+class SessionClosed(PlanarError):
+    """A session was called after its end: it was closed, or its program had ended."""
+
+
 class ModuleMissing(PlanarError, ImportError):
     """A package that is wanted for what was asked is not there; the message says which, and for what."""
 

@@ -11,6 +11,7 @@ from typing import Any, Dict, FrozenSet, Iterable, Iterator, List, Optional, Seq
 from .embeddings import Dummy, picture_of
 from .exchange import Segment, segments, to_json
 from .faults import Fault, NotPlanarized, OtherReport, PlanarError, PlanarWarning, wanted
+from .graph_session import GraphSession
 from .graphs import GraphEdge, Node, Price, PricedGraph, Pricing, bridges, components, incidence, judge_connected, places_of, rank, read_graph
 from .pictures import Crossing, Dart, Edge, Picture, Point
 from .planarizer import Planarizer
@@ -103,6 +104,15 @@ class Planarization:
     def to_json(self) -> Dict[str, Any]:
         """The planarization as one JSON object, with the nodes as the graph names them; see `fezdrok.exchange`."""
         return to_json(self)
+
+    def session(self, prices: Sequence[Price] = (), limits: Optional[Limits] = None, program: Optional[PathLike] = None) -> GraphSession:
+        """A session that goes on from here, in which edges are inserted and taken out by the names of their nodes.
+
+        An edge that it inserts has one of the prices of this planarization, one of `prices`, or 1. ValueError where the graph
+        is not connected (then take one of `parts`) or has no edge, and where there are more than 64 prices in all. The
+        program's exceptions are those of Session.
+        """
+        return GraphSession(self, prices, limits, program)
 
     @property
     def crossings(self) -> int:

@@ -1,0 +1,176 @@
+"""Planarizations that go on: what the names come to, told from the graph and from networkx's embedding."""
+
+import unittest
+from unittest import mock
+
+from fezdrok import Deleted, Fault, Grown, Inserted, NotPlanarized, Planarizer, SessionClosed, planarize, reinsert, to_networkx_embedding, to_svg
+from fezdrok import session as session_module
+
+from .support import graph_pairs, needs_networkx, needs_program, pairs_of, traced
+
+try:
+    import networkx as nx
+except ImportError:
+    nx = None
+
+
+def named(graph):
+    """All edges of a graph, with the keys of a multigraph."""
+    return list(graph.edges(keys=True) if graph.is_multigraph() else graph.edges())
+
+
+@needs_networkx
+@needs_program
+class Names(unittest.TestCase):
+    def setUp(self):
+        self.graph = nx.Graph(["ab", "bc", "cd", "da", "ac"])
+        self.result = planarize(self.graph)
+
+    def judge(self, result):
+        """The picture draws the graph, each edge of it has its name, and each report is true."""
+        self.assertEqual(sorted(result.edge_of), [row.id for row in result.picture.edges])
+        self.assertEqual(set(result.edge_of.values()), set(named(result.graph)))
+        self.assertEqual(set(result.node_of), set(result.graph))
+        for row in result.picture.edges:
+            self.assertEqual({result.node_of[row.a], result.node_of[row.b]}, set(result.edge_of[row.id][:2]))
+        self.assertEqual(pairs_of(traced(to_networkx_embedding(result))), graph_pairs(result.graph))
+        for report in result.reports:
+            Planarizer().replay(report)
+
+    def test_each_method(self):
+        with self.result.session() as session:
+            reply = session.insert_edge("d", "b")
+            self.assertIsInstance(reply, Inserted)
+            self.assertEqual(session.edge_of[reply.edge], ("b", "d"))
+            self.assertIsInstance(session.grow_edge("d", "e"), Grown)
+            self.assertIsInstance(session.insert_edge("e", "a"), Inserted)
+            self.assertEqual(session.delete_edge("c", "a"), Deleted(self.result.edge_id("a", "c")))
+            result, counts = session.result(), session.counts()
+            session.insert_edge("a", "c")
+            self.judge(session.result())
+        self.judge(result)
+        self.assertEqual((counts, result.picture.counts.vertices), (result.picture.counts, 5))
+        self.assertEqual(sorted(map(sorted, result.graph.edges)), sorted(map(sorted, ["ab", "bc", "cd", "ad", "bd", "de", "ae"])))
+        self.assertEqual(len(self.graph.edges), 5)
+        self.assertEqual(result.reports[:-1], self.result.reports)
+        self.assertEqual(result.reports[-1].start, self.result.picture)
+        self.assertLessEqual(reinsert(result).crossings, result.crossings)
+
+    def test_a_session_goes_on_from_the_result_of_another(self):
+        result = planarize(nx.path_graph(7))
+        for u in range(7):
+            with result.session() as session:
+                for v in range(u - 1):
+                    session.insert_edge(u, v)
+                result = session.result()
+        self.judge(result)
+        self.assertEqual(graph_pairs(result.graph), graph_pairs(nx.complete_graph(7)))
+        self.assertGreaterEqual(result.crossings, 9)
+        self.assertEqual(len(result.reports), 8)
+
+    def test_what_cannot_be_named(self):
+        with self.result.session() as session:
+            for call, words in (
+                (lambda: session.insert_edge("a", "x"), "'x' is no node"),
+                (lambda: session.insert_edge("b", "a"), "already"),
+                (lambda: session.insert_edge("b", "d", price=3), "price 3"),
+                (lambda: session.grow_edge("x", "y"), "'x' is no node"),
+                (lambda: session.grow_edge("a", "b"), "'b' is a node"),
+            ):
+                with self.assertRaisesRegex(ValueError, words):
+                    call()
+            with self.assertRaises(KeyError):
+                session.delete_edge("b", "d")
+            with self.assertRaises(Fault):
+                session.grow_edge("a", "x", position=-1)
+            self.assertEqual(session.result().picture, self.result.picture)
+        with self.assertRaises(SessionClosed):
+            session.insert_edge("b", "d")
+        self.assertTrue(session.is_closed)
+
+    def test_what_the_program_refuses(self):
+        with self.result.session() as session:
+            session.grow_edge("a", "e")
+            for call, edge, number in ((lambda: session.delete_edge("e", "a"), ("a", "e"), 6), (lambda: session.insert_edge("a", "a"), ("a", "a"), 2)):
+                with self.assertRaises(NotPlanarized) as caught:
+                    call()
+                self.assertEqual((caught.exception.edge, caught.exception.reply.number), (edge, number))
+            session.insert_edge("b", "e")
+            self.judge(session.result())
+
+    def test_prices(self):
+        result = planarize(self.graph, price={("a", "b"): 7, ("b", "c"): 3}, forbidden=["ac"])
+        self.assertEqual(result.prices, (None, 7, 3, 1))
+        with result.session(prices=[20, 7]) as session:
+            self.assertEqual(session.prices, (None, 7, 3, 1, 20))
+            session.grow_edge("a", "e", price=20)
+            self.assertEqual(session.result().prices, (None, 7, 3, 1, 20))
+            self.judge(session.result())
+        walls = planarize(nx.complete_graph(4), forbidden=nx.complete_graph(4).edges)
+        with walls.session() as session:
+            session.grow_edge(0, 4)
+            with self.assertRaisesRegex(NotPlanarized, "9 NoRoute"):
+                for node in (1, 2, 3):
+                    session.insert_edge(4, node)
+            self.judge(session.result())
+            self.assertEqual((session.result().crossings, session.result().prices), (0, (None, 1)))
+        with planarize(self.graph, price={edge: 5 for edge in self.graph.edges}).session() as session:
+            self.assertEqual((session.prices, session.result().prices), ((5, 1), (5,)))
+            session.insert_edge("b", "d")
+            self.assertEqual(session.result().prices, (5, 1))
+            to_svg(session.result())
+        with self.assertRaisesRegex(ValueError, "65 different prices"):
+            self.result.session(prices=range(1, 66))
+
+    def test_multigraphs_and_directed_graphs(self):
+        for kind in (nx.MultiGraph, nx.DiGraph, nx.MultiDiGraph):
+            with planarize(kind(["ab", "bc", "ca"])).session() as session:
+                edges = [session.edge_of[session.insert_edge("b", "a").edge], session.edge_of[session.grow_edge("c", "d").edge]]
+                if kind is nx.MultiGraph:
+                    edges.append(session.edge_of[session.insert_edge("a", "b").edge])
+                    session.delete_edge("b", "a", 1)
+                self.judge(session.result())
+            due = {nx.MultiGraph: [("a", "b", 1), ("c", "d", 0), ("a", "b", 2)], nx.DiGraph: [("b", "a"), ("c", "d")]}
+            self.assertEqual(edges, due.get(kind, [("b", "a", 0), ("c", "d", 0)]))
+
+    def test_graphs_of_parts_and_without_edges(self):
+        apart = planarize(nx.Graph(["ab", "cd"]))
+        with self.assertRaisesRegex(ValueError, "parts"):
+            apart.session()
+        with apart.parts[1].session() as session:
+            session.grow_edge("d", "e")
+            session.insert_edge("e", "c")
+            self.judge(session.result())
+        with self.assertRaisesRegex(ValueError, "no edge"):
+            planarize(nx.Graph({"a": "b", "c": ""})).parts[1].session()
+
+    def test_compacting(self):
+        with planarize(nx.complete_graph(6)).session() as session:
+            for u, v in ((0, 1), (2, 3), (4, 5)):
+                session.delete_edge(u, v)
+                session.insert_edge(v, u)
+            before = session.result()
+            new = session.compact()
+            after = session.result()
+            session.grow_edge(0, 6)
+            session.delete_edge(1, 2)
+            self.judge(session.result())
+        self.judge(after)
+        self.assertEqual(after.edge_of, {new.edges[edge_id]: edge for edge_id, edge in before.edge_of.items()})
+        self.assertEqual([len(report.history) for report in after.reports], [14, 6, 0])
+        self.assertEqual(after.picture.next_edge, 15)
+
+    def test_calls_that_are_interrupted(self):
+        for name in ("read", "write"):
+            with self.result.session() as session:
+                for call in (lambda: session.insert_edge("b", "d"), lambda: session.grow_edge("c", "e"), lambda: session.delete_edge("a", "b")):
+                    with mock.patch.object(session_module.os, name, side_effect=KeyboardInterrupt):
+                        with self.assertRaises(KeyboardInterrupt):
+                            call()
+                    edges = len(session.result().graph.edges)
+                    self.judge(session.result())
+                self.assertEqual(edges, 6 if name == "read" else 5)
+
+
+if __name__ == "__main__":
+    unittest.main()

@@ -1,0 +1,258 @@
+"""Sessions: what is answered at once is what a run reports, and what becomes of faults, broken programs and interrupts."""
+
+import os
+import random
+import signal
+import unittest
+from unittest import mock
+
+from fezdrok import Counts, Deleted, Fault, Grown, Inserted, Limits, MemoryFault, PlanarError, Planarizer, ProgramFailed, ProgramNotFound
+from fezdrok import ProgramNotStarted, Refused, Renumbered, Session, SessionClosed, UsageRefused
+from fezdrok import session as session_module
+
+from .support import fake, needs_program
+
+COUNTS = '{"crossings":0,"edges":1,"faces":1,"segments":1,"vertices":2}'
+#: A shell program that begins as a session does.
+BEGUN = f"read line; echo '{COUNTS}'; read line; "
+
+
+def some_calls(count: int, seed: int):
+    """Calls of every kind, many of which are refused: each is the name of a method and its numbers."""
+    chance = random.Random(seed)
+    calls = [("grow", chance.randrange(place + 2), chance.randrange(2), chance.randrange(3)) for place in range(8)]
+    for _ in range(count - len(calls)):
+        kind = chance.choice(("insert", "insert", "insert", "delete", "grow"))
+        numbers = {"insert": (12, 12, 3), "delete": (count,), "grow": (12, 3, 66)}[kind]
+        calls.append((kind, *(chance.randrange(number) for number in numbers)))
+    return calls
+
+
+def ended(process_id: int) -> bool:
+    """Whether a process that this one began has ended and was waited for."""
+    try:
+        os.kill(process_id, 0)
+    except ProcessLookupError:
+        return True
+    return False
+
+
+@needs_program
+class Calls(unittest.TestCase):
+    def test_each_is_answered_at_once(self):
+        with Session() as session:
+            self.assertEqual(session.grow(1), Grown(2, 1))
+            self.assertEqual(session.insert(0, 2, kind=7), Inserted(2, (), 0, 0, 0))
+            self.assertEqual(session.delete(0), Deleted(0))
+            self.assertEqual(session.counts(), Counts(3, 0, 2, 2, 1))
+            self.assertEqual(session.picture().edge(2).kind, 7)
+            self.assertEqual([type(reply) for reply in session.report().replies], [Grown, Inserted, Deleted])
+
+    def test_the_replies_and_the_report_are_those_of_a_run(self):
+        prices, limits = [1, 5, None], Limits(10, 65536, 90)
+        planarizer = Planarizer(prices=prices, limits=limits)
+        replies = []
+        with Session(prices=prices, limits=limits) as session:
+            for name, *numbers in some_calls(150, 3):
+                replies.append(getattr(session, name)(*numbers))
+                getattr(planarizer, name)(*numbers)
+            counts, picture, report = session.counts(), session.picture(), session.report()
+        due = planarizer.run()
+        self.assertEqual(tuple(replies), due.replies)
+        self.assertEqual((report, picture, counts), (due, due.picture, due.picture.counts))
+        self.assertGreater(len({type(reply) for reply in replies}), 3)
+        self.assertGreater(max(len(reply.crossed) for reply in replies if isinstance(reply, Inserted)), 1)
+        self.assertEqual(planarizer.replay(report), 150)
+
+    def test_a_start(self):
+        with Session() as session:
+            for vertex in range(5):
+                session.grow(vertex)
+            for u in range(7):
+                for v in range(u):
+                    session.insert(u, v)
+            picture, counts = session.picture(), session.counts()
+        with Session(start=picture) as session:
+            self.assertEqual((session.picture(), session.counts()), (picture, counts))
+            self.assertEqual(session.report().start, picture)
+
+    def test_refused_calls_are_replies(self):
+        with Session() as session:
+            self.assertEqual(session.insert(0, 0), Refused(2, "SameEnds"))
+            self.assertEqual(session.delete(0), Refused(6, "Cut", 0))
+            self.assertEqual(session.grow(7), Refused(1, "NoVertex"))
+            self.assertEqual(len(session.report().refused), 3)
+
+    def test_a_line_that_is_refused_changes_nothing(self):
+        with Session() as session:
+            for number in (-1, 2**32):
+                with self.assertRaises(Fault) as caught:
+                    session.insert(0, number)
+                self.assertEqual((caught.exception.number, caught.exception.name, caught.exception.value), (54, "BadNumber", "$/2"))
+            with self.assertRaises(TypeError):
+                session.grow(0.5)
+            self.assertEqual(session.report().history, ())
+            self.assertEqual(session.grow(0), Grown(2, 1))
+
+    def test_faults_of_the_start(self):
+        seed = Planarizer().run().picture
+        wrong = type(seed)(((0,), ()), seed.edges, (), 1, 0)
+        for words, due in (({"prices": [0]}, "10 BadPrice 0"), ({"limits": Limits(1, 1, 1)}, "11 BadLimits"), ({"start": wrong}, "23 BadRotation")):
+            with self.assertRaises(Fault) as caught:
+                Session(**words)
+            self.assertEqual(str(caught.exception), due)
+
+    def test_a_price_that_forbids(self):
+        with Session(prices=[None]) as session:
+            for vertex in range(3):
+                session.grow(vertex)
+            replies = [session.insert(u, v) for u in range(5) for v in range(u)]
+            self.assertIn(Refused(9, "NoRoute"), replies)
+            self.assertEqual(session.counts().crossings, 0)
+
+
+@needs_program
+class Compacting(unittest.TestCase):
+    def crossed(self, session):
+        """Takes edges out and puts them in again, in a picture with crossings."""
+        for vertex in range(4):
+            session.grow(vertex)
+        edges = [session.insert(u, v).edge for u in range(6) for v in range(u)]
+        for edge in edges[::3]:
+            session.delete(edge)
+
+    def test_ids_begin_at_0(self):
+        with Session(prices=[2]) as session:
+            self.crossed(session)
+            before, counts = session.picture(), session.counts()
+            self.assertGreater(counts.crossings, 0)
+            new = session.compact()
+            after = session.picture()
+            self.assertEqual((session.counts(), Planarizer().check(after)), (counts, counts))
+            self.assertEqual(session.report().prices, (2,))
+        self.assertIsInstance(new, Renumbered)
+        self.assertEqual(sorted(new.edges), [row.id for row in before.edges])
+        self.assertEqual(list(new.edges.values()), list(range(counts.edges)))
+        self.assertEqual(list(new.crossings.values()), list(range(counts.crossings)))
+        self.assertEqual((after.next_edge, after.next_crossing), (counts.edges, counts.crossings))
+        for row in before.edges:
+            now = after.edge(new.edges[row.id])
+            self.assertEqual((now.a, now.b, now.kind), (row.a, row.b, row.kind))
+            self.assertEqual(now.crossings, tuple(new.crossings[it] for it in row.crossings))
+        for row in before.crossings:
+            now = after.crossing(new.crossings[row.id])
+            self.assertEqual((now.crossed, now.newcomer, now.sign), (new.edges[row.crossed], new.edges[row.newcomer], row.sign))
+
+    def test_it_makes_room_where_the_ids_have_run_out(self):
+        with Session(limits=Limits(2, 3, 0)) as session:
+            for edge in (1, 2):
+                self.assertEqual(session.insert(0, 1).edge, edge)
+                session.delete(edge)
+            self.assertEqual(session.insert(0, 1), Refused(7, "Full"))
+            self.assertEqual(session.compact(), Renumbered({0: 0}, {}))
+            self.assertEqual(session.insert(0, 1).edge, 1)
+
+    def test_the_old_process_ends(self):
+        with Session() as session:
+            old = session.process_id
+            session.compact()
+            self.assertTrue(ended(old))
+            self.assertNotEqual(session.process_id, old)
+
+
+class Ends(unittest.TestCase):
+    """What ends a session, by the program where it is there, and by shell scripts in its place."""
+
+    @needs_program
+    def test_the_block_ends_the_process(self):
+        with Session() as session:
+            process = session.process_id
+        self.assertTrue(ended(process))
+        self.assertTrue(session.is_closed)
+        session.close()
+        for call in (session.counts, session.picture, session.report, session.compact, lambda: session.grow(0)):
+            with self.assertRaises(SessionClosed):
+                call()
+
+    @needs_program
+    def test_an_exception_in_the_block_ends_the_process(self):
+        with self.assertRaisesRegex(KeyError, "mine"):
+            with Session() as session:
+                process = session.process_id
+                raise KeyError("mine")
+        self.assertTrue(ended(process))
+
+    @needs_program
+    def test_a_process_that_is_killed(self):
+        with self.assertRaises(ProgramFailed) as caught:
+            with Session() as session:
+                session.grow(0)
+                os.kill(session.process_id, signal.SIGKILL)
+                session.grow(0)
+        self.assertEqual(caught.exception.status, -signal.SIGKILL)
+        self.assertTrue(session.is_closed)
+        with self.assertRaises(SessionClosed):
+            session.counts()
+
+    @needs_program
+    def test_a_call_that_is_interrupted(self):
+        with Session() as session:
+            with mock.patch.object(session_module.os, "read", side_effect=KeyboardInterrupt):
+                with self.assertRaises(KeyboardInterrupt):
+                    session.grow(0)
+            self.assertEqual(session.grow(0), Grown(3, 2))
+            with mock.patch.object(session_module.os, "write", side_effect=KeyboardInterrupt):
+                with self.assertRaises(KeyboardInterrupt):
+                    session.grow(0)
+            self.assertEqual(session.counts().vertices, 4)
+            self.assertEqual(session.report().replies, (Grown(2, 1), Grown(3, 2)))
+
+    def failure(self, body: str) -> PlanarError:
+        """The exception of a session over a shell script that ends in its own way at the first call."""
+        with Session(program=fake(self, BEGUN + body)) as session:
+            with self.assertRaises(PlanarError) as caught:
+                session.grow(0)
+            self.assertTrue(session.is_closed)
+        return caught.exception
+
+    def test_a_program_that_ends_early(self):
+        self.assertEqual((self.failure("echo oh >&2; exit 77").status, self.failure("exit 0").status), (77, 0))
+        self.assertIn("oh dear", str(self.failure("echo oh dear >&2; exit 77")))
+        memory = self.failure("echo 'planar: 8 Memory' >&2; exit 3")
+        self.assertEqual((type(memory), str(memory)), (MemoryFault, "8 Memory"))
+        self.assertEqual(self.failure("printf '{\"edge\":1'").status, 0)
+
+    def test_a_program_that_reads_nothing(self):
+        with self.assertRaisesRegex(Fault, "51 TooLong"):
+            Session(start=mock.Mock(to_json=lambda: " " * 10_000_000), program=fake(self, "exec <&-; echo 'planar: 51 TooLong' >&2; exit 1"))
+
+    def test_an_answer_in_another_form(self):
+        for answer in ("hello", "[]", "{}", '{"edge":1}', '"edge"'):
+            self.assertIn(answer, str(self.failure(f"echo '{answer}'")).replace("\\", ""))
+
+    def test_a_program_without_the_command(self):
+        with self.assertRaisesRegex(UsageRefused, "unrecognized"):
+            Session(program=fake(self, "echo 'error: unrecognized subcommand' >&2; exit 2"))
+
+    def test_no_program(self):
+        with self.assertRaises(ProgramNotFound):
+            Session(program="/nowhere/planar")
+        path = fake(self, "")
+        with open(path, "w") as file:
+            file.write("#!/nowhere/sh\n")
+        with self.assertRaises(ProgramNotStarted):
+            Session(program=path)
+
+    def test_much_on_standard_error(self):
+        with Session(program=fake(self, f"head -c 1000000 /dev/zero >&2; {BEGUN} echo '{COUNTS}'")) as session:
+            self.assertEqual(session.counts(), Counts(2, 0, 1, 1, 1))
+
+    def test_a_program_that_does_not_end(self):
+        with mock.patch.object(session_module, "PATIENCE", 0.1):
+            with Session(program=fake(self, f"read line; echo '{COUNTS}'; exec sleep 30")) as session:
+                process = session.process_id
+        self.assertTrue(ended(process))
+
+
+if __name__ == "__main__":
+    unittest.main()
