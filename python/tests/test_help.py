@@ -12,6 +12,7 @@ SENTENCES = {
     "run": ("Reads a script and prints the report of its run", "A script is a JSON object with a version"),
     "replay": ("Reads a report and carries out its history again", "Who made a call is not judged"),
     "check": ("Reads a picture and prints how large it is", "Where it is a lawful one, a connected"),
+    "serve": ("Answers line by line, with one picture", "Each further line is a command as in a script"),
 }
 
 

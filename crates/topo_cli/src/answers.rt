@@ -10,6 +10,7 @@ use std::sync::Wait;
 use std::thread::Threads;
 use topo_check::{check_io, replay_io};
 use topo_run::{OpenGate, run_io};
+use topo_serve::serve_io;
 use topo_settings::RunFault;
 
 /// Carries out a command: it reads its input from the reader and writes its answer to the writer.
@@ -27,5 +28,6 @@ pub fn answer<R: Threads + Wait + Sync, I: Read, O: Write>(
         Verb::Run => run_io(rt, alloc, reader, writer, &OpenGate),
         Verb::Replay => replay_io(alloc, reader, writer),
         Verb::Check => check_io(alloc, reader, writer),
+        Verb::Serve => serve_io(alloc, reader, writer),
     }
 }

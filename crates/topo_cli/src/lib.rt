@@ -22,4 +22,6 @@ pub enum Verb {
     Replay,
     /// Read a picture and print how large it is.
     Check,
+    /// Answer line by line, with one picture.
+    Serve,
 }

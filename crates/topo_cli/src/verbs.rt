@@ -23,6 +23,7 @@ Examples:
   planar run < script.json > report.json
   planar replay < report.json
   planar check < picture.json
+  echo '{\"version\":1}' | planar serve
 
 Statuses:
   0  done
@@ -90,6 +91,31 @@ and the line for this one is
 
 A fault is one line on standard error, as: planar: 25 NotPlanar";
 
+const SERVE: &str = "Answers line by line, with one picture that each command changes";
+
+const SERVE_LONG: &str = "\
+Reads lines from standard input and answers each with exactly one line on
+standard output, before it reads the next. It ends where its input ends.
+
+The first line is a script without its lists. It opens the session, and is
+answered by how large the start is:
+
+  {\"version\":1}
+  {\"crossings\":0,\"edges\":1,\"faces\":1,\"segments\":1,\"vertices\":2}
+
+Each further line is a command as in a script, and is answered by its reply:
+
+  [\"grow\",1,0,0]
+  {\"edge\":1,\"vertex\":2}
+
+The line \"counts\" is answered by how large the picture is, \"picture\" by the
+picture, and \"report\" by the report so far, which planar replay accepts. A line
+that is none of these is answered by its fault, as {\"fault\":[52,\"BadShape\",\"$\"]},
+and changes nothing.
+
+A fault of the first line, of reading or of writing ends the session with one
+line on standard error, as: planar: 53 BadVersion";
+
 /// The program with one command more.
 fn with_command<'a>(
     alloc: Global,
@@ -124,7 +150,8 @@ fn planar_command<'a>(alloc: Global) -> Result<Command<'a>, AllocError>
     let planar = without_commands(alloc);
     let planar = with_command(alloc, planar, "run", RUN, RUN_LONG)?;
     let planar = with_command(alloc, planar, "replay", REPLAY, REPLAY_LONG)?;
-    with_command(alloc, planar, "check", CHECK, CHECK_LONG)
+    let planar = with_command(alloc, planar, "check", CHECK, CHECK_LONG)?;
+    with_command(alloc, planar, "serve", SERVE, SERVE_LONG)
 }
 
 /// The command of this name.
@@ -135,6 +162,7 @@ fn verb_named(name: &str) -> Option<Verb>
         "run" => Some(Verb::Run),
         "replay" => Some(Verb::Replay),
         "check" => Some(Verb::Check),
+        "serve" => Some(Verb::Serve),
         _ => None,
     }
 }

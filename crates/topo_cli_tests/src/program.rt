@@ -1,6 +1,7 @@
 //! What the program does with the words of a command line: its status, and which bytes go where.
 
 use crate::failing::{CROSSED, REPLAYED, REPORT, SCRIPT, SIZE};
+use crate::serving::{ANSWERS, SESSION};
 use crate::streams::{BreakingReader, EndlessReader, FailingWriter, FullWriter, SlowWriter};
 use std::alloc::Global;
 use std::process::Abort;
@@ -69,7 +70,8 @@ fn commands(rt: HostRuntime) -> Result<(), Fail> {
     let alloc = rt.alloc();
     check_row(&rt, alloc, &["planar", "run"], SCRIPT, (0, REPORT, ""))?;
     check_row(&rt, alloc, &["planar", "replay"], REPORT, (0, REPLAYED, ""))?;
-    check_row(&rt, alloc, &["planar", "check"], CROSSED, (0, SIZE, ""))
+    check_row(&rt, alloc, &["planar", "check"], CROSSED, (0, SIZE, ""))?;
+    check_row(&rt, alloc, &["planar", "serve"], SESSION, (0, ANSWERS, ""))
 }
 
 #[test]
@@ -79,6 +81,7 @@ fn faults(rt: HostRuntime) -> Result<(), Fail> {
         (["planar", "run"], "{", "planar: 50 NotJson\n"),
         (["planar", "run"], "{}", "planar: 52 BadShape $/version\n"),
         (["planar", "replay"], SCRIPT, "planar: 52 BadShape $\n"),
+        (["planar", "serve"], SCRIPT, "planar: 52 BadShape $\n"),
         (
             ["planar", "check"],
             "{}",

@@ -9,6 +9,7 @@ use topo_core::rows::Rows;
 use topo_forms::Report;
 use topo_run::{OpenGate, run_io};
 use topo_script::{ScriptFault, picture_text, read_report, read_rows, read_script, report};
+use topo_serve::serve_io;
 
 /// What is done with the bytes of a row.
 #[derive(Clone, Copy)]
@@ -29,6 +30,8 @@ pub(crate) enum Command {
     CheckStart,
     /// The picture at the end of the report is checked.
     CheckEnd,
+    /// The lines are served.
+    Serve,
     /// The script is only read.
     ReadScript,
     /// The report is only read.
@@ -51,6 +54,7 @@ impl Command {
             "check" => Some(Command::Check),
             "check start" => Some(Command::CheckStart),
             "check end" => Some(Command::CheckEnd),
+            "serve" => Some(Command::Serve),
             "read script" => Some(Command::ReadScript),
             "read report" => Some(Command::ReadReport),
             "rewrite report" => Some(Command::RewriteReport),
@@ -75,6 +79,7 @@ impl Command {
             Command::Check => check(alloc, bytes),
             Command::CheckStart => check_start(alloc, bytes),
             Command::CheckEnd => check_end(alloc, bytes),
+            Command::Serve => serve(alloc, bytes),
             Command::ReadScript => read(alloc, read_script(alloc, bytes)),
             Command::ReadReport => read(alloc, read_report(alloc, bytes)),
             Command::RewriteReport => rewrite_report(alloc, bytes),
@@ -125,6 +130,13 @@ fn check(alloc: Global, bytes: &[u8]) -> Result<Vec<u8>, AllocError> {
     let mut reader = bytes;
     let mut written: Vec<u8> = Vec::new(alloc);
     let ended = check_io(alloc, &mut reader, &mut written);
+    told(alloc, ended, written)
+}
+
+fn serve(alloc: Global, bytes: &[u8]) -> Result<Vec<u8>, AllocError> {
+    let mut reader = bytes;
+    let mut written: Vec<u8> = Vec::new(alloc);
+    let ended = serve_io(alloc, &mut reader, &mut written);
     told(alloc, ended, written)
 }
 

@@ -1,8 +1,8 @@
 //! Tables, their rows, and what became of them.
 //!
 //! A row is `COMMAND | READ | OLD | NEW | .. | WANTED`: the command reads a text, with each NEW in place
-//! of the OLD before it, and is to print what is wanted. Where READ or WANTED ends in `.json` it is the
-//! file of that name, and else the text of one line. `cut COMMAND` stands for the command on each proper
+//! of the OLD before it, and is to print what is wanted. Where READ or WANTED ends in `.json` or `.lines` it
+//! is the file of that name, and else the text of one line. `cut COMMAND` stands for the command on each proper
 //! prefix of the line that is read.
 
 use crate::commands::Command;

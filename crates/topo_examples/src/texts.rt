@@ -7,7 +7,7 @@ use std::rt::Files;
 
 /// The bytes of the file that a field names, or those of the field and a line feed.
 pub(crate) fn bytes_of<R: Files + AllocGlobal>(rt: &R, field: &str) -> Result<Vec<u8>> {
-    if field.ends_with(".json") {
+    if field.ends_with(".json") || field.ends_with(".lines") {
         return fs::read(rt, field).context("a file of the tables");
     }
     let mut line = String::from_str(rt.alloc(), field)?;

@@ -1,0 +1,6 @@
+pub mod AnswerLaws
+pub mod KeptLines
+pub mod LineLaws
+pub mod OpeningLaws
+pub mod SessionLaws
+pub mod TakingLaws

@@ -1,0 +1,17 @@
+use Rattle.std.proofs.Common.{rules, arith, ◌≡◌, ◌≤◌, ◌∙◌, [], length, sym}
+use Rattle.std.proofs.lemmas.List.{drop_all}
+use Rattle.std.specs.Io.KnownBytes.{Consumes, IsAtEnd}
+use Rattle.topo_serve.proofs.TakingLaws.{part_over}
+use Rattle.topo_serve.proofs.ahead.Ahead.take_part.Goals as goal
+
+pub returns-then-branch-clause-part : goal.returns-then-branch-clause-part
+returns-then-branch-clause-part g c =
+    let at = c.self.inside.at in
+    let items = c.self.inside.bytes.items in
+    let within : length c.args.line.now.items ≤ c.args.most = search (rules, arith) in
+    let past : length items ≤ at = search (rules, arith) in
+    let none : c.args.self.now ≡ [] = sym c.self.view_is ∙ drop_all at items past in
+    let consumed : Consumes (g.R.Read.remaining c.args.reader.now) (g.R.Read.remaining c.refill.new.reader) c.refill.new.self = search rules in
+    let over : IsAtEnd (g.R.Read.remaining c.refill.new.reader) = search rules in
+    let empty : c.refill.new.self ≡ [] = search rules in
+    part_over _ _ _ _ _ _ within none consumed over empty

@@ -1,0 +1,5 @@
+pub mod Answers
+pub mod Lines
+pub mod Sessions
+pub mod Taking
+pub mod Turns
