@@ -131,6 +131,13 @@ impl<F: Asks, K: ServiceBrand<F>, G: VersionReader<F, K>> PassOver<F, K, G> {
         self.prefix.len()
     }
 
+    /// Whether its next planned insertion looks for its route ahead.
+    pub(crate) fn looks_ahead(&mut self) -> bool
+        ensures { self.new ≡ self.old }
+    {
+        self.lookahead.is_due()
+    }
+
     /// The version of now: the picture after accepted entries that begin with all that the pass has seen,
     /// and that it has seen from then on. It takes no memory and waits for nobody. NoView is answered
     /// where the service has ended or no further share of the version is left.

@@ -2,6 +2,7 @@
 
 ghost use Rattle.std.specs.Prelude.{◌≡◌, ◌<◌, ◌≤◌, ◌-◌, ◌++◌, ◌∷◌, ℕ, [], length, map, IfOk, OnErr, slice_index_or, vec_capacity};
 ghost use Rattle.topo_core.specs.History.{IsPrefix, call_of};
+ghost use Rattle.topo_core.specs.declared.calls.Call.TheVariants.{Insert};
 ghost use Rattle.topo_service.specs.Commands.{HasEnded, HasMade, commands, end_by, receipts_of};
 ghost use Rattle.topo_service.specs.Passes.{PassState, receipt_of};
 ghost use Rattle.topo_versions.specs.Names.{prices_named};
@@ -34,8 +35,36 @@ pub enum WorkerEnd {
     OutOfMemory(usize),
 }
 
-/// Carries a command out. A planned insertion looks for its route on a view first, without the lock; if that
-/// finds none, or if the routes that the pass found last came too late, it is an insertion.
+/// Inserts an edge whose route is looked for on a view first, without the lock. If that finds none, it is an
+/// insertion.
+fn insert_ahead<
+    F: Asks,
+    K: ServiceBrand<F>,
+    W: VersionWriter<F, K>,
+    G: VersionReader<F, K>,
+    R: Wait,
+>(
+    rt: &R,
+    alloc: Global,
+    service: &ServiceOver<F, K, W>,
+    pass: &mut PassOver<F, K, G>,
+    u: u32,
+    v: u32,
+    kind: u32,
+) -> Result<Reply, AllocError>
+    ensures number { pass.new.number ≡ pass.old.number }
+    ensures receipt { IfOk result (λ reply. pass.new.receipts ≡ pass.old.receipts ++ receipt_of (Insert u v kind) reply ∷ []) }
+    ensures later { IsPrefix pass.old.seen pass.new.seen }
+    ensures unchanged { OnErr result (pass.new.receipts ≡ pass.old.receipts) }
+{
+    match pass.find(alloc, service.tariff(), u, v) {
+        Ok(found) => service.insert_found(rt, pass, kind, &found),
+        Err(_) => service.insert(rt, pass, u, v, kind),
+    }
+}
+
+/// Carries a command out. A planned insertion looks for its route ahead, unless the routes that the pass found
+/// last came too late.
 fn carry_out<F: Asks, K: ServiceBrand<F>, W: VersionWriter<F, K>, G: VersionReader<F, K>, R: Wait>(
     rt: &R,
     alloc: Global,
@@ -51,13 +80,10 @@ fn carry_out<F: Asks, K: ServiceBrand<F>, W: VersionWriter<F, K>, G: VersionRead
     match command {
         Command::Plain(call) => service.call(rt, pass, call, Brought::Nothing),
         Command::Planned { u, v, kind } => {
-            if !pass.lookahead.is_due() {
-                return service.insert(rt, pass, u, v, kind);
+            if pass.looks_ahead() {
+                return insert_ahead(rt, alloc, service, pass, u, v, kind);
             }
-            match pass.find(alloc, service.tariff(), u, v) {
-                Ok(found) => service.insert_found(rt, pass, kind, &found),
-                Err(_) => service.insert(rt, pass, u, v, kind),
-            }
+            service.insert(rt, pass, u, v, kind)
         }
     }
 }
