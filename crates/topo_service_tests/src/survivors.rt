@@ -16,49 +16,49 @@ use topo_service::{FoundRoute, Pass, Service, WorkerEnd};
 use topo_versions::ServiceBrand;
 
 /// So many vertices has a row of the grid, and so many rows it has.
-const WIDTH: u32 = 8;
+const WIDTH: u8 = 8;
 
 /// The route is looked for between these: from the vertex in row 1 and column 1 to the one in row 3 and
 /// column 2. It crosses one edge, the one below the face to the right of and below its start.
-const FROM: u32 = WIDTH + 1;
+const FROM: u32 = 9;
 
-const TO: u32 = 3 * WIDTH + 2;
+const TO: u32 = 26;
 
-/// The first edge that is put in later.
-const FIRST_NEW: u32 = 2 * WIDTH * (WIDTH - 1);
+/// The first edge that is put in later: a grid of this width has 112 edges.
+const FIRST_NEW: u32 = 112;
 
 /// The edge from a vertex of the grid to the one on its right.
-const fn right_of(row: u32, column: u32) -> u32 {
-    row * (WIDTH - 1) + column
+fn right_of(row: u8, column: u8) -> u32 {
+    row as u32 * 7 + column as u32
 }
 
 /// The edge from a vertex of the grid to the one below it.
-const fn below(row: u32, column: u32) -> u32 {
-    WIDTH * (WIDTH - 1) + row * WIDTH + column
+fn below(row: u8, column: u8) -> u32 {
+    56 + row as u32 * 8 + column as u32
 }
 
 /// The vertex in a row and a column.
-const fn at(row: u32, column: u32) -> u32 {
-    row * WIDTH + column
+fn at(row: u8, column: u8) -> u32 {
+    row as u32 * 8 + column as u32
 }
 
 /// The edges round a vertex of the grid, clockwise from the one with the least id.
-fn around(alloc: Global, row: u32, column: u32) -> Result<Listed<u32>, AllocError> {
+fn around(alloc: Global, row: u8, column: u8) -> Result<Listed<u32>, AllocError> {
     let mut edges = Vec::with_capacity(alloc, 4)?;
     if column > 0 {
         edges.push(right_of(row, column - 1))?;
+        if row > 0 {
+            edges.push(below(row - 1, column))?;
+        }
     }
-    if row > 0 {
-        edges.push(below(row - 1, column))?;
-    }
-    if column + 1 < WIDTH {
+    if column < WIDTH - 1 {
         edges.push(right_of(row, column))?;
     }
-    if row + 1 < WIDTH {
+    if row < WIDTH - 1 {
         edges.push(below(row, column))?;
     }
     if column == 0 && row > 0 {
-        edges.rotate_left(1);
+        edges.push(below(row - 1, column))?;
     }
     Ok(Listed::from_vec(edges))
 }
