@@ -1,5 +1,5 @@
-"""The script `planar` in a folder that is like the repository, with a toolchain that proves nothing: the program is built
-beside the one that is there, and the package builds none."""
+"""The scripts `planar` and `try` in a folder that is like the repository, with a toolchain that proves nothing: the program
+is built beside the one that is there, and the package builds none."""
 
 import os
 import shutil
@@ -18,14 +18,18 @@ from fezdrok import program as program_module
 from .support import ROOT
 
 #: Stands for the command rt: it takes the program away, waits for the file `go`, and makes a program that says the source.
+#: `rt try` keeps none: it ends when its program has been taken.
 TOOLCHAIN = """#!/bin/sh
 echo called >> ../../calls
-rm -f out/planar
+[ "$1" = try ] || rm -f out/planar
 while [ ! -e ../../go ]; do sleep 0.05; done
 [ ! -e ../../fails ] || { echo "no proof"; exit 1; }
-mkdir -p out
-printf '#!/bin/sh\\necho "%s" "$@"\\n' "$(cat src/main.rt)" > out/planar
-chmod +x out/planar
+place=out
+[ "$1" = run ] || place=$(mktemp -d)
+mkdir -p $place
+printf '#!/bin/sh\\necho "%s" "$@"\\n' "$(cat src/main.rt)" > $place/planar
+chmod +x $place/planar
+[ "$1" = run ] || { mkdir $place/1; cp $place/planar $place/1/program; until [ -e "$TMPDIR/../planar" ]; do sleep 0.05; done; rm -r $place; }
 """
 
 
@@ -34,7 +38,7 @@ class Folder(unittest.TestCase):
         folder = tempfile.TemporaryDirectory()
         self.addCleanup(folder.cleanup)
         self.root = Path(folder.name).resolve()
-        for name in ("planar", ".ci/sources", ".ci/below", ".ci/place"):
+        for name in ("planar", "try", ".ci/sources", ".ci/below", ".ci/built", ".ci/place"):
             (self.root / name).parent.mkdir(exist_ok=True)
             shutil.copy(ROOT / name, self.root / name)
         (self.root / "crates.txt").write_text("planar: std\n")
@@ -131,6 +135,36 @@ class Building(Folder):
         self.assertEqual(process.returncode, 130)
         self.allow()
         self.assertEqual(self.said(self.script), "first word\n")
+
+
+class Unproved(Folder):
+    """The script `try`."""
+
+    def test_it_has_a_place_of_its_own(self):
+        ways = [self.root / "try", self.script, self.root / "try"]
+        done = [subprocess.run([it, "word"], capture_output=True, text=True, timeout=60) for it in ways]
+        self.assertEqual([it.stdout for it in done], ["first word\n"] * 3)
+        self.assertEqual([it.stderr.endswith("try: built without proofs; ./planar proves it\n") for it in done], [True, False, True])
+        self.assertEqual(self.calls(), 2)
+        self.assertEqual(sorted(os.listdir(self.root / "out" / "unproved")), ["planar", "planar.lock", "planar.sources"])
+
+    def test_it_stands_for_no_proved_one(self):
+        self.said(self.root / "try")
+        self.assertFalse(self.built.exists())
+        with self.assertRaises(ProgramNotFound):
+            find_program(self.script)
+
+    def test_it_is_built_anew(self):
+        self.said(self.root / "try")
+        self.edit()
+        self.allow()
+        self.assertEqual(self.said(self.root / "try"), "second word\n")
+
+    def test_where_it_is_not_built(self):
+        self.allow("fails")
+        done = subprocess.run([self.root / "try", "word"], capture_output=True, text=True, timeout=60)
+        self.assertEqual((done.returncode, done.stdout), (2, ""))
+        self.assertIn("no proof\ntry: the program was not built\n", done.stderr)
 
 
 class Package(Folder):
