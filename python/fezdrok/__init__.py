@@ -8,7 +8,7 @@ edges that must not be crossed, matplotlib for `draw`.
 from .drawing import chain, draw, positions, to_svg
 from .embeddings import Dummy, from_networkx_embedding, to_networkx_embedding
 from .exchange import Segment, to_networkx_graph
-from .faults import Fault, MemoryFault, ModuleMissing, NoReport, NotPlanarized, OtherReport, PlanarError, PlanarWarning, ProgramFailed, ProgramNotFound, ProgramNotStarted, SessionClosed, UsageRefused
+from .faults import Fault, MemoryFault, ModuleMissing, NoReport, NotPlanarized, OtherReport, PlanarError, PlanarWarning, ProgramFailed, ProgramNotFound, ProgramNotStarted, SessionClosed, Unfinished, UsageRefused
 from .graph_session import GraphSession
 from .many import Bar, planarize_many
 from .orthogonal import Box, OrthogonalDrawing, orthogonal_drawing
@@ -61,6 +61,7 @@ __all__ = [
     "Segment",
     "Session",
     "SessionClosed",
+    "Unfinished",
     "UsageRefused",
     "chain",
     "draw",

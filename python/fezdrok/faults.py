@@ -80,6 +80,10 @@ class OtherReport(PlanarError):
     """A report was to be read as that of a script that it does not belong to."""
 
 
+class Unfinished(PlanarError):
+    """Stands for a graph that was not planarized, since `planarize_many` was interrupted before."""
+
+
 class NotPlanarized(PlanarError):
     """A graph could not be planarized: the program refused one of its edges.
 

@@ -2,16 +2,22 @@
 
 from __future__ import annotations
 
+import multiprocessing
 import os
+import signal
 import sys
 import time
+import warnings
 from concurrent.futures import FIRST_COMPLETED, Future, ProcessPoolExecutor, wait
 from concurrent.futures.process import BrokenProcessPool
+from contextlib import closing
 from typing import Any, Callable, Dict, Iterable, Iterator, List, Optional, Sized, TextIO, Tuple, Union
 
+from .faults import PlanarWarning, Unfinished
 from .pictures import Picture
 from .planarization import Planarization, planarize
 from .planarizer import Planarizer
+from .processes import kill_when_closed
 
 #: A planarization, or the exception that came in its place.
 Outcome = Union[Planarization, Exception]
@@ -30,6 +36,10 @@ def planarize_many(graphs: Iterable[Any], processes: Optional[int] = None, progr
     must be such that pickle can name. Graphs are taken from the iterable as they are needed.
 
     The program is called once before the work begins. ProgramNotFound, and every other failure of that call, is raised.
+
+    Ctrl-C (KeyboardInterrupt) ends all work at once. Where some graphs are done, their outcomes are given, with
+    Unfinished in the places of the others and a PlanarWarning; of an iterable without a length, the graphs behind the
+    last one that is done have no place. Where none is done, the interrupt goes on.
     """
     program = Planarizer(program=options.get("program"))
     program.check(Picture.seed())
@@ -37,19 +47,45 @@ def planarize_many(graphs: Iterable[Any], processes: Optional[int] = None, progr
     total = len(graphs) if isinstance(graphs, Sized) else None
     tell = _teller(progress)
     outcomes: Dict[int, Outcome] = {}
-    lost: List[Job] = []
-    workers = processes or os.cpu_count() or 1
     tell(0, total)
-    for job, outcome in _pooled(enumerate(graphs), workers, options):
-        if isinstance(outcome, BrokenProcessPool):
-            lost.append(job)
-            continue
-        outcomes[job[0]] = outcome
-        tell(len(outcomes), total)
-    for job in lost:
-        ((_, outcomes[job[0]]),) = _pooled([job], 1, options)
-        tell(len(outcomes), total)
+    try:
+        with closing(_each(graphs, processes or os.cpu_count() or 1, options)) as each:
+            for place, outcome in each:
+                outcomes[place] = outcome
+                tell(len(outcomes), total)
+    except KeyboardInterrupt:
+        if not outcomes:
+            raise
+        warnings.warn(f"interrupted when {len(outcomes)} graphs were done: Unfinished stands for the others", PlanarWarning, stacklevel=2)
+        for place in range(max(outcomes) + 1 if total is None else total):
+            outcomes.setdefault(place, Unfinished("interrupted before it was done"))
     return [outcomes[place] for place in sorted(outcomes)]
+
+
+def _each(graphs: Iterable[Any], workers: int, options: Dict[str, Any]) -> Iterator[Tuple[int, Outcome]]:
+    """The places of the graphs with their outcomes, as they are done; last those whose worker was killed, each tried
+    once more."""
+    lost: List[Job] = []
+    with closing(_pooled(enumerate(graphs), workers, options)) as pooled:
+        for job, outcome in pooled:
+            if isinstance(outcome, BrokenProcessPool):
+                lost.append(job)
+            else:
+                yield job[0], outcome
+    for job in lost:
+        with closing(_pooled([job], 1, options)) as pooled:
+            for _, outcome in pooled:
+                yield job[0], outcome
+
+
+def _begin_worker() -> None:
+    """Begins a worker: it ends with the process that it works for, and leaves Ctrl-C to that one."""
+    signal.signal(signal.SIGINT, signal.SIG_IGN)
+    parent = multiprocessing.parent_process()
+    assert parent is not None
+    kill_when_closed(parent.sentinel, os.getpid())
+    if not parent.is_alive():
+        os._exit(1)
 
 
 def _one(graph: Any, options: Dict[str, Any]) -> Outcome:
@@ -69,9 +105,10 @@ def _pooled(jobs: Iterable[Job], workers: int, options: Dict[str, Any]) -> Itera
     source = iter(jobs)
     job = next(source, None)
     while job is not None:
-        with ProcessPoolExecutor(workers) as pool:
-            waiting: Dict["Future[Outcome]", Job] = {}
-            is_whole = True
+        pool = ProcessPoolExecutor(workers, initializer=_begin_worker)
+        waiting: Dict["Future[Outcome]", Job] = {}
+        is_whole = True
+        try:
             while waiting or (is_whole and job is not None):
                 while is_whole and job is not None and len(waiting) < 4 * workers:
                     waiting[_submit(pool, job, options)] = job
@@ -80,6 +117,17 @@ def _pooled(jobs: Iterable[Job], workers: int, options: Dict[str, Any]) -> Itera
                     outcome = _outcome(done)
                     is_whole = is_whole and not isinstance(outcome, BrokenProcessPool)
                     yield waiting.pop(done), outcome
+        except BaseException:
+            _kill(pool)
+            raise
+        pool.shutdown()
+
+
+def _kill(pool: ProcessPoolExecutor) -> None:
+    """Ends the workers of a pool in the middle of their work; the programs that they called end with them."""
+    for process in list((pool._processes or {}).values()):
+        process.kill()
+    pool.shutdown(wait=False, cancel_futures=True)
 
 
 def _submit(pool: ProcessPoolExecutor, job: Job, options: Dict[str, Any]) -> "Future[Outcome]":

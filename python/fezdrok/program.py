@@ -11,6 +11,7 @@ from pathlib import Path
 from typing import Iterator, Optional, Set, Tuple, Union
 
 from .faults import Fault, MemoryFault, PlanarWarning, ProgramFailed, ProgramNotFound, ProgramNotStarted, UsageRefused, read_value
+from .processes import run
 
 PathLike = Union[str, "os.PathLike[str]"]
 #: A text, or its bytes, which the program gets as they are.
@@ -96,7 +97,7 @@ def _tell_if_old(script: str, built: Path) -> None:
 
 
 class Program:
-    """One program `planar`; each call of a method is one process.
+    """One program `planar`; each call of a method is one process, which does not outlive this one.
 
     It is looked for at the first call, so scripts can be written where no program is.
     """
@@ -127,12 +128,12 @@ class Program:
     def _call(self, verb: str, text: Text) -> str:
         """What the program prints, or the exception that its status stands for."""
         try:
-            done = subprocess.run([self.path, verb], input=text.encode() if isinstance(text, str) else text, stdout=subprocess.PIPE, stderr=subprocess.PIPE)
+            status, output, errors = run([self.path, verb], text.encode() if isinstance(text, str) else text)
         except OSError as refused:
             raise ProgramNotStarted(f"{self.path} cannot be run: {refused.strerror or refused}") from refused
-        if done.returncode == 0:
-            return done.stdout.decode(errors="replace")
-        raise failure(done.returncode, done.stderr.decode(errors="replace"))
+        if status == 0:
+            return output.decode(errors="replace")
+        raise failure(status, errors.decode(errors="replace"))
 
 
 def failure(status: int, text: str) -> Exception:
