@@ -51,8 +51,11 @@ impl Fuzz {
             let kept = self
                 .folder
                 .join(format!("fuzz-{seed}-{}.json", self.different));
-            let is_kept = std::fs::write(&kept, text);
-            println!("fuzz: seed {seed}: {verb}: {told}, and by the plain program {due}; kept in {} {is_kept:?}", kept.display());
+            std::fs::write(&kept, text).expect("a folder for files");
+            println!(
+                "fuzz: seed {seed}: {verb}: {told}, and by the plain program {due}; kept in {}",
+                kept.display()
+            );
         }
     }
 
@@ -148,11 +151,11 @@ fn run(minutes: u64, seed: u64, folder: &Path) -> ExitCode {
 
 fn main() -> ExitCode {
     let words: Vec<String> = std::env::args().skip(1).collect();
-    match words.as_slice() {
-        [minutes, seed, folder] => match (minutes.parse(), seed.parse()) {
-            (Ok(minutes), Ok(seed)) => run(minutes, seed, Path::new(folder)),
-            _ => ExitCode::from(2),
-        },
-        _ => ExitCode::from(2),
+    if let [minutes, seed, folder] = words.as_slice() {
+        if let (Ok(minutes), Ok(seed)) = (minutes.parse(), seed.parse()) {
+            return run(minutes, seed, Path::new(folder));
+        }
     }
+    eprintln!("fuzz: MINUTES and SEED are whole numbers");
+    ExitCode::from(2)
 }
