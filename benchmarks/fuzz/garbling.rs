@@ -7,7 +7,7 @@ use std::ops::Range;
 type Change = fn(&[u8], &mut Chance) -> Option<Vec<u8>>;
 
 /// The kinds of changes; what mostly leaves a text well-formed stands there more often.
-const CHANGES: [Change; 17] = [
+const CHANGES: [Change; 18] = [
     with_other_number,
     with_other_number,
     with_other_number,
@@ -19,6 +19,7 @@ const CHANGES: [Change; 17] = [
     without_element,
     without_edge,
     with_row_twice,
+    with_field_twice,
     with_bytes_flipped,
     cut,
     with_more_behind,
@@ -27,17 +28,13 @@ const CHANGES: [Change; 17] = [
     with_escapes,
 ];
 
-/// A text after one to three changes. A field comes twice only then: both have its form, or neither, since the plain
-/// program judges both.
+/// A text after one to three changes.
 pub fn garbled(text: &[u8], chance: &mut Chance) -> Vec<u8> {
     let mut garbled = text.to_vec();
     for _ in 0..chance.pick(&[1, 1, 1, 2, 3]) {
         if let Some(changed) = chance.pick(&CHANGES)(&garbled, chance) {
             garbled = changed;
         }
-    }
-    if chance.one_in(10) {
-        garbled = with_field_twice(&garbled, chance).unwrap_or(garbled);
     }
     garbled
 }

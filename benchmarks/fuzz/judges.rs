@@ -30,7 +30,7 @@ pub enum Answer {
 
 impl Answer {
     /// Whether it is the fault of a text that is not of its form.
-    fn is_of_form(&self) -> bool {
+    pub fn is_of_form(&self) -> bool {
         matches!(self, Answer::Fault(line) if ["50 ", "52 ", "53", "54 "].iter().any(|number| line.starts_with(number)))
     }
 

@@ -94,3 +94,26 @@ pub fn groups(text: &[u8]) -> Vec<Group> {
     }
     found
 }
+
+/// Whether a member of an object may be there twice: one key is another's, or is written with escapes.
+pub fn may_have_member_twice(text: &[u8]) -> bool {
+    groups(text)
+        .iter()
+        .filter(|group| group.is_object)
+        .any(|group| {
+            let mut keys: Vec<&[u8]> = group
+                .elements
+                .iter()
+                .map(|at| key_of(&text[at.clone()]))
+                .collect();
+            keys.sort_unstable();
+            keys.windows(2).any(|pair| pair[0] == pair[1])
+                || keys.iter().any(|key| key.contains(&b'\\'))
+        })
+}
+
+/// What stands before the colon of a member.
+fn key_of(member: &[u8]) -> &[u8] {
+    let end = member.iter().position(|&byte| byte == b':');
+    member[..end.unwrap_or(member.len())].trim_ascii()
+}
