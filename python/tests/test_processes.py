@@ -102,7 +102,7 @@ class Signals(unittest.TestCase):
             f"n=$(($(cat {count}) + 1)); echo $n > {count}",
             f"[ $n -gt {calls} ] || {hand_on}",
             f"echo $$ >> {self.noted}",
-            '[ "$1" != serve ] || exec cat > /dev/null',
+            '[ "$1" != serve ] || exec cat 3>&1 > /dev/null',  # its output stays open, and nothing comes
             "exec sleep 600",
         )
         return fake(self, "\n".join(lines))
