@@ -110,7 +110,7 @@ class Search:
             if self._attempt > 0 and (self._clock.is_over or self._is_done):
                 break
             try:
-                self._try(begin, order if self._attempt == 0 else "random", f"{seed}/{self._attempt}")
+                self._try_ways(begin, order if self._attempt == 0 else "random", f"{seed}/{self._attempt}")
             except (Fault, NotPlanarized) as fault:
                 self._end(f"order {self._attempt + 1} of {self._effort.tries}: {words_of(fault)}", fault)
         if self.best is not None:
@@ -125,6 +125,16 @@ class Search:
     def _is_done(self) -> bool:
         """Whether no picture can be better, and several were to be found only to find the best."""
         return self._effort.rounds is None and self.best is not None and self.best.kept.score == (0, 0)
+
+    def _try_ways(self, begin: str, order: Order, seed: str) -> None:
+        """One order of the edges. Where a planar part parts the ends of another edge by edges that must not be crossed, the
+        order is tried from a tree."""
+        try:
+            self._try(begin, order, seed)
+        except NotPlanarized as refused:
+            if begin == "tree" or refused.reply.name != "NoRoute":
+                raise
+            self._try("tree", order, seed)
 
     def _try(self, begin: str, order: Order, seed: str) -> None:
         """One order of the edges: the beginning, then all other edges, then the rounds."""

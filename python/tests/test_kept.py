@@ -6,6 +6,7 @@ import tempfile
 import unittest
 import warnings
 from pathlib import Path
+from unittest import mock
 
 from fezdrok import Fault, Limits, NotPlanarized, PlanarWarning, Planarizer, ProgramFailed, find_program, planarize, reinsert
 
@@ -97,9 +98,10 @@ class Kept(unittest.TestCase):
 
     def test_ids_that_run_out_are_made_room_for(self):
         """With few ids the process begins anew again and again, and comes to the same as with many."""
-        for limits in (Limits(8, 31, 1000), Limits(8, 50, 1000), Limits(8, 1000, 45)):
-            few = planarize(self.graph, quick=True, rounds=5, limits=limits)
-            many = planarize(self.graph, quick=True, rounds=5)
+        many = planarize(self.graph, quick=True, rounds=5)
+        for limits, turn in ((Limits(8, 31, 1000), 64), (Limits(8, 40, 1000), 64), (Limits(8, 1000, 45), 2)):
+            with mock.patch("fezdrok.sheet._FIRST", turn), mock.patch("fezdrok.sheet._MOST", turn), mock.patch("fezdrok.sheet._LEAST", turn):
+                few = planarize(self.graph, quick=True, rounds=5, limits=limits)
             self.assertEqual((few.crossings, few.tries), (many.crossings, many.tries))
             self.assertGreater(len(few.reports), 1)
             for report in few.reports:
