@@ -21,8 +21,9 @@ class Planarization:
 
     `node_of[v]` is the node of vertex v and `vertex_of` leads back; `edge_of[e]` is the edge of the graph that has the
     id e in the picture, as the graph's `edges` gives it, and `id_of` leads back. `prices` are those of the kinds.
-    `reports` are the reports of the program's runs, each of which starts where the one before it ended. `tries` has
-    the number of crossings of each order that was tried and came to a picture.
+    `reports` are the reports of the program's processes that lead to this picture, each of which starts where the one before
+    it ended, with other ids where they had run out. `tries` has the number of crossings to which each order came that
+    came to a picture, before the shakes.
 
     Where the graph is not connected, `parts` has the planarization of each of its parts, in the order of their first
     nodes. The picture then has the rows of all parts side by side, each with an outer face of its own, and is none that
