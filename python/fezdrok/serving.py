@@ -67,6 +67,8 @@ class Lines:
     def ask_all(self, lines: Sequence[str]) -> List[bytes]:
         """The answers to several lines, as `ask`. All lines are written before the first answer is read, so together they
         may have TOGETHER bytes: of more, the process could wait for its answers to be read, and this for the lines to be."""
+        if not lines:
+            return []
         if self._is_asking:
             self._catch_up()
         self._is_asking = True
