@@ -2,13 +2,15 @@
 """Measures planarization on graphs of networkx: the crossings found, and the time taken.
 
 Prints a table in Markdown: `python/measure.py numbers` beside known crossing numbers, `python/measure.py ogdf` beside what
-OGDF found. All numbers but the times are the same each time.
+OGDF found. Behind the crossings stand the time, and the time of a processor that Python and the program took, which depends
+less on other work. All numbers but the times are the same each time.
 """
 
 from __future__ import annotations
 
 import argparse
 import random
+import resource
 import sys
 import time
 from pathlib import Path
@@ -100,25 +102,30 @@ OGDF = (
 )
 
 
-def measured(graph: Any, options: Dict[str, Any]) -> Tuple[int, float]:
-    """The crossings found with these options, and the seconds that it took."""
-    begun = time.perf_counter()
+def processor_seconds() -> float:
+    """The seconds of a processor that this process and the programs that have ended took so far."""
+    return sum(spent.ru_utime + spent.ru_stime for spent in map(resource.getrusage, (resource.RUSAGE_SELF, resource.RUSAGE_CHILDREN)))
+
+
+def measured(graph: Any, options: Dict[str, Any]) -> Tuple[int, float, float]:
+    """The crossings found with these options, the seconds that it took, and those of a processor."""
+    begun, begun_processor = time.perf_counter(), processor_seconds()
     crossings = planarize(graph, **options).crossings
-    return crossings, time.perf_counter() - begun
+    return crossings, time.perf_counter() - begun, processor_seconds() - begun_processor
 
 
-def worded(crossings: float, seconds: float) -> str:
+def worded(crossings: float, *seconds: float) -> str:
     """A cell of the table."""
-    spent = f"{1000 * seconds:.0f} ms" if seconds < 1 else f"{seconds:.1f} s"
+    spent = ", ".join(f"{1000 * part:.0f} ms" if part < 1 else f"{part:.1f} s" for part in seconds)
     return f"{crossings:.0f} ({spent})"
 
 
 def cell(case: Case, options: Dict[str, Any]) -> str:
     """What is found with these options; an error where there are fewer crossings than there can be."""
-    crossings, seconds = measured(case.graph, options)
+    crossings, *seconds = measured(case.graph, options)
     if case.number is not None and crossings < case.number:
         raise AssertionError(f"{case.name}: {crossings} crossings are fewer than the crossing number {case.number}")
-    return worded(crossings, seconds)
+    return worded(crossings, *seconds)
 
 
 def row(cells: Iterable[Any]) -> str:
@@ -140,7 +147,7 @@ def known_numbers() -> None:
 
 def beside_ogdf(seeds: int) -> None:
     """Print the table beside OGDF. Of random graphs the mean over the seeds 1, 2, .. is taken."""
-    columns: Dict[str, Dict[str, Any]] = {"default": {}, "`tries=1, shakes=0`": {"tries": 1, "shakes": 0}}
+    columns: Dict[str, Dict[str, Any]] = {"default": {}, "`tries=1, shakes=20`": {"tries": 1, "shakes": 20}}
     headings = ["graph", "OGDF", *columns]
     print(row(headings))
     print(row("---" for _ in headings))

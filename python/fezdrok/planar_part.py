@@ -11,6 +11,8 @@ from .progress import Clock
 _NEAR = 400
 #: What `short_cycles_first` takes the way round an edge for, where none was found among these, or there is none.
 _FAR = 1_000_000
+#: Of how many edges it takes each more that as many are left out together as do not go together.
+_TOGETHER = 600
 #: How many edges the tests of planarity may look at in all, before parts are left out that might be tried by halves.
 _WORK = 2_000_000
 
@@ -19,9 +21,9 @@ def planar_part(count: int, ends: Sequence[Tuple[int, int]], places: Sequence[in
     """Of the edges at these places, as many as can be drawn together without crossings: those that are taken when each is
     taken that can be drawn with those before it. Of parallel edges the first alone is taken.
 
-    Several are tried at once, and halves of them where they do not go together. In a large graph, where this takes too
-    long, and where the time of the clock is over, some are left out together of which one or the other could have been
-    taken. What is taken connects what the edges connect all the same.
+    Several are tried at once, and halves of them where they do not go together. In a graph of more than 1,200 edges, and
+    where the time of the clock is over, some are left out together of which one or the other could have been taken; where
+    they fit, they cross nothing when they are inserted later. What is taken connects what the edges connect all the same.
     """
     first: Dict[FrozenSet[int], int] = {}
     for place in places:
@@ -49,7 +51,7 @@ class _Part:
         self._work += len(both)
         if is_planar(self._count, both):
             self.taken.extend(places)
-        elif len(places) > max(1, self._work // _WORK * len(self._ends) // 100):
+        elif len(places) > max(1, len(self._ends) // _TOGETHER, self._work // _WORK * len(self._ends) // 100):
             half = len(places) // 2
             self.add(places[:half])
             self.add(places[half:])

@@ -22,7 +22,7 @@ from .results import Planarization, joined_like, joined_parts, single
 from .sheet import Kept
 
 #: How many orders are tried, and how many shakes in a row may save nothing, unless it is said.
-TRIES, SHAKES = 4, 100
+TRIES, SHAKES = 2, 40
 
 
 @dataclass(frozen=True)
@@ -89,10 +89,10 @@ def planarize(
 
     First a large part of the graph is drawn without crossings, and every other edge is inserted along a cheapest route,
     those that are cheap to cross last (`begin="planar"`). With `begin="tree"` the first edge is the start instead, and a
-    breadth-first tree is grown from it. This is done in `tries` orders, 4 unless given, all but the first at random by
+    breadth-first tree is grown from it. This is done in `tries` orders, 2 unless given, all but the first at random by
     `seed`. After each there are up to `rounds` rounds in which every crossed edge is taken out and inserted again; unless
     given, until one saves nothing. Then the best picture is shaken: some edges that are near each other are taken out
-    together and inserted again, and those about them one by one. It ends when `shakes` shakes in a row, 100 unless given,
+    together and inserted again, and those about them one by one. It ends when `shakes` shakes in a row, 40 unless given,
     have saved nothing. `quick=True` stands for `begin="tree", tries=1, rounds=0, shakes=0`, of which each may be given
     otherwise.
 

@@ -14,8 +14,8 @@ from .program import PathLike
 from .reports import Limits, Refused, version_of, without_last_ones
 from .session import Session
 
-#: How many edges are handed to the program in one turn: at first, at least and at most. More than 256 pairs of commands
-#: could be too long for a pipe.
+#: How many edges are handed to the program in one turn: at first, at least and at most. 256 pairs of commands are short
+#: enough for a pipe.
 _FIRST, _LEAST, _MOST = 64, 8, 256
 #: Which part of the edges there must be room for at least, so that ids begin anew: one in so many.
 _ROOM = 64

@@ -148,7 +148,7 @@ class Told(unittest.TestCase):
         told = []
         result = planarize(nx.complete_graph(8), progress=told.append)
         self.assertEqual((told[0].step, told[0].order, told[0].best), ("begins", 1, None))
-        self.assertEqual((told[-1].step, told[-1].best, told[-1].tries), ("done", result.crossings, 4))
+        self.assertEqual((told[-1].step, told[-1].best, told[-1].tries), ("done", result.crossings, 2))
         self.assertTrue({"edges are inserted", "round 1", "shakes"} <= {one.step for one in told})
         self.assertEqual([one.seconds for one in told], sorted(one.seconds for one in told))
 
@@ -172,7 +172,7 @@ class Told(unittest.TestCase):
             with self.subTest(step), self.assertWarnsRegex(PlanarWarning, "best picture so far is given, .*KeyboardInterrupt"):
                 result = planarize(graph, progress=interrupt)
             self.assertEqual(result.tries[0], planarize(graph, tries=1, shakes=0).crossings)
-            self.assertEqual(len(result.tries), 2 if step == "round 1" else 4)
+            self.assertEqual(len(result.tries), 2)
             self.assertEqual(Planarizer().replay(result.reports[-1]), len(result.reports[-1].history))
 
         def at_once(told):
