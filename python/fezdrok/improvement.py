@@ -24,6 +24,8 @@ from .sheet import Kept, Sheet
 #: What ends a search, while what was found so far is given.
 ENDS = (KeyboardInterrupt, PlanarError, OSError, MemoryError)
 
+#: How many shakes in a row may save nothing, at least and at most, where it is not said.
+_SHAKES = (40, 200)
 #: How many edges a shake takes out at most.
 _SHAKEN = 32
 #: By which part of the crossings a picture may be worse than the best, so that the shakes go on from it.
@@ -41,11 +43,16 @@ def words_of(end: BaseException) -> str:
 
 class Effort(NamedTuple):
     """How much is tried: how many orders, how many rounds at most for each (None: until one saves nothing), and how many
-    shakes in a row may save nothing before the search ends."""
+    shakes in a row may save nothing before the search ends (None: by the crossings)."""
 
     tries: int
     rounds: Optional[int]
-    shakes: int
+    shakes: Optional[int]
+
+    def shakes_for(self, crossings: int) -> int:
+        """How many shakes in a row may save nothing, if the best picture has so many crossings."""
+        least, most = _SHAKES
+        return min(most, max(least, crossings // 10)) if self.shakes is None else self.shakes
 
 
 @dataclass(frozen=True)
@@ -210,10 +217,10 @@ class Search:
         sheet = self._again()
         try:
             idle = 0
-            while idle < self._effort.shakes and sheet.crossings and not self._clock.is_over:
+            assert self.best is not None
+            while idle < self._effort.shakes_for(self.best.kept.score[0]) and sheet.crossings and not self._clock.is_over:
                 idle += 1
                 self._shake(sheet, chance, at)
-                assert self.best is not None
                 if self._keep(sheet):
                     idle = 0
                 elif sheet.crossings > self.best.kept.score[0] * (1 + _SLACK) + 0.5:

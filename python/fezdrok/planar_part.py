@@ -77,7 +77,10 @@ def _connecting(count: int, ends: Sequence[Tuple[int, int]], taken: Sequence[int
 
 def short_cycles_first(count: int, ends: Sequence[Tuple[int, int]], places: Iterable[int]) -> List[int]:
     """The places by the length of the shortest cycle through each edge, those of one length in the order in which they
-    stand. An edge whose ends are far apart without it hinders many others in a planar drawing, and so it comes late."""
+    stand. An edge whose ends are far apart without it hinders many others in a planar drawing, and so it comes late. In a
+    planar graph none hinders another, and the places are given as they are."""
+    if is_planar(count, list({(min(pair), max(pair)) for pair in ends})):
+        return list(places)
     near: List[Set[int]] = [set() for _ in range(count)]
     for u, v in ends:
         near[u].add(v)

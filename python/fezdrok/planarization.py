@@ -21,8 +21,8 @@ from .reports import Limits, Refused, Report, Reports, difference
 from .results import Planarization, joined_like, joined_parts, single
 from .sheet import Kept
 
-#: How many orders are tried, and how many shakes in a row may save nothing, unless it is said.
-TRIES, SHAKES = 2, 40
+#: How many orders are tried, unless it is said.
+TRIES = 2
 
 
 @dataclass(frozen=True)
@@ -92,8 +92,8 @@ def planarize(
     breadth-first tree is grown from it. This is done in `tries` orders, 2 unless given, all but the first at random by
     `seed`. After each there are up to `rounds` rounds in which every crossed edge is taken out and inserted again; unless
     given, until one saves nothing. Then the best picture is shaken: some edges that are near each other are taken out
-    together and inserted again, and those about them one by one. It ends when `shakes` shakes in a row, 40 unless given,
-    have saved nothing. `quick=True` stands for `begin="tree", tries=1, rounds=0, shakes=0`, of which each may be given
+    together and inserted again, and those about them one by one. It ends when `shakes` shakes in a row have saved nothing;
+    unless given, a tenth of the crossings, but 40 at least and 200 at most. `quick=True` stands for `begin="tree", tries=1, rounds=0, shakes=0`, of which each may be given
     otherwise.
 
     The picture with the fewest crossings is the result, of equal ones the one that costs least, then the first. It is the
@@ -120,8 +120,8 @@ def planarize(
     begin = begin if begin is not None else "tree" if quick else "planar"
     effort = Effort(
         _whole("tries", 1 if quick else TRIES, tries, 1),
-        0 if quick and rounds is None else _rounds(rounds),
-        _whole("shakes", 0 if quick else SHAKES, shakes, 0),
+        0 if quick and rounds is None else _most("rounds", rounds),
+        0 if quick and shakes is None else _most("shakes", shakes),
     )
     clock, tell = Clock(_judged(seconds)), teller(progress)
     source = read_graph(graph, price, forbidden)
@@ -155,9 +155,9 @@ def _whole(name: str, otherwise: int, value: Any, least: int) -> int:
     return number
 
 
-def _rounds(rounds: Any) -> Optional[int]:
-    """The rounds at most, or None for as many as save something; ValueError where they are fewer than none."""
-    return None if rounds is None else _whole("rounds", 0, rounds, 0)
+def _most(name: str, value: Any) -> Optional[int]:
+    """A number that is 0 or more, or None where it is left to the search; ValueError where it is none."""
+    return None if value is None else _whole(name, 0, value, 0)
 
 
 def _judged(seconds: Any) -> Optional[float]:
@@ -230,7 +230,7 @@ def reinsert(
     limits: Optional[Limits] = None,
     program: Optional[PathLike] = None,
     *,
-    shakes: int = 0,
+    shakes: Optional[int] = 0,
     seed: int = 0,
     seconds: Optional[float] = None,
     progress: Telling = None,
@@ -239,12 +239,12 @@ def reinsert(
 
     In a round each crossed edge that has a price is taken out and inserted again, the most crossed first. At most
     this many rounds are made (None: no limit), and none after one that saves nothing. Then come shakes, as those of
-    `planarize`, until so many in a row have saved nothing. The other words are those of `planarize`.
+    `planarize`, until so many in a row have saved nothing (None: as many as there). The other words are those of `planarize`.
 
     What was found is never lost: where the program fails, where the limits do not suffice, and at Ctrl-C
     (KeyboardInterrupt), the best picture so far is given, with a PlanarWarning that says what happened.
     """
-    effort = Effort(1, _rounds(rounds), _whole("shakes", 0, shakes, 0))
+    effort = Effort(1, _most("rounds", rounds), _most("shakes", shakes))
     clock, tell = Clock(_judged(seconds)), teller(progress)
     failures: List[str] = []
     parts = list(result.parts or (result,))
