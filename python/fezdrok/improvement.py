@@ -83,7 +83,7 @@ class Search:
         self._clock = clock
         self._tell = tell
         self._spare: Optional[Found] = None
-        self._spare_due = 0.0
+        self._spare_due = _SPARE_SECONDS
         self._attempt = 0
         held = bridges(source.edges)
         self._movable = [place for place in range(len(source.edges)) if source.price(place) is not None and place not in held]
@@ -103,7 +103,8 @@ class Search:
         except ENDS as end:
             self._end(words_of(end), end)
             self.is_ended = True
-        if self._spare is not None and (self.best is None or self._spare.kept.score < self.best.kept.score):
+        is_cut_short = bool(self.failures) or self._clock.is_over
+        if is_cut_short and self._spare is not None and (self.best is None or self._spare.kept.score < self.best.kept.score):
             self.best = self._spare
         if self.best is not None:
             self._told("done", None)

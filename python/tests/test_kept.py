@@ -175,11 +175,31 @@ class Told(unittest.TestCase):
             self.assertEqual(len(result.tries), 2)
             self.assertEqual(Planarizer().replay(result.reports[-1]), len(result.reports[-1].history))
 
-        def at_once(told):
-            raise KeyboardInterrupt
-
         with self.assertRaises(KeyboardInterrupt):
             planarize(graph, progress=at_once)
+
+    def test_ctrl_c_within_a_long_round(self):
+        """The picture is kept now and then, so that not all of the round is lost."""
+        graph = nx.random_regular_graph(4, 40, seed=1)
+        turns = []
+
+        def interrupt(told):
+            turns.append(told.step)
+            if turns[-1] == "round 1" and turns.count("round 1") == 5:
+                raise KeyboardInterrupt
+
+        first = planarize(graph, quick=True)
+        with mock.patch("fezdrok.improvement._SPARE_SECONDS", 0.0), mock.patch("fezdrok.improvement._SPARE_TIMES", 0):
+            with mock.patch("fezdrok.sheet._FIRST", 8), mock.patch("fezdrok.sheet._MOST", 8), self.assertWarns(PlanarWarning):
+                result = planarize(graph, begin="tree", tries=1, progress=interrupt)
+        self.assertLess(result.crossings, first.crossings)
+        self.assertEqual(set(result.id_of), set(graph.edges))
+        self.assertEqual(Planarizer().replay(result.reports[-1]), len(result.reports[-1].history))
+
+
+def at_once(told):
+    """Interrupts as soon as anything is told."""
+    raise KeyboardInterrupt
 
 
 if __name__ == "__main__":

@@ -99,10 +99,13 @@ class Parts(unittest.TestCase):
         self.assertEqual(planar_part(3, ends, [2, 0, 1, 3]), [2, 3])
 
     def test_cycles(self):
+        """Beside a graph that makes the whole not planar, since else the order would stay as it is."""
+        five = [(u + 20, v + 20) for u, v in nx.complete_graph(5).edges]
         ends = [(0, 1), (1, 2), (2, 0), (2, 3), (3, 4), (4, 5), (5, 6), (6, 3), (3, 5)]
-        self.assertEqual(short_cycles_first(7, ends, range(9)), [0, 1, 2, 4, 5, 6, 7, 8, 3])
+        self.assertEqual(short_cycles_first(7, ends, range(9)), list(range(9)))
+        self.assertEqual(short_cycles_first(25, [*ends, *five], range(19)), [0, 1, 2, *range(4, 19), 3])
         ring = [(place, (place + 1) % 9) for place in range(9)]
-        self.assertEqual(short_cycles_first(9, [*ring, (0, 3)], range(10)), [0, 1, 2, 9, 3, 4, 5, 6, 7, 8])
+        self.assertEqual(short_cycles_first(25, [*ring, (0, 3), *five], range(20)), [*range(10, 20), 0, 1, 2, 9, 3, 4, 5, 6, 7, 8])
 
     def test_a_planar_graph_is_drawn_whole(self):
         graph = nx.grid_2d_graph(20, 20)
