@@ -1,16 +1,20 @@
 #!/usr/bin/env python3
-"""Measures planarization on graphs of networkx: crossings found beside known crossing numbers, and the time taken.
+"""Measures planarization on graphs of networkx: the crossings found, and the time taken.
 
-Prints a table in Markdown: `python/measure.py --tries 20 --rounds 5`. All numbers but the times are the same each time.
+Prints a table in Markdown: `python/measure.py numbers` beside known crossing numbers, `python/measure.py ogdf` beside what
+OGDF found. Behind the crossings stand the time, and the time of a processor that Python and the program took, which depends
+less on other work. All numbers but the times are the same each time.
 """
 
 from __future__ import annotations
 
 import argparse
+import random
+import resource
 import sys
 import time
 from pathlib import Path
-from typing import Any, Dict, Iterable, Iterator, NamedTuple, Optional
+from typing import Any, Callable, Dict, Iterable, Iterator, NamedTuple, Optional, Tuple
 
 sys.path.insert(0, str(Path(__file__).resolve().parent))
 
@@ -62,27 +66,66 @@ def cases() -> Iterator[Case]:
         yield Case(f"random {degree}-regular", nx.random_regular_graph(degree, n, seed=1), None)
 
 
-def attempts(tries: int, rounds: int, seed: int) -> Dict[str, Dict[str, Any]]:
-    """The columns: how each graph is planarized, by the heading that says so."""
-    orders: Dict[str, Any] = {"tries": tries, "seed": seed}
-    return {
-        "one order": {},
-        f"{tries} orders": orders,
-        f"{tries} orders, {rounds} rounds": {**orders, "rounds": rounds},
-        f"planar start, {tries} orders, {rounds} rounds": {**orders, "rounds": rounds, "begin": "planar"},
-    }
+def chords(size: int, count: int, seed: int) -> Any:
+    """A grid of so many rows and columns, and so many random edges more."""
+    graph = nx.convert_node_labels_to_integers(nx.grid_2d_graph(size, size))
+    chance = random.Random(seed)
+    while graph.number_of_edges() < 2 * size * (size - 1) + count:
+        graph.add_edge(*chance.sample(range(size * size), 2))
+    return graph
+
+
+class Beside(NamedTuple):
+    """A graph, or how one is made from a seed, with the crossings and the seconds that OGDF came to."""
+
+    name: str
+    make: Callable[[int], Any]
+    is_random: bool
+    crossings: int
+    seconds: float
+
+
+#: What OGDF's SubgraphPlanarizer found on a machine of four processors: fast planar subgraph of 16 runs, fixed embedding,
+#: all edges taken out and inserted again, 10 permutations. Which random graphs it had is not known.
+OGDF = (
+    Beside("K12", lambda seed: nx.complete_graph(12), False, 150, 0.09),
+    Beside("hypercube of 5 dimensions", lambda seed: nx.hypercube_graph(5), False, 58, 0.05),
+    Beside("torus grid 7 x 7", lambda seed: nx.grid_2d_graph(7, 7, periodic=True), False, 35, 0.02),
+    Beside("torus grid 20 x 20", lambda seed: nx.grid_2d_graph(20, 20, periodic=True), False, 395, 0.46),
+    Beside("random 3-regular of 50 nodes", lambda seed: nx.random_regular_graph(3, 50, seed=seed), True, 13, 0.02),
+    Beside("random 3-regular of 100 nodes", lambda seed: nx.random_regular_graph(3, 100, seed=seed), True, 60, 0.07),
+    Beside("random 4-regular of 50 nodes", lambda seed: nx.random_regular_graph(4, 50, seed=seed), True, 59, 0.06),
+    Beside("random 6-regular of 20 nodes", lambda seed: nx.random_regular_graph(6, 20, seed=seed), True, 43, 0.02),
+    Beside("grid 30 x 30", lambda seed: nx.grid_2d_graph(30, 30), False, 0, 0.01),
+    Beside("grid 30 x 30 with 50 random chords", lambda seed: chords(30, 50, seed), True, 742, 18.0),
+    Beside("Barabasi-Albert of 200 nodes, m = 2", lambda seed: nx.barabasi_albert_graph(200, 2, seed=seed), True, 1043, 6.7),
+)
+
+
+def processor_seconds() -> float:
+    """The seconds of a processor that this process and the programs that have ended took so far."""
+    return sum(spent.ru_utime + spent.ru_stime for spent in map(resource.getrusage, (resource.RUSAGE_SELF, resource.RUSAGE_CHILDREN)))
+
+
+def measured(graph: Any, options: Dict[str, Any]) -> Tuple[int, float, float]:
+    """The crossings found with these options, the seconds that it took, and those of a processor."""
+    begun, begun_processor = time.perf_counter(), processor_seconds()
+    crossings = planarize(graph, **options).crossings
+    return crossings, time.perf_counter() - begun, processor_seconds() - begun_processor
+
+
+def worded(crossings: float, *seconds: float) -> str:
+    """A cell of the table."""
+    spent = ", ".join(f"{1000 * part:.0f} ms" if part < 1 else f"{part:.1f} s" for part in seconds)
+    return f"{crossings:.0f} ({spent})"
 
 
 def cell(case: Case, options: Dict[str, Any]) -> str:
-    """The crossings found with these options, and the seconds that it took; an error where there are fewer than there
-    can be."""
-    begun = time.perf_counter()
-    crossings = planarize(case.graph, **options).crossings
-    seconds = time.perf_counter() - begun
+    """What is found with these options; an error where there are fewer crossings than there can be."""
+    crossings, *seconds = measured(case.graph, options)
     if case.number is not None and crossings < case.number:
         raise AssertionError(f"{case.name}: {crossings} crossings are fewer than the crossing number {case.number}")
-    spent = f"{1000 * seconds:.0f} ms" if seconds < 1 else f"{seconds:.1f} s"
-    return f"{crossings} ({spent})"
+    return worded(crossings, *seconds)
 
 
 def row(cells: Iterable[Any]) -> str:
@@ -90,14 +133,9 @@ def row(cells: Iterable[Any]) -> str:
     return "| " + " | ".join(str(each) for each in cells) + " |"
 
 
-def main() -> None:
-    """Print the table."""
-    parser = argparse.ArgumentParser(description=__doc__.splitlines()[0])
-    parser.add_argument("--tries", type=int, default=20, help="how many orders to try")
-    parser.add_argument("--rounds", type=int, default=5, help="how many rounds of taking out and inserting again")
-    parser.add_argument("--seed", type=int, default=0, help="what the random orders follow from")
-    words = parser.parse_args()
-    columns = attempts(words.tries, words.rounds, words.seed)
+def known_numbers() -> None:
+    """Print the table beside known crossing numbers."""
+    columns: Dict[str, Dict[str, Any]] = {"quick": {"quick": True}, "quick, 20 orders, 5 rounds": {"quick": True, "tries": 20, "rounds": 5}, "default": {}}
     headings = ["graph", "nodes", "edges", "crossing number", *columns]
     print(row(headings))
     print(row("---" for _ in headings))
@@ -105,6 +143,33 @@ def main() -> None:
         known = "not known" if case.number is None else case.number
         sizes = [case.name, len(case.graph), case.graph.number_of_edges(), known]
         print(row([*sizes, *(cell(case, options) for options in columns.values())]), flush=True)
+
+
+def beside_ogdf(seeds: int) -> None:
+    """Print the table beside OGDF. Of random graphs the mean over the seeds 1, 2, .. is taken."""
+    columns: Dict[str, Dict[str, Any]] = {"default": {}, "`tries=1, shakes=20`": {"tries": 1, "shakes": 20}}
+    headings = ["graph", "OGDF", *columns]
+    print(row(headings))
+    print(row("---" for _ in headings))
+    for case in OGDF:
+        graphs = [case.make(seed) for seed in range(1, 1 + (seeds if case.is_random else 1))]
+        cells = [worded(case.crossings, case.seconds)]
+        for options in columns.values():
+            found = [measured(graph, options) for graph in graphs]
+            cells.append(worded(*(sum(numbers) / len(found) for numbers in zip(*found))))
+        print(row([case.name + (f", mean of {seeds}" if case.is_random else ""), *cells]), flush=True)
+
+
+def main() -> None:
+    """Print the table that is asked for."""
+    parser = argparse.ArgumentParser(description=__doc__.splitlines()[0])
+    parser.add_argument("table", choices=("numbers", "ogdf"), help="beside known crossing numbers, or beside OGDF")
+    parser.add_argument("--seeds", type=int, default=5, help="how many random graphs of each kind are measured beside OGDF")
+    words = parser.parse_args()
+    if words.table == "numbers":
+        known_numbers()
+    else:
+        beside_ogdf(words.seeds)
 
 
 if __name__ == "__main__":

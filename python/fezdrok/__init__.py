@@ -13,10 +13,12 @@ from .graph_session import GraphSession
 from .many import Bar, planarize_many
 from .orthogonal import Box, OrthogonalDrawing, orthogonal_drawing
 from .pictures import Counts, Crossing, Dart, Edge, Picture, Point
-from .planarization import Planarization, Prepared, planarize, prepare, reinsert
+from .planarization import Prepared, planarize, prepare, reinsert
 from .planarizer import Planarizer
 from .program import Program, find_program
+from .progress import Progress
 from .reports import Delete, Deleted, Entry, Grow, Grown, Insert, Inserted, Limits, Planned, Refused, Report
+from .results import Planarization
 from .session import Renumbered, Session
 
 __all__ = [
@@ -55,6 +57,7 @@ __all__ = [
     "ProgramFailed",
     "ProgramNotFound",
     "ProgramNotStarted",
+    "Progress",
     "Refused",
     "Renumbered",
     "Report",

@@ -36,7 +36,7 @@ class GraphSession:
         self.prices = _price_table(result.prices, prices)
         self.graph = result.graph.copy()
         self._source = result
-        self._reports: Tuple[Report, ...] = result.reports
+        self._reports: Sequence[Report] = result.reports
         self._node_of: List[Node] = list(result.node_of)
         self._vertex_of: Dict[Node, int] = dict(result.vertex_of)
         self._place_of: Dict[Node, int] = {node: place for place, node in enumerate(self.graph)}

@@ -137,6 +137,11 @@ class Picture:
             value["next_crossing"],
         )
 
+    @staticmethod
+    def from_text(text: str) -> "Picture":
+        """The picture of a text that the program wrote."""
+        return Picture.from_json(json.loads(text))
+
     def to_json(self) -> Dict[str, Any]:
         """The picture as a JSON object in the form of docs/FORMATS.md."""
         return {

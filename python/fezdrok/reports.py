@@ -4,7 +4,7 @@ from __future__ import annotations
 
 import json
 from dataclasses import dataclass
-from typing import Any, Callable, Dict, List, Optional, Sequence, Tuple, Union
+from typing import Any, Callable, Dict, Iterable, List, Optional, Sequence, Tuple, Union
 
 from .faults import NoReport
 from .pictures import Dart, Picture, compact
@@ -225,6 +225,38 @@ class Report:
     def to_text(self) -> str:
         """The report as the program writes it, without its line feed."""
         return compact(self.to_json())
+
+
+class Reports(Sequence[Report]):
+    """Reports, each of which may be given as its text, and is then read when it is first asked for."""
+
+    def __init__(self, given: Iterable[Union[str, Report]] = ()):
+        self._given: List[Union[str, Report]] = list(given)
+
+    @staticmethod
+    def joined(several: Iterable[Sequence[Report]]) -> "Reports":
+        """The reports of several sequences, one after another. None is read."""
+        return Reports(report for reports in several for report in (reports._given if isinstance(reports, Reports) else reports))
+
+    def __len__(self) -> int:
+        return len(self._given)
+
+    def __getitem__(self, place: Any) -> Any:
+        if isinstance(place, slice):
+            return Reports(self._given[place])
+        report = self._given[place]
+        if isinstance(report, str):
+            report = self._given[place] = Report.from_text(report)
+        return report
+
+    def __eq__(self, other: object) -> bool:
+        return tuple(self) == tuple(other) if isinstance(other, (Reports, tuple)) else NotImplemented
+
+    def __hash__(self) -> int:
+        return hash(tuple(self))
+
+    def __repr__(self) -> str:
+        return repr(tuple(self))
 
 
 def difference(

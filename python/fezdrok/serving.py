@@ -5,7 +5,7 @@ from __future__ import annotations
 import os
 import subprocess
 import tempfile
-from typing import NoReturn, Optional, Tuple
+from typing import List, NoReturn, Optional, Sequence, Tuple
 
 from .faults import ProgramNotStarted
 from .program import failure
@@ -15,6 +15,8 @@ PATIENCE = 3.0
 #: How many bytes are read in one call, and how many every pipe takes wholly or not at all.
 _ROOM = 65536
 _AT_ONCE = 512
+#: How many bytes an empty pipe takes at once, whatever the process does.
+TOGETHER = 32768
 
 #: A line that is always refused, and its answer, which no other line of a session has.
 _MARK = '["delete",""]'
@@ -60,13 +62,20 @@ class Lines:
         Where the process ends without an answer, the exception of its status is raised. Where asking is interrupted, as by
         Ctrl-C, the line may have come to the process or not; its answer is passed over when the next line is asked.
         """
+        return self.ask_all([line])[0]
+
+    def ask_all(self, lines: Sequence[str]) -> List[bytes]:
+        """The answers to several lines, as `ask`. All lines are written before the first answer is read, so together they
+        may have TOGETHER bytes: of more, the process could wait for its answers to be read, and this for the lines to be."""
+        if not lines:
+            return []
         if self._is_asking:
             self._catch_up()
         self._is_asking = True
-        self._write(line)
-        answer = self._read()
+        self._write("\n".join(lines))
+        answers = [self._read() for _ in lines]
         self._is_asking = False
-        return answer
+        return answers
 
     def _catch_up(self) -> None:
         """Passes over the answer that may still come, up to that to the mark. Where this is interrupted too, the process is

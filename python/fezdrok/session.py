@@ -5,7 +5,7 @@ from __future__ import annotations
 import json
 from operator import index
 from types import TracebackType
-from typing import Any, Callable, Dict, NamedTuple, Optional, Sequence, Tuple, Type, TypeVar, Union
+from typing import Any, Callable, Dict, List, NamedTuple, Optional, Sequence, Tuple, Type, TypeVar, Union
 
 from .faults import Fault, ProgramFailed, SessionClosed
 from .pictures import Counts, Crossing, Edge, Picture
@@ -13,7 +13,7 @@ from .pictures import compact as json_text
 from .planarizer import Planarizer
 from .program import PathLike, Program
 from .reports import Call, Delete, Deleted, Grow, Grown, Insert, Inserted, Limits, Prices, Refused, Report, reply_from_json
-from .serving import Lines
+from .serving import TOGETHER, Lines
 
 Value = TypeVar("Value")
 Own = TypeVar("Own", bound="Session")
@@ -142,13 +142,31 @@ class Session:
         self._lines = lines
         return new
 
+    def picture_text(self) -> str:
+        """The picture now, as the program writes it."""
+        return self._asked(['"picture"'], lambda lines, answers: answers[0].decode())
+
+    def answers(self, requests: Sequence[str]) -> List[str]:
+        """The answers to several lines of docs/FORMATS.md in order, as the program writes them, also where they are faults.
+
+        All lines are written before the first answer is read, which saves turns through the pipes. Together they may have
+        32,768 bytes, their line feeds among them (else ValueError).
+        """
+        if sum(map(len, requests)) + len(requests) > TOGETHER:
+            raise ValueError(f"the lines have more than {TOGETHER} bytes together")
+        return self._asked(requests, lambda lines, answers: [answer.decode() for answer in answers])
+
     def _ask(self, request: Any, read: Callable[[Any], Value]) -> Value:
         """The answer to a request, read by this function; Fault where the program refuses the line."""
+        return self._asked([json_text(request)], lambda lines, answers: _understood(lines, answers[0], read))
+
+    def _asked(self, requests: Sequence[str], read: Callable[[Lines, List[bytes]], Value]) -> Value:
+        """The answers to some lines, read by this function."""
         lines = self._lines
         if lines is None:
             raise SessionClosed("the session is closed")
         try:
-            return _understood(lines, lines.ask(json_text(request)), read)
+            return read(lines, lines.ask_all(requests))
         finally:
             if lines.is_over:
                 self._lines = None

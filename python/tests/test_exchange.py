@@ -67,7 +67,7 @@ class Exchange(unittest.TestCase):
                 self.assertEqual(sorted(row[value] for _, _, row in again.edges(data=True)), sorted(row[value] for _, _, row in graph.edges(data=True)))
 
     def test_the_object_is_whole(self):
-        result = planarize(nx.petersen_graph())
+        result = planarize(nx.petersen_graph(), quick=True)
         value = result.to_json()
         darts = sorted(map(tuple, (dart for face in value["faces"] for dart in face)))
         self.assertEqual(darts, sorted(tuple(dart) for point in value["nodes"] + value["crossings"] for dart in point["darts"]))

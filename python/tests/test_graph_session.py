@@ -24,7 +24,7 @@ def named(graph):
 class Names(unittest.TestCase):
     def setUp(self):
         self.graph = nx.Graph(["ab", "bc", "cd", "da", "ac"])
-        self.result = planarize(self.graph)
+        self.result = planarize(self.graph, quick=True)
 
     def judge(self, result):
         """The picture draws the graph, each edge of it has its name, and each report is true."""
@@ -145,7 +145,7 @@ class Names(unittest.TestCase):
             planarize(nx.Graph({"a": "b", "c": ""})).parts[1].session()
 
     def test_compacting(self):
-        with planarize(nx.complete_graph(6)).session() as session:
+        with planarize(nx.complete_graph(6), quick=True).session() as session:
             for u, v in ((0, 1), (2, 3), (4, 5)):
                 session.delete_edge(u, v)
                 session.insert_edge(v, u)

@@ -122,10 +122,14 @@ class Refusals(unittest.TestCase):
             planarize(nx.path_graph(3), order=[(0, 2)])
 
     def test_options(self):
-        with self.assertRaisesRegex(ValueError, "tries"):
-            planarize(nx.path_graph(3), tries=0)
-        with self.assertRaisesRegex(ValueError, "rounds is -1: it must be 0 or more"):
-            planarize(nx.path_graph(3), rounds=-1)
+        wrong = {"tries": (0, "1 or more"), "rounds": (-1, "rounds is -1: it must be 0 or more"), "shakes": (-3, "0 or more"), "seconds": (-0.5, "seconds is -0.5")}
+        wrong["progress"] = (3, "a function")
+        for name, (value, words) in wrong.items():
+            with self.subTest(name), self.assertRaisesRegex(ValueError, words):
+                planarize(nx.path_graph(3), **{name: value})
+        for name, value in (("tries", 1.5), ("rounds", "two"), ("shakes", "many"), ("seconds", "long"), ("seconds", float("nan"))):
+            with self.subTest(name), self.assertRaisesRegex(ValueError, f"{name} is .*: it must be a"):
+                planarize(nx.path_graph(3), **{name: value})
         for options in ({"order": "best"}, {"begin": "best"}):
             with self.assertRaisesRegex(ValueError, "not known"):
                 planarize(nx.path_graph(3), **options)
@@ -193,43 +197,43 @@ class Planarizations(Judged):
     def test_known_crossing_numbers_are_lower_bounds(self):
         for name, (graph, number) in named_graphs().items():
             with self.subTest(name):
-                result = planarize(graph)
+                result = planarize(graph, quick=True)
                 self.judge(result)
                 self.assertGreaterEqual(result.crossings, number)
 
     def test_some_are_met(self):
         for name in ("K4", "K5", "K33", "tree", "edge"):
             graph, number = named_graphs()[name]
-            self.assertEqual(planarize(graph, tries=5).crossings, number, name)
+            self.assertEqual(planarize(graph, quick=True, tries=5).crossings, number, name)
 
     def test_random_graphs(self):
         for seed in range(6):
             with self.subTest(seed):
                 graph = nx.random_regular_graph(3 + seed % 3, 14, seed=seed)
                 if nx.is_connected(graph):
-                    self.judge(planarize(graph, order="random", seed=seed))
+                    self.judge(planarize(graph, quick=True, order="random", seed=seed))
 
     def test_several_orders(self):
         graph = nx.complete_graph(7)
-        result = planarize(graph, tries=6, seed=3)
+        result = planarize(graph, quick=True, tries=6, seed=3)
         self.judge(result)
         self.assertEqual(len(result.tries), 6)
         self.assertEqual(result.crossings, min(result.tries))
-        self.assertEqual(result.tries[0], planarize(graph).crossings)
-        again = planarize(graph, tries=6, seed=3)
+        self.assertEqual(result.tries[0], planarize(graph, quick=True).crossings)
+        again = planarize(graph, quick=True, tries=6, seed=3)
         self.assertEqual((again.picture, again.tries), (result.picture, result.tries))
 
     def test_a_planar_beginning(self):
         """A planar graph has no crossing then, and others have no fewer than they must."""
         for name, (graph, number) in named_graphs().items():
             with self.subTest(name):
-                result = planarize(graph, begin="planar")
+                result = planarize(graph, quick=True, begin="planar")
                 self.judge(result)
                 if number == 0:
                     self.assertEqual(result.crossings, 0)
                 self.assertGreaterEqual(result.crossings, number)
         graph = nx.MultiGraph(list(nx.complete_graph(5).edges) * 2)
-        self.judge(planarize(graph, begin="planar", forbidden=[(0, 1)], order="random", price=lambda u, v, data: 1 + u))
+        self.judge(planarize(graph, quick=True, begin="planar", forbidden=[(0, 1)], order="random", price=lambda u, v, data: 1 + u))
 
     def test_a_planar_beginning_is_as_large_as_one_edge_after_another_makes_it(self):
         graph = nx.complete_graph(7)
@@ -240,12 +244,12 @@ class Planarizations(Judged):
             self.assertFalse(nx.check_planarity(nx.Graph([*edges, prepared.source.edges[place]]))[0])
 
     def test_rounds_save_crossings_and_replay(self):
-        before = planarize(nx.complete_graph(8))
+        before = planarize(nx.complete_graph(8), quick=True)
         after = reinsert(before, 5)
         self.judge(after)
         self.assertLess(after.crossings, before.crossings)
         self.assertGreaterEqual(after.crossings, 18)
-        self.assertEqual(planarize(nx.complete_graph(8), rounds=5).picture, after.picture)
+        self.assertEqual(planarize(nx.complete_graph(8), quick=True, rounds=5).picture, after.picture)
         for report, following in zip(after.reports, after.reports[1:]):
             self.assertEqual(report.picture, following.start)
         for report in after.reports:
@@ -264,12 +268,12 @@ class Planarizations(Judged):
         graph = nx.complete_graph(5)
         for seed in range(4):
             doubled = nx.MultiGraph(list(graph.edges) * 2)
-            self.judge(planarize(doubled, order="random", seed=seed))
+            self.judge(planarize(doubled, quick=True, order="random", seed=seed))
 
     def test_prices_decide_what_is_crossed(self):
         graph = nx.complete_graph(5)
         dear = {edge: 1000 for edge in graph.edges if edge != (0, 1)}
-        result = planarize(graph, price=dear, order=[edge for edge in graph.edges if 4 not in edge or edge[0] > 1])
+        result = planarize(graph, quick=True, price=dear, order=[edge for edge in graph.edges if 4 not in edge or edge[0] > 1])
         self.judge(result)
         self.assertEqual(result.cost, sum(result.prices[result.picture.edge(result.id_of[pair[0]]).kind] for pair in result.crossing_pairs))
 
@@ -278,7 +282,7 @@ class Planarizations(Judged):
             graph = nx.complete_graph(7)
             forbidden = random.Random(seed).sample(sorted(nx.maximal_matching(graph)) + [(0, 2), (2, 4)], 4)
             with self.subTest(seed):
-                result = planarize(graph, forbidden=forbidden, order="random", seed=seed)
+                result = planarize(graph, quick=True, forbidden=forbidden, order="random", seed=seed)
                 self.judge(result)
                 self.assertEqual(result.reports[0].version, 2)
                 for u, v in forbidden:
@@ -307,7 +311,7 @@ class Planarizations(Judged):
         graph = nx.petersen_graph()
         prepared = prepare(graph)
         text = prepared.planarizer.program.run(prepared.script_text())
-        self.assertEqual(prepared.result(Report.from_text(text)), planarize(graph))
+        self.assertEqual(prepared.result(Report.from_text(text)), planarize(graph, quick=True))
 
     def test_the_program_counts_the_same(self):
         result = planarize(nx.complete_graph(6))
@@ -322,7 +326,7 @@ class Routes(unittest.TestCase):
 
     def test_prices_of_routes(self):
         for graph, price in ((nx.complete_graph(6), None), (nx.complete_graph(5), lambda u, v, data: 1 + (3 * u + v) % 5)):
-            report = planarize(graph, price).reports[0]
+            report = planarize(graph, price, quick=True).reports[0]
             planarizer = Planarizer(start=report.start, prices=report.prices)
             before = report.start
             for entry in report.history:

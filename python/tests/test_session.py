@@ -9,7 +9,7 @@ import time
 import unittest
 from unittest import mock
 
-from fezdrok import Counts, Deleted, Fault, Grown, Inserted, Limits, MemoryFault, PlanarError, Planarizer, ProgramFailed, ProgramNotFound
+from fezdrok import Counts, Deleted, Fault, Grown, Inserted, Limits, MemoryFault, Picture, PlanarError, Planarizer, ProgramFailed, ProgramNotFound
 from fezdrok import ProgramNotStarted, Refused, Renumbered, Session, SessionClosed, UsageRefused
 from fezdrok import serving
 
@@ -114,6 +114,17 @@ class Calls(unittest.TestCase):
                 session.grow(0.5)
             self.assertEqual(session.report().history, ())
             self.assertEqual(session.grow(0), Grown(2, 1))
+
+    def test_several_lines_at_once(self):
+        with Session() as session:
+            answers = session.answers(['["grow",1,0,0]', '["insert",0,2,0]', '["insert",0,0,0]', "[", '"counts"'])
+            due = ['{"edge":1,"vertex":2}', '{"crossed":[],"edge":2,"end":0,"price":0,"start":0}', '{"refused":[2,"SameEnds"]}', '{"fault":[50,"NotJson"]}']
+            self.assertEqual(answers[:4], due)
+            self.assertEqual(session.answers([]), [])
+            self.assertEqual(len(session.answers(['"counts"'] * 3640)), 3640)
+            with self.assertRaisesRegex(ValueError, "more than 32768 bytes"):
+                session.answers(['"counts"'] * 3641)
+            self.assertEqual(Picture.from_text(session.picture_text()), session.picture())
 
     def test_faults_of_the_start(self):
         seed = Planarizer().run().picture

@@ -1,0 +1,74 @@
+"""How far a planarization is: what is told of it while it goes on, the time that it has, and a line on the terminal."""
+
+from __future__ import annotations
+
+import sys
+import time
+from typing import Any, Callable, NamedTuple, Optional, TextIO, Union
+
+
+class Progress(NamedTuple):
+    """How far a planarization is.
+
+    `step` says in words what is done now, in which order of the edges, from 1 to `tries`. `crossings` are those of the picture
+    that is worked at, which may not have all edges yet, and `best` those of the best whole picture so far, or None where there
+    is none. `seconds` are those since the beginning. Where the graph is not connected, all are those of one part.
+    """
+
+    step: str
+    order: int
+    tries: int
+    crossings: int
+    best: Optional[int]
+    seconds: float
+
+
+#: True for a line on the terminal, None or False for nothing, or a function that is called with each Progress.
+Telling = Union[None, bool, Callable[[Progress], Any]]
+
+
+def teller(progress: Telling) -> Callable[[Progress], Any]:
+    """What is called with each Progress; ValueError where it is neither a function nor True, False or None."""
+    if callable(progress):
+        return progress
+    if progress is not None and not isinstance(progress, bool):
+        raise ValueError(f"progress is {progress!r}: it must be True, False, None, or a function that takes a Progress")
+    return Line(sys.stderr) if progress else lambda told: None
+
+
+class Line:
+    """A line that is written over again, at most ten times a second."""
+
+    def __init__(self, stream: TextIO, clock: Callable[[], float] = time.monotonic):
+        self._stream = stream
+        self._clock = clock
+        self._next = clock()
+        self._length = 0
+
+    def __call__(self, told: Progress) -> None:
+        if self._clock() < self._next and told.step != "done":
+            return
+        self._next = self._clock() + 0.1
+        best = "none yet" if told.best is None else str(told.best)
+        text = f"order {told.order} of {told.tries}, {told.step}: {told.crossings} crossings, best {best}, {told.seconds:.1f} s"
+        self._stream.write("\r" + text.ljust(self._length) + ("\n" if told.step == "done" else ""))
+        self._stream.flush()
+        self._length = len(text)
+
+
+class Clock:
+    """The time since it was made, and whether that which was given is over. Without seconds it never is."""
+
+    def __init__(self, seconds: Optional[float] = None):
+        self._begun = time.monotonic()
+        self._seconds = seconds
+
+    @property
+    def spent(self) -> float:
+        """The seconds so far."""
+        return time.monotonic() - self._begun
+
+    @property
+    def is_over(self) -> bool:
+        """Whether the time that was given is over."""
+        return self._seconds is not None and self.spent >= self._seconds

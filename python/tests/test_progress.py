@@ -1,0 +1,42 @@
+"""The line on the terminal, and the time that is given."""
+
+import io
+import unittest
+
+from fezdrok import Progress
+from fezdrok.progress import Clock, Line, teller
+
+
+class Lines(unittest.TestCase):
+    def test_a_line(self):
+        times = iter([0.0, 0.0, 0.0, 0.05, 0.2, 0.2, 0.21, 0.21])
+        stream = io.StringIO()
+        line = Line(stream, clock=lambda: next(times))
+        line(Progress("round 12", 1, 4, 123, None, 0.5))
+        line(Progress("round 13", 1, 4, 120, None, 0.6))
+        line(Progress("shakes", 4, 4, 7, 8, 0.7))
+        line(Progress("done", 4, 4, 7, 7, 0.8))
+        written = stream.getvalue().split("\r")
+        self.assertEqual(written[1:2], ["order 1 of 4, round 12: 123 crossings, best none yet, 0.5 s"])
+        self.assertEqual(len(written[2]), len(written[1]))
+        self.assertEqual(written[2].rstrip(), "order 4 of 4, shakes: 7 crossings, best 8, 0.7 s")
+        self.assertEqual(len(written), 4)
+        self.assertTrue(written[3].endswith("\n"))
+
+    def test_what_is_told(self):
+        self.assertIs(teller(print), print)
+        self.assertIsNone(teller(None)(Progress("done", 1, 1, 0, 0, 0.0)))
+        self.assertIsInstance(teller(True), Line)
+        with self.assertRaisesRegex(ValueError, "progress is 'yes'"):
+            teller("yes")
+
+
+class Clocks(unittest.TestCase):
+    def test_time(self):
+        self.assertFalse(Clock().is_over or Clock(1000).is_over)
+        self.assertTrue(Clock(0).is_over)
+        self.assertGreaterEqual(Clock().spent, 0)
+
+
+if __name__ == "__main__":
+    unittest.main()
