@@ -36,8 +36,9 @@ const PAIRS: usize = 8;
 /// How many calls lead from the first picture of a run to its last.
 const CALLS: u32 = 40;
 
-/// How many runs there are, each with numbers of its own. With all pairs these are 102,400 insertions.
-const RUNS: u32 = 64;
+/// How many runs there are, each with numbers of its own. With all pairs these are 12,800 insertions; with 64 runs
+/// they are 102,400.
+const RUNS: u32 = 8;
 
 /// How many vertices most new edges of a run end at.
 fn hubs_of(run: u32) -> u32 {
