@@ -89,6 +89,10 @@ impl Walked for Frozen {
         self.as_numbered().twin(dart)
     }
 
+    fn edge(&self, dart: u32) -> u32 {
+        self.as_numbered().edge(dart)
+    }
+
     fn facts(&self, dart: u32) -> Facts {
         self.as_numbered().facts(dart)
     }

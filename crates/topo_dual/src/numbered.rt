@@ -89,6 +89,10 @@ impl Walked for Numbered<'_> {
         twin_of(dart)
     }
 
+    fn edge(&self, dart: u32) -> u32 {
+        self.dart(dart).edge.number()
+    }
+
     fn facts(&self, dart: u32) -> Facts {
         facts_numbered(self.rows, self.place(dart), dart)
     }

@@ -109,6 +109,10 @@ impl Walked for EmbeddedRows<'_> {
         Half::numbered(dart).twin().number()
     }
 
+    fn edge(&self, dart: u32) -> u32 {
+        self.embedded.edge(Half::numbered(dart))
+    }
+
     fn facts(&self, dart: u32) -> Facts {
         self.embedded.facts(Half::numbered(dart))
     }

@@ -1,76 +1,78 @@
 -- Arrays that are blank, and numbers written in them.
-use Rattle.std.proofs.Common.{◌≡◌, ◌≢◌, ◌∙◌, ◌<◌, ◌≤◌, ◌+◌, ◌∷◌, ◌++◌, ◌||◌, ◌==◌, ◌⊎◌, [], ℕ, suc, zero, Bool, false, true, List, ap, arith, eq-eqb, get_or-set_other, get_or-set_same, inl, inr, ne_eqb, length, refl, replicate, sym, take}
+use Rattle.std.proofs.Common.{◌≡◌, ◌≢◌, ◌∙◌, ◌<◌, ◌≤◌, ◌+◌, ◌-◌, ◌∷◌, ◌++◌, ◌||◌, ◌==◌, ◌⊎◌, [], ℕ, suc, zero, Bool, false, true, List, ap, arith, eq-eqb, get_or-set_other, get_or-set_same, inl, inr, length, refl, replicate, sym, take}
 use Rattle.std.proofs.Math.Bool.{or-false}
+use Rattle.std.proofs.Math.Dec.{ltb}
 use Rattle.std.proofs.Math.ListN.{set}
-use Rattle.std.proofs.lemmas.Bool.{cases_eq, eqb-true}
+use Rattle.std.proofs.lemmas.Bool.{cases_eq, cases_lt, eqb-true, le-ltb, lt-ltb}
 use Rattle.std.proofs.lemmas.List.{length-set}
 use Rattle.std.proofs.lemmas.List.Folds.{list_any-append}
 use Rattle.std.specs.Prelude.{cond, slice_index}
 use Rattle.topo_core.specs.Items.{has_id}
 use Rattle.topo_core.specs.Routes.{unreached}
 use Rattle.topo_core.proofs.NumberOrder.{either}
-use Rattle.topo_route.specs.StampedArrays.{AreAtMost, AreWritten, read_all, read_in}
+use Rattle.topo_route.specs.StampedArrays.{AreAtLeast, AreWritten, read_all, read_from, span}
 
--- a number of the epoch says itself
-pub reads_itself : (now epoch number : ℕ) → epoch ≡ now → read_in now epoch number ≡ number
-reads_itself now epoch number e = ap (λ (b : Bool). cond {A = ℕ} b number unreached) (eq-eqb epoch now e)
+-- a word of the epoch says how far it is above the base
+pub reads_number : (base word : ℕ) → word - base < span → read_from base word ≡ word - base
+reads_number base word h = ap (λ (b : Bool). cond {A = ℕ} b (word - base) unreached) (lt-ltb (word - base) span h)
 
--- one of another epoch says nothing
-pub reads_blank : (now epoch number : ℕ) → (epoch ≡ now → ⊥) → read_in now epoch number ≡ unreached
-reads_blank now epoch number ne = ap (λ (b : Bool). cond {A = ℕ} b number unreached) (ne_eqb epoch now ne)
+-- one of an earlier epoch says nothing
+pub reads_blank : (base word : ℕ) → span ≤ word - base → read_from base word ≡ unreached
+reads_blank base word h = ap (λ (b : Bool). cond {A = ℕ} b (word - base) unreached) (le-ltb (word - base) span h)
 
-pub all_long : (now : ℕ) (epochs numbers : List ℕ) → length (read_all now epochs numbers) ≡ length epochs
-all_long now [] numbers = refl
-all_long now (epoch ∷ epochs) [] = ap suc (all_long now epochs [])
-all_long now (epoch ∷ epochs) (number ∷ numbers) = ap suc (all_long now epochs numbers)
+pub all_long : (base len : ℕ) (words : List ℕ) → len ≤ length words → length (read_all base len words) ≡ len
+all_long base zero words many = refl
+all_long base (suc len) [] many = absurd (omega arith)
+all_long base (suc len) (word ∷ words) many = ap suc (all_long base len words (omega arith))
 
-pub read_at : (now : ℕ) (epochs numbers : List ℕ) (k : ℕ) → k < length epochs → length epochs ≤ length numbers → slice_index (read_all now epochs numbers) k ≡ read_in now (slice_index epochs k) (slice_index numbers k)
-read_at now [] numbers k h many = absurd (omega arith)
-read_at now (epoch ∷ epochs) [] k h many = absurd (omega arith)
-read_at now (epoch ∷ epochs) (number ∷ numbers) zero h many = refl
-read_at now (epoch ∷ epochs) (number ∷ numbers) (suc k) h many = read_at now epochs numbers k (omega arith) (omega arith)
+pub read_at : (base len : ℕ) (words : List ℕ) (k : ℕ) → k < len → len ≤ length words → slice_index (read_all base len words) k ≡ read_from base (slice_index words k)
+read_at base zero words k h many = absurd (omega arith)
+read_at base (suc len) [] k h many = absurd (omega arith)
+read_at base (suc len) (word ∷ words) zero h many = refl
+read_at base (suc len) (word ∷ words) (suc k) h many = read_at base len words k (omega arith) (omega arith)
 
-pub written_number : (now : ℕ) (epochs numbers : List ℕ) (k number : ℕ) → length epochs ≤ length numbers → read_all now (set epochs k now) (set numbers k number) ≡ set (read_all now epochs numbers) k number
-written_number now [] [] k number many = refl
-written_number now [] (n ∷ numbers) zero number many = refl
-written_number now [] (n ∷ numbers) (suc k) number many = refl
-written_number now (epoch ∷ epochs) [] k number many = absurd (omega arith)
-written_number now (epoch ∷ epochs) (n ∷ numbers) zero number many = ap (λ x. x ∷ read_all now epochs numbers) (reads_itself now now number refl)
-written_number now (epoch ∷ epochs) (n ∷ numbers) (suc k) number many = ap (λ xs. read_in now epoch n ∷ xs) (written_number now epochs numbers k number (omega arith))
+-- a number that is written is read
+written_reads : (base number : ℕ) → number < span → read_from base (base + number) ≡ number
+written_reads base number h = let back : base + number - base ≡ number = omega arith in reads_number base (base + number) (omega arith) ∙ back
 
--- numbers of earlier epochs are blank
-pub all_blank : (now : ℕ) (epochs numbers : List ℕ) → AreAtMost now epochs → read_all (now + 1) epochs numbers ≡ replicate (length epochs) unreached
-all_blank now [] numbers early = refl
-all_blank now (epoch ∷ epochs) [] early = ap (λ xs. unreached ∷ xs) (all_blank now epochs [] (λ k. early (suc k)))
-all_blank now (epoch ∷ epochs) (number ∷ numbers) early =
-    let first = reads_blank (now + 1) epoch number (λ e. absurd (omega (arith, early 0))) in
-    ap (λ x. x ∷ read_all (now + 1) epochs numbers) first ∙ ap (λ xs. unreached ∷ xs) (all_blank now epochs numbers (λ k. early (suc k)))
+pub written_number : (base len : ℕ) (words : List ℕ) (k number : ℕ) → number < span → read_all base len (set words k (base + number)) ≡ set (read_all base len words) k number
+written_number base zero words k number h = refl
+written_number base (suc len) [] k number h = refl
+written_number base (suc len) (word ∷ words) zero number h = ap (λ x. x ∷ read_all base len words) (written_reads base number h)
+written_number base (suc len) (word ∷ words) (suc k) number h = ap (λ xs. read_from base word ∷ xs) (written_number base len words k number h)
 
--- a list that is cut, filled up with zeros or written on keeps its bound
-pub none_above : (most : ℕ) → AreAtMost most []
-none_above most k = omega arith
+-- words of earlier epochs are blank
+pub all_blank : (base len : ℕ) (words : List ℕ) → len ≤ length words → AreAtLeast (base + span) words → read_all base len words ≡ replicate len unreached
+all_blank base zero words many early = refl
+all_blank base (suc len) [] many early = absurd (omega arith)
+all_blank base (suc len) (word ∷ words) many early =
+    let high : base + span ≤ word = early 0 (omega arith) in
+    ap (λ x. x ∷ read_all base len words) (reads_blank base word (omega arith)) ∙ ap (λ xs. unreached ∷ xs) (all_blank base len words (omega arith) (λ k h. early (suc k) (omega arith)))
 
-filled : (most m : ℕ) → AreAtMost most (replicate m 0)
-filled most zero k = omega arith
-filled most (suc m) zero = omega arith
-filled most (suc m) (suc k) = filled most m k
+-- a list that is filled, or filled up, with the greatest word keeps its bound
+pub filled : (least m : ℕ) → least ≤ unreached → AreAtLeast least (replicate m unreached)
+filled least zero h k within = absurd (omega arith)
+filled least (suc m) h zero within = h
+filled least (suc m) h (suc k) within = filled least m h k (omega arith)
 
-pub resized : (most n m : ℕ) (xs : List ℕ) → AreAtMost most xs → AreAtMost most (take n xs ++ replicate m 0)
-resized most zero m xs small k = filled most m k
-resized most (suc n) m [] small k = filled most m k
-resized most (suc n) m (x ∷ xs) small zero = small 0
-resized most (suc n) m (x ∷ xs) small (suc k) = resized most n m xs (λ j. small (suc j)) k
+pub filled_up : (least n m : ℕ) (xs : List ℕ) → least ≤ unreached → AreAtLeast least xs → AreAtLeast least (take n xs ++ replicate m unreached)
+filled_up least zero m xs h above k within = filled least m h k within
+filled_up least (suc n) m [] h above k within = filled least m h k within
+filled_up least (suc n) m (x ∷ xs) h above zero within = above 0 (omega arith)
+filled_up least (suc n) m (x ∷ xs) h above (suc k) within = filled_up least n m xs h (λ j less. above (suc j) (omega arith)) k (omega arith)
 
 -- what is read is no more than the greatest number
-reads_within : (now epoch number : ℕ) → number ≤ unreached → read_in now epoch number ≤ unreached
-reads_within now epoch number small = grind (arith, cases_eq, reads_itself, reads_blank)
+reads_within : (base word : ℕ) → read_from base word ≤ unreached
+reads_within base word = elim (cases_lt (word - base) span) [
+  | inl less ↦ let is = reads_number base word less in omega arith
+  | inr more ↦ let is = reads_blank base word more in omega arith
+]
 
-pub all_within : (now : ℕ) (epochs numbers : List ℕ) → AreAtMost unreached numbers → AreAtMost unreached (read_all now epochs numbers)
-all_within now [] numbers small k = none_above unreached k
-all_within now (epoch ∷ epochs) [] small zero = omega arith
-all_within now (epoch ∷ epochs) [] small (suc k) = all_within now epochs [] small k
-all_within now (epoch ∷ epochs) (number ∷ numbers) small zero = reads_within now epoch number (small 0)
-all_within now (epoch ∷ epochs) (number ∷ numbers) small (suc k) = all_within now epochs numbers (λ j. small (suc j)) k
+pub all_within : (base len : ℕ) (words : List ℕ) (k : ℕ) → slice_index (read_all base len words) k ≤ unreached
+all_within base zero words k = omega arith
+all_within base (suc len) [] k = omega arith
+all_within base (suc len) (word ∷ words) zero = reads_within base word
+all_within base (suc len) (word ∷ words) (suc k) = all_within base len words k
 
 -- ---- The list of the places that are written
 
@@ -102,41 +104,36 @@ pub lists_already : (xs : List ℕ) (k : ℕ) → has_id xs k ≡ true → Lists
 lists_already xs k h = record { itself = h; stays = λ j l. l; came = λ j l. inr l }
 
 -- a number is written at a place that is listed
-pub number_written : (now : ℕ) (epochs numbers before after : List ℕ) (k number : ℕ) → AreWritten now epochs numbers before → Lists before after k → k < length epochs → number ≤ unreached
-    → AreWritten now (set epochs k now) (set numbers k number) after
-number_written now epochs numbers before after k number written lists inside small =
-    let same_epochs = length-set epochs k now in
-    let same_numbers = length-set numbers k number in
+pub number_written : (base len : ℕ) (words before after : List ℕ) (k number : ℕ) → AreWritten base len words before → Lists before after k → k < len → AreWritten base len (set words k (base + number)) after
+number_written base len words before after k number written lists inside =
+    let same = length-set words k (base + number) in
     let as_many = written.as_many in
     record {
       as_many = omega arith;
-      early = λ j. elim (cases_eq j k) [
-        | inl e ↦ let here = get_or-set_same epochs k now 0 inside in let at : slice_index (set epochs k now) j ≡ now = ap (slice_index (set epochs k now)) e ∙ here in omega arith
-        | inr ne ↦ let there = get_or-set_other epochs k j now 0 ne in let was = written.early j in omega arith
+      above = λ j within. elim (cases_eq j k) [
+        | inl e ↦ let here = get_or-set_same words k (base + number) 0 (omega arith) in let at : slice_index (set words k (base + number)) j ≡ base + number = ap (slice_index (set words k (base + number))) e ∙ here in omega arith
+        | inr ne ↦ let there = get_or-set_other words k j (base + number) 0 ne in let was = written.above j (omega arith) in omega arith
       ];
-      small = λ j. elim (cases_eq j k) [
-        | inl e ↦ let here = get_or-set_same numbers k number 0 (omega arith) in let at : slice_index (set numbers k number) j ≡ number = ap (slice_index (set numbers k number)) e ∙ here in omega arith
-        | inr ne ↦ let there = get_or-set_other numbers k j number 0 ne in let was = written.small j in omega arith
-      ];
+      room = written.room;
       listed = λ j within at. elim (cases_eq j k) [
         | inl e ↦ ap (has_id after) e ∙ lists.itself
-        | inr ne ↦ lists.stays j (written.listed j (omega arith) (sym (get_or-set_other epochs k j now 0 ne) ∙ at))
+        | inr ne ↦ let there = get_or-set_other words k j (base + number) 0 ne in lists.stays j (written.listed j within (omega arith))
       ];
       there = λ j h. elim (lists.came j h) [
         | inl e ↦ omega arith
-        | inr was ↦ let less = written.there j was in omega arith
+        | inr was ↦ written.there j was
       ];
     }
 
 -- what is read as a number is written
-pub read_written : (now : ℕ) (epochs numbers written : List ℕ) → AreWritten now epochs numbers written → (k : ℕ) → k < length (read_all now epochs numbers) → slice_index (read_all now epochs numbers) k ≢ unreached → has_id written k ≡ true
-read_written now epochs numbers written are k within some =
-    let long = all_long now epochs numbers in
-    let inside : k < length epochs = omega arith in
-    elim (cases_eq (slice_index epochs k) now) [
-      | inl e ↦ are.listed k inside e
-      | inr ne ↦ absurd (some (read_at now epochs numbers k inside are.as_many ∙ reads_blank now (slice_index epochs k) (slice_index numbers k) ne))
+pub read_written : (base len : ℕ) (words written : List ℕ) → AreWritten base len words written → (k : ℕ) → k < length (read_all base len words) → slice_index (read_all base len words) k ≢ unreached → has_id written k ≡ true
+read_written base len words written are k within some =
+    let long = all_long base len words are.as_many in
+    let inside : k < len = omega arith in
+    elim (cases_lt (slice_index words k - base) span) [
+      | inl less ↦ are.listed k inside less
+      | inr more ↦ absurd (some (read_at base len words k inside are.as_many ∙ reads_blank base (slice_index words k) more))
     ]
 
-pub written_within : (now : ℕ) (epochs numbers written : List ℕ) → AreWritten now epochs numbers written → (k : ℕ) → has_id written k ≡ true → k < length (read_all now epochs numbers)
-written_within now epochs numbers written are k h = let long = all_long now epochs numbers in let less = are.there k h in omega arith
+pub written_within : (base len : ℕ) (words written : List ℕ) → AreWritten base len words written → (k : ℕ) → has_id written k ≡ true → k < length (read_all base len words)
+written_within base len words written are k h = let long = all_long base len words are.as_many in let less = are.there k h in omega arith

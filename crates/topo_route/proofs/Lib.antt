@@ -6,6 +6,7 @@ pub mod Tests
 pub mod Walking
 pub mod Verdicts
 pub mod Settled
+pub mod Fits
 pub mod Sums
 pub mod Relaxing
 pub mod Buckets

@@ -1,26 +1,31 @@
 -- Numbers that count in the epoch in which they were written.
-use Rattle.std.specs.Prelude.{[], ◌∷◌, ◌≡◌, ◌<◌, ◌≤◌, ◌==◌, ℕ, cond, length, List, slice_index, true}
+use Rattle.std.specs.Prelude.{[], ◌∷◌, ◌≡◌, ◌+◌, ◌-◌, ◌<◌, ◌≤◌, ℕ, suc, zero, cond, length, List, slice_index, true}
+use Rattle.std.proofs.Math.Dec.{ltb}
 use Rattle.topo_core.specs.Items.{has_id}
 use Rattle.topo_core.specs.Routes.{unreached}
 
--- what a number that was written in an epoch says in another
-abbrev pub read_in : ℕ → ℕ → ℕ → ℕ
-read_in now epoch number = cond {A = ℕ} (epoch == now) number unreached
+-- how many numbers an epoch has
+abbrev pub span : ℕ
+span = 4398046511104
 
--- what an array says, by the epochs in which its numbers were written
-abbrev pub read_all : ℕ → List ℕ → List ℕ → List ℕ
-read_all now [] numbers = []
-read_all now (epoch ∷ epochs) [] = unreached ∷ read_all now epochs []
-read_all now (epoch ∷ epochs) (number ∷ numbers) = read_in now epoch number ∷ read_all now epochs numbers
+-- what a word says in the epoch with this base: how far it is above, if it is no word of an earlier epoch
+abbrev pub read_from : ℕ → ℕ → ℕ
+read_from base word = cond {A = ℕ} (ltb (word - base) span) (word - base) unreached
 
-abbrev pub AreAtMost : ℕ → List ℕ → Type 0
-AreAtMost most xs = (k : ℕ) → slice_index xs k ≤ most
+-- what an array of so many numbers says
+abbrev pub read_all : ℕ → ℕ → List ℕ → List ℕ
+read_all base zero words = []
+read_all base (suc len) [] = []
+read_all base (suc len) (word ∷ words) = read_from base word ∷ read_all base len words
 
--- Each epoch has a number, none is a later one, and no number is above the greatest. The list of what is written has each place
--- of the epoch, and none past the end.
-pub record AreWritten (now : ℕ) (epochs numbers written : List ℕ) : Type 0 where
-  pub as_many : length epochs ≤ length numbers
-  pub early : AreAtMost now epochs
-  pub small : AreAtMost unreached numbers
-  pub listed : (k : ℕ) → k < length epochs → slice_index epochs k ≡ now → has_id written k ≡ true
-  pub there : (k : ℕ) → has_id written k ≡ true → k < length epochs
+abbrev pub AreAtLeast : ℕ → List ℕ → Type 0
+AreAtLeast least xs = (k : ℕ) → k < length xs → least ≤ slice_index xs k
+
+-- There is a word for each number, and none is below the base. The list of what is written has each place of the epoch, and none
+-- past the end.
+pub record AreWritten (base len : ℕ) (words written : List ℕ) : Type 0 where
+  pub as_many : len ≤ length words
+  pub above : AreAtLeast base words
+  pub room : base + span ≤ unreached
+  pub listed : (k : ℕ) → k < len → slice_index words k - base < span → has_id written k ≡ true
+  pub there : (k : ℕ) → has_id written k ≡ true → k < len

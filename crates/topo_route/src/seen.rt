@@ -1,8 +1,9 @@
 //! The region that a search from both ends has seen.
 
-ghost use Rattle.std.specs.Prelude.{◌<◌, ◌≤◌, IfOk, IfSome, IsSomeAnd, OnOk};
+ghost use Rattle.std.specs.Prelude.{◌≡◌, ◌<◌, ◌≤◌, IfOk, IfSome, IsSomeAnd, OnOk, true};
 ghost use Rattle.topo_core.specs.Routes.{unreached};
-ghost use Rattle.topo_route.specs.Regions.{IsRegionOf};
+ghost use Rattle.topo_route.specs.Names.{IsName, dart_named};
+ghost use Rattle.topo_route.specs.Regions.{IsRegionOf, holds_edge};
 ghost use Rattle.topo_route.specs.Seen.{AreNamed, HasSeen, HoldsBelow, HoldsMore, HoldsSeen};
 
 use crate::both_ends::Stop;
@@ -11,6 +12,21 @@ use crate::stamped_array::StampedArray;
 use crate::walked::Walked;
 use crate::workspace::Workspace;
 use std::alloc::{AllocError, Global};
+
+/// Marks the edge of a dart. Its facts are not looked up where it is marked already, as most are.
+fn mark_edge<W: Walked>(walked: &W, dart: u32, region: &mut Region) -> Result<(), AllocError>
+    requires name { IsName (W.named walked.now) dart }
+    requires of_rows { IsRegionOf (W.named walked.now).rows region.old }
+    ensures of_rows { OnOk result (IsRegionOf (W.named walked.now).rows region.new) }
+    ensures more { OnOk result (HoldsMore region.old region.new) }
+    ensures itself { OnOk result (holds_edge region.new (dart_named (W.named walked.now) dart).edge ≡ true) }
+{
+    if region.has_edge(walked.edge(dart)) {
+        return Ok(());
+    }
+    region.mark(&walked.facts(dart))?;
+    Ok(())
+}
 
 /// Marks the edge of each dart that is lower than the bound.
 fn mark_below<W: Walked>(
@@ -29,7 +45,7 @@ fn mark_below<W: Walked>(
     for i in 0..places.len() {
         let dart = places[i];
         if heights.get(dart) < bound {
-            region.mark(&walked.facts(dart))?;
+            mark_edge(walked, dart, region)?;
         }
     }
     Ok(())

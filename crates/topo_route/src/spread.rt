@@ -7,6 +7,7 @@ ghost use Rattle.topo_core.specs.Routes.{unreached};
 ghost use Rattle.topo_route.specs.Names.{IsName, height_of};
 ghost use Rattle.topo_route.specs.Plans.{AreHeights, IsZeroAt};
 ghost use Rattle.topo_route.specs.Settling.{AreCosts, AreLowered, ArePrices, AreSums, IsCrossed, IsReached, IsSettled, Relaxes, Spreads, SpreadsTo, dart_of_item, effort, is_pending, is_waiting, number_at, reach_of, top_of};
+ghost use Rattle.topo_route.specs.StampedArrays.{span};
 
 use crate::bucket_queue::{BucketQueue, dart_of_item, item_of, least_height};
 use crate::graph::Graph;
@@ -52,13 +53,17 @@ impl Labels {
         dart: u32,
         height: u64,
     ) -> Result<(), AllocError>
-        requires { dart < length self.old.heights }
+        requires within { dart < length self.old.heights }
+        requires fits { height < span }
         ensures heights { OnOk result (self.new.heights ≡ slice_set self.old.heights dart height) }
         ensures waiting { OnOk result (self.new.waiting ≡ self.old.waiting) }
         ensures least { OnOk result (least.new ≡ min least.old (height + number_at other.now dart)) }
     {
         self.heights.set(dart, height)?;
-        *least = (*least).min(height.saturating_add(other.number_at(dart)));
+        let sum = height.saturating_add(other.number_at(dart));
+        if sum < *least {
+            *least = sum;
+        }
         Ok(())
     }
 
@@ -82,6 +87,7 @@ impl Labels {
         ensures crossed { IfOk result (λ _. IsCrossed (prices_of (F.answers graph.now.tariff.now)) (W.named graph.now.walked.now) (reach_of least.new) self.new.heights dart) }
         ensures same { IfOk result (λ _. slice_index self.new.heights dart ≡ height) }
     {
+        let _darts = graph.walked.size();
         let twin = across(graph.walked, dart);
         let high = self.heights.get(twin).min((*least).saturating_add(1));
         if high.saturating_sub(height) <= 1 {
@@ -117,6 +123,7 @@ impl Labels {
         requires sums { AreSums (W.named graph.now.walked.now) self.old.heights other.now least.old }
         ensures relaxes { IfOk result (λ _. Relaxes (prices_of (F.answers graph.now.tariff.now)) (W.named graph.now.walked.now) v other.now self.old.heights self.old.waiting least.old dart self.new.heights self.new.waiting least.new (W.named graph.now.walked.now).size) }
     {
+        let _darts = graph.walked.size();
         let height = self.heights.get(dart);
         let mut at = dart;
         loop {

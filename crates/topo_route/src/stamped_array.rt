@@ -4,20 +4,26 @@ ghost use Rattle.std.specs.Prelude.{◌≡◌, ◌≢◌, ◌<◌, ◌≤◌, []
 ghost use Rattle.topo_core.specs.Items.{has_id};
 ghost use Rattle.topo_core.specs.Routes.{unreached};
 ghost use Rattle.topo_route.specs.Settling.{number_at};
+ghost use Rattle.topo_route.specs.StampedArrays.{span};
 
 use std::alloc::{AllocError, Global};
 use std::marker::Model;
 
-/// A list of numbers, each the greatest until another is written. Contracts see the list. A number
-/// counts in the epoch in which it was written and in no other, so a new epoch blanks the whole list,
-/// and a search that is given one takes no time for what it does not reach. The epochs have
-/// a list of their own: where nothing is written that is seen on four bytes. The places written in the
-/// epoch are listed too, each once: what a search has reached can be gone through.
+/// How many numbers an epoch has: more than heights of darts that have a number of 32 bits, since no price is
+/// above 1000.
+const SPAN: u64 = 1 << 42;
+
+/// A list of numbers, each the greatest until another is written. Contracts see the list. A number is
+/// kept as a word, above a base that is lower in each epoch by as many numbers as an epoch has. So a word of an
+/// earlier epoch is past those of this one, a new epoch blanks the whole list, and a search that is given one
+/// takes no time for what it does not reach. The words are never fewer than they were: a list that is long again
+/// takes no time either. The places written in the epoch are listed too, each once: what a search has reached can
+/// be gone through.
 #[derive(Drop)]
 pub(crate) struct StampedArray {
-    numbers: Vec<u64>,
-    epochs: Vec<u32>,
-    epoch: u32,
+    words: Vec<u64>,
+    base: u64,
+    len: usize,
     written: Vec<u32>,
 }
 
@@ -27,9 +33,9 @@ impl Model for StampedArray {
 
     ghost Value = { List ℕ };
 
-    ghost view = { λ s. read_all s.epoch s.epochs.items s.numbers.items };
+    ghost view = { λ s. read_all s.base s.len s.words.items };
 
-    ghost invariant = { λ s. AreWritten s.epoch s.epochs.items s.numbers.items s.written.items };
+    ghost invariant = { λ s. AreWritten s.base s.len s.words.items s.written.items };
 }
 
 impl StampedArray {
@@ -38,9 +44,9 @@ impl StampedArray {
         ensures { result ≡ [] }
     {
         StampedArray {
-            numbers: Vec::new(alloc),
-            epochs: Vec::new(alloc),
-            epoch: 0,
+            words: Vec::new(alloc),
+            base: u64::MAX - SPAN,
+            len: 0,
             written: Vec::new(alloc),
         }
     }
@@ -49,16 +55,16 @@ impl StampedArray {
     pub(crate) fn clear(&mut self, len: usize) -> Result<(), AllocError>
         ensures { OnOk result (self.new ≡ replicate len unreached) }
     {
-        if self.epoch == u32::MAX {
-            self.epochs.clear();
-            self.epoch = 0;
+        if self.base < SPAN {
+            self.words.fill(u64::MAX);
+            self.base = u64::MAX - SPAN;
         }
         self.written.clear();
-        self.epoch += 1;
-        if self.numbers.len() < len {
-            self.numbers.resize(len, 0)?;
+        self.base -= SPAN;
+        if self.words.len() < len {
+            self.words.resize(len, u64::MAX)?;
         }
-        self.epochs.resize(len, 0)?;
+        self.len = len;
         Ok(())
     }
 
@@ -75,11 +81,8 @@ impl StampedArray {
         requires { place < length self.now }
         ensures { result ≡ slice_index self.now place }
     {
-        if self.epochs[place] == self.epoch {
-            self.numbers[place]
-        } else {
-            u64::MAX
-        }
+        let number = self.words[place] - self.base;
+        if number < SPAN { number } else { u64::MAX }
     }
 
     /// The number at a place, and the greatest past the end.
@@ -87,7 +90,7 @@ impl StampedArray {
         ensures { result ≡ number_at self.now place }
     {
         let place = place as usize;
-        if place < self.epochs.len() {
+        if place < self.len {
             self.read(place)
         } else {
             u64::MAX
@@ -98,19 +101,19 @@ impl StampedArray {
     pub(crate) fn in_range(&self)
         ensures { (k : ℕ) → slice_index self.now k ≤ unreached }
     {
-        let _places = self.numbers.len();
+        let _places = self.len;
     }
 
     /// Writes a number at a place.
     pub(crate) fn set(&mut self, place: u32, number: u64) -> Result<(), AllocError>
-        requires { place < length self.old }
+        requires within { place < length self.old }
+        requires fits { number < span }
         ensures { OnOk result (self.new ≡ slice_set self.old place number) }
     {
-        if self.epochs[place as usize] != self.epoch {
+        if self.words[place as usize] - self.base >= SPAN {
             self.written.push(place)?;
         }
-        self.numbers[place as usize] = number;
-        self.epochs[place as usize] = self.epoch;
+        self.words[place as usize] = self.base + number;
         Ok(())
     }
 
@@ -126,8 +129,8 @@ impl StampedArray {
     pub(crate) fn numbers(&self, alloc: Global) -> Result<Vec<u64>, AllocError>
         ensures { IfOk result (λ numbers. numbers.items ≡ self.now) }
     {
-        let mut numbers = Vec::with_capacity(alloc, self.epochs.len())?;
-        for place in 0..self.epochs.len() {
+        let mut numbers = Vec::with_capacity(alloc, self.len)?;
+        for place in 0..self.len {
             numbers.push(self.read(place))?;
         }
         Ok(numbers)

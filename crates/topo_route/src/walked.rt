@@ -32,6 +32,11 @@ pub trait Walked {
         requires { IsName (named self.now) dart }
         ensures { result ≡ twin_name (named self.now) dart };
 
+    /// The id of the edge that it lies on.
+    fn edge(&self, dart: u32) -> u32
+        requires { IsName (named self.now) dart }
+        ensures { result ≡ (dart_named (named self.now) dart).edge };
+
     /// The facts of the edge that it lies on.
     fn facts(&self, dart: u32) -> Facts
         requires { IsName (named self.now) dart }

@@ -5,15 +5,15 @@ use Rattle.topo_route.specs.Regions.{IsRegionOf, RegionState}
 use Rattle.topo_route.specs.Seen.{HoldsMore}
 use Rattle.topo_route.proofs.Marking.{HoldsFirst, holds_below, holds_next, listed_index, marked, more_on, no_more}
 use Rattle.topo_route.proofs.seen.mark_below.Goals as goal
-use Rattle.topo_route.proofs.seen.mark_below.Goals.{then-get-bound+in_ok-mark, else-get-bound}
+use Rattle.topo_route.proofs.seen.mark_below.Goals.{then-get-bound+in_ok-mark_edge, else-get-bound}
 
 pub get-requires : goal.get-requires
 get-requires g c =
     let places = c.written-places.result.now in
     c.written-places.ensures.there (slice_index places c.loop-i.i) (listed_index places c.loop-i.i c.loop-i-test.true)
 
-pub facts-requires : goal.facts-requires
-facts-requires g c =
+pub mark_edge-requires-clause-name : goal.mark_edge-requires-clause-name
+mark_edge-requires-clause-name g c =
     let places = c.written-places.result.now in
     let dart = slice_index places c.loop-i.i in
     c.requires.named.named dart (c.written-places.ensures.there dart (listed_index places c.loop-i.i c.loop-i-test.true)) (λ e. omega (arith, c.get.ensures, c.if-get-bound.true, c.ranges.bound.fits))
@@ -21,7 +21,6 @@ facts-requires g c =
 pub loop-i-preserved : goal.loop-i-preserved
 loop-i-preserved g c =
     let named = g.W.Walked.named c.args.walked.now in
-    let good = (g.met.W.Walked.lawful c.args.walked.now).embedding.well_formed in
     let heights = c.args.heights.now in
     let places = c.written-places.result.now in
     let i = c.loop-i.i in
@@ -32,14 +31,13 @@ loop-i-preserved g c =
     let More = λ (r : RegionState). HoldsMore c.args.region.now r in
     let First = λ (r : RegionState). HoldsFirst named heights c.args.bound places (i + 1) r in
     elim c.if-get-bound.branch [
-      | then-get-bound+in_ok-mark w ↦
-          let name : IsName named dart =
-          c.requires.named.named dart (c.written-places.ensures.there dart (listed_index places i c.loop-i-test.true)) (λ e. omega (arith, c.get.ensures, w.if-get-bound.true, c.ranges.bound.fits)) in
-          let marks = marked named.rows good before w.mark.new.self (dart_named named dart) w.facts.result invariant.of_rows name.there w.facts.ensures w.in_ok-mark.ensures.edges w.in_ok-mark.ensures.vertices in
+      | then-get-bound+in_ok-mark_edge w ↦
+          let marks = w.in_ok-mark_edge.ensures in
+          let after = w.mark_edge.new.region in
           record {
             of_rows = subst OfRows (sym w.region-is) marks.of_rows;
             more = subst More (sym w.region-is) (more_on invariant.more marks.more);
-            first = subst First (sym w.region-is) (holds_next named heights c.args.bound places i before w.mark.new.self marks.more invariant.first (λ low. marks.itself));
+            first = subst First (sym w.region-is) (holds_next named heights c.args.bound places i before after marks.more invariant.first (λ low. marks.itself));
           }
       | else-get-bound w ↦ record {
         of_rows = subst OfRows (sym w.region-is) invariant.of_rows;

@@ -1,13 +1,20 @@
-use Rattle.std.proofs.Common.{◌≡◌, ◌≢◌, ◌<◌, ◌∙◌, ℕ, List, arith, ap, sym, subst, length}
+use Rattle.std.proofs.Common.{◌≡◌, ◌≢◌, ◌<◌, ◌^◌, ◌∙◌, ℕ, List, arith, ap, sym, subst, length}
 use Rattle.std.proofs.Math.ListN.{set}
 use Rattle.std.specs.Prelude.{slice_index}
 use Rattle.topo_core.specs.Routes.{unreached}
 use Rattle.topo_price.specs.Prices.{prices_of}
 use Rattle.topo_route.specs.Names.{next_name}
 use Rattle.topo_route.specs.Settling.{Relaxes}
+use Rattle.topo_route.proofs.Fits.{height_fits}
 use Rattle.topo_route.proofs.Relaxing.{both_steps, next_relaxes, put_down_relaxes}
 use Rattle.topo_route.proofs.Settled.{has_height, lowered_there}
 use Rattle.topo_route.proofs.spread.Labels.relax_face.Goals as goal
+
+pub lower-requires-clause-fits : goal.lower-requires-clause-fits
+lower-requires-clause-fits g c =
+    let small : (g.W.Walked.named c.args.graph.now.walked.now).size < 2 ^ 32 = omega (arith, c.size-darts.ensures, c.size-darts.type_inv) in
+    let fits = height_fits (prices_of (g.F.Asks.answers c.args.graph.now.tariff.now)) (g.W.Walked.named c.args.graph.now.walked.now) c.args.v c.args.self.now.heights c.args.dart c.requires.costs c.requires.in_hand small in
+    omega (arith, fits, c.get-height.ensures)
 
 pub returns-then-get-height : goal.returns-then-get-height
 returns-then-get-height g c =

@@ -1,11 +1,19 @@
-use Rattle.std.proofs.Common.{◌≡◌, ◌+◌, ◌∙◌, ◌==◌, ◌||◌, List, ℕ, ap, arith, length, subst, sym}
+use Rattle.std.proofs.Common.{◌≡◌, ◌+◌, ◌^◌, ◌<◌, ◌∙◌, ◌==◌, ◌||◌, List, ℕ, ap, arith, length, subst, sym}
 use Rattle.std.proofs.Math.ListN.{set}
 use Rattle.std.specs.Prelude.{slice_index}
 use Rattle.topo_price.specs.Prices.{prices_of}
 use Rattle.topo_route.specs.Settling.{IsCrossed, Relaxes, is_waiting, item_of, reach_of}
 use Rattle.topo_route.proofs.Crossings.{crossed_low, is_crossed}
 use Rattle.topo_route.proofs.Relaxing.{twin_relaxes}
+use Rattle.topo_route.proofs.Fits.{height_fits}
 use Rattle.topo_route.proofs.spread.Labels.relax_twin.Goals as goal
+
+pub lower-requires-clause-fits : goal.lower-requires-clause-fits
+lower-requires-clause-fits g c =
+    let small : (g.W.Walked.named c.args.graph.now.walked.now).size < 2 ^ 32 = omega (arith, c.size-darts.ensures, c.size-darts.type_inv) in
+    let fits = height_fits (prices_of (g.F.Asks.answers c.args.graph.now.tariff.now)) (g.W.Walked.named c.args.graph.now.walked.now) c.args.v c.args.self.now.heights c.args.dart c.requires.costs c.requires.in_hand small in
+    let asked = c.in-Some.ensures.price in
+    omega (arith, fits, c.in-Some.ensures.promise.at_most asked.facts c.in-Some.price asked.asked, c.requires.height)
 
 pub returns-in_ok-push-in-Some-clause-relaxes : goal.returns-in_ok-push-in-Some-clause-relaxes
 returns-in_ok-push-in-Some-clause-relaxes g c =

@@ -7,8 +7,8 @@ use Rattle.topo_route.proofs.stamped_array.StampedArray.number_at.Goals as goal
 pub read-requires : goal.read-requires
 read-requires c = grind (arith, all_long)
 
-pub returns-then-place-len : goal.returns-then-place-len
-returns-then-place-len c = grind (arith, all_long, get_or_default_zero)
+pub returns-then-place-self : goal.returns-then-place-self
+returns-then-place-self c = grind (arith, all_long, get_or_default_zero)
 
-pub returns-else-place-len : goal.returns-else-place-len
-returns-else-place-len c = grind (arith, all_long, get_or_past)
+pub returns-else-place-self : goal.returns-else-place-self
+returns-else-place-self c = grind (arith, all_long, get_or_past)

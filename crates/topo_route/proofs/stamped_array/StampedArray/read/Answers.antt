@@ -1,16 +1,16 @@
 use Rattle.std.proofs.Common.{arith}
 use Rattle.std.proofs.lemmas.Grind.{get_or_default_zero}
-use Rattle.topo_route.proofs.Blank.{all_long, read_at, reads_blank, reads_itself}
+use Rattle.topo_route.proofs.Blank.{all_long, read_at, reads_blank, reads_number}
 use Rattle.topo_route.proofs.stamped_array.StampedArray.read.Goals as goal
 
 pub index-requires : goal.index-requires
 index-requires c = grind (arith, all_long)
 
-pub index-requires-then-index-self : goal.index-requires-then-index-self
-index-requires-then-index-self c = grind (arith, all_long)
+pub overflow_sub-number : goal.overflow_sub-number
+overflow_sub-number c = grind (arith, all_long, get_or_default_zero, c.self.invariant.above)
 
-pub returns-then-index-self : goal.returns-then-index-self
-returns-then-index-self c = grind (arith, all_long, get_or_default_zero, reads_itself, read_at)
+pub returns-then-number-lt-SPAN : goal.returns-then-number-lt-SPAN
+returns-then-number-lt-SPAN c = grind (arith, all_long, get_or_default_zero, reads_number, read_at)
 
-pub returns-else-index-self : goal.returns-else-index-self
-returns-else-index-self c = grind (arith, all_long, get_or_default_zero, reads_blank, read_at)
+pub returns-else-number-lt-SPAN : goal.returns-else-number-lt-SPAN
+returns-else-number-lt-SPAN c = grind (arith, all_long, get_or_default_zero, reads_blank, read_at)
