@@ -7,6 +7,7 @@ pub mod Counting
 pub mod DartLaws
 pub mod DartOrder
 pub mod Determined
+pub mod Existence
 pub mod FalseTests
 pub mod Growing
 pub mod GonePaths

@@ -5,6 +5,7 @@ pub mod Deletions
 pub mod EditCases
 pub mod Edits
 pub mod Evidence
+pub mod ExistenceLaws
 pub mod FalseCases
 pub mod FaultTexts
 pub mod History

@@ -13,6 +13,7 @@ pub mod darts;
 pub mod edit_cases;
 mod equality;
 pub mod evidence;
+pub mod existence_laws;
 pub mod false_cases;
 pub mod ids;
 pub mod laws;
