@@ -145,8 +145,8 @@ const INSERTIONS: &[Insertion] = &[
     Insertion {
         from: (12, 6),
         to: (12, 17),
-        crossed: 10,
-        most: 1,
+        crossed: 11,
+        most: 600,
     },
 ];
 
