@@ -10,6 +10,8 @@ mod gates;
 #[cfg(test)]
 mod program;
 #[cfg(test)]
+mod reads;
+#[cfg(test)]
 mod serving;
 #[cfg(test)]
 mod streams;

@@ -7,6 +7,8 @@ pub mod Counting
 pub mod DartLaws
 pub mod DartOrder
 pub mod Determined
+pub mod Existence
+pub mod FalseTests
 pub mod Growing
 pub mod GonePaths
 pub mod GrownFaces

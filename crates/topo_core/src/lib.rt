@@ -10,8 +10,11 @@
 
 pub mod calls;
 pub mod darts;
+pub mod edit_cases;
 mod equality;
 pub mod evidence;
+pub mod existence_laws;
+pub mod false_cases;
 pub mod ids;
 pub mod laws;
 pub mod limits;
@@ -20,4 +23,5 @@ pub mod prices;
 pub mod route_laws;
 pub mod routes;
 pub mod rows;
+pub mod step_cases;
 pub mod step_laws;

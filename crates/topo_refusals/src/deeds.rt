@@ -1,7 +1,7 @@
 //! Calls of a service: each is made once more where it wants memory, and the service is printed.
 
 use crate::founds::insert_by_search;
-use crate::lists::work;
+use crate::lists::{Watch, work};
 use crate::sights::{
     CALLER, LOOKER, PLANNER, Sight, compare_planning, compare_service, look, show, view_of,
 };
@@ -227,11 +227,11 @@ fn make_all<
     F: Asks + Drop + Send + Sync,
     K: ServiceBrand<F> + Send + Sync,
     R: Threads + Wait + Print + Eprint + AllocGlobal + Sync,
->(rt: &R, service: &Service<F, K>, passes: &mut [Pass<F, K>]) -> Result<()> {
+>(rt: &R, service: &Service<F, K>, passes: &mut [Pass<F, K>], watch: &Watch) -> Result<()> {
     make_first(rt, service, passes)?;
     insert_by_plan(rt, service, passes)?;
     make(rt, service, passes, Call::Delete { edge: 1 }, None)?;
-    work(rt, service, passes)?;
+    work(rt, service, passes, watch)?;
     insert_by_search(rt, service, passes)
 }
 
@@ -253,12 +253,12 @@ pub(crate) fn tell_deeds<
     F: Asks + Drop + Send + Sync,
     K: ServiceBrand<F> + Send + Sync,
     R: Threads + Wait + Print + Eprint + AllocGlobal + Sync,
->(rt: &R, service: &Service<F, K>, passes: &mut [Pass<F, K>]) -> Result<()> {
+>(rt: &R, service: &Service<F, K>, passes: &mut [Pass<F, K>], watch: &Watch) -> Result<()> {
     let Some(looker) = passes.get_mut(LOOKER) else {
         bail!("no pass");
     };
     let kept = view_of(looker)?;
-    let told = make_all(rt, service, passes);
+    let told = make_all(rt, service, passes, watch);
     let shown = show_kept(rt, told, &kept);
     drop(kept);
     shown

@@ -6,6 +6,7 @@ ghost use Rattle.topo_price.specs.Prices.{IsPromise};
 
 use crate::books::shared;
 use crate::deeds::tell_deeds;
+use crate::lists::Watch;
 use crate::named::BIPYRAMID;
 use crate::prices::table_of;
 use crate::replays::replay_from;
@@ -31,7 +32,12 @@ const SEATS: usize = 3;
 pub(crate) fn serve<R: Threads + Wait + Print + Eprint + AllocGlobal + Sync>(rt: &R) -> Result<()> {
     let table = table_of([1, 5, 2, 9])?;
     let start = loaded(rt, &BIPYRAMID)?;
-    let told = serve_with(rt, &start, |facts: &Facts| table.price(facts.kind));
+    let watch = Watch::new();
+    let ask = |facts: &Facts| {
+        watch.ask();
+        table.price(facts.kind)
+    };
+    let told = serve_with(rt, &start, ask, &watch);
     drop(start);
     told
 }
@@ -40,12 +46,12 @@ pub(crate) fn serve<R: Threads + Wait + Print + Eprint + AllocGlobal + Sync>(rt:
 fn serve_with<
     F: Asks + Drop + Send + Sync,
     R: Threads + Wait + Print + Eprint + AllocGlobal + Sync,
->(rt: &R, start: &Picture, ask: F) -> Result<()>
+>(rt: &R, start: &Picture, ask: F, watch: &Watch) -> Result<()>
     requires callable { F.can_ask ask }
     requires promise { IsPromise (F.answers ask) }
 {
     let tariff = shared(rt, ask)?;
-    serve_at(rt, start, &tariff)
+    serve_at(rt, start, &tariff, watch)
 }
 
 /// A service with the prices of a tariff. Where its beginning wants memory, it is begun once more.
@@ -53,13 +59,14 @@ fn serve_at<F: Asks + Drop + Send + Sync, R: Threads + Wait + Print + Eprint + A
     rt: &R,
     start: &Picture,
     tariff: &Arc<Tariff<F>>,
+    watch: &Watch,
 ) -> Result<()> {
     let before = picture_state(rt, start)?;
-    if begun(rt, start, tariff)? {
+    if begun(rt, start, tariff, watch)? {
         return Ok(());
     }
     compare_picture(rt, "Service::new", before.as_str(), start)?;
-    if begun(rt, start, tariff)? {
+    if begun(rt, start, tariff, watch)? {
         return Ok(());
     }
     bail!("no service")
@@ -70,10 +77,11 @@ fn begun<F: Asks + Drop + Send + Sync, R: Threads + Wait + Print + Eprint + Allo
     rt: &R,
     start: &Picture,
     tariff: &Arc<Tariff<F>>,
+    watch: &Watch,
 ) -> Result<bool> {
     let tariff = Arc::try_clone(tariff)?;
     let copy = copied(rt, start)?;
-    named::<F, Brand, R>(rt, FreshService::new(), copy, tariff)
+    named::<F, Brand, R>(rt, FreshService::new(), copy, tariff, watch)
 }
 
 /// The same, over the service that K names.
@@ -81,7 +89,13 @@ fn named<
     F: Asks + Drop + Send + Sync,
     K: ServiceBrand<F> + Send + Sync,
     R: Threads + Wait + Print + Eprint + AllocGlobal + Sync,
->(rt: &R, fresh: FreshService, start: Picture, tariff: Arc<Tariff<F>>) -> Result<bool>
+>(
+    rt: &R,
+    fresh: FreshService,
+    start: Picture,
+    tariff: Arc<Tariff<F>>,
+    watch: &Watch,
+) -> Result<bool>
     requires ledger { (fresh.blank.name ≡ K.name) × (fresh.blank.parts ≡ K.parts) }
     requires parts { K.parts ≡ 16 }
     requires list { fresh.log.seen.book ≡ K.book }
@@ -91,7 +105,7 @@ fn named<
     let Ok(service) = Service::<F, K>::new(rt.alloc(), fresh, start, tariff) else {
         return Ok(false);
     };
-    use_and_close(rt, service)
+    use_and_close(rt, service, watch)
 }
 
 /// Uses a service and closes it. The service and its passes are owned here alone, and nothing returns early
@@ -100,9 +114,9 @@ fn use_and_close<
     F: Asks + Drop + Send + Sync,
     K: ServiceBrand<F> + Send + Sync,
     R: Threads + Wait + Print + Eprint + AllocGlobal + Sync,
->(rt: &R, mut service: Service<F, K>) -> Result<bool> {
+>(rt: &R, mut service: Service<F, K>, watch: &Watch) -> Result<bool> {
     let mut passes = Vec::new(rt.alloc());
-    let told = use_passes(rt, &mut service, &mut passes);
+    let told = use_passes(rt, &mut service, &mut passes, watch);
     close(rt, service, passes, told)
 }
 
@@ -124,7 +138,7 @@ fn use_passes<
     F: Asks + Drop + Send + Sync,
     K: ServiceBrand<F> + Send + Sync,
     R: Threads + Wait + Print + Eprint + AllocGlobal + Sync,
->(rt: &R, service: &mut Service<F, K>, passes: &mut Vec<Pass<F, K>>) -> Result<()> {
+>(rt: &R, service: &mut Service<F, K>, passes: &mut Vec<Pass<F, K>>, watch: &Watch) -> Result<()> {
     if passes.reserve(SEATS).is_err() {
         tell(rt, "bookkeeping");
         passes.reserve(SEATS)?;
@@ -132,7 +146,7 @@ fn use_passes<
     for _ in 0..SEATS {
         give_out(rt, service, passes)?;
     }
-    tell_deeds(rt, &*service, passes.as_mut_slice())
+    tell_deeds(rt, &*service, passes.as_mut_slice(), watch)
 }
 
 /// The next pass, which is asked for again where it wants memory.

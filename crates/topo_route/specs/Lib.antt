@@ -6,6 +6,7 @@ pub mod Meeting
 pub mod Names
 pub mod Numbers
 pub mod Plans
+pub mod RegionEvidence
 pub mod Regions
 pub mod Seen
 pub mod Settling

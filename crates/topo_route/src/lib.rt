@@ -28,6 +28,7 @@ mod heights;
 pub mod laws;
 pub mod plan;
 pub mod region;
+pub mod region_evidence;
 pub mod search;
 mod seen;
 mod spread;

@@ -12,6 +12,10 @@ mod gates;
 #[cfg(test)]
 mod harness;
 #[cfg(test)]
+mod inside;
+#[cfg(test)]
+mod long_lists;
+#[cfg(test)]
 mod plans;
 #[cfg(test)]
 mod survivors;

@@ -40,4 +40,6 @@ mod searches;
 #[cfg(test)]
 mod seen_rows;
 #[cfg(test)]
+mod stopping;
+#[cfg(test)]
 mod types;

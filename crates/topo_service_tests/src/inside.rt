@@ -1,0 +1,150 @@
+//! Sixteen workers who are inside their gates at one time, and the numbers that a gate is called with.
+
+use crate::harness::{Story, Work, even_prices, is_told, run_work_at, seed};
+use std::alloc::{AllocError, Global};
+use std::process::Abort;
+use std::sync::Wait;
+use std::sync::atomic::{AtomicBool, AtomicUsize, Ordering};
+use std::test::Fail;
+use std::thread;
+use std::thread::Threads;
+use topo_core::calls::{Call, Command};
+use topo_price::tariff::Asks;
+use topo_service::{Gate, Pass, Service, WorkerEnd};
+use topo_versions::ServiceBrand;
+
+/// How often a worker looks for the others at most.
+const LOOKS: u32 = 2_000_000;
+
+/// As many lists as a service has passes.
+const WORKERS: usize = 16;
+
+/// Each worker waits before its call until all are there. It looks a bounded number of times, leaving the
+/// processor to others between, and does not block.
+#[derive(Drop)]
+struct Meeting {
+    inside: AtomicUsize,
+    late: AtomicBool,
+}
+
+impl Meeting {
+    fn new() -> Meeting {
+        Meeting {
+            inside: AtomicUsize::new(0),
+            late: AtomicBool::new(false),
+        }
+    }
+
+    /// Looks until all are there, and marks the run late where it does not see them.
+    fn look_for_all(&self) {
+        for _ in 0..LOOKS {
+            if self.inside.load(Ordering::SeqCst) >= WORKERS {
+                return;
+            }
+            thread::yield_now();
+        }
+        self.late.store(true, Ordering::SeqCst);
+    }
+}
+
+impl Gate for Meeting {
+    fn before(&self, _worker: usize, _index: usize) {
+        let _ = self.inside.fetch_add(1, Ordering::SeqCst);
+        self.look_for_all();
+    }
+
+    fn after(&self, _worker: usize, _index: usize) {}
+}
+
+/// Follows two lists: for each the calls are to be before command 0, after it, before command 1, and so on.
+#[derive(Drop)]
+struct Counted {
+    calls: [AtomicUsize; 2],
+    is_amiss: AtomicBool,
+}
+
+impl Counted {
+    fn new() -> Counted {
+        Counted {
+            calls: [AtomicUsize::new(0), AtomicUsize::new(0)],
+            is_amiss: AtomicBool::new(false),
+        }
+    }
+
+    /// Notes a call for a worker, before which there are to have been so many.
+    fn note(&self, worker: usize, due: usize) {
+        let is_due = match self.calls.get(worker) {
+            Some(calls) => calls.fetch_add(1, Ordering::SeqCst) == due,
+            None => false,
+        };
+        if !is_due {
+            self.is_amiss.store(true, Ordering::SeqCst);
+        }
+    }
+}
+
+impl Gate for Counted {
+    fn before(&self, worker: usize, index: usize) {
+        self.note(worker, index.wrapping_mul(2));
+    }
+
+    fn after(&self, worker: usize, index: usize) {
+        self.note(worker, index.wrapping_mul(2).wrapping_add(1));
+    }
+}
+
+/// So many lists, of which it is told how many were carried out.
+#[derive(Drop)]
+struct Lists(usize);
+
+impl Story for Lists {
+    fn pass_count(&self) -> usize {
+        self.0
+    }
+
+    fn tell<F: Asks + Drop, K: ServiceBrand<F>, R: Wait>(
+        &self,
+        _rt: &R,
+        alloc: Global,
+        _service: &Service<F, K>,
+        _passes: &mut Vec<Pass<F, K>>,
+        ends: &[WorkerEnd],
+    ) -> Result<String, Fail> {
+        let done = ends.iter().filter(|end| **end == WorkerEnd::Done).count();
+        Ok(format!(in alloc; "{done} done")?)
+    }
+}
+
+/// So many lists of so many insertions.
+fn lists_of(alloc: Global, lists: usize, commands: usize) -> Result<Vec<Vec<Command>>, AllocError> {
+    let insertion = Command::Plain(Call::Insert {
+        u: 0,
+        v: 1,
+        kind: 0,
+    });
+    let mut made = Vec::new(alloc);
+    for _ in 0..lists {
+        made.push(vec![in alloc; insertion; commands]?)?;
+    }
+    Ok(made)
+}
+
+/// The text of a run of these lists.
+fn told_of<T: Gate, R: Threads + Wait + Abort + AllocGlobal + Sync>(
+    rt: &R,
+    lists: &[Vec<Command>],
+    gate: &T,
+) -> Result<String, Fail> {
+    let start = seed(rt, rt.alloc())?;
+    let work = Work::Lists(lists, gate);
+    run_work_at(
+        rt,
+        rt.alloc(),
+        &even_prices(rt),
+        start,
+        work,
+        &Lists(lists.len()),
+    )
+}
+
+

@@ -1,0 +1,85 @@
+"""How many allocations the program makes for a large text: one that is laid out as the program lays it out is read from
+its tokens, without a tree of values."""
+
+import json
+import os
+import shutil
+import subprocess
+import tempfile
+import unittest
+from pathlib import Path
+from typing import Any, Dict
+
+from fezdrok import find_program
+
+from .support import ROOT, needs_program
+
+REFUSED = b"an allocation was refused\n"
+
+# So many vertices a picture has, and so many growths a script or a report.
+COUNT = 4_000
+
+# What any text may take beside what grows with it.
+SOME = 1_000
+
+
+def path_picture() -> Dict[str, Any]:
+    """A path of vertices."""
+    edges = [{"a": i, "b": i + 1, "crossings": [], "id": i, "kind": 0} for i in range(COUNT - 1)]
+    rotations = [[0], *([i - 1, i] for i in range(1, COUNT - 1)), [COUNT - 2]]
+    return {"crossings": [], "edges": edges, "next_crossing": 0, "next_edge": COUNT - 1, "rotations": rotations}
+
+
+def growths() -> Dict[str, Any]:
+    """A script that grows a star."""
+    return {"version": 1, "workers": [[["grow", 0, 0, 0]] * COUNT]}
+
+
+def own_layout(form: Dict[str, Any]) -> bytes:
+    """The text with its keys in order, and nothing between its tokens."""
+    return json.dumps(form, sort_keys=True, separators=(",", ":")).encode()
+
+
+def other_layout(form: Dict[str, Any]) -> bytes:
+    """The text with its keys in the opposite order."""
+    return json.dumps(dict(sorted(form.items(), reverse=True)), separators=(",", ":")).encode()
+
+
+@needs_program
+@unittest.skipUnless(shutil.which("cc"), "left out: there is no C compiler")
+class Allocations(unittest.TestCase):
+    @classmethod
+    def setUpClass(cls) -> None:
+        folder = tempfile.TemporaryDirectory()
+        cls.addClassCleanup(folder.cleanup)
+        cls.library = os.fspath(Path(folder.name) / "refuse_allocation.so")
+        subprocess.run(["cc", "-shared", "-fPIC", "-O2", "-o", cls.library, ROOT / ".ci" / "refuse_allocation.c"], check=True)
+
+    def makes_more_than(self, verb: str, text: bytes, allocations: int) -> bool:
+        """Whether a command makes more allocations than so many: whether the next one is there to be refused."""
+        environment = {"LD_PRELOAD": self.library, "REFUSED_ALLOCATION": str(allocations + 1)}
+        done = subprocess.run([find_program(), verb], input=text, capture_output=True, timeout=60, env=environment)
+        is_refused = done.stderr.startswith(REFUSED)
+        self.assertTrue(is_refused or (done.returncode, done.stderr) == (0, b""), done.stderr[:200])
+        return is_refused
+
+    def check(self, verb: str, form: Dict[str, Any], for_each: int) -> None:
+        """A text in the program's own layout takes at most so many allocations for each vertex or call. In another layout
+        it takes more, so the bound tells the two ways to read apart."""
+        most = for_each * COUNT + SOME
+        self.assertFalse(self.makes_more_than(verb, own_layout(form), most))
+        self.assertTrue(self.makes_more_than(verb, other_layout(form), most))
+
+    def test_a_picture(self):
+        self.check("check", path_picture(), 2)
+
+    def test_a_script(self):
+        self.check("run", growths(), 3)
+
+    def test_a_report(self):
+        done = subprocess.run([find_program(), "run"], input=own_layout(growths()), capture_output=True, timeout=60, check=True)
+        self.check("replay", json.loads(done.stdout), 6)
+
+
+if __name__ == "__main__":
+    unittest.main()
