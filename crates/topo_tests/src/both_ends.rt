@@ -36,19 +36,8 @@ const PAIRS: usize = 8;
 /// How many calls lead from the first picture of a run to its last.
 const CALLS: u32 = 40;
 
-/// How many runs there are, each with numbers of its own. With all pairs these are 12,800 insertions; with 64 runs
-/// they are 102,400.
-const RUNS: u32 = 8;
-
-/// How many vertices most new edges of a run end at.
-fn hubs_of(run: u32) -> u32 {
-    match run % 4 {
-        0 => 40,
-        1 => 1,
-        2 => 3,
-        _ => 12,
-    }
-}
+/// How many runs each test has, with numbers of their own. With all pairs these are 25,600 insertions a test.
+const RUNS: u32 = 16;
 
 /// The two searches of a pair find the same.
 fn is_agreed<F: Asks>(
@@ -205,20 +194,40 @@ fn run_from_seed<F: Asks + Drop>(
     told
 }
 
-/// All runs.
-fn run_all(rt: &impl Abort, alloc: Global, work: &mut Workspace) -> Result<(), Fail> {
+/// All runs in which most new edges end at so many vertices.
+fn run_all(rt: &impl Abort, alloc: Global, hubs: u32, work: &mut Workspace) -> Result<(), Fail> {
     for state in 0..RUNS {
         let table = table_of(rt, Some(1), &[(1, Some(5)), (2, Some(2)), (3, None)]);
         let ask = |facts: &Facts| table.price(facts.kind);
-        run_from_seed(rt, alloc, (state, hubs_of(state)), ask, work)?;
+        run_from_seed(rt, alloc, (state, hubs), ask, work)?;
     }
     Ok(())
 }
 
-#[test]
-fn searches_from_both_ends_and_from_one_agree(rt: HostRuntime) -> Result<(), Fail> {
-    let mut work = Workspace::new(rt.alloc())?;
-    let told = run_all(&rt, rt.alloc(), &mut work);
+/// The same with a new workspace.
+fn run_anew(rt: &impl Abort, alloc: Global, hubs: u32) -> Result<(), Fail> {
+    let mut work = Workspace::new(alloc)?;
+    let told = run_all(rt, alloc, hubs, &mut work);
     drop(work);
     told
+}
+
+#[test]
+fn searches_from_both_ends_and_from_one_agree(rt: HostRuntime) -> Result<(), Fail> {
+    run_anew(&rt, rt.alloc(), 40)
+}
+
+#[test]
+fn searches_from_both_ends_agree_with_one_hub(rt: HostRuntime) -> Result<(), Fail> {
+    run_anew(&rt, rt.alloc(), 1)
+}
+
+#[test]
+fn searches_from_both_ends_agree_with_three_hubs(rt: HostRuntime) -> Result<(), Fail> {
+    run_anew(&rt, rt.alloc(), 3)
+}
+
+#[test]
+fn searches_from_both_ends_agree_with_twelve_hubs(rt: HostRuntime) -> Result<(), Fail> {
+    run_anew(&rt, rt.alloc(), 12)
 }
