@@ -146,5 +146,3 @@ fn told_of<T: Gate, R: Threads + Wait + Abort + AllocGlobal + Sync>(
         &Lists(lists.len()),
     )
 }
-
-
