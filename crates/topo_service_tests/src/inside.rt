@@ -147,4 +147,27 @@ fn told_of<T: Gate, R: Threads + Wait + Abort + AllocGlobal + Sync>(
     )
 }
 
+#[test]
+fn sixteen_workers_are_inside_at_one_time(rt: HostRuntime) -> Result<(), Fail> {
+    let lists = lists_of(rt.alloc(), WORKERS, 1)?;
+    let gate = Meeting::new();
+    let told = told_of(&rt, lists.as_slice(), &gate);
+    drop(lists);
+    is_told(&rt, told?.as_str(), "16 done; 16 calls, replayed: true");
+    assert!(rt; !gate.late.load(Ordering::SeqCst));
+    Ok(())
+}
 
+#[test]
+fn a_gate_is_called_before_and_after_each_command(rt: HostRuntime) -> Result<(), Fail> {
+    let lists = lists_of(rt.alloc(), 2, 3)?;
+    let gate = Counted::new();
+    let told = told_of(&rt, lists.as_slice(), &gate);
+    drop(lists);
+    is_told(&rt, told?.as_str(), "2 done; 6 calls, replayed: true");
+    assert!(rt; !gate.is_amiss.load(Ordering::SeqCst));
+    for calls in &gate.calls {
+        assert_eq!(rt; calls.load(Ordering::SeqCst), 6);
+    }
+    Ok(())
+}
