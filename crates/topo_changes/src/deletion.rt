@@ -2,18 +2,22 @@
 
 ghost use Rattle.std.specs.Prelude.{Some, ◌&&◌, ◌≡◌, ◌<◌, ◌≤◌, ◌==◌, ℕ, true, not, filter, find, is_some, length, map, slice_index, slice_index_or, slice_set, [], ◌∷◌};
 ghost use Rattle.topo_core.specs.Changes.{from_least, uncrossed_row, without};
-ghost use Rattle.topo_core.specs.Items.{IsIn};
+ghost use Rattle.topo_core.specs.Items.{IsIn, has_id};
 ghost use Rattle.topo_core.specs.Lawful.{IsWellFormed};
 ghost use Rattle.topo_core.specs.Picture.{edge_at, edge_row};
 ghost use Rattle.topo_rows.specs.Ids.{IdsRise};
+ghost use Rattle.topo_changes.specs.Keeping.{rows_of};
+ghost use Rattle.topo_table.specs.Places.{AreBelow, entries};
 ghost use Rattle.topo_changes.specs.Deleting.{IsCrossed, rotation_without, left_by, other_edge};
 
+use crate::kept::{Crossing, KeptRows};
 use std::alloc::Global;
 use std::mem;
 use topo_core::listed::Listed;
-use topo_core::rows::{CrossRow, EdgeRow, Rows};
+use topo_core::rows::EdgeRow;
 use topo_rows::Hints;
-use topo_rows::by_id::{place_of_crossing, place_of_edge};
+use topo_rows::by_id::place_of_edge;
+use topo_table::Table;
 
 /// Takes an id out of a list.
 fn take_id(alloc: Global, list: &mut Listed<u32>, id: u32)
@@ -67,16 +71,13 @@ fn leave_vertex(alloc: Global, rotations: &mut Vec<Listed<u32>>, v: u32, e: u32)
 }
 
 /// The other edge of a crossing of `e`.
-fn edge_across(crossings: &[CrossRow], hints: &Hints, e: u32, x: u32) -> u32
-    requires rise { IdsRise (map (λ row. row.id) crossings.now) }
-    requires there { is_some (find (λ row. row.id == x) crossings.now) ≡ true }
-    ensures { result ≡ other_edge crossings.now e x }
+fn edge_across(crossings: &Table<Crossing>, e: u32, x: u32) -> u32
+    requires { is_some (find (λ row. row.id == x) (rows_of crossings.now)) ≡ true }
+    ensures { result ≡ other_edge (rows_of crossings.now) e x }
 {
-    let row = &crossings[place_of_crossing(crossings, hints, x)];
-    if row.crossed == e {
-        row.newcomer
-    } else {
-        row.crossed
+    match crossings.get(x) {
+        Some(crossing) => crossing.other(e),
+        None => unreachable!(),
     }
 }
 
@@ -84,17 +85,16 @@ fn edge_across(crossings: &[CrossRow], hints: &Hints, e: u32, x: u32) -> u32
 fn leave_path(
     alloc: Global,
     edges: &mut Vec<EdgeRow>,
-    crossings: &[CrossRow],
+    crossings: &Table<Crossing>,
     hints: &Hints,
     e: u32,
     x: u32,
 )
-    requires crossings_rise { IdsRise (map (λ row. row.id) crossings.now) }
     requires edges_rise { IdsRise (map (λ row. row.id) edges.old.items) }
-    requires crossed { IsCrossed crossings.now e edges.old.items x }
+    requires crossed { IsCrossed (rows_of crossings.now) e edges.old.items x }
     ensures { edges.new.items ≡ map (uncrossed_row (x ∷ [])) edges.old.items }
 {
-    let place = place_of_edge(edges.as_slice(), hints, edge_across(crossings, hints, e, x));
+    let place = place_of_edge(edges.as_slice(), hints, edge_across(crossings, e, x));
     take_id(alloc, &mut edges[place].crossings, x);
 }
 
@@ -102,14 +102,13 @@ fn leave_path(
 fn leave_paths(
     alloc: Global,
     edges: &mut Vec<EdgeRow>,
-    crossings: &[CrossRow],
+    crossings: &Table<Crossing>,
     hints: &Hints,
     e: u32,
     path: &[u32],
 )
-    requires crossings_rise { IdsRise (map (λ row. row.id) crossings.now) }
     requires edges_rise { IdsRise (map (λ row. row.id) edges.old.items) }
-    requires crossed { (x : ℕ) → IsIn x path.now → IsCrossed crossings.now e edges.old.items x }
+    requires crossed { (x : ℕ) → IsIn x path.now → IsCrossed (rows_of crossings.now) e edges.old.items x }
     ensures { edges.new.items ≡ map (uncrossed_row path.now) edges.old.items }
 {
     for x in path {
@@ -118,7 +117,7 @@ fn leave_paths(
 }
 
 /// Takes out the row of an edge, and its crossings out of the paths of the others.
-fn delete_edge(alloc: Global, rows: &mut Rows, hints: &mut Hints, e: u32) -> EdgeRow
+fn delete_edge(alloc: Global, rows: &mut KeptRows, hints: &mut Hints, e: u32) -> EdgeRow
     requires well_formed { IsWellFormed rows.old }
     requires there { is_some (edge_row rows.old e) ≡ true }
     ensures row { edge_row rows.old e ≡ Some result }
@@ -131,7 +130,7 @@ fn delete_edge(alloc: Global, rows: &mut Rows, hints: &mut Hints, e: u32) -> Edg
     leave_paths(
         alloc,
         &mut edges,
-        rows.crossings.as_slice(),
+        &rows.crossings,
         hints,
         e,
         row.crossings.as_slice(),
@@ -141,7 +140,7 @@ fn delete_edge(alloc: Global, rows: &mut Rows, hints: &mut Hints, e: u32) -> Edg
 }
 
 /// Takes an edge out of the rotations of its two ends.
-fn leave_ends(alloc: Global, rows: &mut Rows, row: &EdgeRow)
+fn leave_ends(alloc: Global, rows: &mut KeptRows, row: &EdgeRow)
     requires a { row.now.a < length rows.old.rotations }
     requires b { row.now.b < length rows.old.rotations }
     ensures { rows.new ≡ record rows.old { rotations = left_by row.now.id row.now.b (left_by row.now.id row.now.a rows.old.rotations) } }
@@ -152,27 +151,23 @@ fn leave_ends(alloc: Global, rows: &mut Rows, row: &EdgeRow)
     rows.rotations = Listed::from_vec(rotations);
 }
 
-/// Takes out the rows of the crossings of an edge.
-fn delete_crossings(alloc: Global, rows: &mut Rows, e: u32)
-    ensures { rows.new ≡ record rows.old { crossings = filter (λ x. not (x.crossed == e) && not (x.newcomer == e)) rows.old.crossings } }
+/// Takes out the crossings on a path.
+fn delete_crossings(crossings: &mut Table<Crossing>, path: &[u32])
+    ensures entries { entries crossings.new ≡ filter (λ e. not (has_id path.now e.0)) (entries crossings.old) }
+    ensures below { (limit : ℕ) → AreBelow limit crossings.old.slots → AreBelow limit crossings.new.slots }
 {
-    let mut crossings = mem::replace(&mut rows.crossings, Listed::new(alloc)).into_vec();
-    crossings.retain(|x| x.crossed != e && x.newcomer != e);
-    rows.crossings = Listed::from_vec(crossings);
+    for x in path {
+        crossings.remove(*x);
+    }
 }
 
 /// Takes out an edge and its crossings. The counters stay.
-pub fn delete_rows(alloc: Global, rows: &mut Rows, hints: &mut Hints, e: u32)
+pub fn delete_rows(alloc: Global, rows: &mut KeptRows, hints: &mut Hints, e: u32)
     requires well_formed { IsWellFormed rows.old }
     requires there { is_some (edge_row rows.old e) ≡ true }
     ensures { rows.new ≡ without rows.old e }
 {
     let row = delete_edge(alloc, rows, hints, e);
     leave_ends(alloc, rows, &row);
-    let path = row.crossings.as_slice();
-    if path.is_empty() {
-        return;
-    }
-    delete_crossings(alloc, rows, e);
-    hints.leave_crossings(rows, path);
+    delete_crossings(&mut rows.crossings, row.crossings.as_slice());
 }

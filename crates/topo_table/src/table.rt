@@ -33,7 +33,7 @@ impl<V> Model for Table<V> {
 impl<V> Table<V> {
     /// An empty table. It takes no memory.
     pub fn new(alloc: Global) -> Self
-        ensures { entries result ≡ [] }
+        ensures { result.slots ≡ [] }
     {
         Table {
             slots: IndexMap::new(alloc),
