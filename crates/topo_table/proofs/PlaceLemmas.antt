@@ -1,6 +1,6 @@
 -- What the places of a table hold, after each change that a table makes.
 use native.Mathlib.Numerals.{unary_clauses}
-use Rattle.std.proofs.Common.{◌≡◌, ℕ, zero, suc, ◌+◌, ◌<◌, ◌≤◌, ◌==◌, ◌&&◌, not, Bool, true, false, cond, eqb, ltb, List, [], ◌∷◌, ◌++◌, length, get_or, map, filter, find, Option, Some, None, is_some, slice_get, refl, sym, ap, subst, ◌∙◌, arith, rules}
+use Rattle.std.proofs.Common.{◌≡◌, ℕ, zero, suc, ◌+◌, ◌<◌, ◌≤◌, ◌==◌, ◌&&◌, not, Bool, true, false, cond, eqb, ltb, List, [], ◌∷◌, ◌++◌, length, get_or, map, position, filter, find, Option, Some, None, is_some, slice_get, refl, sym, ap, subst, ◌∙◌, arith, rules}
 use Rattle.std.specs.List.{AllPairs, list_all}
 use Rattle.std.specs.List.Sorted.{IsStrictlyIncreasing}
 use Rattle.std.specs.Map.{keys_of, values_of, lookup}
@@ -9,6 +9,7 @@ use Rattle.std.proofs.lemmas.Bool.{false≢true}
 use Rattle.std.proofs.lemmas.Bool.Decides.{nat_tests}
 use Rattle.std.proofs.lemmas.List.Kept.{AllPairs-from_increasing}
 use Rattle.std.proofs.lemmas.List.Concat.{flat_map-append}
+use Rattle.std.proofs.lemmas.List.Quantifiers.{position-Some}
 use Rattle.indexmap.specs.IndexMap.{set_value_at}
 use Rattle.topo_table.specs.Places.{AreBelow, EntriesRise, ids_of, present, value_of, without_id}
 
@@ -51,6 +52,11 @@ is_none_not h = cc
 
 option_some_same : {X : Type 0} {x y : X} → Some x ≡ Some y → x ≡ y
 option_some_same h = cc
+
+-- an option that is none where a look-up found none
+pub none_at_lookup : {X : Type 0} (r : Option X) → false ≡ is_some r → r ≡ None
+none_at_lookup None h = refl
+none_at_lookup (Some x) h = absurd (false≢true h)
 
 both_true : {a b : Bool} → (a && b) ≡ true → (a ≡ true) × (b ≡ true)
 both_true {a = true} h = (refl, h)
@@ -148,6 +154,39 @@ module _ {V : Type 0} where
       let q : eqb i id ≡ false = grind (arith, nat_tests) in
       (rw q (ap (λ l. (i, x) ∷ l) rest.0), omega arith)
   present-emptied ((i, None) ∷ slots) (suc place) id v h at = present-emptied slots place id v h.1 at
+
+  slot_by : (id place : ℕ) (w : Option V) (slots : List (ℕ × Option V)) → eqb id (get_or (ids_of slots) place 0) ≡ true → slice_get (values_of slots) place ≡ Some w → slice_get slots place ≡ Some (id, w)
+  slot_by id place w [] test at = absurd (is_none_not (sym at))
+  slot_by id zero w (s ∷ slots) test at =
+      let e : s.0 ≡ id = grind (arith, nat_tests) in
+      let v = option_some_same at in
+      λ j. Some (e j, v j)
+  slot_by id (suc place) w (s ∷ slots) test at = slot_by id place w slots test at
+
+  -- the place that was found for an id, with what it holds
+  pub slot_found : (id place : ℕ) (w : Option V) (slots : List (ℕ × Option V)) → Some place ≡ position (eqb id) (ids_of slots) → slice_get (values_of slots) place ≡ Some w → slice_get slots place ≡ Some (id, w)
+  slot_found id place w slots found at = slot_by id place w slots (position-Some (eqb id) (ids_of slots) place 0 (sym found)).1 at
+
+  -- a place that was found and holds a value: the table without that value
+  pub record Emptied (id : ℕ) (v : V) (old new : List (ℕ × Option V)) : Type 0 where
+    pub rises : IsStrictlyIncreasing (ids_of new)
+    pub count : length (present new) + 1 ≡ length (present old)
+    pub left : present new ≡ without_id id (present old)
+    pub value : value_of id (present old) ≡ Some v
+    pub ids : ids_of new ≡ ids_of old
+
+  pub emptied : (id place : ℕ) (v : V) (slots : List (ℕ × Option V)) → IsStrictlyIncreasing (ids_of slots) → Some place ≡ position (eqb id) (ids_of slots)
+      → slice_get (values_of slots) place ≡ Some (Some v) → slice_get (values_of slots) place ≡ lookup (eqb id) slots → Emptied id v slots (set_value_at slots place None)
+  emptied id place v slots up found at looked =
+      let ids = ids_of-set_value_at slots place None in
+      let both = present-emptied slots place id v (Rises-from_increasing _ up) (slot_found id place (Some v) slots found at) in
+      record {
+        rises = subst IsStrictlyIncreasing (sym ids) up;
+        count = both.1;
+        left = both.0;
+        value = value_of-found id slots up ∙ ap option_flatten (sym looked ∙ at);
+        ids = ids
+      }
 
   -- what is left once the empty places are closed up
   abbrev pub kept : List (ℕ × Option V) → List (ℕ × Option V)
