@@ -1,5 +1,6 @@
 pub mod Corners
 pub mod GrownCorner
+pub mod Keeping
 pub mod Leaving
 pub mod Deleting
 pub mod UncrossedEdges
