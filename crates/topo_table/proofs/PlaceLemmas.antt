@@ -1,14 +1,13 @@
 -- What the places of a table hold, after each change that a table makes.
 use native.Mathlib.Numerals.{unary_clauses}
-use Rattle.std.proofs.Common.{◌≡◌, ℕ, zero, suc, ◌+◌, ◌<◌, ◌≤◌, ◌==◌, ◌&&◌, not, Bool, true, false, cond, eqb, ltb, List, [], ◌∷◌, ◌++◌, length, get_or, map, position, filter, find, Option, Some, None, is_some, slice_get, refl, sym, ap, subst, ◌∙◌, arith, rules}
-use Rattle.std.specs.List.{AllPairs, list_all}
+use Rattle.std.proofs.Common.{◌≡◌, ℕ, zero, suc, ◌+◌, ◌<◌, ◌≤◌, ◌&&◌, Bool, true, false, eqb, ltb, List, [], ◌∷◌, ◌++◌, length, get_or, map, position, filter, Option, Some, None, is_some, slice_get, refl, sym, ap, subst, ◌∙◌, arith, rules, add-one}
+use Rattle.std.specs.List.{AllPairs, AllZip, list_all}
 use Rattle.std.specs.List.Sorted.{IsStrictlyIncreasing}
-use Rattle.std.specs.Map.{keys_of, values_of, lookup}
+use Rattle.std.specs.Map.{values_of, lookup}
 use Rattle.std.specs.Option.{option_flatten}
 use Rattle.std.proofs.lemmas.Bool.{false≢true}
 use Rattle.std.proofs.lemmas.Bool.Decides.{nat_tests}
 use Rattle.std.proofs.lemmas.List.Kept.{AllPairs-from_increasing}
-use Rattle.std.proofs.lemmas.List.Concat.{flat_map-append}
 use Rattle.std.proofs.lemmas.List.Quantifiers.{position-Some}
 use Rattle.indexmap.specs.IndexMap.{set_value_at}
 use Rattle.topo_table.specs.Places.{AreBelow, EntriesRise, ids_of, present, value_of, without_id}
@@ -185,7 +184,7 @@ module _ {V : Type 0} where
         count = both.1;
         left = both.0;
         value = value_of-found id slots up ∙ ap option_flatten (sym looked ∙ at);
-        ids = ids
+        ids = ids;
       }
 
   -- what is left once the empty places are closed up
@@ -242,3 +241,41 @@ module _ {V : Type 0} where
   present-push id v [] = refl
   present-push id v ((i, Some x) ∷ slots) = ap (λ l. (i, x) ∷ l) (present-push id v slots)
   present-push id v ((i, None) ∷ slots) = present-push id v slots
+
+  -- the ids of both are the same, and so are the values up to a place
+  abbrev pub IsCopiedTo : ℕ → List (ℕ × Option V) → List (ℕ × Option V) → Type 0
+  IsCopiedTo n [] [] = Unit {0}
+  IsCopiedTo n [] (y ∷ ys) = ⊥
+  IsCopiedTo n (x ∷ xs) [] = ⊥
+  IsCopiedTo zero (x ∷ xs) (y ∷ ys) = (x.0 ≡ y.0) × IsCopiedTo zero xs ys
+  IsCopiedTo (suc n) (x ∷ xs) (y ∷ ys) = (x ≡ y) × IsCopiedTo n xs ys
+
+  pub IsCopiedTo-clone : (D : Option V → Option V → Type 0) (old new : List (ℕ × Option V)) → AllZip (λ p q. (q.0 ≡ p.0) × D p.1 q.1) old new → IsCopiedTo 0 new old
+  IsCopiedTo-clone D [] [] h = tt
+  IsCopiedTo-clone D [] (y ∷ ys) h = absurd h
+  IsCopiedTo-clone D (x ∷ xs) [] h = absurd h
+  IsCopiedTo-clone D (x ∷ xs) (y ∷ ys) h = (h.0.0, IsCopiedTo-clone D xs ys h.1)
+
+  copied_step : (n : ℕ) (w : Option V) (new old : List (ℕ × Option V)) → IsCopiedTo n new old → slice_get (values_of old) n ≡ Some w → IsCopiedTo (suc n) (set_value_at new n w) old
+  copied_step n w [] [] h at = tt
+  copied_step n w [] (y ∷ ys) h at = absurd h
+  copied_step n w (x ∷ xs) [] h at = absurd h
+  copied_step zero w (x ∷ xs) (y ∷ ys) h at = let v = option_some_same at in ((λ j. (h.0 j, sym v j)), h.1)
+  copied_step (suc n) w (x ∷ xs) (y ∷ ys) h at = (h.0, copied_step n w xs ys h.1 at)
+
+  pub IsCopiedTo-more : (n : ℕ) (w : Option V) (new old : List (ℕ × Option V)) → IsCopiedTo n new old → slice_get (values_of old) n ≡ Some w → IsCopiedTo (n + 1) (set_value_at new n w) old
+  IsCopiedTo-more n w new old h at = rw add-one (copied_step n w new old h at)
+
+  pub length_copied : (n : ℕ) (new old : List (ℕ × Option V)) → IsCopiedTo n new old → length new ≡ length old
+  length_copied n [] [] h = refl
+  length_copied n [] (y ∷ ys) h = absurd h
+  length_copied n (x ∷ xs) [] h = absurd h
+  length_copied zero (x ∷ xs) (y ∷ ys) h = ap suc (length_copied zero xs ys h.1)
+  length_copied (suc n) (x ∷ xs) (y ∷ ys) h = ap suc (length_copied n xs ys h.1)
+
+  pub copied_all : (n : ℕ) (new old : List (ℕ × Option V)) → IsCopiedTo n new old → length old ≤ n → new ≡ old
+  copied_all n [] [] h all = refl
+  copied_all n [] (y ∷ ys) h all = absurd h
+  copied_all n (x ∷ xs) [] h all = absurd h
+  copied_all zero (x ∷ xs) (y ∷ ys) h all = absurd (omega arith)
+  copied_all (suc n) (x ∷ xs) (y ∷ ys) h all = λ j. h.0 j ∷ copied_all n xs ys h.1 (omega arith) j

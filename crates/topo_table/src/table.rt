@@ -110,8 +110,13 @@ impl<V> Table<V> {
         V: Copy,
         ensures { IfOk result (λ copy. copy.slots ≡ self.now.slots) }
     {
+        let mut slots = self.slots.clone()?;
+        // A clone of a value need not be equal to it, a copy is: each value is written over by its copy.
+        for place in 0..self.slots.len() {
+            slots[place] = self.slots[place];
+        }
         Ok(Table {
-            slots: self.slots.clone()?,
+            slots,
             live: self.live,
         })
     }

@@ -1,4 +1,4 @@
-use Rattle.std.proofs.Common.{◌≡◌, None, Some, slice_get, subst, sym, ap, ◌∙◌}
+use Rattle.std.proofs.Common.{Some, slice_get, sym, ap, ◌∙◌}
 use Rattle.topo_table.proofs.table.Table.at.Goals as goal
 
 pub returns-in-None-clause-empty : goal.returns-in-None-clause-empty

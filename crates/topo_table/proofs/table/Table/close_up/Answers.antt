@@ -14,7 +14,7 @@ pub invariant_of-self : goal.invariant_of-self
 invariant_of-self g c =
     let slots = c.self.inside.slots.entries in
     subst (λ l. IsStrictlyIncreasing (ids_of l) × (c.self.inside.live ≡ length (present l))) (sym (after g c))
-      (IsStrictlyIncreasing-kept slots c.self.invariant.0, c.self.invariant.1 ∙ sym (ap length (present-kept slots)))
+    (IsStrictlyIncreasing-kept slots c.self.invariant.0, c.self.invariant.1 ∙ sym (ap length (present-kept slots)))
 
 pub returns-then-self-len-clause-entries : goal.returns-then-self-len-clause-entries
 returns-then-self-len-clause-entries g c =

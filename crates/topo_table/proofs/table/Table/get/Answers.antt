@@ -1,7 +1,6 @@
-use Rattle.std.proofs.Common.{◌≡◌, eqb, subst, sym, ap, ◌∙◌, option_copied}
-use Rattle.std.specs.Map.{lookup}
+use Rattle.std.proofs.Common.{sym, ap, ◌∙◌}
 use Rattle.std.specs.Option.{option_flatten}
-use Rattle.topo_table.specs.Places.{entries, present, value_of}
+use Rattle.topo_table.specs.Places.{entries, value_of}
 use Rattle.topo_table.proofs.PlaceLemmas.{value_of-found}
 use Rattle.topo_table.proofs.table.Table.get.Goals as goal
 

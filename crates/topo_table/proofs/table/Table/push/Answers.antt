@@ -1,4 +1,4 @@
-use Rattle.std.proofs.Common.{◌≡◌, ◌++◌, ◌∷◌, [], ◌+◌, List, ℕ, length, nat_eq, Option, None, Some, subst, sym, ap, ◌∙◌, arith, length-append}
+use Rattle.std.proofs.Common.{◌≡◌, ◌++◌, ◌∷◌, [], ◌+◌, length, nat_eq, Some, subst, sym, ap, ◌∙◌, arith, length-append}
 use Rattle.std.proofs.Common.{OnOk}
 use Rattle.std.specs.List.Sorted.{IsStrictlyIncreasing}
 use Rattle.indexmap.specs.IndexMap.{insert_entry}
@@ -29,7 +29,7 @@ invariant_of-self g c =
     let now = present-push c.args.id c.args.value slots in
     let more : c.self.inside.live + 1 ≡ length (present (slots ++ (c.args.id, Some c.args.value) ∷ [])) = omega (arith, ap length now, length-append (present slots) ((c.args.id, c.args.value) ∷ []), c.self.invariant.1) in
     subst (λ l. IsStrictlyIncreasing (ids_of l) × (c.self.inside.live + 1 ≡ length (present l))) (sym (after g c))
-      (IsStrictlyIncreasing-push c.args.id c.args.value slots (above g c) c.self.invariant.0, more)
+    (IsStrictlyIncreasing-push c.args.id c.args.value slots (above g c) c.self.invariant.0, more)
 
 pub returns-clause-slots : goal.returns-clause-slots
 returns-clause-slots g c = after g c ∙ ap (λ t. t.slots ++ (c.args.id, Some c.args.value) ∷ []) c.self.view_is

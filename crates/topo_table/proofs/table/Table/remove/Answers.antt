@@ -1,4 +1,4 @@
-use Rattle.std.proofs.Common.{◌≡◌, ◌+◌, ◌-◌, ◌≤◌, List, ℕ, length, eqb, Option, nat_lt, true, None, Some, subst, sym, ap, ◌∙◌, arith}
+use Rattle.std.proofs.Common.{◌≡◌, ◌-◌, length, eqb, nat_lt, true, None, Some, subst, sym, ap, ◌∙◌, arith}
 use Rattle.std.specs.List.{list_all}
 use Rattle.std.specs.List.Sorted.{IsStrictlyIncreasing}
 use Rattle.std.specs.Map.{lookup}
@@ -64,7 +64,7 @@ invariant_of-self-2 g c =
     let facts = emptied c.args.id c.in_ok-place.place c.in_ok-value.value slots c.self.invariant.0 c.in_ok-place.ensures.index at c.in_ok-place.ensures.value in
     let fewer : c.self.inside.live - 1 ≡ length (present (set_value_at slots c.in_ok-place.place None)) = omega (arith, facts.count, c.self.invariant.1) in
     subst (λ w. IsStrictlyIncreasing (ids_of (set_value_at slots c.in_ok-place.place w)) × (c.self.inside.live - 1 ≡ length (present (set_value_at slots c.in_ok-place.place w)))) (sym c.take.ensures.after)
-      (facts.rises, fewer)
+    (facts.rises, fewer)
 
 -- the same where the function returns
 facts : (g : given.Over) (c : goal.After-close_up g) → Emptied c.args.id c.in_ok-value.value c.self.inside.slots.entries (set_value_at c.self.inside.slots.entries c.in_ok-place.place c.take.new.self)
@@ -72,7 +72,7 @@ facts g c =
     let slots = c.self.inside.slots.entries in
     let at = c.index_mut.ensures.value ∙ ap Some (sym c.in_ok-value.ensures.value) in
     subst (λ w. Emptied c.args.id c.in_ok-value.value slots (set_value_at slots c.in_ok-place.place w)) (sym c.take.ensures.after)
-      (emptied c.args.id c.in_ok-place.place c.in_ok-value.value slots c.self.invariant.0 c.in_ok-place.ensures.index at c.in_ok-place.ensures.value)
+    (emptied c.args.id c.in_ok-place.place c.in_ok-value.value slots c.self.invariant.0 c.in_ok-place.ensures.index at c.in_ok-place.ensures.value)
 
 pub returns-clause-value : goal.returns-clause-value
 returns-clause-value g c = sym (facts g c).value ∙ ap (λ t. value_of c.args.id (entries t)) c.self.view_is
