@@ -204,8 +204,9 @@ fn list_of(alloc: Global, table: &Table<Crossing>) -> Result<Vec<CrossRow>, Allo
 {
     let mut rows = Vec::with_capacity(alloc, table.len())?;
     for place in 0..table.places() {
-        if let Some((id, crossing)) = table.at(place) {
-            rows.push(shown(id, *crossing))?;
+        match table.at(place) {
+            Some((id, crossing)) => rows.push(shown(id, *crossing))?,
+            None => {}
         }
     }
     Ok(rows)
