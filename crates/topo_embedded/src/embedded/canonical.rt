@@ -1,8 +1,8 @@
 //! What is asked of rows with their embedding by the canonical numbers of darts.
 
-ghost use Rattle.std.specs.Prelude.{◌≡◌, ◌++◌, IfOk, None, OnOk, Some, flat_map, if◌then◌else◌, length, map};
+ghost use Rattle.std.specs.Prelude.{◌≡◌, ◌+◌, ◌++◌, ◌≤◌, true, IfOk, None, OnOk, Some, flat_map, if◌then◌else◌, length, map, slice_index_or};
 ghost use Rattle.topo_core.specs.declared.darts.Dart.{Dart};
-ghost use Rattle.topo_core.specs.Picture.{darts, points_of, rotation, start};
+ghost use Rattle.topo_core.specs.Picture.{darts, points_of, rotation, start, start_place};
 ghost use Rattle.topo_core.specs.Systems.{has_dart};
 ghost use Rattle.topo_embedded.specs.Canonical.{halves_of};
 ghost use Rattle.topo_embedded.specs.Halves.{IsHalf, half_in};
@@ -93,7 +93,8 @@ impl Embedded {
     {
         halves.clear();
         halves.reserve(self.segments.limit())?;
-        write_paths(halves, self.paths.as_slice())
+        write_paths(halves, self.paths.as_slice())?;
+        Ok(())
     }
 
     /// The half of a dart; none where it is no dart of the rows.
