@@ -39,10 +39,7 @@ impl<'a> Numbered<'a> {
 
     /// These rows with their embedding, and with lists that are written for them. Nothing of the rows is
     /// copied.
-    pub fn new(
-        embedded: &'a Embedded,
-        lists: &'a mut NumberLists,
-    ) -> Result<Self, AllocError>
+    pub fn new(embedded: &'a Embedded, lists: &'a mut NumberLists) -> Result<Self, AllocError>
         requires lawful { Lawful embedded.now.rows }
         requires vertices { length embedded.now.rows.rotations < 2 ^ 32 }
         ensures { IfOk result (λ d. d.rows ≡ embedded.now.rows) }

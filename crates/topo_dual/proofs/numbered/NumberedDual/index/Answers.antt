@@ -1,5 +1,4 @@
-use Rattle.std.proofs.Common.{◌≡◌, ap}
-use Rattle.topo_core.specs.declared.rows.Rows.{Rows}
+use Rattle.std.proofs.Common.{ap}
 use Rattle.topo_dual.specs.NumberedRows.{LawfulRows}
 use Rattle.topo_dual.proofs.HalfNumbers.{found_number, found_within, not_found}
 use Rattle.topo_dual.proofs.numbered.NumberedDual.index.Goals as goal

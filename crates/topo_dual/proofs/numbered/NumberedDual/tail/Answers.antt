@@ -1,6 +1,5 @@
 use Rattle.topo_core.specs.Picture.{start}
 use Rattle.std.proofs.Common.{◌≡◌, ap}
-use Rattle.topo_core.specs.declared.rows.Rows.{Rows}
 use Rattle.topo_dual.specs.NumberedRows.{LawfulRows}
 use Rattle.topo_dual.proofs.HalfNumbers.{is_half, number_named, number_within, tail_told, told}
 use Rattle.topo_dual.proofs.numbered.NumberedDual.tail.Goals as goal

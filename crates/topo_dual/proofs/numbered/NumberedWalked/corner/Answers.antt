@@ -1,5 +1,4 @@
-use Rattle.std.proofs.Common.{◌≡◌, ap}
-use Rattle.topo_core.specs.declared.rows.Rows.{Rows}
+use Rattle.std.proofs.Common.{ap}
 use Rattle.topo_dual.specs.NumberedRows.{LawfulRows}
 use Rattle.topo_dual.proofs.HalfNumbers.{corner_number, corner_within, no_corner}
 use Rattle.topo_dual.proofs.numbered.NumberedWalked.corner.Goals as goal

@@ -1,5 +1,4 @@
 use Rattle.std.proofs.Common.{◌≡◌, ap}
-use Rattle.topo_core.specs.declared.rows.Rows.{Rows}
 use Rattle.topo_dual.specs.NumberedRows.{LawfulRows}
 use Rattle.topo_dual.proofs.HalfNumbers.{is_half, number_within, told}
 use Rattle.topo_dual.proofs.numbered.NumberedWalked.dart.Goals as goal

@@ -1,7 +1,6 @@
 use Rattle.topo_core.specs.Picture.{edge_at}
 use Rattle.topo_core.specs.Routes.{AreFactsOf}
-use Rattle.std.proofs.Common.{◌≡◌, ap}
-use Rattle.topo_core.specs.declared.rows.Rows.{Rows}
+use Rattle.std.proofs.Common.{ap}
 use Rattle.topo_dual.specs.NumberedRows.{LawfulRows}
 use Rattle.topo_dual.proofs.HalfNumbers.{is_half, number_within, told}
 use Rattle.topo_dual.proofs.numbered.NumberedWalked.facts.Goals as goal

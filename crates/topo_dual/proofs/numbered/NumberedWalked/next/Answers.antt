@@ -4,7 +4,6 @@ use Rattle.topo_core.specs.Systems.{face_step}
 use Rattle.topo_rows.specs.Recovering.{lawful_again}
 use Rattle.topo_route.proofs.Numbers.{face_stays}
 use Rattle.std.proofs.Common.{◌≡◌, ap}
-use Rattle.topo_core.specs.declared.rows.Rows.{Rows}
 use Rattle.topo_dual.specs.NumberedRows.{LawfulRows}
 use Rattle.topo_dual.proofs.HalfNumbers.{half_within, is_half, number_is, number_within, told}
 use Rattle.topo_dual.proofs.numbered.NumberedWalked.next.Goals as goal

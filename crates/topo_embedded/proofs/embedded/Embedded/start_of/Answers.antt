@@ -6,7 +6,7 @@ use Rattle.topo_core.specs.declared.rows.EdgeRow.{EdgeRow}
 use Rattle.topo_core.specs.Picture.{darts, edge_row, points_of, start, start_place}
 use Rattle.topo_core.specs.Systems.{has_dart}
 use Rattle.topo_core.proofs.WithoutPlaces.{edge_of_dart}
-use Rattle.topo_embedded.specs.Halves.{Drawn, half_in}
+use Rattle.topo_embedded.specs.Halves.{Drawn}
 use Rattle.topo_embedded.proofs.FoundHalves.{start_inside, start_told}
 use Rattle.topo_embedded.proofs.Reading.{edge_read, row_read}
 use Rattle.topo_embedded.proofs.embedded.Embedded.start_of.Goals as goal
