@@ -8,19 +8,19 @@ use Rattle.topo_core.specs.declared.darts.Dart.{Dart}
 use Rattle.topo_core.specs.declared.darts.Point.{Point}
 use Rattle.topo_core.specs.declared.rows.Rows.{Rows}
 use Rattle.topo_core.specs.Lawful.{IsWellFormed, Lawful}
-use Rattle.topo_core.specs.Picture.{corner, darts, index_of, start}
-use Rattle.topo_core.specs.Systems.{has_dart}
+use Rattle.topo_core.specs.Picture.{corner, darts, index_of, start, system}
+use Rattle.topo_core.specs.Systems.{face_step, has_dart}
 use Rattle.topo_core.proofs.Numbering.{get_index, has_at, index_of_get, place_less}
 use Rattle.topo_core.proofs.RouteDarts.{corner_in}
 use Rattle.topo_core.proofs.SystemDarts.{get_there}
 use Rattle.topo_rows.specs.Recovering.{lawful_again}
 use Rattle.topo_embedded.specs.Halves.{Drawn, IsHalf, half_in}
 use Rattle.topo_embedded.specs.Walking.{named_in}
-use Rattle.topo_route.specs.Names.{IsName, IsNamed, canonical, dart_named, no_dart}
+use Rattle.topo_route.specs.Names.{IsName, IsNamed, canonical, dart_named, next_name, no_dart}
 use Rattle.topo_route.specs.Numbers.{dart_of}
 use Rattle.topo_route.proofs.Canonical.{canonical_below, canonical_dart, canonical_is}
-use Rattle.topo_route.proofs.Numbers.{dart_in, got}
-use Rattle.topo_dual.specs.NumberedRows.{AreApart, AreListsOf}
+use Rattle.topo_route.proofs.Numbers.{dart_in, face_stays, got}
+use Rattle.topo_dual.specs.NumberedRows.{AreApart, AreListsOf, LawfulRows}
 
 -- ---- The lists as they are written
 
@@ -107,9 +107,24 @@ no_if : (t : Bool) (m n : ℕ) → None ≡ (if t then Some m else None) → Non
 no_if true m n e = cc
 no_if false m n e = refl
 
-module _ (p : Drawn) (rows : Rows) (same : p.rows ≡ rows) (merely : ∥ Lawful p.rows ∥₁) (halves numbers : List ℕ) (l : AreListsOf p halves numbers) where
+-- rows that are shown, with lists that number their darts
+pub record AreNumbered (p : Drawn) (rows : Rows) (halves numbers : List ℕ) : Type 0 where
+  pub same : p.rows ≡ rows
+  pub merely : ∥ Lawful p.rows ∥₁
+  pub lists : AreListsOf p halves numbers
+
+pub known : {p : Drawn} {merely : ∥ Lawful p.rows ∥₁} {shown : LawfulRows} {halves numbers : List ℕ} → record { rows = p.rows; lawful = merely } ≡ shown → AreListsOf p halves numbers → AreNumbered p shown.rows halves numbers
+known {p} {merely} view lists = record { same = ap (λ (v : LawfulRows). v.rows) view; merely = merely; lists = lists }
+
+module _ {p : Drawn} {rows : Rows} {halves numbers : List ℕ} (n : AreNumbered p rows halves numbers) where
+  l : AreListsOf p halves numbers
+  l = n.lists
+
+  same : p.rows ≡ rows
+  same = n.same
+
   lawful : Lawful p.rows
-  lawful = lawful_again p.rows merely
+  lawful = lawful_again p.rows n.merely
 
   many : length halves ≡ length (darts p.rows)
   many = ap length l.in_order ∙ length-map (darts p.rows) (half_in p)
@@ -154,6 +169,16 @@ module _ (p : Drawn) (rows : Rows) (same : p.rows ≡ rows) (merely : ∥ Lawful
   pub number_is : (d : Dart) (half number : ℕ) → has_dart (darts p.rows) d ≡ true → half ≡ half_in p d → number ≡ slice_index numbers half → number ≡ index_of p.rows d
   number_is d half number h is told = told ∙ ap (slice_index numbers) is ∙ l.numbered d h
 
+  -- of the next dart along a face
+  module _ (k : ℕ) (name : IsName (canonical rows) k) (half next : ℕ) (is : half ≡ slice_index halves k)
+      (leads : (d : Dart) → has_dart (darts p.rows) d ≡ true → half_in p d ≡ half → next ≡ half_in p (face_step (system p.rows) d)) where
+    pub next_within : next < length numbers
+    next_within = told k name half is (λ (q : Rows) (d : Dart). next < length numbers) (λ d h e. half_within (face_step (system p.rows) d) next (face_stays p.rows lawful d h) (leads d h e))
+
+    pub next_number : (number : ℕ) → number ≡ slice_index numbers next → number ≡ next_name (canonical rows) k
+    next_number number read =
+        told k name half is (λ (q : Rows) (d : Dart). number ≡ index_of q (face_step (system q) d)) (λ d h e. number_is (face_step (system p.rows) d) next number (face_stays p.rows lawful d h) (leads d h e) read)
+
   -- of a corner
   pub corner_within : (v q half : ℕ) → Some half ≡ option_map (half_in p) (corner p.rows v q) → half < length numbers
   corner_within v q half e =
@@ -187,11 +212,13 @@ module _ (p : Drawn) (rows : Rows) (same : p.rows ≡ rows) (merely : ∥ Lawful
   pub not_found : (d : Dart) → None ≡ (if has_dart (darts p.rows) d then Some (half_in p d) else None) → None ≡ (if has_dart (darts rows) d then Some (index_of rows d) else None)
   not_found d e = subst (λ (r : Rows). None ≡ (if has_dart (darts r) d then Some (index_of r d) else None)) same (no_if (has_dart (darts p.rows) d) (half_in p d) (index_of p.rows d) e)
 
-  -- where the dart of a number starts
-  pub tail_told : (k : ℕ) → k < length (darts rows) → (point : Point) → ((name : IsName (canonical rows) k) → point ≡ start rows (dart_named (canonical rows) k)) → IsSomeAnd (slice_get (darts rows) k) (λ d. point ≡ start rows d)
-  tail_told k less point told =
-      let own = subst Lawful same lawful in
-      subst (λ (o : Option Dart). IsSomeAnd o (λ d. point ≡ start rows d)) (sym (got rows own k less)) (told (canonical_is rows own k less) ∙ ap (start rows) (canonical_dart rows own k less))
-
+  -- of a number below the count of darts
   pub number_named : (k : ℕ) → k < length (darts rows) → IsName (canonical rows) k
   number_named k less = canonical_is rows (subst Lawful same lawful) k less
+
+  pub tail_told : (k : ℕ) (less : k < length (darts rows)) (half : ℕ) → half ≡ slice_index halves k → (point : Point) → ((d : Dart) → has_dart (darts p.rows) d ≡ true → half_in p d ≡ half → point ≡ start p.rows d)
+      → IsSomeAnd (slice_get (darts rows) k) (λ d. point ≡ start rows d)
+  tail_told k less half is point starts =
+      let own = subst Lawful same lawful in
+      let there = told k (number_named k less) half is (λ (q : Rows) (d : Dart). point ≡ start q d) starts in
+      subst (λ (o : Option Dart). IsSomeAnd o (λ d. point ≡ start rows d)) (sym (got rows own k less)) (there ∙ ap (start rows) (canonical_dart rows own k less))

@@ -1,26 +1,24 @@
 use Rattle.std.specs.Prelude.{◌↔◌, IsTrue}
-use Rattle.topo_core.specs.Picture.{system}
-use Rattle.topo_core.specs.Systems.{SameFace}
-use Rattle.std.proofs.Common.{ap}
 use Rattle.topo_core.specs.declared.darts.Dart.{Dart}
 use Rattle.topo_core.specs.declared.rows.Rows.{Rows}
-use Rattle.topo_dual.specs.NumberedRows.{LawfulRows}
-use Rattle.topo_dual.proofs.HalfNumbers.{is_half, number_within, told_both}
+use Rattle.topo_core.specs.Picture.{system}
+use Rattle.topo_core.specs.Systems.{SameFace}
+use Rattle.topo_dual.proofs.HalfNumbers.{is_half, known, number_within, told_both}
 use Rattle.topo_dual.proofs.numbered.NumberedWalked.same_face.Goals as goal
 
 pub half-requires : goal.half-requires
-half-requires c = number_within c.self.inside.embedded.now c.args.self.now.rows (ap (λ (v : LawfulRows). v.rows) c.self.view_is) c.self.inside.lawful c.self.inside.lists.now.halves.items c.self.inside.lists.now.numbers.items c.self.invariant c.args.dart c.requires.dart_there
+half-requires c = number_within (known c.self.view_is c.self.invariant) c.args.dart c.requires.dart_there
 
 pub half-requires-2 : goal.half-requires-2
-half-requires-2 c = number_within c.self.inside.embedded.now c.args.self.now.rows (ap (λ (v : LawfulRows). v.rows) c.self.view_is) c.self.inside.lawful c.self.inside.lists.now.halves.items c.self.inside.lists.now.numbers.items c.self.invariant c.args.other c.requires.other_there
+half-requires-2 c = number_within (known c.self.view_is c.self.invariant) c.args.other c.requires.other_there
 
 pub same_face-requires-clause-half_there : goal.same_face-requires-clause-half_there
-same_face-requires-clause-half_there c = is_half c.self.inside.embedded.now c.args.self.now.rows (ap (λ (v : LawfulRows). v.rows) c.self.view_is) c.self.inside.lawful c.self.inside.lists.now.halves.items c.self.inside.lists.now.numbers.items c.self.invariant c.args.dart c.requires.dart_there c.half.result c.half.ensures
+same_face-requires-clause-half_there c = is_half (known c.self.view_is c.self.invariant) c.args.dart c.requires.dart_there c.half.result c.half.ensures
 
 pub same_face-requires-clause-other_there : goal.same_face-requires-clause-other_there
-same_face-requires-clause-other_there c = is_half c.self.inside.embedded.now c.args.self.now.rows (ap (λ (v : LawfulRows). v.rows) c.self.view_is) c.self.inside.lawful c.self.inside.lists.now.halves.items c.self.inside.lists.now.numbers.items c.self.invariant c.args.other c.requires.other_there c.half-2.result c.half-2.ensures
+same_face-requires-clause-other_there c = is_half (known c.self.view_is c.self.invariant) c.args.other c.requires.other_there c.half-2.result c.half-2.ensures
 
 pub returns : goal.returns
 returns c =
-    told_both c.self.inside.embedded.now c.args.self.now.rows (ap (λ (v : LawfulRows). v.rows) c.self.view_is) c.self.inside.lawful c.self.inside.lists.now.halves.items c.self.inside.lists.now.numbers.items c.self.invariant c.args.dart c.args.other c.requires.dart_there c.requires.other_there c.half.result c.half-2.result c.half.ensures c.half-2.ensures
+    told_both (known c.self.view_is c.self.invariant) c.args.dart c.args.other c.requires.dart_there c.requires.other_there c.half.result c.half-2.result c.half.ensures c.half-2.ensures
     (λ (rows : Rows) (x y : Dart). IsTrue c.same_face.result ↔ SameFace (system rows) x y) c.same_face.ensures
