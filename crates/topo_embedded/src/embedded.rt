@@ -12,6 +12,8 @@ ghost use Rattle.topo_embedded.specs.Walking.{named_in};
 ghost use Rattle.topo_rows.specs.Flats.{AreTurnsOf};
 ghost use Rattle.topo_route.specs.Names.{IsNamed};
 
+mod canonical;
+
 use crate::copies::copy_paths;
 use crate::cuts::first_cut;
 use crate::deletion::delete_drawn;

@@ -126,9 +126,7 @@ impl Picture {
     pub fn freeze(&self, alloc: Global) -> Result<Frozen, AllocError>
         ensures { IfOk result (λ f. f.rows ≡ self.now.rows) }
     {
-        let rows = copy_rows(alloc, self.embedded.rows())?;
-        let hints = self.embedded.hints().copy(alloc)?;
-        Frozen::new(alloc, rows, hints)
+        Frozen::new(alloc, self.embedded.copy(alloc)?)
     }
 
     /// Its rows as they are, with their darts numbered in lists that are lent: what its frozen picture
@@ -136,7 +134,7 @@ impl Picture {
     pub fn numbered<'a>(&'a self, lists: &'a mut NumberLists) -> Result<Numbered<'a>, AllocError>
         ensures { IfOk result (λ d. d.rows ≡ self.now.rows) }
     {
-        Numbered::new(self.embedded.rows(), self.embedded.hints(), lists)
+        Numbered::new(&self.embedded, lists)
     }
 
     /// Its rows with their embedding, for a search that hands out no heights. It takes no time to make.
