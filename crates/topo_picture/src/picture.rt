@@ -119,7 +119,7 @@ impl Picture {
         ensures rows { IfOk result (λ r. r ≡ self.now.rows) }
         ensures lawful { IsPicture self.now.limits self.now.rows }
     {
-        self.embedded.rows().show(alloc)
+        self.embedded.copy_of_rows(alloc)
     }
 
     /// The frozen picture of its rows, as they are now.

@@ -11,7 +11,6 @@ use super::Embedded;
 use crate::path::Path;
 use crate::walking::led;
 use std::alloc::{AllocError, Global};
-use topo_changes::copies::copy_rows;
 use topo_core::darts::{Dart, Point, Way};
 use topo_core::ids::{CrossId, VertexId};
 use topo_core::rows::{EdgeRow, Rows};
@@ -70,14 +69,14 @@ impl Embedded {
     pub fn copy_of_rows(&self, alloc: Global) -> Result<Rows, AllocError>
         ensures { IfOk result (λ rows. rows ≡ self.now.rows) }
     {
-        copy_rows(alloc, &self.rows)
+        self.rows.show(alloc)
     }
 
     /// How many vertices there are.
     pub fn vertex_count(&self) -> usize
         ensures { result ≡ length self.now.rows.rotations }
     {
-        self.rows.rotations.as_slice().len()
+        self.rows.rotations().len()
     }
 
     /// How many corners a vertex has, and 0 where it is no vertex.
@@ -101,7 +100,7 @@ impl Embedded {
     pub fn find_half(&self, dart: Dart) -> Option<Half>
         ensures { result ≡ (if has_dart (darts self.now.rows) dart then Some (half_in self.now dart) else None) }
     {
-        let edges = self.rows.edges.as_slice();
+        let edges = self.rows.edges();
         let place = edge_place(edges, &self.hints, dart.edge.number())?;
         let path = &self.paths.as_slice()[place];
         let seg = dart.seg as usize;
@@ -118,7 +117,7 @@ impl Embedded {
         ensures { (d : Dart) → has_dart (darts self.now.rows) d ≡ true → half_in self.now d ≡ half → result ≡ start self.now.rows d }
     {
         let dart = self.dart_of(half);
-        let edges = self.rows.edges.as_slice();
+        let edges = self.rows.edges();
         let place = place_of_edge(edges, &self.hints, dart.edge.number());
         point_on(&edges[place], place_of_start(&dart))
     }
