@@ -72,7 +72,7 @@ two_set f (suc a) (suc b) (x ∷ xs) d a_in b_in apart same =
     ∙ ap (λ y. y ∷ map f xs) (sym (same 0 (omega arith) (λ e. (let k = e in omega arith)) (λ e. (let k = e in omega arith))))
 
 -- a list that begins with its least id stays as it is
-begins_there : (around : List ℕ) → list_all (nat_le (get_or around 0 0)) around ≡ true → from_least around ≡ around
+pub begins_there : (around : List ℕ) → list_all (nat_le (get_or around 0 0)) around ≡ true → from_least around ≡ around
 begins_there [] h = refl
 begins_there (x ∷ xs) h =
     sym (least_first (x ∷ xs) 0 (omega arith) (λ _. omega arith) (λ k inside. (let t = test_of_each (nat_le x) (get_or (x ∷ xs) k 0) (x ∷ xs) h (in_at (x ∷ xs) k 0 inside) in le_from x (get_or (x ∷ xs) k 0) t)) (λ k below. absurd (omega arith)))

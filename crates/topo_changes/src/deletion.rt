@@ -1,14 +1,15 @@
 //! Deletion on plain rows. It takes no memory, so it cannot fail.
 
-ghost use Rattle.std.specs.Prelude.{Some, ◌&&◌, ◌≡◌, ◌<◌, ◌≤◌, ◌==◌, ℕ, true, not, filter, find, is_some, length, map, slice_index, slice_index_or, slice_set, [], ◌∷◌};
+ghost use Rattle.std.specs.Prelude.{Some, ◌&&◌, ◌≡◌, ◌≢◌, ◌<◌, ◌≤◌, ◌==◌, ℕ, true, not, filter, find, is_some, length, map, slice_index, slice_index_or, slice_set, [], ◌∷◌};
+ghost use Rattle.std.specs.List.{position_or_len};
 ghost use Rattle.topo_core.specs.Changes.{from_least, uncrossed_row, without};
-ghost use Rattle.topo_core.specs.Items.{IsIn, has_id};
+ghost use Rattle.topo_core.specs.Items.{IsIn, has_id, occurrences};
 ghost use Rattle.topo_core.specs.Lawful.{IsWellFormed};
-ghost use Rattle.topo_core.specs.Picture.{edge_at, edge_row};
+ghost use Rattle.topo_core.specs.Picture.{edge_at, edge_row, rotation};
 ghost use Rattle.topo_rows.specs.Ids.{IdsRise};
 ghost use Rattle.topo_changes.specs.Keeping.{rows_of};
 ghost use Rattle.topo_table.specs.Places.{AreBelow, entries};
-ghost use Rattle.topo_changes.specs.Deleting.{IsCrossed, rotation_without, left_by, other_edge};
+ghost use Rattle.topo_changes.specs.Deleting.{IsCrossed, IsRotation, rotation_without, left_by, other_edge};
 
 use crate::kept::{Crossing, KeptRows};
 use std::alloc::Global;
@@ -52,19 +53,48 @@ fn begin_at_least(ids: &mut [u32])
     ids.rotate_left(place);
 }
 
-/// Takes an edge out of a rotation, which then begins again at its least id.
+/// The place of an id in a list; its length where it is not there.
+fn place_of(ids: &[u32], id: u32) -> usize
+    ensures { result ≡ position_or_len (λ y. y == id) ids.now }
+{
+    for place in 0..ids.len() {
+        if ids[place] == id {
+            return place;
+        }
+    }
+    ids.len()
+}
+
+/// Takes an id that stands in a list at most once out of it, in one move, and answers where it stood.
+fn take_once(ids: &mut Vec<u32>, id: u32) -> usize
+    requires { occurrences id ids.old.items ≤ 1 }
+    ensures left { ids.new.items ≡ filter (λ y. not (y == id)) ids.old.items }
+    ensures place { result ≡ position_or_len (λ y. y == id) ids.old.items }
+{
+    let place = place_of(ids.as_slice(), id);
+    if place < ids.len() {
+        ids.remove(place);
+    }
+    place
+}
+
+/// Takes an edge out of a rotation. Where that was its least id, the rotation is listed from its least id
+/// again; else it begins as it did.
 fn leave_rotation(alloc: Global, around: &mut Listed<u32>, e: u32)
+    requires { IsRotation e around.old }
     ensures { around.new ≡ rotation_without e around.old }
 {
     let mut items = mem::replace(around, Listed::new(alloc)).into_vec();
-    items.retain(|f| *f != e);
-    begin_at_least(&mut items);
+    if take_once(&mut items, e) == 0 {
+        begin_at_least(&mut items);
+    }
     *around = Listed::from_vec(items);
 }
 
 /// Takes an edge out of the rotation of a vertex.
 fn leave_vertex(alloc: Global, rotations: &mut Vec<Listed<u32>>, v: u32, e: u32)
-    requires { v < length rotations.old.items }
+    requires vertex { v < length rotations.old.items }
+    requires rotation { IsRotation e (slice_index_or rotations.old.items v []) }
     ensures { rotations.new.items ≡ left_by e v rotations.old.items }
 {
     leave_rotation(alloc, &mut rotations[v as usize], e);
@@ -143,6 +173,9 @@ fn delete_edge(alloc: Global, rows: &mut KeptRows, hints: &mut Hints, e: u32) ->
 fn leave_ends(alloc: Global, rows: &mut KeptRows, row: &EdgeRow)
     requires a { row.now.a < length rows.old.rotations }
     requires b { row.now.b < length rows.old.rotations }
+    requires apart { row.now.a ≢ row.now.b }
+    requires rotation_a { IsRotation row.now.id (rotation rows.old row.now.a) }
+    requires rotation_b { IsRotation row.now.id (rotation rows.old row.now.b) }
     ensures { rows.new ≡ record rows.old { rotations = left_by row.now.id row.now.b (left_by row.now.id row.now.a rows.old.rotations) } }
 {
     let mut rotations = mem::replace(&mut rows.rotations, Listed::new(alloc)).into_vec();

@@ -1,13 +1,16 @@
-use Rattle.std.proofs.Common.{arith, ap, List, not, ℕ, ◌∙◌}
+use Rattle.std.proofs.Common.{arith, ap, List, not, subst, sym, ℕ, ◌∙◌}
 use Rattle.std.specs.Prelude.{filter, map}
 use Rattle.topo_core.specs.declared.rows.CrossRow.{CrossRow}
 use Rattle.topo_core.specs.declared.rows.Rows.{Rows}
 use Rattle.topo_core.specs.Items.{has_id}
+use Rattle.topo_core.specs.Picture.{rotation}
 use Rattle.topo_core.proofs.SystemDarts.{path_facts, row_in}
 use Rattle.topo_table.specs.Places.{entries}
+use Rattle.topo_changes.specs.Deleting.{IsRotation}
 use Rattle.topo_changes.specs.Keeping.{crossing_row, rows_of}
 use Rattle.topo_changes.proofs.Deleting.{parts_left}
 use Rattle.topo_changes.proofs.Keeping.{rows_of_left}
+use Rattle.topo_changes.proofs.Rotating.{ends_apart, rotation_a, rotation_b}
 use Rattle.topo_changes.proofs.deletion.delete_rows.Goals as goal
 
 pub leave_ends-requires-clause-a : goal.leave_ends-requires-clause-a
@@ -15,6 +18,19 @@ leave_ends-requires-clause-a c = grind (arith, path_facts, row_in)
 
 pub leave_ends-requires-clause-b : goal.leave_ends-requires-clause-b
 leave_ends-requires-clause-b c = grind (arith, path_facts, row_in)
+
+pub leave_ends-requires-clause-apart : goal.leave_ends-requires-clause-apart
+leave_ends-requires-clause-apart c = ends_apart c.args.rows.now c.requires.well_formed c.args.e c.delete_edge-row.result c.delete_edge-row.ensures.row
+
+pub leave_ends-requires-clause-rotation_a : goal.leave_ends-requires-clause-rotation_a
+leave_ends-requires-clause-rotation_a c =
+    let row = c.delete_edge-row.result in
+    subst (λ (rows : Rows). IsRotation row.id (rotation rows row.a)) (sym c.delete_edge-row.ensures.rows) (rotation_a c.args.rows.now c.requires.well_formed c.args.e row c.delete_edge-row.ensures.row)
+
+pub leave_ends-requires-clause-rotation_b : goal.leave_ends-requires-clause-rotation_b
+leave_ends-requires-clause-rotation_b c =
+    let row = c.delete_edge-row.result in
+    subst (λ (rows : Rows). IsRotation row.id (rotation rows row.b)) (sym c.delete_edge-row.ensures.rows) (rotation_b c.args.rows.now c.requires.well_formed c.args.e row c.delete_edge-row.ensures.row)
 
 pub returns : goal.returns
 returns c =
