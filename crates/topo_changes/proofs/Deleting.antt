@@ -72,7 +72,7 @@ two_set f (suc a) (suc b) (x ∷ xs) d a_in b_in apart same =
     ∙ ap (λ y. y ∷ map f xs) (sym (same 0 (omega arith) (λ e. (let k = e in omega arith)) (λ e. (let k = e in omega arith))))
 
 -- a list that begins with its least id stays as it is
-begins_there : (around : List ℕ) → list_all (nat_le (get_or around 0 0)) around ≡ true → from_least around ≡ around
+pub begins_there : (around : List ℕ) → list_all (nat_le (get_or around 0 0)) around ≡ true → from_least around ≡ around
 begins_there [] h = refl
 begins_there (x ∷ xs) h =
     sym (least_first (x ∷ xs) 0 (omega arith) (λ _. omega arith) (λ k inside. (let t = test_of_each (nat_le x) (get_or (x ∷ xs) k 0) (x ∷ xs) h (in_at (x ∷ xs) k 0 inside) in le_from x (get_or (x ∷ xs) k 0) t)) (λ k below. absurd (omega arith)))
@@ -174,18 +174,6 @@ module _ (rows : Rows) (good : IsWellFormed rows) (e : ℕ) where
           neither : (a b v : ℕ) → a ≢ v → b ≢ v → (a == v || b == v) ≡ false
           neither a b v first second = grind (arith, nat_tests)
 
-    -- the crossings of the edge are those on its path
-    pub crossings_left : filter (λ x. not (x.crossed == e) && not (x.newcomer == e)) rows.crossings ≡ filter (λ x. not (has_id row.crossings x.id)) rows.crossings
-    crossings_left = filter_alike (λ x. not (x.crossed == e) && not (x.newcomer == e)) (λ x. not (has_id row.crossings x.id)) rows.crossings (λ x h. elim (cases_Bool (has_id row.crossings x.id)) [
-      | inl is ↦ one_is x.crossed x.newcomer (on_edge x h (in_has_id x.id row.crossings is)) ∙ sym (ap not is)
-      | inr is ↦ grind (arith, left_apart, edge_at_row)
-    ]) where
-      one_is : (a b : ℕ) → (e == a || e == b) ≡ true → (not (a == e) && not (b == e)) ≡ false
-      one_is a b h = grind (arith, nat_tests)
-
-      none_is : (a b : ℕ) → a ≢ e → b ≢ e → (not (a == e) && not (b == e)) ≡ true
-      none_is a b first second = grind (arith, nat_tests)
-
     abbrev built : List (List ℕ) → List CrossRow → EdgeRow → Rows
     built around xs r = record {
       rotations = around;
@@ -199,6 +187,6 @@ module _ (rows : Rows) (good : IsWellFormed rows) (e : ℕ) where
     pub parts_left : (after_edge after_ends after : Rows)
         → after_edge ≡ record rows { edges = map (uncrossed_row row.crossings) (filter is_left rows.edges) }
         → after_ends ≡ record after_edge { rotations = left_by row.id row.b (left_by row.id row.a after_edge.rotations) }
-        → after ≡ record after_ends { crossings = filter (λ x. not (x.crossed == e) && not (x.newcomer == e)) after_ends.crossings }
+        → after ≡ record after_ends { crossings = filter (λ x. not (has_id row.crossings x.id)) after_ends.crossings }
         → after ≡ without rows e
-    parts_left after_edge after_ends after one two three = grind (arith, one, rotations_left, crossings_left, edge_at_row)
+    parts_left after_edge after_ends after one two three = grind (arith, one, rotations_left, edge_at_row)

@@ -132,7 +132,7 @@ pub ids_stay : (gone : List ℕ) (edges : List EdgeRow) → map (λ row. row.id)
 ids_stay gone [] = refl
 ids_stay gone (row ∷ edges) = ap (λ xs. row.id ∷ xs) (ids_stay gone edges)
 
-has_id_more : (xs : List ℕ) (x y : ℕ) → has_id (xs ++ x ∷ []) y ≡ (has_id xs y || has_id (x ∷ []) y)
+pub has_id_more : (xs : List ℕ) (x y : ℕ) → has_id (xs ++ x ∷ []) y ≡ (has_id xs y || has_id (x ∷ []) y)
 has_id_more [] x y = refl
 has_id_more (z ∷ zs) x y = ap (λ b. z == y || b) (has_id_more zs x y) ∙ assoc (z == y) (has_id zs y) (has_id (x ∷ []) y) where
   assoc : (a b c : Bool) → (a || (b || c)) ≡ ((a || b) || c)

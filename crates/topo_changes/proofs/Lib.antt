@@ -2,9 +2,10 @@ pub mod Corners
 pub mod GrownCorner
 pub mod Leaving
 pub mod Deleting
-pub mod UncrossedEdges
+pub mod Rotating
 pub mod CrossedPaths
 pub mod CrossedRows
+pub mod Keeping
 pub mod Inserting
 pub mod Totals
 pub mod InsertedNumbers

@@ -1,10 +1,11 @@
 -- What a deletion reads of the rows while it takes an edge out.
-use Rattle.std.specs.Prelude.{◌≡◌, ◌≢◌, ℕ, ◌==◌, true, false, if◌then◌else◌, not, List, [], filter, find, is_some, unwrap_or, slice_index_or, slice_set}
+use Rattle.std.specs.Prelude.{◌≡◌, ◌≢◌, ◌≤◌, ℕ, nat_le, ◌==◌, true, false, if◌then◌else◌, not, List, [], filter, find, is_some, unwrap_or, slice_index_or, slice_set}
+use Rattle.std.specs.List.{list_all}
 use Rattle.topo_core.specs.declared.darts.Sign.TheVariants.{LeftToRight}
 use Rattle.topo_core.specs.declared.rows.EdgeRow.{EdgeRow}
 use Rattle.topo_core.specs.declared.rows.CrossRow.{CrossRow}
 use Rattle.topo_core.specs.Changes.{from_least}
-use Rattle.topo_core.specs.Items.{has_id, IsIn}
+use Rattle.topo_core.specs.Items.{has_id, IsIn, occurrences}
 
 -- the row of a crossing that is there, and else an empty one
 abbrev pub crossing_at : List CrossRow → ℕ → CrossRow
@@ -19,6 +20,11 @@ pub record IsCrossed (crossings : List CrossRow) (e : ℕ) (edges : List EdgeRow
   pub known : is_some (find (λ row. row.id == x) crossings) ≡ true
   pub there : is_some (find (λ row. row.id == other_edge crossings e x) edges) ≡ true
   pub elsewhere : (row : EdgeRow) → IsIn row edges → row.id ≢ other_edge crossings e x → has_id row.crossings x ≡ false
+
+-- the list begins with its least id, and e stands in it at most once
+pub record IsRotation (e : ℕ) (around : List ℕ) : Type 0 where
+  pub least : list_all (nat_le (slice_index_or around 0 0)) around ≡ true
+  pub once : occurrences e around ≤ 1
 
 -- a rotation without e, from its least id on
 abbrev pub rotation_without : ℕ → List ℕ → List ℕ

@@ -1,3 +1,4 @@
 pub mod Deleting
 pub mod Inserting
 pub mod Cuts
+pub mod Keeping

@@ -7,7 +7,7 @@ use topo_core::listed::Listed;
 use topo_core::rows::{EdgeRow, Rows};
 
 /// An equal list of rotations.
-fn copy_rotations(alloc: Global, lists: &[Listed<u32>]) -> Result<Vec<Listed<u32>>, AllocError>
+pub(crate) fn copy_rotations(alloc: Global, lists: &[Listed<u32>]) -> Result<Vec<Listed<u32>>, AllocError>
     ensures { IfOk result (λ copy. copy.items ≡ lists.now) }
 {
     let mut copy = Vec::with_capacity(alloc, lists.len())?;
@@ -30,7 +30,7 @@ fn copy_path(alloc: Global, path: &[u32]) -> Result<Listed<u32>, AllocError>
 }
 
 /// An equal list of edges.
-fn copy_edges(alloc: Global, edges: &[EdgeRow]) -> Result<Vec<EdgeRow>, AllocError>
+pub(crate) fn copy_edges(alloc: Global, edges: &[EdgeRow]) -> Result<Vec<EdgeRow>, AllocError>
     ensures { IfOk result (λ copy. copy.items ≡ edges.now) }
 {
     let mut copy = Vec::with_capacity(alloc, edges.len())?;

@@ -1,19 +1,24 @@
 //! Deletion on plain rows. It takes no memory, so it cannot fail.
 
-ghost use Rattle.std.specs.Prelude.{Some, ◌&&◌, ◌≡◌, ◌<◌, ◌≤◌, ◌==◌, ℕ, true, not, filter, find, is_some, length, map, slice_index, slice_index_or, slice_set, [], ◌∷◌};
+ghost use Rattle.std.specs.Prelude.{Some, ◌&&◌, ◌≡◌, ◌≢◌, ◌<◌, ◌≤◌, ◌==◌, ℕ, true, not, filter, find, is_some, length, map, slice_index, slice_index_or, slice_set, [], ◌∷◌};
+ghost use Rattle.std.specs.List.{position_or_len};
 ghost use Rattle.topo_core.specs.Changes.{from_least, uncrossed_row, without};
-ghost use Rattle.topo_core.specs.Items.{IsIn};
+ghost use Rattle.topo_core.specs.Items.{IsIn, has_id, occurrences};
 ghost use Rattle.topo_core.specs.Lawful.{IsWellFormed};
-ghost use Rattle.topo_core.specs.Picture.{edge_at, edge_row};
+ghost use Rattle.topo_core.specs.Picture.{edge_at, edge_row, rotation};
 ghost use Rattle.topo_rows.specs.Ids.{IdsRise};
-ghost use Rattle.topo_changes.specs.Deleting.{IsCrossed, rotation_without, left_by, other_edge};
+ghost use Rattle.topo_changes.specs.Keeping.{rows_of};
+ghost use Rattle.topo_table.specs.Places.{AreBelow, entries};
+ghost use Rattle.topo_changes.specs.Deleting.{IsCrossed, IsRotation, rotation_without, left_by, other_edge};
 
+use crate::kept::{Crossing, KeptRows};
 use std::alloc::Global;
 use std::mem;
 use topo_core::listed::Listed;
-use topo_core::rows::{CrossRow, EdgeRow, Rows};
+use topo_core::rows::EdgeRow;
 use topo_rows::Hints;
-use topo_rows::by_id::{place_of_crossing, place_of_edge};
+use topo_rows::by_id::place_of_edge;
+use topo_table::Table;
 
 /// Takes an id out of a list.
 fn take_id(alloc: Global, list: &mut Listed<u32>, id: u32)
@@ -48,35 +53,61 @@ fn begin_at_least(ids: &mut [u32])
     ids.rotate_left(place);
 }
 
-/// Takes an edge out of a rotation, which then begins again at its least id.
+/// The place of an id in a list; its length where it is not there.
+fn place_of(ids: &[u32], id: u32) -> usize
+    ensures { result ≡ position_or_len (λ y. y == id) ids.now }
+{
+    for place in 0..ids.len() {
+        if ids[place] == id {
+            return place;
+        }
+    }
+    ids.len()
+}
+
+/// Takes an id that stands in a list at most once out of it, in one move, and answers where it stood.
+fn take_once(ids: &mut Vec<u32>, id: u32) -> usize
+    requires { occurrences id ids.old.items ≤ 1 }
+    ensures left { ids.new.items ≡ filter (λ y. not (y == id)) ids.old.items }
+    ensures place { result ≡ position_or_len (λ y. y == id) ids.old.items }
+{
+    let place = place_of(ids.as_slice(), id);
+    if place < ids.len() {
+        ids.remove(place);
+    }
+    place
+}
+
+/// Takes an edge out of a rotation. Where that was its least id, the rotation is listed from its least id
+/// again; else it begins as it did.
 fn leave_rotation(alloc: Global, around: &mut Listed<u32>, e: u32)
+    requires { IsRotation e around.old }
     ensures { around.new ≡ rotation_without e around.old }
 {
     let mut items = mem::replace(around, Listed::new(alloc)).into_vec();
-    items.retain(|f| *f != e);
-    begin_at_least(&mut items);
+    if take_once(&mut items, e) == 0 {
+        begin_at_least(&mut items);
+    }
     *around = Listed::from_vec(items);
 }
 
 /// Takes an edge out of the rotation of a vertex.
 fn leave_vertex(alloc: Global, rotations: &mut Vec<Listed<u32>>, v: u32, e: u32)
-    requires { v < length rotations.old.items }
+    requires vertex { v < length rotations.old.items }
+    requires rotation { IsRotation e (slice_index_or rotations.old.items v []) }
     ensures { rotations.new.items ≡ left_by e v rotations.old.items }
 {
     leave_rotation(alloc, &mut rotations[v as usize], e);
 }
 
 /// The other edge of a crossing of `e`.
-fn edge_across(crossings: &[CrossRow], hints: &Hints, e: u32, x: u32) -> u32
-    requires rise { IdsRise (map (λ row. row.id) crossings.now) }
-    requires there { is_some (find (λ row. row.id == x) crossings.now) ≡ true }
-    ensures { result ≡ other_edge crossings.now e x }
+fn edge_across(crossings: &Table<Crossing>, e: u32, x: u32) -> u32
+    requires { is_some (find (λ row. row.id == x) (rows_of crossings.now)) ≡ true }
+    ensures { result ≡ other_edge (rows_of crossings.now) e x }
 {
-    let row = &crossings[place_of_crossing(crossings, hints, x)];
-    if row.crossed == e {
-        row.newcomer
-    } else {
-        row.crossed
+    match crossings.get(x) {
+        Some(crossing) => crossing.other(e),
+        None => unreachable!(),
     }
 }
 
@@ -84,17 +115,16 @@ fn edge_across(crossings: &[CrossRow], hints: &Hints, e: u32, x: u32) -> u32
 fn leave_path(
     alloc: Global,
     edges: &mut Vec<EdgeRow>,
-    crossings: &[CrossRow],
+    crossings: &Table<Crossing>,
     hints: &Hints,
     e: u32,
     x: u32,
 )
-    requires crossings_rise { IdsRise (map (λ row. row.id) crossings.now) }
     requires edges_rise { IdsRise (map (λ row. row.id) edges.old.items) }
-    requires crossed { IsCrossed crossings.now e edges.old.items x }
+    requires crossed { IsCrossed (rows_of crossings.now) e edges.old.items x }
     ensures { edges.new.items ≡ map (uncrossed_row (x ∷ [])) edges.old.items }
 {
-    let place = place_of_edge(edges.as_slice(), hints, edge_across(crossings, hints, e, x));
+    let place = place_of_edge(edges.as_slice(), hints, edge_across(crossings, e, x));
     take_id(alloc, &mut edges[place].crossings, x);
 }
 
@@ -102,14 +132,13 @@ fn leave_path(
 fn leave_paths(
     alloc: Global,
     edges: &mut Vec<EdgeRow>,
-    crossings: &[CrossRow],
+    crossings: &Table<Crossing>,
     hints: &Hints,
     e: u32,
     path: &[u32],
 )
-    requires crossings_rise { IdsRise (map (λ row. row.id) crossings.now) }
     requires edges_rise { IdsRise (map (λ row. row.id) edges.old.items) }
-    requires crossed { (x : ℕ) → IsIn x path.now → IsCrossed crossings.now e edges.old.items x }
+    requires crossed { (x : ℕ) → IsIn x path.now → IsCrossed (rows_of crossings.now) e edges.old.items x }
     ensures { edges.new.items ≡ map (uncrossed_row path.now) edges.old.items }
 {
     for x in path {
@@ -118,7 +147,7 @@ fn leave_paths(
 }
 
 /// Takes out the row of an edge, and its crossings out of the paths of the others.
-fn delete_edge(alloc: Global, rows: &mut Rows, hints: &mut Hints, e: u32) -> EdgeRow
+fn delete_edge(alloc: Global, rows: &mut KeptRows, hints: &mut Hints, e: u32) -> EdgeRow
     requires well_formed { IsWellFormed rows.old }
     requires there { is_some (edge_row rows.old e) ≡ true }
     ensures row { edge_row rows.old e ≡ Some result }
@@ -131,7 +160,7 @@ fn delete_edge(alloc: Global, rows: &mut Rows, hints: &mut Hints, e: u32) -> Edg
     leave_paths(
         alloc,
         &mut edges,
-        rows.crossings.as_slice(),
+        &rows.crossings,
         hints,
         e,
         row.crossings.as_slice(),
@@ -141,9 +170,12 @@ fn delete_edge(alloc: Global, rows: &mut Rows, hints: &mut Hints, e: u32) -> Edg
 }
 
 /// Takes an edge out of the rotations of its two ends.
-fn leave_ends(alloc: Global, rows: &mut Rows, row: &EdgeRow)
+fn leave_ends(alloc: Global, rows: &mut KeptRows, row: &EdgeRow)
     requires a { row.now.a < length rows.old.rotations }
     requires b { row.now.b < length rows.old.rotations }
+    requires apart { row.now.a ≢ row.now.b }
+    requires rotation_a { IsRotation row.now.id (rotation rows.old row.now.a) }
+    requires rotation_b { IsRotation row.now.id (rotation rows.old row.now.b) }
     ensures { rows.new ≡ record rows.old { rotations = left_by row.now.id row.now.b (left_by row.now.id row.now.a rows.old.rotations) } }
 {
     let mut rotations = mem::replace(&mut rows.rotations, Listed::new(alloc)).into_vec();
@@ -152,27 +184,23 @@ fn leave_ends(alloc: Global, rows: &mut Rows, row: &EdgeRow)
     rows.rotations = Listed::from_vec(rotations);
 }
 
-/// Takes out the rows of the crossings of an edge.
-fn delete_crossings(alloc: Global, rows: &mut Rows, e: u32)
-    ensures { rows.new ≡ record rows.old { crossings = filter (λ x. not (x.crossed == e) && not (x.newcomer == e)) rows.old.crossings } }
+/// Takes out the crossings on a path.
+fn delete_crossings(crossings: &mut Table<Crossing>, path: &[u32])
+    ensures entries { entries crossings.new ≡ filter (λ e. not (has_id path.now e.0)) (entries crossings.old) }
+    ensures below { (limit : ℕ) → AreBelow limit crossings.old.slots → AreBelow limit crossings.new.slots }
 {
-    let mut crossings = mem::replace(&mut rows.crossings, Listed::new(alloc)).into_vec();
-    crossings.retain(|x| x.crossed != e && x.newcomer != e);
-    rows.crossings = Listed::from_vec(crossings);
+    for x in path {
+        crossings.remove(*x);
+    }
 }
 
 /// Takes out an edge and its crossings. The counters stay.
-pub fn delete_rows(alloc: Global, rows: &mut Rows, hints: &mut Hints, e: u32)
+pub fn delete_rows(alloc: Global, rows: &mut KeptRows, hints: &mut Hints, e: u32)
     requires well_formed { IsWellFormed rows.old }
     requires there { is_some (edge_row rows.old e) ≡ true }
     ensures { rows.new ≡ without rows.old e }
 {
     let row = delete_edge(alloc, rows, hints, e);
     leave_ends(alloc, rows, &row);
-    let path = row.crossings.as_slice();
-    if path.is_empty() {
-        return;
-    }
-    delete_crossings(alloc, rows, e);
-    hints.leave_crossings(rows, path);
+    delete_crossings(&mut rows.crossings, row.crossings.as_slice());
 }

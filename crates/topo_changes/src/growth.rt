@@ -4,10 +4,11 @@ ghost use Rattle.std.specs.Prelude.{◌≡◌, ◌+◌, ◌<◌, ◌≤◌, ◌^
 ghost use Rattle.topo_core.specs.Picture.{rotation};
 ghost use Rattle.topo_core.specs.Changes.{put_in, with_end, grown};
 
+use crate::kept::KeptRows;
 use std::alloc::{AllocError, Global};
 use std::mem;
 use topo_core::listed::Listed;
-use topo_core::rows::{EdgeRow, Rows};
+use topo_core::rows::EdgeRow;
 
 /// The list of one number.
 pub fn one_listed(alloc: Global, x: u32) -> Result<Listed<u32>, AllocError>
@@ -64,7 +65,7 @@ fn grow_rotations(
 /// Puts a new vertex on a new edge into the corner at a position of `u`.
 pub fn grow_rows(
     alloc: Global,
-    rows: &mut Rows,
+    rows: &mut KeptRows,
     u: u32,
     position: u32,
     kind: u32,

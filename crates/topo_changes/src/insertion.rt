@@ -3,20 +3,24 @@
 
 ghost use Rattle.std.specs.Prelude.{◌≡◌, ◌≢◌, ◌+◌, ◌<◌, ◌≤◌, ◌^◌, ℕ, List, true, nat_lt, IfOk, OnOk, OnErr, length, map, filter, take, slice_index_or, [], ◌∷◌, ◌++◌};
 ghost use Rattle.std.specs.List.{enumerate_from, list_all};
-ghost use Rattle.topo_core.specs.Changes.{new_crossing, shown, sign_of, with_end};
+ghost use Rattle.topo_core.specs.Changes.{shown, sign_of, with_end};
 ghost use Rattle.topo_core.specs.Insertions.{IsInsertable};
 ghost use Rattle.topo_core.specs.Lawful.{IsWellFormed};
+ghost use Rattle.topo_changes.specs.Keeping.{new_entry};
+ghost use Rattle.topo_table.specs.Places.{AreBelow, entries};
 ghost use Rattle.topo_changes.specs.Inserting.{AreOnPaths, EdgesRise, crossed_by, crossed_path, paths_below, repathed, segment_end};
 
 use crate::growth::put_into;
+use crate::kept::{Crossing, KeptRows};
 use std::alloc::{AllocError, Global};
 use std::mem;
 use topo_core::darts::{Dart, Sign, Way};
 use topo_core::listed::Listed;
 use topo_core::routes::Route;
-use topo_core::rows::{CrossRow, EdgeRow, Rows};
+use topo_core::rows::EdgeRow;
 use topo_rows::Hints;
 use topo_rows::by_id::edge_place;
+use topo_table::Table;
 
 /// The place on a path where a segment ends, when only the crossings with ids before `first` count.
 fn segment_end(path: &[u32], segment: u32, first: u32) -> usize
@@ -207,27 +211,24 @@ fn sign_of(way: Way) -> Sign
     }
 }
 
-/// The crossings of an edge that crosses the darts, with ids from `first` on.
-fn crossings_of(
-    alloc: Global,
-    darts: &[Dart],
-    first: u32,
-    edge: u32,
-) -> Result<Vec<CrossRow>, AllocError>
-    requires { first + length darts.now < 2 ^ 32 }
-    ensures { IfOk result (λ made. made.items ≡ map (new_crossing edge) (enumerate_from first darts.now)) }
+/// Puts the crossings of an edge that crosses the darts behind the others, with ids from `first` on. There is
+/// room for them.
+fn add_crossings(crossings: &mut Table<Crossing>, darts: &[Dart], first: u32, edge: u32)
+    requires ids { first + length darts.now < 2 ^ 32 }
+    requires room { length darts.now ≤ crossings.old.room }
+    requires below { AreBelow first crossings.old.slots }
+    ensures entries { entries crossings.new ≡ entries crossings.old ++ map (new_entry edge) (enumerate_from first darts.now) }
+    ensures below { AreBelow (first + length darts.now) crossings.new.slots }
 {
-    let mut made = Vec::with_capacity(alloc, darts.len())?;
     for i in 0..darts.len() {
         let dart = darts[i];
-        made.push(CrossRow {
-            id: first + i as u32,
+        let crossing = Crossing {
             crossed: dart.edge.number(),
             newcomer: edge,
             sign: sign_of(dart.way),
-        })?;
+        };
+        crossings.push(first + i as u32, crossing);
     }
-    Ok(made)
 }
 
 /// Puts the edge of a row and its crossings into the three lists, or leaves them as they were.
@@ -235,7 +236,7 @@ fn insert_lists(
     alloc: Global,
     rotations: &mut [Listed<u32>],
     edges: &mut Vec<EdgeRow>,
-    crossings: &mut Vec<CrossRow>,
+    crossings: &mut Table<Crossing>,
     hints: &Hints,
     row: EdgeRow,
     route: &Route,
@@ -250,25 +251,26 @@ fn insert_lists(
     requires rise { EdgesRise edges.old.items }
     requires below { paths_below first edges.old.items ≡ true }
     requires there { AreOnPaths edges.old.items route.now.crossed }
+    requires crossings_below { AreBelow first crossings.old.slots }
     requires ids { first + length route.now.crossed < 2 ^ 32 }
     ensures rotations { OnOk result (rotations.new ≡ with_end (with_end rotations.old row.a route.now.start row.id) row.b route.now.end row.id) }
     ensures edges { OnOk result (edges.new.items ≡ map (crossed_by first route.now.crossed) edges.old.items ++ row ∷ []) }
-    ensures crossings { OnOk result (crossings.new.items ≡ crossings.old.items ++ map (new_crossing row.id) (enumerate_from first route.now.crossed)) }
+    ensures crossings { OnOk result (entries crossings.new ≡ entries crossings.old ++ map (new_entry row.id) (enumerate_from first route.now.crossed)) }
+    ensures crossings_below { OnOk result (AreBelow (first + length route.now.crossed) crossings.new.slots) }
     ensures rotations_stay { OnErr result (rotations.new ≡ rotations.old) }
     ensures edges_stay { OnErr result (edges.new.items ≡ edges.old.items) }
-    ensures crossings_stay { OnErr result (crossings.new.items ≡ crossings.old.items) }
+    ensures crossings_stay { OnErr result (crossings.new.slots ≡ crossings.old.slots) }
 {
     let darts = route.crossed.as_slice();
-    let made = crossings_of(alloc, darts, first, row.id)?;
     edges.reserve(1)?;
-    crossings.reserve(made.len())?;
+    crossings.reserve(darts.len())?;
     cross(alloc, edges, hints, darts, first)?;
     if join_ends(alloc, rotations, &row, route).is_err() {
         uncross(alloc, edges, hints, darts, first);
         return Err(AllocError);
     }
+    add_crossings(crossings, darts, first, row.id);
     edges.push(row).unwrap();
-    crossings.extend_from_slice(made.as_slice()).unwrap();
     Ok(())
 }
 
@@ -276,7 +278,7 @@ fn insert_lists(
 /// crosses.
 pub fn apply_rows(
     alloc: Global,
-    rows: &mut Rows,
+    rows: &mut KeptRows,
     hints: &Hints,
     u: u32,
     v: u32,
@@ -300,12 +302,11 @@ pub fn apply_rows(
     };
     let mut rotations = mem::replace(&mut rows.rotations, Listed::new(alloc)).into_vec();
     let mut edges = mem::replace(&mut rows.edges, Listed::new(alloc)).into_vec();
-    let mut crossings = mem::replace(&mut rows.crossings, Listed::new(alloc)).into_vec();
     let done = insert_lists(
         alloc,
         &mut rotations,
         &mut edges,
-        &mut crossings,
+        &mut rows.crossings,
         hints,
         row,
         route,
@@ -313,7 +314,6 @@ pub fn apply_rows(
     );
     rows.rotations = Listed::from_vec(rotations);
     rows.edges = Listed::from_vec(edges);
-    rows.crossings = Listed::from_vec(crossings);
     done?;
     rows.next_edge += 1;
     rows.next_crossing += route.crossed.as_slice().len() as u32;

@@ -11,3 +11,6 @@ pub mod copies;
 pub mod deletion;
 pub mod growth;
 pub mod insertion;
+pub mod kept;
+
+pub use kept::KeptRows;

@@ -1,3 +1,1 @@
-pub mod Labelling
-pub mod Lookups
-pub mod Places
+pub mod HalfNumbers

@@ -1,2 +1,1 @@
-pub mod FaceLabels
 pub mod NumberedRows

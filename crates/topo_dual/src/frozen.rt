@@ -1,4 +1,4 @@
-//! Frozen pictures: numbered ones that own their rows.
+//! Frozen pictures: numbered ones that own their embedding.
 
 ghost use Rattle.topo_core.specs.Lawful.{Lawful};
 
@@ -8,18 +8,17 @@ use std::alloc::{AllocError, Global};
 use std::marker::Model;
 use topo_core::darts::{Dart, Point};
 use topo_core::rows::{Facts, Rows};
+use topo_embedded::Embedded;
 use topo_route::dual::Dual;
 use topo_route::walked::Walked;
-use topo_rows::Hints;
 
-/// A frozen picture: lawful rows with the lists that number their darts. Contracts see the rows. It
-/// answers what `Numbered` does, and nothing has to be lent to it.
+/// A frozen picture: lawful rows with their embedding, and with the lists that number their darts.
+/// Contracts see the rows. It answers what `Numbered` does, and nothing has to be lent to it.
 #[derive(Drop)]
 pub struct Frozen {
-    rows: Rows,
-    hints: Hints,
+    embedded: Embedded,
     lists: NumberLists,
-    ghost lawful: { ∥ Lawful rows ∥₁ },
+    ghost lawful: { ∥ Lawful embedded.rows ∥₁ },
 }
 
 impl Model for Frozen {
@@ -27,35 +26,39 @@ impl Model for Frozen {
 
     ghost Value = { LawfulRows };
 
-    ghost view = { λ f. record { rows = f.rows; lawful = f.lawful } };
+    ghost view = { λ f. record { rows = f.embedded.rows; lawful = f.lawful } };
 
-    ghost invariant = { λ f. AreListsOf f.rows f.lists.begins.items f.lists.turns.items f.lists.faces.items };
+    ghost invariant = { λ f. AreListsOf f.embedded f.lists.halves.items f.lists.numbers.items };
 }
 
 impl Frozen {
-    ghost use Rattle.std.specs.Prelude.{◌≡◌, ◌*◌, ◌<◌, ◌^◌, IfOk, length, sum_by};
+    ghost use Rattle.std.specs.Prelude.{◌≡◌, ◌<◌, ◌^◌, IfOk, length};
     ghost use Rattle.topo_core.specs.Lawful.{Lawful};
-    ghost use Rattle.topo_core.specs.Picture.{segment_count};
 
-    /// The frozen picture with these rows, few enough for numbers of 32 bits, and with hints.
-    pub fn new(alloc: Global, rows: Rows, hints: Hints) -> Result<Self, AllocError>
-        requires lawful { Lawful rows }
-        requires few { 2 * sum_by segment_count rows.edges < 2 ^ 32 }
-        requires vertices { length rows.rotations < 2 ^ 32 }
-        requires crossings { length rows.crossings < 2 ^ 32 }
-        ensures { IfOk result (λ f. f.rows ≡ rows) }
+    /// The frozen picture of these rows with their embedding.
+    pub fn new(alloc: Global, embedded: Embedded) -> Result<Self, AllocError>
+        requires lawful { Lawful embedded.rows }
+        requires vertices { length embedded.rows.rotations < 2 ^ 32 }
+        ensures { IfOk result (λ f. f.rows ≡ embedded.rows) }
     {
         let mut lists = NumberLists::new(alloc);
-        lists.fill(&rows, &hints)?;
-        Ok(Frozen { rows, hints, lists })
+        lists.fill(&embedded)?;
+        Ok(Frozen { embedded, lists })
     }
 
-    /// The rows.
-    pub fn rows(&self) -> &Rows
-        ensures rows { result.now ≡ self.now.rows }
-        ensures lawful { Lawful result.now }
+    /// A copy of its rows.
+    pub fn rows(&self, alloc: Global) -> Result<Rows, AllocError>
+        ensures rows { IfOk result (λ rows. rows ≡ self.now.rows) }
+        ensures lawful { Lawful self.now.rows }
     {
-        &self.rows
+        self.embedded.copy_of_rows(alloc)
+    }
+
+    /// How many vertices there are.
+    pub fn vertex_count(&self) -> u32
+        ensures { result ≡ length self.now.rows.rotations }
+    {
+        self.embedded.vertex_count() as u32
     }
 
     /// The same, borrowed.
@@ -63,8 +66,7 @@ impl Frozen {
         ensures { result.rows ≡ self.now.rows }
     {
         Numbered {
-            rows: &self.rows,
-            hints: &self.hints,
+            embedded: &self.embedded,
             lists: &self.lists,
         }
     }

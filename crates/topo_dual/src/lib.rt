@@ -1,16 +1,14 @@
-//! The dual graph of lawful rows, with their darts as numbers.
+//! The dual graph of lawful rows, with their darts as numbers in canonical order.
 //!
-//! A `Numbered` is lawful rows with their darts as numbers in flat lists, all borrowed: what the check
-//! of a plan walks on, and a search that hands one out. A `Frozen` owns its rows and lists, and answers
-//! the same; threads share it.
+//! A picture's darts go by the halves of its embedding. `NumberLists` say for each dart, in canonical
+//! order, its half, and for each half the number of its dart. With them a `Numbered` answers by the
+//! embedding: it is what the check of a plan walks on. A `Frozen` owns a copy of the embedding with its
+//! lists, and answers the same: a search walks on it that hands out a plan, and threads share it.
 #![tactic(auto)]
 
-mod faces;
 pub mod frozen;
 pub mod lists;
 pub mod numbered;
-pub mod numbers;
-mod segments;
 
 pub use frozen::Frozen;
 pub use lists::NumberLists;

@@ -1,55 +1,67 @@
 //! The lists that number darts.
 
-ghost use Rattle.std.specs.Prelude.{◌*◌, ◌<◌, ◌^◌, OnOk, length, sum_by};
+ghost use Rattle.std.specs.Prelude.{◌≡◌, ◌<◌, ◌^◌, ℕ, OnOk, length, slice_index};
 ghost use Rattle.topo_core.specs.Lawful.{IsWellFormed};
-ghost use Rattle.topo_core.specs.Picture.{segment_count};
-ghost use Rattle.topo_dual.specs.NumberedRows.{AreListsOf};
+ghost use Rattle.topo_dual.specs.NumberedRows.{AreApart, AreListsOf};
 
-use crate::faces::fill_faces;
-use crate::segments::fill_segments;
 use std::alloc::{AllocError, Global};
-use topo_core::rows::Rows;
-use topo_rows::Hints;
-use topo_rows::flat::{fill_begins, fill_turns};
+use topo_embedded::Embedded;
+use topo_map::Half;
 
-/// The lists that number the darts of rows: where the darts of each edge begin, for each segment the
-/// place of its edge, the images of the turn, with the darts ahead of the crossings, of which these are
-/// made, and the labels of the faces. They are written anew for each picture, and their memory serves
-/// for the next one.
+/// For each dart in canonical order its half, and for each half the number of its dart. The lists are
+/// written anew for each picture, and their memory serves for the next one.
 #[derive(Drop)]
 pub struct NumberLists {
-    pub(crate) begins: Vec<u32>,
-    pub(crate) segments: Vec<u32>,
-    pub(crate) turns: Vec<u32>,
-    pub(crate) faces: Vec<u32>,
-    ahead: Vec<u32>,
+    pub(crate) halves: Vec<u32>,
+    pub(crate) numbers: Vec<u32>,
 }
 
 impl NumberLists {
     /// Empty lists. They take no memory until they are written.
     pub fn new(alloc: Global) -> Self {
         NumberLists {
-            begins: Vec::new(alloc),
-            segments: Vec::new(alloc),
-            turns: Vec::new(alloc),
-            faces: Vec::new(alloc),
-            ahead: Vec::new(alloc),
+            halves: Vec::new(alloc),
+            numbers: Vec::new(alloc),
         }
     }
 
     /// Writes the lists of these rows over what they held.
-    pub(crate) fn fill(&mut self, rows: &Rows, hints: &Hints) -> Result<(), AllocError>
-        requires well_formed { IsWellFormed rows.now }
-        requires few { 2 * sum_by segment_count rows.now.edges < 2 ^ 32 }
-        requires vertices { length rows.now.rotations < 2 ^ 32 }
-        requires crossings { length rows.now.crossings < 2 ^ 32 }
-        ensures { OnOk result (AreListsOf rows.now self.new.begins.items self.new.turns.items self.new.faces.items) }
+    pub(crate) fn fill(&mut self, embedded: &Embedded) -> Result<(), AllocError>
+        requires well_formed { IsWellFormed embedded.now.rows }
+        requires vertices { length embedded.now.rows.rotations < 2 ^ 32 }
+        ensures { OnOk result (AreListsOf embedded.now self.new.halves.items self.new.numbers.items) }
     {
-        fill_begins(&mut self.begins, rows.edges.as_slice())?;
-        let begins = self.begins.as_slice();
-        fill_segments(&mut self.segments, begins)?;
-        fill_turns(&mut self.turns, &mut self.ahead, rows, begins, hints)?;
-        fill_faces(&mut self.faces, self.turns.as_slice())?;
+        embedded.fill_halves(&mut self.halves)?;
+        self.numbers.resize(embedded.size() as usize, 0)?;
+        write_numbers(&mut self.numbers, self.halves.as_slice());
         Ok(())
+    }
+
+    /// The half of the dart with a number.
+    pub(crate) fn half(&self, number: u32) -> Half
+        requires { number < length self.now.halves.items }
+        ensures { result ≡ slice_index self.now.halves.items number }
+    {
+        Half::numbered(self.halves[number as usize])
+    }
+
+    /// The number of the dart of a half.
+    pub(crate) fn number(&self, half: Half) -> u32
+        requires { half < length self.now.numbers.items }
+        ensures { result ≡ slice_index self.now.numbers.items half }
+    {
+        self.numbers[half.number() as usize]
+    }
+}
+
+/// Writes for each half its place among the halves.
+fn write_numbers(numbers: &mut [u32], halves: &[u32])
+    requires apart { AreApart halves.now }
+    requires within { (i : ℕ) → i < length halves.now → slice_index halves.now i < length numbers.old }
+    requires few { length halves.now < 2 ^ 32 }
+    ensures { (i : ℕ) → i < length halves.now → slice_index numbers.new (slice_index halves.now i) ≡ i }
+{
+    for number in 0..halves.len() {
+        numbers[halves[number] as usize] = number as u32;
     }
 }

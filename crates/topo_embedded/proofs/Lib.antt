@@ -25,3 +25,5 @@ pub mod Splits
 pub mod Draws
 pub mod Routed
 pub mod SameFaces
+pub mod InOrder
+pub mod FoundHalves

@@ -8,3 +8,4 @@ pub mod Cutting
 pub mod Opening
 pub mod Padding
 pub mod Crossing
+pub mod Canonical

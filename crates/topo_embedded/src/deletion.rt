@@ -14,29 +14,29 @@ ghost use Rattle.topo_embedded.specs.Opening.{IsOpenTo, IsOpened, IsSetOut, IsSm
 use crate::path::Path;
 use std::alloc::Global;
 use std::mem;
+use topo_changes::KeptRows;
 use topo_changes::deletion::delete_rows;
 use topo_core::listed::Listed;
-use topo_core::rows::Rows;
 use topo_map::{Embedding, Half};
 use topo_rows::Hints;
 use topo_rows::by_id::place_of_edge;
 
 /// Whether a half is on the path of its edge, and so leads along it.
-fn leads_along(rows: &Rows, paths: &[Path], segments: &Embedding, hints: &Hints, half: Half) -> bool
+fn leads_along(rows: &KeptRows, paths: &[Path], segments: &Embedding, hints: &Hints, half: Half) -> bool
     requires formed { IsWellFormed rows.now }
     requires many { length paths.now ≡ length rows.now.edges }
     requires live { is_live segments.now half ≡ true }
     requires there { is_some (edge_row rows.now (edge_of segments.now half)) ≡ true }
     ensures { result ≡ leads_in rows.now paths.now (edge_of segments.now) half }
 {
-    let place = place_of_edge(rows.edges.as_slice(), hints, segments.edge(half));
+    let place = place_of_edge(rows.edges(), hints, segments.edge(half));
     paths[place].contains(half)
 }
 
 /// Of the halves that lead over a crossing from the segment before and the one behind, the one that leads
 /// along its edge.
 fn midpoint(
-    rows: &Rows,
+    rows: &KeptRows,
     paths: &[Path],
     segments: &Embedding,
     hints: &Hints,
@@ -59,7 +59,7 @@ fn midpoint(
 }
 
 /// Takes the segments of an edge out, one after another, and puts the midpoints at their places.
-fn open_path(rows: &Rows, paths: &[Path], segments: &mut Embedding, hints: &Hints, path: &mut Path)
+fn open_path(rows: &KeptRows, paths: &[Path], segments: &mut Embedding, hints: &Hints, path: &mut Path)
     requires { (e : ℕ) × IsSetOut rows.now paths.now e path.old segments.old }
     ensures { (e : ℕ) (o : IsSetOut rows.now paths.now e path.old segments.old) → IsOpenTo (record { rows = rows.now; paths = o.paths }) e segments.old (length path.old) segments.new path.new }
 {
@@ -74,7 +74,7 @@ fn open_path(rows: &Rows, paths: &[Path], segments: &mut Embedding, hints: &Hint
 }
 
 /// Takes a half that is not the first out of the path of its edge.
-fn leave_path(rows: &Rows, paths: &mut Vec<Path>, segments: &Embedding, hints: &Hints, half: Half)
+fn leave_path(rows: &KeptRows, paths: &mut Vec<Path>, segments: &Embedding, hints: &Hints, half: Half)
     requires formed { IsWellFormed rows.now }
     requires many { length paths.old.items ≡ length rows.now.edges }
     requires live { is_live segments.now half ≡ true }
@@ -82,14 +82,14 @@ fn leave_path(rows: &Rows, paths: &mut Vec<Path>, segments: &Embedding, hints: &
     requires later { slice_index_or (path_of (record { rows = rows.now; paths = paths.old.items }) (edge_of segments.now half)) 0 0 ≢ half }
     ensures { paths.new.items ≡ without_half rows.now (edge_of segments.now half) half paths.old.items }
 {
-    let place = place_of_edge(rows.edges.as_slice(), hints, segments.edge(half));
+    let place = place_of_edge(rows.edges(), hints, segments.edge(half));
     paths[place].remove(half);
 }
 
 /// Smooths the midpoints that an edge has left, one after another, and takes each out of the path of its
 /// edge.
 fn smooth_path(
-    rows: &Rows,
+    rows: &KeptRows,
     paths: &mut Vec<Path>,
     segments: &mut Embedding,
     hints: &Hints,
@@ -108,7 +108,7 @@ fn smooth_path(
 
 /// Takes the segments of an edge out, with its crossings, and its path.
 fn delete_lists(
-    rows: &Rows,
+    rows: &KeptRows,
     paths: &mut Vec<Path>,
     segments: &mut Embedding,
     hints: &Hints,
@@ -120,7 +120,7 @@ fn delete_lists(
     ensures { ShowsRows (record { rows = without rows.now edge; paths = paths.new.items }) segments.new }
 {
     segments.laws();
-    let place = place_of_edge(rows.edges.as_slice(), hints, edge);
+    let place = place_of_edge(rows.edges(), hints, edge);
     let mut path = mem::replace(&mut paths[place], Path::of(Half::numbered(0)));
     open_path(rows, paths.as_slice(), segments, hints, &mut path);
     smooth_path(rows, paths, segments, hints, &path);
@@ -130,7 +130,7 @@ fn delete_lists(
 /// As `delete_rows`, and keeps the halves and the hints in step with the rows.
 pub(crate) fn delete_drawn(
     alloc: Global,
-    rows: &mut Rows,
+    rows: &mut KeptRows,
     paths: &mut Listed<Path>,
     segments: &mut Embedding,
     hints: &mut Hints,
@@ -146,5 +146,5 @@ pub(crate) fn delete_drawn(
     delete_lists(rows, &mut lists, segments, hints, edge);
     *paths = Listed::from_vec(lists);
     delete_rows(alloc, rows, hints, edge);
-    hints.settle(rows);
+    hints.settle(rows.edges());
 }

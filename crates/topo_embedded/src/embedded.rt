@@ -12,6 +12,8 @@ ghost use Rattle.topo_embedded.specs.Walking.{named_in};
 ghost use Rattle.topo_rows.specs.Flats.{AreTurnsOf};
 ghost use Rattle.topo_route.specs.Names.{IsNamed};
 
+mod canonical;
+
 use crate::copies::copy_paths;
 use crate::cuts::first_cut;
 use crate::deletion::delete_drawn;
@@ -23,7 +25,7 @@ use crate::path::Path;
 use crate::walking::{end_of, led, place_on_path};
 use std::alloc::{AllocError, Global};
 use std::marker::Model;
-use topo_changes::copies::copy_rows;
+use topo_changes::KeptRows;
 use topo_core::darts::{Dart, Way};
 use topo_core::ids::EdgeId;
 use topo_core::listed::Listed;
@@ -37,7 +39,7 @@ use topo_rows::{Hints, Turns};
 /// the edges, the half that leads along it on each of its segments.
 #[derive(Drop)]
 pub struct Embedded {
-    rows: Rows,
+    rows: KeptRows,
     paths: Listed<Path>,
     segments: Embedding,
     hints: Hints,
@@ -67,11 +69,14 @@ impl Embedded {
         let labels = labels_of(alloc, edges, images.len() / 2)?;
         let (segments, halves) = Embedding::from_turns(alloc, images, labels.as_slice())?;
         let paths = paths_of(alloc, edges, turns.begins.as_slice(), halves.as_slice())?;
+        let rows = KeptRows::of(alloc, rows)?;
+        let mut hints = turns.hints;
+        hints.forget_crossings();
         Ok(Embedded {
             rows,
             paths,
             segments,
-            hints: turns.hints,
+            hints,
         })
     }
 
@@ -79,7 +84,7 @@ impl Embedded {
     pub fn copy(&self, alloc: Global) -> Result<Self, AllocError>
         ensures { IfOk result (λ e. e ≡ self.now) }
     {
-        let rows = copy_rows(alloc, &self.rows)?;
+        let rows = self.rows.copy(alloc)?;
         let paths = copy_paths(alloc, self.paths.as_slice())?;
         let segments = self.segments.copy()?;
         let hints = self.hints.copy(alloc)?;
@@ -92,7 +97,7 @@ impl Embedded {
     }
 
     /// The rows.
-    pub fn rows(&self) -> &Rows
+    pub fn rows(&self) -> &KeptRows
         ensures { result.now ≡ self.now.rows }
     {
         &self.rows
@@ -125,7 +130,7 @@ impl Embedded {
         requires { has_dart (darts self.now.rows) dart.now ≡ true }
         ensures { result ≡ position_or_len (λ row. row.id == dart.now.edge) self.now.rows.edges }
     {
-        let edges = self.rows.edges.as_slice();
+        let edges = self.rows.edges();
         place_of_edge(edges, &self.hints, dart.edge.number())
     }
 
@@ -168,7 +173,7 @@ impl Embedded {
         requires { IsHalf self.now half }
         ensures { (d : Dart) → has_dart (darts self.now.rows) d ≡ true → half_in self.now d ≡ half → AreFactsOf (edge_at self.now.rows d.edge) result }
     {
-        let edges = self.rows.edges.as_slice();
+        let edges = self.rows.edges();
         let place = place_of_edge(edges, &self.hints, self.segments.edge(half));
         match Facts::from_row(&edges[place]) {
             Some(facts) => facts,
@@ -182,7 +187,7 @@ impl Embedded {
         ensures { (d : Dart) → has_dart (darts self.now.rows) d ≡ true → half_in self.now d ≡ half → result ≡ d }
     {
         let label = self.segments.edge(half);
-        let place = place_of_edge(self.rows.edges.as_slice(), &self.hints, label);
+        let place = place_of_edge(self.rows.edges(), &self.hints, label);
         let path = &self.paths.as_slice()[place];
         let (seg, way) = place_on_path(path, half);
         let edge = EdgeId::new(label);
@@ -194,7 +199,7 @@ impl Embedded {
         requires { is_some (edge_row self.now.rows e) ≡ true }
         ensures { result ≡ half_in self.now (end_dart self.now.rows v e) }
     {
-        let edges = self.rows.edges.as_slice();
+        let edges = self.rows.edges();
         let place = place_of_edge(edges, &self.hints, e);
         let (seg, way) = end_of(&edges[place], v);
         led(self.paths.as_slice()[place].at(seg), way)
@@ -205,7 +210,7 @@ impl Embedded {
         ensures { result ≡ option_map (half_in self.now) (corner self.now.rows v position) }
     {
         if (position as usize) < self.rows.degree(v) {
-            let around = self.rows.rotations.as_slice()[v as usize].as_slice();
+            let around = self.rows.rotations()[v as usize].as_slice();
             Some(self.end_half(v, around[position as usize]))
         } else {
             None
@@ -223,7 +228,7 @@ impl Embedded {
         requires { is_some (edge_row self.now.rows edge) ≡ true }
         ensures { IsFirstCut self.now.rows edge result }
     {
-        let place = place_of_edge(self.rows.edges.as_slice(), &self.hints, edge);
+        let place = place_of_edge(self.rows.edges(), &self.hints, edge);
         first_cut(&self.segments, edge, &self.paths.as_slice()[place])
     }
 }

@@ -10,9 +10,9 @@ ghost use Rattle.topo_embedded.specs.Halves.{ShowsRows, half_in};
 use crate::path::Path;
 use std::alloc::{AllocError, Global};
 use std::mem;
+use topo_changes::KeptRows;
 use topo_changes::growth::grow_rows;
 use topo_core::listed::Listed;
-use topo_core::rows::Rows;
 use topo_map::{Embedding, Half};
 use topo_rows::Hints;
 
@@ -20,7 +20,7 @@ use topo_rows::Hints;
 /// corner, or leaves all as it was.
 fn grow_lists(
     alloc: Global,
-    rows: &mut Rows,
+    rows: &mut KeptRows,
     paths: &mut Vec<Path>,
     segments: &mut Embedding,
     named: Half,
@@ -43,7 +43,7 @@ fn grow_lists(
 {
     segments.reserve(1)?;
     paths.reserve(1)?;
-    let edge = rows.next_edge;
+    let edge = rows.next_edge();
     grow_rows(alloc, rows, u, position, kind)?;
     segments.laws();
     let half = segments.hang(named, edge);
@@ -54,7 +54,7 @@ fn grow_lists(
 /// As `grow_rows`, and keeps the halves and the hints in step with the rows. The half names the corner.
 pub(crate) fn grow_drawn(
     alloc: Global,
-    rows: &mut Rows,
+    rows: &mut KeptRows,
     paths: &mut Listed<Path>,
     segments: &mut Embedding,
     hints: &mut Hints,
@@ -76,11 +76,11 @@ pub(crate) fn grow_drawn(
     ensures err_paths { OnErr result (paths.new ≡ paths.old) }
     ensures shows { ShowsRows (record { rows = rows.new; paths = paths.new }) segments.new }
 {
-    hints.reserve(0)?;
+    hints.reserve()?;
     let mut lists = mem::replace(paths, Listed::new(alloc)).into_vec();
     let done = grow_lists(alloc, rows, &mut lists, segments, named, u, position, kind);
     *paths = Listed::from_vec(lists);
     done?;
-    hints.join(rows, 0);
+    hints.join(rows.edges());
     Ok(())
 }

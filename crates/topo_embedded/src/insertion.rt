@@ -16,10 +16,10 @@ use crate::padding::{Crossed, pad, put_beside, unpad};
 use crate::path::Path;
 use std::alloc::{AllocError, Global};
 use std::mem;
+use topo_changes::KeptRows;
 use topo_changes::insertion::apply_rows;
 use topo_core::listed::Listed;
 use topo_core::routes::Route;
-use topo_core::rows::Rows;
 use topo_map::{Embedding, Half};
 use topo_rows::Hints;
 
@@ -142,7 +142,7 @@ fn draw_route(
 /// Puts a new edge along a route into the rows and the embedding, or leaves all as it was.
 fn insert_lists(
     alloc: Global,
-    rows: &mut Rows,
+    rows: &mut KeptRows,
     paths: &mut Vec<Path>,
     segments: &mut Embedding,
     hints: &Hints,
@@ -162,7 +162,7 @@ fn insert_lists(
     ensures err_paths { OnErr result (paths.new.items ≡ paths.old.items) }
     ensures shows { ShowsRows (record { rows = rows.new; paths = paths.new.items }) segments.new }
 {
-    let edge = rows.next_edge;
+    let edge = rows.next_edge();
     let mut line = make_room(alloc, paths, segments, crossed)?;
     if apply_rows(alloc, rows, hints, ends.0, ends.1, kind, route).is_err() {
         unpad(paths, crossed);
@@ -177,7 +177,7 @@ fn insert_lists(
 /// As `apply_rows`, and keeps the halves and the hints in step with the rows. The halves name the corners.
 pub(crate) fn insert_drawn(
     alloc: Global,
-    rows: &mut Rows,
+    rows: &mut KeptRows,
     paths: &mut Listed<Path>,
     segments: &mut Embedding,
     hints: &mut Hints,
@@ -195,14 +195,13 @@ pub(crate) fn insert_drawn(
     ensures err_paths { OnErr result (paths.new ≡ paths.old) }
     ensures shows { ShowsRows (record { rows = rows.new; paths = paths.new }) segments.new }
 {
-    let crossings = crossed.len();
-    hints.reserve(crossings)?;
+    hints.reserve()?;
     let mut lists = mem::replace(paths, Listed::new(alloc)).into_vec();
     let done = insert_lists(
         alloc, rows, &mut lists, segments, hints, crossed, corners, ends, kind, route,
     );
     *paths = Listed::from_vec(lists);
     done?;
-    hints.join(rows, crossings);
+    hints.join(rows.edges());
     Ok(())
 }

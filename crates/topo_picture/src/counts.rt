@@ -1,10 +1,7 @@
 //! The size of a picture.
 
-ghost use Rattle.topo_core.specs.declared.limits.Limits.{Limits};
-ghost use Rattle.topo_rows.specs.Shown.{IsPicture};
-ghost use Rattle.topo_picture.specs.Totals.{AreCountsOf};
-
-use topo_core::rows::Rows;
+ghost use Rattle.topo_core.specs.declared.rows.Rows.{Rows};
+ghost use Rattle.topo_picture.specs.Totals.{AreCountsOf, HasTotals};
 
 /// How many there are of each: vertices, crossings, edges, segments (an edge has one more than
 /// crossings on its path) and faces.
@@ -17,15 +14,15 @@ pub struct Counts {
     pub faces: u32,
 }
 
-/// How large the picture of rows is. Each crossing stands on two paths, so it makes two segments more, and
-/// the faces follow by Euler's formula.
-pub(crate) fn counted(rows: &Rows) -> Counts
-    requires { (limits : Limits) × IsPicture limits rows.now }
-    ensures { AreCountsOf rows.now result }
+/// How large a picture with so many vertices, crossings and edges is. Each crossing stands on two paths, so it
+/// makes two segments more, and the faces follow by Euler's formula.
+pub(crate) fn counted(vertices: usize, crossings: usize, edges: usize) -> Counts
+    requires { (rows : Rows) × HasTotals rows vertices crossings edges }
+    ensures { (rows : Rows) → HasTotals rows vertices crossings edges → AreCountsOf rows result }
 {
-    let vertices = rows.rotations.as_slice().len() as u32;
-    let crossings = rows.crossings.as_slice().len() as u32;
-    let edges = rows.edges.as_slice().len() as u32;
+    let vertices = vertices as u32;
+    let crossings = crossings as u32;
+    let edges = edges as u32;
     let segments = edges + 2 * crossings;
     Counts {
         vertices,

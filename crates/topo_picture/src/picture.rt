@@ -4,6 +4,7 @@ use crate::apart::lies_apart;
 use crate::counts::{Counts, counted};
 use std::alloc::{AllocError, Global};
 use std::marker::Model;
+use topo_changes::KeptRows;
 use topo_changes::copies::copy_rows;
 use topo_changes::growth::one_listed;
 use topo_core::calls::Refusal;
@@ -94,14 +95,23 @@ impl Picture {
         ensures refused { IfErr result (FailsFirst limits rows.now) }
     {
         let _turns = judged(alloc, &limits, rows)?;
-        Ok(counted(rows))
+        Ok(counted(
+            rows.rotations.len(),
+            rows.crossings.len(),
+            rows.edges.len(),
+        ))
     }
 
     /// How large it is.
     pub fn counts(&self) -> Counts
         ensures { AreCountsOf self.now.rows result }
     {
-        counted(self.embedded.rows())
+        let rows = self.embedded.rows();
+        counted(
+            rows.rotations().len(),
+            rows.crossing_count(),
+            rows.edges().len(),
+        )
     }
 
     /// A copy of its rows.
@@ -109,16 +119,14 @@ impl Picture {
         ensures rows { IfOk result (λ r. r ≡ self.now.rows) }
         ensures lawful { IsPicture self.now.limits self.now.rows }
     {
-        copy_rows(alloc, self.embedded.rows())
+        self.embedded.copy_of_rows(alloc)
     }
 
     /// The frozen picture of its rows, as they are now.
     pub fn freeze(&self, alloc: Global) -> Result<Frozen, AllocError>
         ensures { IfOk result (λ f. f.rows ≡ self.now.rows) }
     {
-        let rows = copy_rows(alloc, self.embedded.rows())?;
-        let hints = self.embedded.hints().copy(alloc)?;
-        Frozen::new(alloc, rows, hints)
+        Frozen::new(alloc, self.embedded.copy(alloc)?)
     }
 
     /// Its rows as they are, with their darts numbered in lists that are lent: what its frozen picture
@@ -126,7 +134,7 @@ impl Picture {
     pub fn numbered<'a>(&'a self, lists: &'a mut NumberLists) -> Result<Numbered<'a>, AllocError>
         ensures { IfOk result (λ d. d.rows ≡ self.now.rows) }
     {
-        Numbered::new(self.embedded.rows(), self.embedded.hints(), lists)
+        Numbered::new(&self.embedded, lists)
     }
 
     /// Its rows with their embedding, for a search that hands out no heights. It takes no time to make.
@@ -211,9 +219,9 @@ impl Picture {
     {
         let rows = self.embedded.rows();
         let hints = self.embedded.hints();
-        let edges = rows.edges.as_slice();
+        let edges = rows.edges();
         match edge_place(edges, hints, edge) {
-            Some(place) => lies_apart(rows, hints, region, &edges[place]),
+            Some(place) => lies_apart(rows, region, &edges[place]),
             None => true,
         }
     }
@@ -405,17 +413,17 @@ fn seed_rows(alloc: Global) -> Result<Rows, AllocError>
 }
 
 /// Whether there is an edge with this id.
-fn has_edge(rows: &Rows, hints: &Hints, e: u32) -> bool
+fn has_edge(rows: &KeptRows, hints: &Hints, e: u32) -> bool
     requires { has_good_paths rows.now ≡ true }
     ensures { result ≡ is_some (edge_row rows.now e) }
 {
-    edge_place(rows.edges.as_slice(), hints, e).is_some()
+    edge_place(rows.edges(), hints, e).is_some()
 }
 
 /// The numbers of a new vertex and its edge, or the first reason to refuse the growth.
 fn growth_numbers(
     limits: &Limits,
-    rows: &Rows,
+    rows: &KeptRows,
     u: u32,
     position: u32,
     kind: u32,
@@ -424,47 +432,47 @@ fn growth_numbers(
     ensures numbers { IfOk result (λ made. (made.0 ≡ length rows.now.rotations) × (made.1 ≡ rows.now.next_edge)) }
     ensures refused { IfErr result (λ why. grow_refusal limits.now rows.now u position kind ≡ Some why) }
 {
-    let vertices = rows.rotations.as_slice().len();
+    let vertices = rows.rotations().len();
     if u as usize >= vertices {
         Err(Refusal::NoVertex)
     } else if position as usize >= rows.degree(u) {
         Err(Refusal::NoPosition)
     } else if kind >= 64 {
         Err(Refusal::BadKind)
-    } else if vertices >= limits.vertices as usize || rows.next_edge >= limits.edges {
+    } else if vertices >= limits.vertices as usize || rows.next_edge() >= limits.edges {
         Err(Refusal::Full)
     } else {
-        Ok((VertexId::new(vertices as u32), EdgeId::new(rows.next_edge)))
+        Ok((VertexId::new(vertices as u32), EdgeId::new(rows.next_edge())))
     }
 }
 
 /// The number of a new edge along a route, or Full where too few crossing ids are left for it.
-fn edge_number(limits: &Limits, rows: &Rows, route: &Route) -> Result<EdgeId, Refusal>
+fn edge_number(limits: &Limits, rows: &KeptRows, route: &Route) -> Result<EdgeId, Refusal>
     requires { rows.now.next_crossing ≤ limits.now.crossings }
     ensures room { IfOk result (λ _. HasRoomFor limits.now rows.now route.now) }
     ensures number { IfOk result (λ made. made ≡ rows.now.next_edge) }
     ensures refused { IfErr result (λ why. (why ≡ Refusal.Full) × (limits.now.crossings < rows.now.next_crossing + length route.now.crossed)) }
 {
     let needed = route.crossed.as_slice().len();
-    let left = limits.crossings - rows.next_crossing;
+    let left = limits.crossings - rows.next_crossing();
     if needed > left as usize {
         return Err(Refusal::Full);
     }
-    Ok(EdgeId::new(rows.next_edge))
+    Ok(EdgeId::new(rows.next_edge()))
 }
 
 /// The first reason to refuse an insertion before a route is looked for.
-fn insert_fault(limits: &Limits, rows: &Rows, u: u32, v: u32, kind: u32) -> Option<Refusal>
+fn insert_fault(limits: &Limits, rows: &KeptRows, u: u32, v: u32, kind: u32) -> Option<Refusal>
     ensures { result ≡ insert_refusal limits.now rows.now u v kind }
 {
-    let vertices = rows.rotations.as_slice().len();
+    let vertices = rows.rotations().len();
     if u as usize >= vertices || v as usize >= vertices {
         Some(Refusal::NoVertex)
     } else if u == v {
         Some(Refusal::SameEnds)
     } else if kind >= 64 {
         Some(Refusal::BadKind)
-    } else if rows.next_edge >= limits.edges {
+    } else if rows.next_edge() >= limits.edges {
         Some(Refusal::Full)
     } else {
         None

@@ -103,8 +103,7 @@ fn apply<R: Print + Eprint + AllocGlobal>(
 fn pass<F: Asks>(frozen: &Frozen, tariff: &Tariff<F>, u: u32, v: u32, plan: &Plan) -> Result<()>
     ensures { OnOk result (IsSimpleRoute frozen.now.rows u v plan.now.route) }
 {
-    let rows = frozen.rows();
-    if !are_ends(rows, u, v) {
+    if !are_ends(frozen, u, v) {
         bail!("no two vertices");
     }
     tariff.keeps_promise();

@@ -121,9 +121,23 @@ fn freeze<R: Print + Eprint + AllocGlobal>(rt: &R, picture: &Picture, before: &s
         picture,
         || picture.freeze(alloc),
     )?;
-    let given = rows_state(rt, picture.limits(), frozen.rows());
+    let given = frozen_rows(rt, picture, before, &frozen);
     drop(frozen);
     print_likeness(rt, "freeze", before, given?.as_str())
+}
+
+/// The text of the rows that a frozen picture gives.
+fn frozen_rows<R: Print + Eprint + AllocGlobal>(
+    rt: &R,
+    picture: &Picture,
+    before: &str,
+    frozen: &Frozen,
+) -> Result<String> {
+    let alloc = rt.alloc();
+    let rows = reading(rt, "Frozen::rows", before, picture, || frozen.rows(alloc))?;
+    let given = rows_state(rt, picture.limits(), &rows);
+    drop(rows);
+    Ok(given?)
 }
 
 /// How many darts a picture has, once they are numbered in new lists.
@@ -157,13 +171,13 @@ pub(crate) fn read<R: Print + Eprint + AllocGlobal>(rt: &R, picture: &Picture) -
 }
 
 /// Whether both are vertices, and different ones.
-pub(crate) fn are_ends(rows: &Rows, u: u32, v: u32) -> bool
-    ensures u_there { IsTrue result → u < length rows.now.rotations }
-    ensures v_there { IsTrue result → v < length rows.now.rotations }
+pub(crate) fn are_ends(frozen: &Frozen, u: u32, v: u32) -> bool
+    ensures u_there { IsTrue result → u < length frozen.now.rows.rotations }
+    ensures v_there { IsTrue result → v < length frozen.now.rows.rotations }
     ensures apart { IsTrue result → u ≢ v }
 {
-    let vertices = rows.rotations.len();
-    (u as usize) < vertices && (v as usize) < vertices && u != v
+    let vertices = frozen.vertex_count();
+    u < vertices && v < vertices && u != v
 }
 
 /// The frozen picture.
@@ -188,6 +202,32 @@ fn print_found<R: Print>(rt: &R, u: u32, v: u32, found: &Option<Plan>) -> Result
     Ok(())
 }
 
+/// The text of a frozen picture: the limits and its rows.
+fn frozen_state<R: Eprint + AllocGlobal>(
+    rt: &R,
+    limits: Limits,
+    frozen: &Frozen,
+) -> Result<String, AllocError> {
+    let alloc = rt.alloc();
+    let rows = again(rt, || frozen.rows(alloc))?;
+    let state = rows_state(rt, limits, &rows);
+    drop(rows);
+    state
+}
+
+/// Compares a frozen picture with its state before a search that wants memory.
+fn compare_frozen<R: Print + Eprint + AllocGlobal>(
+    rt: &R,
+    before: &str,
+    limits: Limits,
+    frozen: &Frozen,
+) -> Result<()> {
+    tell(rt, "search");
+    let after = frozen_state(rt, limits, frozen)?;
+    compare(rt, "search", before, after.as_str())?;
+    Ok(())
+}
+
 /// What a search between two vertices of a frozen picture finds, which is made once more where it wants memory.
 fn searched<R: Print + Eprint + AllocGlobal, F: Asks>(
     rt: &R,
@@ -201,11 +241,11 @@ fn searched<R: Print + Eprint + AllocGlobal, F: Asks>(
     requires v_there { v < length frozen.now.rows.rotations }
     requires apart { u ≢ v }
 {
-    let before = rows_state(rt, limits, frozen.rows())?;
+    let before = frozen_state(rt, limits, frozen)?;
     match search(rt.alloc(), frozen, tariff, u, v) {
         Ok(found) => Ok(found),
         Err(_) => {
-            compare_rows(rt, "search", before.as_str(), limits, frozen.rows())?;
+            compare_frozen(rt, before.as_str(), limits, frozen)?;
             Ok(search(rt.alloc(), frozen, tariff, u, v)?)
         }
     }
@@ -220,7 +260,7 @@ fn planned_on<R: Print + Eprint + AllocGlobal, F: Asks>(
     u: u32,
     v: u32,
 ) -> Result<Plan> {
-    if !are_ends(frozen.rows(), u, v) {
+    if !are_ends(frozen, u, v) {
         bail!("no two vertices");
     }
     let found = searched(rt, frozen, limits, tariff, u, v)?;

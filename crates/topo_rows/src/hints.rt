@@ -2,13 +2,10 @@
 
 use crate::by_id::Identified;
 use std::alloc::{AllocError, Global};
-use topo_core::rows::Rows;
+use topo_core::rows::{EdgeRow, Rows};
 
 /// No places are noted for ids when more than this many ids were given for each row that is there.
 const SPARSE: usize = 16;
-
-/// So many crossings are followed one by one; with more of them a table is written anew.
-const FEW: usize = 16;
 
 /// Places that are tried before anything is searched for: for the ids of edges and of crossings the
 /// places of their rows. They are speed alone. A place is taken only once what is there is seen to
@@ -44,21 +41,20 @@ impl Hints {
         expected(self.crossings.as_slice(), id)
     }
 
-    /// Room for one edge more that makes so many crossings.
-    pub fn reserve(&mut self, crossings: usize) -> Result<(), AllocError> {
-        self.edges.reserve(1)?;
-        self.crossings.reserve(crossings)?;
-        Ok(())
+    /// Lets go of the places of crossings, and of their memory.
+    pub fn forget_crossings(&mut self) {
+        self.crossings.clear();
+        self.crossings.shrink_to_fit();
     }
 
-    /// Follows an edge put at the end, with so many crossings of its own, which are the last.
-    pub fn join(&mut self, rows: &Rows, crossings: usize) {
-        let edges = rows.edges.as_slice();
+    /// Room for one edge more.
+    pub fn reserve(&mut self) -> Result<(), AllocError> {
+        self.edges.reserve(1)
+    }
+
+    /// Follows an edge put at the end.
+    pub fn join(&mut self, edges: &[EdgeRow]) {
         note_last(&mut self.edges, edges, edges.len().saturating_sub(1));
-        let all = rows.crossings.as_slice();
-        for at in all.len().saturating_sub(crossings)..all.len() {
-            note_last(&mut self.crossings, all, at);
-        }
     }
 
     /// Follows an edge that goes.
@@ -66,21 +62,9 @@ impl Hints {
         lower_from(&mut self.edges, (edge as usize).saturating_add(1));
     }
 
-    /// Follows crossings that are gone.
-    pub fn leave_crossings(&mut self, rows: &Rows, crossings: &[u32]) {
-        if crossings.len() > FEW {
-            note_places(&mut self.crossings, rows.crossings.as_slice());
-            return;
-        }
-        for x in crossings {
-            lower_from(&mut self.crossings, (*x as usize).saturating_add(1));
-        }
-    }
-
-    /// Forgets ids where few of them are left, once an edge is gone with its crossings.
-    pub fn settle(&mut self, rows: &Rows) {
-        forget_sparse(&mut self.edges, rows.edges.as_slice().len());
-        forget_sparse(&mut self.crossings, rows.crossings.as_slice().len());
+    /// Forgets the ids of edges where few of them are left, once an edge is gone.
+    pub fn settle(&mut self, edges: &[EdgeRow]) {
+        forget_sparse(&mut self.edges, edges.len());
     }
 }
 

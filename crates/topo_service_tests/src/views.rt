@@ -383,7 +383,7 @@ fn has_apexes(frozen: &Frozen) -> bool
     ensures u_there { IsTrue result → 3 < length frozen.now.rows.rotations }
     ensures v_there { IsTrue result → 4 < length frozen.now.rows.rotations }
 {
-    frozen.rows().rotations.len() > 4
+    frozen.vertex_count() > 4
 }
 
 /// A plan between the apexes.

@@ -28,8 +28,8 @@ pub(crate) fn are_ends(frozen: &Frozen, u: u32, v: u32) -> bool
     ensures v_there { IsTrue result → v < length frozen.now.rows.rotations }
     ensures apart { IsTrue result → u ≢ v }
 {
-    let vertices = frozen.rows().rotations.len();
-    (u as usize) < vertices && (v as usize) < vertices && u != v
+    let vertices = frozen.vertex_count();
+    u < vertices && v < vertices && u != v
 }
 
 /// The plan of a search with the prices of a closure, if there is a route.

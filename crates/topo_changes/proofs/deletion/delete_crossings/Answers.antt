@@ -1,9 +1,13 @@
-use Rattle.std.proofs.Common.{ap, filter, not, rules, ◌&&◌, ◌==◌, ◌∙◌, List}
-use Rattle.std.proofs.lemmas.Fn.{filter_same}
-use Rattle.topo_core.specs.declared.rows.CrossRow.{CrossRow}
+use Rattle.std.proofs.Common.{arith}
+use Rattle.std.proofs.lemmas.List.{take_all}
+use Rattle.topo_changes.proofs.Keeping.{out_all, out_more, out_none}
 use Rattle.topo_changes.proofs.deletion.delete_crossings.Goals as goal
 
-pub returns : goal.returns
-returns c = ap (λ (xs : List CrossRow). record c.args.rows.now { crossings = xs })
-    (c.from_vec.ensures ∙ filter_same _ (λ (x : CrossRow). not (x.crossed == c.args.e) && not (x.newcomer == c.args.e)) _ (λ x b f' k. search rules) _ _ c.retain.ensures.filtered
-    ∙ ap (filter (λ (x : CrossRow). not (x.crossed == c.args.e) && not (x.newcomer == c.args.e))) (c.into_vec-crossings.ensures ∙ c.replace.ensures.value))
+pub loop-x-init : goal.loop-x-init
+loop-x-init c = out_none c.args.crossings.now c.args.path.now
+
+pub loop-x-preserved : goal.loop-x-preserved
+loop-x-preserved c = out_more c.args.crossings.now c.args.path.now c.loop-x.x-index c.loop-x.crossings c.remove.new.self c.loop-x-test.true c.loop-x.invariant c.remove.ensures.entries c.remove.ensures.below
+
+pub returns-clause-entries : goal.returns-clause-entries
+returns-clause-entries c = out_all c.args.crossings.now c.args.path.now c.loop-x.x-index c.loop-x.crossings (omega (arith, c.loop-x-test.false)) c.loop-x.invariant

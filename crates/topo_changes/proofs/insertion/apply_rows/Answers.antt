@@ -1,25 +1,40 @@
-use Rattle.std.proofs.Common.{arith, ◌≡◌, [], rules, subst, sym, true}
+use Rattle.std.proofs.Common.{arith, ◌≡◌, ◌+◌, [], ap, length, List, rules, subst, sym, true, ◌∙◌, ℕ}
 use Rattle.std.specs.Prelude.{nat_lt, slice_index_or}
 use Rattle.std.specs.List.{list_all}
 use Rattle.std.proofs.lemmas.List.{take_at}
+use Rattle.topo_core.specs.declared.rows.EdgeRow.{EdgeRow}
+use Rattle.topo_core.specs.declared.rows.Rows.{Rows}
+use Rattle.topo_core.specs.Changes.{shown}
+use Rattle.topo_core.specs.Insertions.{IsInsertable}
+use Rattle.topo_core.specs.Lawful.{IsWellFormed}
 use Rattle.topo_changes.specs.Inserting.{AreOnPaths}
+use Rattle.topo_changes.specs.Keeping.{rows_of}
 use Rattle.topo_changes.proofs.Inserting.{crossings_old, darts_there, rotation_old, rows_made}
+use Rattle.topo_changes.proofs.Keeping.{added_rows}
 use Rattle.topo_changes.proofs.insertion.apply_rows.Goals as goal
 
 pub insert_lists-done-requires-clause-new : goal.insert_lists-done-requires-clause-new
 insert_lists-done-requires-clause-new c =
-    let rows = c.args.rows.now in
+    let rows : Rows = record { rotations = c.rows.inside.rotations; edges = c.rows.inside.edges; crossings = rows_of c.rows.inside.crossings; next_edge = c.rows.inside.next_edge; next_crossing = c.rows.inside.next_crossing } in
+    let formed = subst IsWellFormed (sym c.rows.view_is) c.requires.formed in
+    let insertable = subst (λ (rows : Rows). IsInsertable rows c.args.u c.args.v c.args.kind c.args.route.now) (sym c.rows.view_is) c.requires.insertable in
     let lists : c.deref_mut.result.now ≡ rows.rotations = search rules in
-    subst (λ xs. list_all (λ e. nat_lt e rows.next_edge) (slice_index_or xs c.args.u []) ≡ true) (sym lists) (rotation_old rows c.requires.formed c.args.u c.requires.insertable.u_there)
+    subst (λ xs. list_all (λ e. nat_lt e rows.next_edge) (slice_index_or xs c.args.u []) ≡ true) (sym lists) (rotation_old rows formed c.args.u insertable.u_there)
 
 pub insert_lists-done-requires-clause-below : goal.insert_lists-done-requires-clause-below
 insert_lists-done-requires-clause-below c = grind (arith, crossings_old)
 
 pub insert_lists-done-requires-clause-there : goal.insert_lists-done-requires-clause-there
 insert_lists-done-requires-clause-there c =
-    let rows = c.args.rows.now in
+    let rows : Rows = record { rotations = c.rows.inside.rotations; edges = c.rows.inside.edges; crossings = rows_of c.rows.inside.crossings; next_edge = c.rows.inside.next_edge; next_crossing = c.rows.inside.next_crossing } in
+    let formed = subst IsWellFormed (sym c.rows.view_is) c.requires.formed in
+    let insertable = subst (λ (rows : Rows). IsInsertable rows c.args.u c.args.v c.args.kind c.args.route.now) (sym c.rows.view_is) c.requires.insertable in
     let edges : c.into_vec-edges.result.items ≡ rows.edges = search rules in
-    subst (λ xs. AreOnPaths xs c.args.route.now.crossed) (sym edges) (darts_there rows c.requires.formed c.args.u c.args.v c.args.kind c.args.route.now c.requires.insertable)
+    subst (λ xs. AreOnPaths xs c.args.route.now.crossed) (sym edges) (darts_there rows formed c.args.u c.args.v c.args.kind c.args.route.now insertable)
 
 pub returns-clause-ok : goal.returns-clause-ok
-returns-clause-ok c = grind (arith, take_at, rows_made)
+returns-clause-ok c =
+    let rows : Rows = record { rotations = c.rows.inside.rotations; edges = c.rows.inside.edges; crossings = rows_of c.rows.inside.crossings; next_edge = c.rows.inside.next_edge; next_crossing = c.rows.inside.next_crossing } in
+    let made : ◌≡◌ {A = Rows} (record { rotations = c.from_vec.result; edges = c.from_vec-2.result; crossings = rows_of c.insert_lists-done.new.crossings; next_edge = rows.next_edge + 1; next_crossing = rows.next_crossing + length c.as_slice-2.result.now })
+        (shown rows c.args.u c.args.v c.args.kind c.args.route.now) = grind (arith, take_at, rows_made, added_rows) in
+    made ∙ ap (λ (rows : Rows). shown rows c.args.u c.args.v c.args.kind c.args.route.now) c.rows.view_is

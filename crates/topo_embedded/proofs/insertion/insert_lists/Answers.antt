@@ -55,7 +55,7 @@ returns-clause-shows g c =
     when_ok c.apply_rows.result (sym c.if-is_err.ensures.value) c.apply_rows.ensures.ok ∙ ap (λ (q : Drawn). shown q.rows c.args.ends.0 c.args.ends.1 c.args.kind c.args.route.now) (sym c.requires.0) in
     let long : length c.draw_route.new.paths ≡ vec_len c.make_room.new.paths = c.draw_route.auto.paths ∙ c.deref_mut-2.ensures.len in
     let items : List (List ℕ) = take (vec_len c.make_room.new.paths) (c.draw_route.new.paths ++ drop (length c.draw_route.new.paths) c.make_room.new.paths.items) in
-    inserted_drawn g.p c.args.segments.now c.make_room.new.segments c.draw_route.new.segments c.args.crossed.now c.draw_route.new.crossed c.args.ends.0 c.args.ends.1 c.args.kind c.args.route.now c.args.corners.0 c.args.corners.1 c.args.rows.now.next_edge ready
+    inserted_drawn g.p c.args.segments.now c.make_room.new.segments c.draw_route.new.segments c.args.crossed.now c.draw_route.new.crossed c.args.ends.0 c.args.ends.1 c.args.kind c.args.route.now c.args.corners.0 c.args.corners.1 c.next_edge-edge.result ready
     c.make_room.ensures.slots c.laws.ensures c.draw_route.ensures.darts c.draw_route.ensures.marked c.draw_route.new.line c.apply_rows.new.rows c.draw_route.new.paths c.push.new.self.items
-    (ap (λ (q : Drawn). q.rows.next_edge) (sym c.requires.0)) c.draw_route.ensures.routed rows c.draw_route.ensures.paths
+    (c.next_edge-edge.ensures ∙ ap (λ (q : Drawn). q.rows.next_edge) (sym c.requires.0)) c.draw_route.ensures.routed rows c.draw_route.ensures.paths
     (c.push.ensures.items ∙ ap (λ (b : Bool). if b then (items ++ c.draw_route.new.line ∷ []) else items) (ap is_ok c.unwrap.ensures) ∙ ap (λ (ps : List (List ℕ)). ps ++ c.draw_route.new.line ∷ []) (take_at c.draw_route.new.paths (drop (length c.draw_route.new.paths) c.make_room.new.paths.items) _ long))

@@ -6,6 +6,9 @@ use Rattle.topo_core.specs.Systems.{SameFace}
 use Rattle.topo_route.specs.Names.{IsName, canonical, dart_named}
 use Rattle.topo_dual.proofs.frozen.FrozenWalked.same_face.Goals as goal
 
+pub same_face-requires-clause-dart_there : goal.same_face-requires-clause-dart_there
+same_face-requires-clause-dart_there c = subst (λ rows. IsName (canonical rows) c.args.dart) (sym c.as_numbered.ensures) c.requires.dart_there
+
 pub same_face-requires-clause-other_there : goal.same_face-requires-clause-other_there
 same_face-requires-clause-other_there c = subst (λ rows. IsName (canonical rows) c.args.other) (sym c.as_numbered.ensures) c.requires.other_there
 

@@ -1,7 +1,10 @@
 use Rattle.std.proofs.Common.{arith, subst, sym, ◌∙◌}
+use Rattle.topo_core.specs.declared.rows.Rows.{Rows}
 use Rattle.topo_core.specs.Cycles.{IsPermutationList}
+use Rattle.topo_core.specs.Lawful.{IsWellFormed}
 use Rattle.topo_core.proofs.Numbering.{turn_permutes}
 use Rattle.topo_rows.proofs.Verdicts.{images_total}
+use Rattle.topo_embedded.specs.Halves.{ShowsRows}
 use Rattle.topo_embedded.proofs.Made.{labels_length, made_from}
 use Rattle.topo_embedded.proofs.embedded.Embedded.of.Goals as goal
 
@@ -13,7 +16,7 @@ pub from_turns-requires-clause-two_each : goal.from_turns-requires-clause-two_ea
 from_turns-requires-clause-two_each c = grind (arith, images_total, labels_length)
 
 pub invariant_of-result : goal.invariant_of-result
-invariant_of-result c = (
+invariant_of-result c = subst (λ (rows : Rows). IsWellFormed rows × ShowsRows (record { rows = rows; paths = c.in_ok-paths.paths }) c.in_ok-segments.segments) (sym c.in_ok-rows.ensures) (
   c.requires.well_formed,
   made_from c.args.rows c.requires.well_formed c.as_slice-edges.result.now c.as_slice-images.result.now c.as_slice.result.now c.as_slice-2.result.now c.in_ok-segments.halves.items c.as_slice-3.result.now c.in_ok-paths.paths c.in_ok-segments.segments
       c.as_slice-edges.ensures (c.as_slice-images.ensures.value ∙ c.requires.turns.images) (c.as_slice.ensures.value ∙ c.in_ok-labels.ensures) (c.as_slice-2.ensures.value ∙ c.requires.turns.edge_begins) c.as_slice-3.ensures.value

@@ -1,0 +1,124 @@
+//! What is asked of rows with their embedding by the canonical numbers of darts.
+
+ghost use Rattle.std.specs.Prelude.{◌≡◌, ◌+◌, ◌++◌, ◌≤◌, true, IfOk, None, OnOk, Some, flat_map, if◌then◌else◌, length, map, slice_index_or};
+ghost use Rattle.topo_core.specs.declared.darts.Dart.{Dart};
+ghost use Rattle.topo_core.specs.Picture.{darts, points_of, rotation, start, start_place};
+ghost use Rattle.topo_core.specs.Systems.{has_dart};
+ghost use Rattle.topo_embedded.specs.Canonical.{halves_of};
+ghost use Rattle.topo_embedded.specs.Halves.{IsHalf, half_in};
+
+use super::Embedded;
+use crate::path::Path;
+use crate::walking::led;
+use std::alloc::{AllocError, Global};
+use topo_core::darts::{Dart, Point, Way};
+use topo_core::ids::{CrossId, VertexId};
+use topo_core::rows::{EdgeRow, Rows};
+use topo_map::Half;
+use topo_rows::by_id::{edge_place, place_of_edge};
+
+/// Writes the two halves of each segment of a path behind those of a list.
+fn write_path(halves: &mut Vec<u32>, path: &Path) -> Result<(), AllocError>
+    ensures { OnOk result (halves.new.items ≡ halves.old.items ++ halves_of path.now) }
+{
+    for place in 0..path.len() {
+        let half = path.at(place);
+        halves.push(half.number())?;
+        halves.push(half.twin().number())?;
+    }
+    Ok(())
+}
+
+/// The same of each path in turn.
+fn write_paths(halves: &mut Vec<u32>, paths: &[Path]) -> Result<(), AllocError>
+    ensures { OnOk result (halves.new.items ≡ halves.old.items ++ flat_map halves_of paths.now) }
+{
+    for path in paths {
+        write_path(halves, path)?;
+    }
+    Ok(())
+}
+
+/// The point at a place along an edge: its end `a`, the crossings of its path, its end `b`.
+fn point_on(row: &EdgeRow, place: usize) -> Point
+    requires { place ≤ length row.now.crossings + 1 }
+    ensures { result ≡ slice_index_or (points_of row.now) place (Point.Vertex 0) }
+{
+    let path = row.crossings.as_slice();
+    if place == 0 {
+        Point::Vertex(VertexId::new(row.a))
+    } else if place <= path.len() {
+        Point::Crossing(CrossId::new(path[place - 1]))
+    } else {
+        Point::Vertex(VertexId::new(row.b))
+    }
+}
+
+/// Which point of its edge a dart starts at.
+fn place_of_start(dart: &Dart) -> usize
+    ensures { result ≡ start_place dart.now.seg dart.now.way }
+{
+    match dart.way {
+        Way::Forward => dart.seg as usize,
+        Way::Back => dart.seg as usize + 1,
+    }
+}
+
+impl Embedded {
+    /// A copy of the rows.
+    pub fn copy_of_rows(&self, alloc: Global) -> Result<Rows, AllocError>
+        ensures { IfOk result (λ rows. rows ≡ self.now.rows) }
+    {
+        self.rows.show(alloc)
+    }
+
+    /// How many vertices there are.
+    pub fn vertex_count(&self) -> usize
+        ensures { result ≡ length self.now.rows.rotations }
+    {
+        self.rows.rotations().len()
+    }
+
+    /// How many corners a vertex has, and 0 where it is no vertex.
+    pub fn degree(&self, v: u32) -> usize
+        ensures { result ≡ length (rotation self.now.rows v) }
+    {
+        self.rows.degree(v)
+    }
+
+    /// Writes the half of each dart, in canonical order, over what the list held.
+    pub fn fill_halves(&self, halves: &mut Vec<u32>) -> Result<(), AllocError>
+        ensures { OnOk result (halves.new.items ≡ map (half_in self.now) (darts self.now.rows)) }
+    {
+        halves.clear();
+        halves.reserve(self.segments.limit())?;
+        write_paths(halves, self.paths.as_slice())?;
+        Ok(())
+    }
+
+    /// The half of a dart; none where it is no dart of the rows.
+    pub fn find_half(&self, dart: Dart) -> Option<Half>
+        ensures { result ≡ (if has_dart (darts self.now.rows) dart then Some (half_in self.now dart) else None) }
+    {
+        let edges = self.rows.edges();
+        let place = edge_place(edges, &self.hints, dart.edge.number())?;
+        let path = &self.paths.as_slice()[place];
+        let seg = dart.seg as usize;
+        if seg < path.len() {
+            Some(led(path.at(seg), dart.way))
+        } else {
+            None
+        }
+    }
+
+    /// Where the dart of a half starts. It looks along the path of the edge.
+    pub fn start_of(&self, half: Half) -> Point
+        requires { IsHalf self.now half }
+        ensures { (d : Dart) → has_dart (darts self.now.rows) d ≡ true → half_in self.now d ≡ half → result ≡ start self.now.rows d }
+    {
+        let dart = self.dart_of(half);
+        let edges = self.rows.edges();
+        let place = place_of_edge(edges, &self.hints, dart.edge.number());
+        point_on(&edges[place], place_of_start(&dart))
+    }
+}

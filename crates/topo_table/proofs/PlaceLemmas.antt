@@ -1,0 +1,281 @@
+-- What the places of a table hold, after each change that a table makes.
+use native.Mathlib.Numerals.{unary_clauses}
+use Rattle.std.proofs.Common.{◌≡◌, ℕ, zero, suc, ◌+◌, ◌<◌, ◌≤◌, ◌&&◌, Bool, true, false, eqb, ltb, List, [], ◌∷◌, ◌++◌, length, get_or, map, position, filter, Option, Some, None, is_some, slice_get, refl, sym, ap, subst, ◌∙◌, arith, rules, add-one}
+use Rattle.std.specs.List.{AllPairs, AllZip, list_all}
+use Rattle.std.specs.List.Sorted.{IsStrictlyIncreasing}
+use Rattle.std.specs.Map.{values_of, lookup}
+use Rattle.std.specs.Option.{option_flatten}
+use Rattle.std.proofs.lemmas.Bool.{false≢true}
+use Rattle.std.proofs.lemmas.Bool.Decides.{nat_tests}
+use Rattle.std.proofs.lemmas.List.Kept.{AllPairs-from_increasing}
+use Rattle.std.proofs.lemmas.List.Quantifiers.{position-Some}
+use Rattle.indexmap.specs.IndexMap.{set_value_at}
+use Rattle.topo_table.specs.Places.{AreBelow, EntriesRise, ids_of, present, value_of, without_id}
+
+-- a number is below each of the others
+abbrev pub IsBelowAll : ℕ → List ℕ → Type 0
+IsBelowAll x [] = Unit {0}
+IsBelowAll x (y ∷ ys) = (x < y) × IsBelowAll x ys
+
+-- numbers that rise, by recursion
+abbrev pub Rises : List ℕ → Type 0
+Rises [] = Unit {0}
+Rises (x ∷ xs) = IsBelowAll x xs × Rises xs
+
+IsBelowAll-from_index : (x : ℕ) (xs : List ℕ) → ((k : ℕ) → k < length xs → x < get_or xs k 0) → IsBelowAll x xs
+IsBelowAll-from_index x [] h = tt
+IsBelowAll-from_index x (y ∷ ys) h = (h 0 (omega arith), IsBelowAll-from_index x ys (λ k lt. h (suc k) (omega arith)))
+
+Rises-from_pairs : (xs : List ℕ) → AllPairs (λ x y. x < y) xs → Rises xs
+Rises-from_pairs [] h = tt
+Rises-from_pairs (x ∷ xs) h =
+    (IsBelowAll-from_index x xs (λ k lt. h 0 (suc k) 0 (omega arith) (omega arith)), Rises-from_pairs xs (λ i j d lt within. h (suc i) (suc j) d (omega arith) (omega arith)))
+
+pub Rises-from_increasing : (xs : List ℕ) → IsStrictlyIncreasing xs → Rises xs
+Rises-from_increasing xs h = Rises-from_pairs xs (AllPairs-from_increasing xs h)
+
+pub IsStrictlyIncreasing-from_Rises : (xs : List ℕ) → Rises xs → IsStrictlyIncreasing xs
+IsStrictlyIncreasing-from_Rises [] h k lt = absurd (omega arith)
+IsStrictlyIncreasing-from_Rises (x ∷ []) h k lt = absurd (omega arith)
+IsStrictlyIncreasing-from_Rises (x ∷ y ∷ ys) h zero lt = h.0.0
+IsStrictlyIncreasing-from_Rises (x ∷ y ∷ ys) h (suc k) lt = let next = IsStrictlyIncreasing-from_Rises (y ∷ ys) h.1 k (omega arith) in simp unary_clauses (simp unary_clauses at next)
+
+-- a number that is below all is none of them
+at_below : (x : ℕ) (xs : List ℕ) (k : ℕ) → IsBelowAll x xs → k < length xs → x < get_or xs k 0
+at_below x [] k h lt = absurd (omega arith)
+at_below x (y ∷ ys) zero h lt = h.0
+at_below x (y ∷ ys) (suc k) h lt = at_below x ys k h.1 (omega arith)
+
+is_none_not : {X : Type 0} {x : X} → Some x ≡ None → ⊥
+is_none_not h = cc
+
+option_some_same : {X : Type 0} {x y : X} → Some x ≡ Some y → x ≡ y
+option_some_same h = cc
+
+-- an option that is none where a look-up found none
+pub none_at_lookup : {X : Type 0} (r : Option X) → false ≡ is_some r → r ≡ None
+none_at_lookup None h = refl
+none_at_lookup (Some x) h = absurd (false≢true h)
+
+both_true : {a b : Bool} → (a && b) ≡ true → (a ≡ true) × (b ≡ true)
+both_true {a = true} h = (refl, h)
+both_true {a = false} h = absurd (false≢true h)
+
+module _ {V : Type 0} where
+  -- the ids of the values that are there
+  IsBelowAll-present : (x : ℕ) (slots : List (ℕ × Option V)) → IsBelowAll x (ids_of slots) → IsBelowAll x (map (λ e. e.0) (present slots))
+  IsBelowAll-present x [] h = tt
+  IsBelowAll-present x ((id, Some v) ∷ slots) h = (h.0, IsBelowAll-present x slots h.1)
+  IsBelowAll-present x ((id, None) ∷ slots) h = IsBelowAll-present x slots h.1
+
+  Rises-present : (slots : List (ℕ × Option V)) → Rises (ids_of slots) → Rises (map (λ e. e.0) (present slots))
+  Rises-present [] h = tt
+  Rises-present ((id, Some v) ∷ slots) h = (IsBelowAll-present id slots h.0, Rises-present slots h.1)
+  Rises-present ((id, None) ∷ slots) h = Rises-present slots h.1
+
+  pub EntriesRise-present : (slots : List (ℕ × Option V)) → IsStrictlyIncreasing (ids_of slots) → EntriesRise (present slots)
+  EntriesRise-present slots h = IsStrictlyIncreasing-from_Rises _ (Rises-present slots (Rises-from_increasing _ h))
+
+  -- there are no more values than places
+  pub length-present : (slots : List (ℕ × Option V)) → length (present slots) ≤ length slots
+  length-present [] = omega arith
+  length-present ((id, Some v) ∷ slots) = let h = length-present slots in omega arith
+  length-present ((id, None) ∷ slots) = let h = length-present slots in omega arith
+
+  -- an id below all of the entries has no value
+  value_of-below : (id : ℕ) (es : List (ℕ × V)) → IsBelowAll id (map (λ e. e.0) es) → value_of id es ≡ None
+  value_of-below id [] h = refl
+  value_of-below id (e ∷ es) h =
+      let ne : eqb e.0 id ≡ false = grind (arith, nat_tests) in
+      let rest = value_of-below id es h.1 in
+      rw ne rest
+
+  -- an id with no value leaves the entries as they are
+  pub without_id-none : (id : ℕ) (es : List (ℕ × V)) → value_of id es ≡ None → without_id id es ≡ es
+  without_id-none id [] h = refl
+  without_id-none id (e ∷ es) h = by (eqb e.0 id) refl (without_id-none id es)
+    where
+      by : (b : Bool) → eqb e.0 id ≡ b → (value_of id es ≡ None → without_id id es ≡ es) → without_id id (e ∷ es) ≡ e ∷ es
+      by true p rest = absurd (is_none_not (rw p at h))
+      by false p rest = rw p (ap (λ l. e ∷ l) (rest (rw p at h)))
+
+  -- the value with an id is what the place with that id holds
+  pub value_of-present : (id : ℕ) (slots : List (ℕ × Option V)) → Rises (ids_of slots) → value_of id (present slots) ≡ option_flatten (lookup (eqb id) slots)
+  value_of-present id [] h = refl
+  value_of-present id ((i, w) ∷ slots) h = by w (eqb id i) refl (value_of-present id slots h.1)
+    where
+      by : (w : Option V) (b : Bool) → eqb id i ≡ b → value_of id (present slots) ≡ option_flatten (lookup (eqb id) slots) → value_of id (present ((i, w) ∷ slots)) ≡ option_flatten (lookup (eqb id) ((i, w) ∷ slots))
+      by (Some v) true p rest =
+          let q : eqb i id ≡ true = grind (arith, nat_tests) in rw (p, q)
+      by None true p rest =
+          let q : id ≡ i = grind (arith, nat_tests) in
+          rw p (value_of-below id (present slots) (IsBelowAll-present id slots (subst (λ x. IsBelowAll x (ids_of slots)) (sym q) h.0)))
+      by (Some v) false p rest =
+          let q : eqb i id ≡ false = grind (arith, nat_tests) in rw (p, q) rest
+      by None false p rest = rw p rest
+
+  pub value_of-found : (id : ℕ) (slots : List (ℕ × Option V)) → IsStrictlyIncreasing (ids_of slots) → value_of id (present slots) ≡ option_flatten (lookup (eqb id) slots)
+  value_of-found id slots h = value_of-present id slots (Rises-from_increasing _ h)
+
+  -- a place that is written as it was
+  pub set_value_at-same : (slots : List (ℕ × Option V)) (place : ℕ) (w : Option V) → slice_get (values_of slots) place ≡ Some w → set_value_at slots place w ≡ slots
+  set_value_at-same [] place w h = refl
+  set_value_at-same (s ∷ slots) zero w h = ap (λ x. (s.0, x) ∷ slots) (search (rules, h))
+  set_value_at-same (s ∷ slots) (suc place) w h = ap (λ l. s ∷ l) (set_value_at-same slots place w h)
+
+  pub ids_of-set_value_at : (slots : List (ℕ × Option V)) (place : ℕ) (w : Option V) → ids_of (set_value_at slots place w) ≡ ids_of slots
+  ids_of-set_value_at [] place w = refl
+  ids_of-set_value_at (s ∷ slots) zero w = refl
+  ids_of-set_value_at (s ∷ slots) (suc place) w = ap (λ l. s.0 ∷ l) (ids_of-set_value_at slots place w)
+
+  -- what is left once a place with a value is empty
+  below_later : (i id : ℕ) (slots : List (ℕ × Option V)) (place : ℕ) (w : Option V) → IsBelowAll i (ids_of slots) → slice_get slots place ≡ Some (id, w) → i < id
+  below_later i id [] place w h at = absurd (search (rules, at))
+  below_later i id (s ∷ slots) zero w h at = let e : s.0 ≡ id = cc in omega arith
+  below_later i id (s ∷ slots) (suc place) w h at = below_later i id slots place w h.1 at
+
+  present-first : (id : ℕ) (v : V) (slots : List (ℕ × Option V)) → Rises (ids_of ((id, Some v) ∷ slots))
+      → (present slots ≡ without_id id (present ((id, Some v) ∷ slots))) × (length (present slots) + 1 ≡ length (present ((id, Some v) ∷ slots)))
+  present-first id v slots h =
+      let q : eqb id id ≡ true = grind (arith, nat_tests) in
+      (rw q (sym (without_id-none id (present slots) (value_of-below id (present slots) (IsBelowAll-present id slots h.0)))), omega arith)
+
+  pub present-emptied : (slots : List (ℕ × Option V)) (place id : ℕ) (v : V) → Rises (ids_of slots) → slice_get slots place ≡ Some (id, Some v)
+      → (present (set_value_at slots place None) ≡ without_id id (present slots)) × (length (present (set_value_at slots place None)) + 1 ≡ length (present slots))
+  present-emptied [] place id v h at = absurd (search (rules, at))
+  present-emptied ((i, w) ∷ slots) zero id v h at = by (i, w) (option_some_same at) h
+    where
+      by : (s : ℕ × Option V) → s ≡ (id, Some v) → Rises (ids_of (s ∷ slots)) → (present slots ≡ without_id id (present (s ∷ slots))) × (length (present slots) + 1 ≡ length (present (s ∷ slots)))
+      by s e h = subst (λ s. Rises (ids_of (s ∷ slots)) → (present slots ≡ without_id id (present (s ∷ slots))) × (length (present slots) + 1 ≡ length (present (s ∷ slots)))) (sym e) (present-first id v slots) h
+  present-emptied ((i, Some x) ∷ slots) (suc place) id v h at =
+      let lt = below_later i id slots place (Some v) h.0 at in
+      let rest = present-emptied slots place id v h.1 at in
+      let q : eqb i id ≡ false = grind (arith, nat_tests) in
+      (rw q (ap (λ l. (i, x) ∷ l) rest.0), omega arith)
+  present-emptied ((i, None) ∷ slots) (suc place) id v h at = present-emptied slots place id v h.1 at
+
+  slot_by : (id place : ℕ) (w : Option V) (slots : List (ℕ × Option V)) → eqb id (get_or (ids_of slots) place 0) ≡ true → slice_get (values_of slots) place ≡ Some w → slice_get slots place ≡ Some (id, w)
+  slot_by id place w [] test at = absurd (is_none_not (sym at))
+  slot_by id zero w (s ∷ slots) test at =
+      let e : s.0 ≡ id = grind (arith, nat_tests) in
+      let v = option_some_same at in
+      λ j. Some (e j, v j)
+  slot_by id (suc place) w (s ∷ slots) test at = slot_by id place w slots test at
+
+  -- the place that was found for an id, with what it holds
+  pub slot_found : (id place : ℕ) (w : Option V) (slots : List (ℕ × Option V)) → Some place ≡ position (eqb id) (ids_of slots) → slice_get (values_of slots) place ≡ Some w → slice_get slots place ≡ Some (id, w)
+  slot_found id place w slots found at = slot_by id place w slots (position-Some (eqb id) (ids_of slots) place 0 (sym found)).1 at
+
+  -- a place that was found and holds a value: the table without that value
+  pub record Emptied (id : ℕ) (v : V) (old new : List (ℕ × Option V)) : Type 0 where
+    pub rises : IsStrictlyIncreasing (ids_of new)
+    pub count : length (present new) + 1 ≡ length (present old)
+    pub left : present new ≡ without_id id (present old)
+    pub value : value_of id (present old) ≡ Some v
+    pub ids : ids_of new ≡ ids_of old
+
+  pub emptied : (id place : ℕ) (v : V) (slots : List (ℕ × Option V)) → IsStrictlyIncreasing (ids_of slots) → Some place ≡ position (eqb id) (ids_of slots)
+      → slice_get (values_of slots) place ≡ Some (Some v) → slice_get (values_of slots) place ≡ lookup (eqb id) slots → Emptied id v slots (set_value_at slots place None)
+  emptied id place v slots up found at looked =
+      let ids = ids_of-set_value_at slots place None in
+      let both = present-emptied slots place id v (Rises-from_increasing _ up) (slot_found id place (Some v) slots found at) in
+      record {
+        rises = subst IsStrictlyIncreasing (sym ids) up;
+        count = both.1;
+        left = both.0;
+        value = value_of-found id slots up ∙ ap option_flatten (sym looked ∙ at);
+        ids = ids;
+      }
+
+  -- what is left once the empty places are closed up
+  abbrev pub kept : List (ℕ × Option V) → List (ℕ × Option V)
+  kept slots = filter (λ slot. is_some slot.1) slots
+
+  pub present-kept : (slots : List (ℕ × Option V)) → present (kept slots) ≡ present slots
+  present-kept [] = refl
+  present-kept ((id, Some v) ∷ slots) = ap (λ l. (id, v) ∷ l) (present-kept slots)
+  present-kept ((id, None) ∷ slots) = present-kept slots
+
+  IsBelowAll-kept : (x : ℕ) (slots : List (ℕ × Option V)) → IsBelowAll x (ids_of slots) → IsBelowAll x (ids_of (kept slots))
+  IsBelowAll-kept x [] h = tt
+  IsBelowAll-kept x ((id, Some v) ∷ slots) h = (h.0, IsBelowAll-kept x slots h.1)
+  IsBelowAll-kept x ((id, None) ∷ slots) h = IsBelowAll-kept x slots h.1
+
+  Rises-kept : (slots : List (ℕ × Option V)) → Rises (ids_of slots) → Rises (ids_of (kept slots))
+  Rises-kept [] h = tt
+  Rises-kept ((id, Some v) ∷ slots) h = (IsBelowAll-kept id slots h.0, Rises-kept slots h.1)
+  Rises-kept ((id, None) ∷ slots) h = Rises-kept slots h.1
+
+  pub IsStrictlyIncreasing-kept : (slots : List (ℕ × Option V)) → IsStrictlyIncreasing (ids_of slots) → IsStrictlyIncreasing (ids_of (kept slots))
+  IsStrictlyIncreasing-kept slots h = IsStrictlyIncreasing-from_Rises _ (Rises-kept slots (Rises-from_increasing _ h))
+
+  pub AreBelow-kept : (limit : ℕ) (slots : List (ℕ × Option V)) → AreBelow limit slots → AreBelow limit (kept slots)
+  AreBelow-kept limit [] h = refl
+  AreBelow-kept limit ((id, Some v) ∷ slots) h = let parts = both_true {a = ltb id limit} {b = list_all (λ x. ltb x limit) (ids_of slots)} h in rw parts.0 (AreBelow-kept limit slots parts.1)
+  AreBelow-kept limit ((id, None) ∷ slots) h = AreBelow-kept limit slots (both_true {a = ltb id limit} {b = list_all (λ x. ltb x limit) (ids_of slots)} h).1
+
+  -- one more value behind the others
+  pub lookup-above : (id : ℕ) (slots : List (ℕ × Option V)) → AreBelow id slots → lookup (eqb id) slots ≡ None
+  lookup-above id [] h = refl
+  lookup-above id (s ∷ slots) h =
+      let parts = both_true {a = ltb s.0 id} {b = list_all (λ x. ltb x id) (ids_of slots)} h in
+      let lt : s.0 < id = grind (arith, nat_tests) in
+      let q : eqb id s.0 ≡ false = grind (arith, nat_tests) in
+      rw q (lookup-above id slots parts.1)
+
+  IsBelowAll-push : (x id : ℕ) (v : V) (slots : List (ℕ × Option V)) → x < id → IsBelowAll x (ids_of slots) → IsBelowAll x (ids_of (slots ++ (id, Some v) ∷ []))
+  IsBelowAll-push x id v [] lt h = (lt, tt)
+  IsBelowAll-push x id v (s ∷ slots) lt h = (h.0, IsBelowAll-push x id v slots lt h.1)
+
+  Rises-push : (id : ℕ) (v : V) (slots : List (ℕ × Option V)) → AreBelow id slots → Rises (ids_of slots) → Rises (ids_of (slots ++ (id, Some v) ∷ []))
+  Rises-push id v [] below h = (tt, tt)
+  Rises-push id v (s ∷ slots) below h =
+      let parts = both_true {a = ltb s.0 id} {b = list_all (λ x. ltb x id) (ids_of slots)} below in
+      let lt : s.0 < id = grind (arith, nat_tests) in
+      (IsBelowAll-push s.0 id v slots lt h.0, Rises-push id v slots parts.1 h.1)
+
+  pub IsStrictlyIncreasing-push : (id : ℕ) (v : V) (slots : List (ℕ × Option V)) → AreBelow id slots → IsStrictlyIncreasing (ids_of slots) → IsStrictlyIncreasing (ids_of (slots ++ (id, Some v) ∷ []))
+  IsStrictlyIncreasing-push id v slots below h = IsStrictlyIncreasing-from_Rises _ (Rises-push id v slots below (Rises-from_increasing _ h))
+
+  pub present-push : (id : ℕ) (v : V) (slots : List (ℕ × Option V)) → present (slots ++ (id, Some v) ∷ []) ≡ present slots ++ (id, v) ∷ []
+  present-push id v [] = refl
+  present-push id v ((i, Some x) ∷ slots) = ap (λ l. (i, x) ∷ l) (present-push id v slots)
+  present-push id v ((i, None) ∷ slots) = present-push id v slots
+
+  -- the ids of both are the same, and so are the values up to a place
+  abbrev pub IsCopiedTo : ℕ → List (ℕ × Option V) → List (ℕ × Option V) → Type 0
+  IsCopiedTo n [] [] = Unit {0}
+  IsCopiedTo n [] (y ∷ ys) = ⊥
+  IsCopiedTo n (x ∷ xs) [] = ⊥
+  IsCopiedTo zero (x ∷ xs) (y ∷ ys) = (x.0 ≡ y.0) × IsCopiedTo zero xs ys
+  IsCopiedTo (suc n) (x ∷ xs) (y ∷ ys) = (x ≡ y) × IsCopiedTo n xs ys
+
+  pub IsCopiedTo-clone : (D : Option V → Option V → Type 0) (old new : List (ℕ × Option V)) → AllZip (λ p q. (q.0 ≡ p.0) × D p.1 q.1) old new → IsCopiedTo 0 new old
+  IsCopiedTo-clone D [] [] h = tt
+  IsCopiedTo-clone D [] (y ∷ ys) h = absurd h
+  IsCopiedTo-clone D (x ∷ xs) [] h = absurd h
+  IsCopiedTo-clone D (x ∷ xs) (y ∷ ys) h = (h.0.0, IsCopiedTo-clone D xs ys h.1)
+
+  copied_step : (n : ℕ) (w : Option V) (new old : List (ℕ × Option V)) → IsCopiedTo n new old → slice_get (values_of old) n ≡ Some w → IsCopiedTo (suc n) (set_value_at new n w) old
+  copied_step n w [] [] h at = tt
+  copied_step n w [] (y ∷ ys) h at = absurd h
+  copied_step n w (x ∷ xs) [] h at = absurd h
+  copied_step zero w (x ∷ xs) (y ∷ ys) h at = let v = option_some_same at in ((λ j. (h.0 j, sym v j)), h.1)
+  copied_step (suc n) w (x ∷ xs) (y ∷ ys) h at = (h.0, copied_step n w xs ys h.1 at)
+
+  pub IsCopiedTo-more : (n : ℕ) (w : Option V) (new old : List (ℕ × Option V)) → IsCopiedTo n new old → slice_get (values_of old) n ≡ Some w → IsCopiedTo (n + 1) (set_value_at new n w) old
+  IsCopiedTo-more n w new old h at = rw add-one (copied_step n w new old h at)
+
+  pub length_copied : (n : ℕ) (new old : List (ℕ × Option V)) → IsCopiedTo n new old → length new ≡ length old
+  length_copied n [] [] h = refl
+  length_copied n [] (y ∷ ys) h = absurd h
+  length_copied n (x ∷ xs) [] h = absurd h
+  length_copied zero (x ∷ xs) (y ∷ ys) h = ap suc (length_copied zero xs ys h.1)
+  length_copied (suc n) (x ∷ xs) (y ∷ ys) h = ap suc (length_copied n xs ys h.1)
+
+  pub copied_all : (n : ℕ) (new old : List (ℕ × Option V)) → IsCopiedTo n new old → length old ≤ n → new ≡ old
+  copied_all n [] [] h all = refl
+  copied_all n [] (y ∷ ys) h all = absurd h
+  copied_all n (x ∷ xs) [] h all = absurd h
+  copied_all zero (x ∷ xs) (y ∷ ys) h all = absurd (omega arith)
+  copied_all (suc n) (x ∷ xs) (y ∷ ys) h all = λ j. h.0 j ∷ copied_all n xs ys h.1 (omega arith) j

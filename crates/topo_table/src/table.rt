@@ -1,0 +1,155 @@
+//! A table of values by ids that rise.
+
+ghost use Rattle.std.specs.Prelude.{◌≡◌, ◌+◌, ◌<◌, ◌≤◌, ◌++◌, ◌∷◌, [], ℕ, true, IfNone, IfOk, IfSome, None, OnOk, Some, is_some, length, option_copied, slice_get};
+ghost use Rattle.topo_table.specs.Places.{AreBelow, EntriesRise, entries, value_of, without_id};
+
+use indexmap::IndexMap;
+use std::alloc::{AllocError, Global};
+use std::marker::Model;
+
+/// Values by ids, in rising order of the ids. A place whose value was taken out stays, empty, until half of
+/// them are; then they are closed up.
+#[derive(Drop)]
+pub struct Table<V> {
+    slots: IndexMap<u32, Option<V>>,
+    live: usize,
+}
+
+impl<V> Model for Table<V> {
+    ghost use Rattle.std.specs.Prelude.{◌≡◌, length};
+    ghost use Rattle.indexmap.specs.IndexMap.{spare};
+    ghost use Rattle.std.specs.List.Sorted.{IsStrictlyIncreasing};
+    ghost use Rattle.topo_table.specs.Places.{Places, ids_of, places_code, present};
+
+    ghost Value = { Places V };
+
+    ghost coded = { places_code V.code };
+
+    ghost view = { λ t. record { slots = t.slots.entries; room = spare t.slots } };
+
+    ghost invariant = { λ t. IsStrictlyIncreasing (ids_of t.slots.entries) × (t.live ≡ length (present t.slots.entries)) };
+}
+
+impl<V> Table<V> {
+    /// An empty table. It takes no memory.
+    pub fn new(alloc: Global) -> Self
+        ensures { result.slots ≡ [] }
+    {
+        Table {
+            slots: IndexMap::new(alloc),
+            live: 0,
+        }
+    }
+
+    /// How many values there are.
+    pub fn len(&self) -> usize
+        ensures len { result ≡ length (entries self.now) }
+        ensures rise { EntriesRise (entries self.now) }
+    {
+        self.live
+    }
+
+    /// How many places there are, the empty ones among them.
+    pub fn places(&self) -> usize
+        ensures { result ≡ length self.now.slots }
+    {
+        self.slots.len()
+    }
+
+    /// The id and the value at a place; none where it is empty.
+    pub fn at(&self, place: usize) -> Option<(u32, &V)>
+        requires { place < length self.now.slots }
+        ensures there { IfSome result (λ e. slice_get self.now.slots place ≡ Some (e.0, Some e.1.now)) }
+        ensures empty { IfNone result ((id : ℕ) × slice_get self.now.slots place ≡ Some (id, None)) }
+    {
+        let (id, value) = self.slots.get_index(place)?;
+        match value {
+            Some(value) => Some((*id, value)),
+            None => None,
+        }
+    }
+
+    /// Room for so many more values.
+    pub fn reserve(&mut self, more: usize) -> Result<(), AllocError>
+        ensures same { self.new.slots ≡ self.old.slots }
+        ensures ok { OnOk result (more ≤ self.new.room) }
+    {
+        self.slots.reserve(more)
+    }
+
+    /// The value with an id.
+    pub fn get(&self, id: u32) -> Option<&V>
+        ensures { option_copied result ≡ value_of id (entries self.now) }
+    {
+        match self.slots.get(&id) {
+            Some(value) => value.as_ref(),
+            None => None,
+        }
+    }
+
+    /// Puts a value behind the others, and answers its place. There is room for it, so it takes no memory.
+    pub fn push(&mut self, id: u32, value: V) -> usize
+    where
+        V: Drop,
+        requires room { 0 < self.old.room }
+        requires last { AreBelow id self.old.slots }
+        ensures place { result ≡ length self.old.slots }
+        ensures slots { self.new.slots ≡ self.old.slots ++ (id, Some value) ∷ [] }
+        ensures entries { entries self.new ≡ entries self.old ++ (id, value) ∷ [] }
+        ensures room { self.old.room ≤ self.new.room + 1 }
+    {
+        let place = self.slots.len();
+        self.slots.insert(id, Some(value)).unwrap();
+        self.live += 1;
+        place
+    }
+
+    /// An equal table, with the same places, in memory of its own.
+    pub fn copy(&self) -> Result<Self, AllocError>
+    where
+        V: Copy,
+        ensures { IfOk result (λ copy. copy.slots ≡ self.now.slots) }
+    {
+        let mut slots = self.slots.clone()?;
+        // A clone of a value need not be equal to it, a copy is: each value is written over by its copy.
+        for place in 0..self.slots.len() {
+            slots[place] = self.slots[place];
+        }
+        Ok(Table {
+            slots,
+            live: self.live,
+        })
+    }
+
+    /// Takes out the value with an id, if there is one. It takes no memory, and time that grows with nothing
+    /// but for the closing up, which each value that was taken out pays in part.
+    pub fn remove(&mut self, id: u32) -> Option<V>
+    where
+        V: Drop,
+        ensures value { result ≡ value_of id (entries self.old) }
+        ensures entries { entries self.new ≡ without_id id (entries self.old) }
+        ensures below { (limit : ℕ) → AreBelow limit self.old.slots → AreBelow limit self.new.slots }
+    {
+        let place = self.slots.get_index_of(&id)?;
+        let value = self.slots[place].take()?;
+        self.live -= 1;
+        self.close_up();
+        Some(value)
+    }
+
+    /// Closes the empty places up where they are more than half.
+    fn close_up(&mut self)
+    where
+        V: Drop,
+        ensures entries { entries self.new ≡ entries self.old }
+        ensures below { (limit : ℕ) → AreBelow limit self.old.slots → AreBelow limit self.new.slots }
+    {
+        if self.live < self.slots.len() / 2 {
+            self.slots.retain(
+                |_id: &u32, value: &mut Option<V>| -> bool
+                    ensures { (result ≡ is_some value.old) × (value.new ≡ value.old) }
+                { value.is_some() },
+            );
+        }
+    }
+}
