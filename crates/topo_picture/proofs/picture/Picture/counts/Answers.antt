@@ -5,13 +5,16 @@ use Rattle.topo_picture.specs.Totals.{AreCountsOf, HasTotals}
 use Rattle.topo_picture.proofs.picture.Picture.counts.Goals as goal
 
 pub counted-requires : goal.counted-requires
-counted-requires c = (c.rows-rows.result.now, record {
-  limits = c.self.inside.limits;
-  picture = subst (IsPicture c.self.inside.limits) (sym c.rows-rows.ensures) c.self.invariant;
-  vertices_are = ap length c.rotations.ensures;
-  crossings_are = c.crossing_count.ensures;
-  edges_are = ap length c.edges.ensures;
-})
+counted-requires c = (
+  c.rows-rows.result.now,
+  record {
+    limits = c.self.inside.limits;
+    picture = subst (IsPicture c.self.inside.limits) (sym c.rows-rows.ensures) c.self.invariant;
+    vertices_are = ap length c.rotations.ensures;
+    crossings_are = c.crossing_count.ensures;
+    edges_are = ap length c.edges.ensures;
+  },
+)
 
 pub returns : goal.returns
 returns c = rw (← c.self.view_is, ← c.rows-rows.ensures) (c.counted.ensures c.rows-rows.result.now (record {
