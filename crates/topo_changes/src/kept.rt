@@ -55,11 +55,11 @@ impl Model for KeptRows {
     ghost Value = { Rows };
 
     ghost view = { λ k. record {
-        rotations = k.rotations;
-        edges = k.edges;
-        crossings = rows_of k.crossings;
-        next_edge = k.next_edge;
-        next_crossing = k.next_crossing
+      rotations = k.rotations;
+      edges = k.edges;
+      crossings = rows_of k.crossings;
+      next_edge = k.next_edge;
+      next_crossing = k.next_crossing;
     } };
 
     ghost invariant = { λ k. AreBelow k.next_crossing k.crossings.slots };

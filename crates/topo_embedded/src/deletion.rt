@@ -22,7 +22,13 @@ use topo_rows::Hints;
 use topo_rows::by_id::place_of_edge;
 
 /// Whether a half is on the path of its edge, and so leads along it.
-fn leads_along(rows: &KeptRows, paths: &[Path], segments: &Embedding, hints: &Hints, half: Half) -> bool
+fn leads_along(
+    rows: &KeptRows,
+    paths: &[Path],
+    segments: &Embedding,
+    hints: &Hints,
+    half: Half,
+) -> bool
     requires formed { IsWellFormed rows.now }
     requires many { length paths.now ≡ length rows.now.edges }
     requires live { is_live segments.now half ≡ true }
@@ -59,7 +65,13 @@ fn midpoint(
 }
 
 /// Takes the segments of an edge out, one after another, and puts the midpoints at their places.
-fn open_path(rows: &KeptRows, paths: &[Path], segments: &mut Embedding, hints: &Hints, path: &mut Path)
+fn open_path(
+    rows: &KeptRows,
+    paths: &[Path],
+    segments: &mut Embedding,
+    hints: &Hints,
+    path: &mut Path,
+)
     requires { (e : ℕ) × IsSetOut rows.now paths.now e path.old segments.old }
     ensures { (e : ℕ) (o : IsSetOut rows.now paths.now e path.old segments.old) → IsOpenTo (record { rows = rows.now; paths = o.paths }) e segments.old (length path.old) segments.new path.new }
 {
@@ -74,7 +86,13 @@ fn open_path(rows: &KeptRows, paths: &[Path], segments: &mut Embedding, hints: &
 }
 
 /// Takes a half that is not the first out of the path of its edge.
-fn leave_path(rows: &KeptRows, paths: &mut Vec<Path>, segments: &Embedding, hints: &Hints, half: Half)
+fn leave_path(
+    rows: &KeptRows,
+    paths: &mut Vec<Path>,
+    segments: &Embedding,
+    hints: &Hints,
+    half: Half,
+)
     requires formed { IsWellFormed rows.now }
     requires many { length paths.old.items ≡ length rows.now.edges }
     requires live { is_live segments.now half ≡ true }

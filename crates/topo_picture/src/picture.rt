@@ -95,11 +95,7 @@ impl Picture {
         ensures refused { IfErr result (FailsFirst limits rows.now) }
     {
         let _turns = judged(alloc, &limits, rows)?;
-        Ok(counted(
-            rows.rotations.len(),
-            rows.crossings.len(),
-            rows.edges.len(),
-        ))
+        Ok(counted(rows.rotations.len(), rows.crossings.len(), rows.edges.len()))
     }
 
     /// How large it is.
@@ -442,7 +438,10 @@ fn growth_numbers(
     } else if vertices >= limits.vertices as usize || rows.next_edge() >= limits.edges {
         Err(Refusal::Full)
     } else {
-        Ok((VertexId::new(vertices as u32), EdgeId::new(rows.next_edge())))
+        Ok((
+            VertexId::new(vertices as u32),
+            EdgeId::new(rows.next_edge()),
+        ))
     }
 }
 

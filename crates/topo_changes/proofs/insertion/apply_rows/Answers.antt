@@ -36,5 +36,5 @@ pub returns-clause-ok : goal.returns-clause-ok
 returns-clause-ok c =
     let rows : Rows = record { rotations = c.rows.inside.rotations; edges = c.rows.inside.edges; crossings = rows_of c.rows.inside.crossings; next_edge = c.rows.inside.next_edge; next_crossing = c.rows.inside.next_crossing } in
     let made : ◌≡◌ {A = Rows} (record { rotations = c.from_vec.result; edges = c.from_vec-2.result; crossings = rows_of c.insert_lists-done.new.crossings; next_edge = rows.next_edge + 1; next_crossing = rows.next_crossing + length c.as_slice-2.result.now })
-        (shown rows c.args.u c.args.v c.args.kind c.args.route.now) = grind (arith, take_at, rows_made, added_rows) in
+    (shown rows c.args.u c.args.v c.args.kind c.args.route.now) = grind (arith, take_at, rows_made, added_rows) in
     made ∙ ap (λ (rows : Rows). shown rows c.args.u c.args.v c.args.kind c.args.route.now) c.rows.view_is
