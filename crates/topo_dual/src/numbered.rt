@@ -81,7 +81,7 @@ impl Walked for Numbered<'_> {
     }
 
     fn edge(&self, dart: u32) -> u32 {
-        self.dart(dart).edge.number()
+        self.embedded.edge(self.lists.half(dart))
     }
 
     fn facts(&self, dart: u32) -> Facts {
