@@ -1,6 +1,7 @@
 -- The halves of numbers, and the numbers of halves.
-use Rattle.std.proofs.Common.{◌≡◌, ◌≢◌, ◌+◌, ◌<◌, Bool, ap, get_or-set_other, get_or-set_same, arith, length, List, None, Some, refl, subst, sym, true, false, ℕ, ◌∙◌, inl, inr}
+use Rattle.std.proofs.Common.{◌≡◌, ◌≢◌, ◌+◌, ◌++◌, ◌<◌, Bool, drop, take, ap, get_or-set_other, get_or-set_same, arith, length, List, None, Some, refl, subst, sym, true, false, ℕ, ◌∙◌, inl, inr}
 use Rattle.std.specs.Prelude.{if◌then◌else◌, map, Option, option_map, slice_get, slice_index, slice_set, IsSomeAnd}
+use Rattle.std.proofs.Math.Seq.{take-append_seam}
 use Rattle.std.proofs.lemmas.Bool.{cases_Bool, cases_lt}
 use Rattle.std.proofs.lemmas.List.{get_or-map, length-map}
 use Rattle.std.proofs.lemmas.Option.{get_or_from_slice_get}
@@ -20,7 +21,7 @@ use Rattle.topo_route.specs.Names.{IsName, IsNamed, canonical, dart_named, next_
 use Rattle.topo_route.specs.Numbers.{dart_of}
 use Rattle.topo_route.proofs.Canonical.{canonical_below, canonical_dart, canonical_is}
 use Rattle.topo_route.proofs.Numbers.{dart_in, face_stays, got}
-use Rattle.topo_dual.specs.NumberedRows.{AreApart, AreListsOf, LawfulRows}
+use Rattle.topo_dual.specs.NumberedRows.{AreApart, AreListsOf, AreNumbersOf, LawfulRows}
 
 -- ---- The lists as they are written
 
@@ -60,8 +61,8 @@ module _ (p : Drawn) (good : IsWellFormed p.rows) (size : ℕ) (named : IsNamed 
   pub halves_within : (i : ℕ) → i < length halves → slice_index halves i < size
   halves_within i less = let c = stands i less in subst (λ (h : ℕ). h < size) (sym c.half) (named.within c.dart c.there)
 
-  pub lists_are : (numbers : List ℕ) → length numbers ≡ size → ((i : ℕ) → i < length halves → slice_index numbers (slice_index halves i) ≡ i) → length (darts p.rows) < 4294967296 → length p.rows.rotations < 4294967296 → AreListsOf p halves numbers
-  lists_are numbers as_long written few_darts few_vertices = record {
+  pub numbers_are : (numbers : List ℕ) → length numbers ≡ size → ((i : ℕ) → i < length halves → slice_index numbers (slice_index halves i) ≡ i) → length (darts p.rows) < 4294967296 → length p.rows.rotations < 4294967296 → AreNumbersOf p halves numbers
+  numbers_are numbers as_long written few_darts few_vertices = record {
     in_order = in_order;
     within = λ d h. (let less = named.within d h in omega (arith, less, as_long));
     numbered = λ d h.
@@ -84,6 +85,18 @@ written_more halves numbers k apart inside within so_far i less = elim (cases_lt
       let same : i ≡ k = omega arith in
       ap (λ (j : ℕ). slice_index (slice_set numbers (slice_index halves k) k) (slice_index halves j)) same ∙ rw get_or-set_same (sym same)
 ]
+
+-- a whole list was written over what was there
+pub written_over : (written old : List ℕ) (n : ℕ) → n ≡ length written → take n (written ++ drop (length written) old) ≡ written
+written_over written old n is = ap (λ (m : ℕ). take m (written ++ drop (length written) old)) is ∙ take-append_seam written (drop (length written) old)
+
+-- the lists in their places are those that were written
+pub lists_are : {p : Drawn} {halves numbers nexts in_halves in_numbers in_nexts : List ℕ} → AreNumbersOf p halves numbers → length nexts ≡ length halves → ((k : ℕ) → k < length halves → slice_index nexts k ≡ next_name (canonical p.rows) k)
+    → halves ≡ in_halves → in_numbers ≡ numbers → in_nexts ≡ nexts → AreListsOf p in_halves in_numbers in_nexts
+lists_are {p} {halves} {numbers} {nexts} {in_halves} {in_numbers} {in_nexts} named as_many follow at_halves at_numbers at_nexts =
+    subst (λ (xs : List ℕ). AreListsOf p in_halves in_numbers xs) (sym at_nexts)
+    (subst (λ (xs : List ℕ). AreListsOf p in_halves xs nexts) (sym at_numbers)
+    (subst (λ (xs : List ℕ). AreListsOf p xs numbers nexts) at_halves (record { named = named; as_many = as_many; follow = follow })))
 
 -- ---- What they tell
 
@@ -110,21 +123,21 @@ no_if false m n e = refl
 -- rows that are shown, with lists that number their darts
 pub record AreNumbered (p : Drawn) (rows : Rows) (halves numbers : List ℕ) : Type 0 where
   pub same : p.rows ≡ rows
-  pub merely : ∥ Lawful p.rows ∥₁
-  pub lists : AreListsOf p halves numbers
+  pub lawful : Lawful p.rows
+  pub lists : AreNumbersOf p halves numbers
 
-pub known : {p : Drawn} {merely : ∥ Lawful p.rows ∥₁} {shown : LawfulRows} {halves numbers : List ℕ} → record { rows = p.rows; lawful = merely } ≡ shown → AreListsOf p halves numbers → AreNumbered p shown.rows halves numbers
-known {p} {merely} view lists = record { same = ap (λ (v : LawfulRows). v.rows) view; merely = merely; lists = lists }
+pub known : {p : Drawn} {merely : ∥ Lawful p.rows ∥₁} {shown : LawfulRows} {halves numbers nexts : List ℕ} → record { rows = p.rows; lawful = merely } ≡ shown → AreListsOf p halves numbers nexts → AreNumbered p shown.rows halves numbers
+known {p} {merely} view lists = record { same = ap (λ (v : LawfulRows). v.rows) view; lawful = lawful_again p.rows merely; lists = lists.named }
 
 module _ {p : Drawn} {rows : Rows} {halves numbers : List ℕ} (n : AreNumbered p rows halves numbers) where
-  l : AreListsOf p halves numbers
+  l : AreNumbersOf p halves numbers
   l = n.lists
 
   same : p.rows ≡ rows
   same = n.same
 
   lawful : Lawful p.rows
-  lawful = lawful_again p.rows n.merely
+  lawful = n.lawful
 
   many : length halves ≡ length (darts p.rows)
   many = ap length l.in_order ∙ length-map (darts p.rows) (half_in p)
@@ -222,3 +235,47 @@ module _ {p : Drawn} {rows : Rows} {halves numbers : List ℕ} (n : AreNumbered 
       let own = subst Lawful same lawful in
       let there = told k (number_named k less) half is (λ (q : Rows) (d : Dart). point ≡ start q d) starts in
       subst (λ (o : Option Dart). IsSomeAnd o (λ d. point ≡ start rows d)) (sym (got rows own k less)) (there ∙ ap (start rows) (canonical_dart rows own k less))
+
+-- ---- The next darts
+
+-- they are read where a dart has a number
+module _ {p : Drawn} {merely : ∥ Lawful p.rows ∥₁} {shown : LawfulRows} {halves numbers nexts : List ℕ} (view : record { rows = p.rows; lawful = merely } ≡ shown) (lists : AreListsOf p halves numbers nexts)
+    (k : ℕ) (name : IsName (canonical shown.rows) k) where
+  inside : k < length halves
+  inside = number_within (known view lists) k name
+
+  pub read_within : k < length nexts
+  read_within = let less = inside in omega (arith, less, lists.as_many)
+
+  pub read_next : (number : ℕ) → number ≡ slice_index nexts k → number ≡ next_name (canonical shown.rows) k
+  read_next number read = read ∙ lists.follow k inside ∙ ap (λ (v : LawfulRows). next_name (canonical v.rows) k) view
+
+-- they are written one after the other, each by the half of its dart
+module _ (p : Drawn) (lawful : Lawful p.rows) (halves numbers : List ℕ) (named : AreNumbersOf p halves numbers) where
+  own : AreNumbered p p.rows halves numbers
+  own = record { same = refl; lawful = lawful; lists = named }
+
+  module _ (k : ℕ) (less : k < length halves) (half : ℕ) (is : half ≡ slice_index halves k) where
+    name : IsName (canonical p.rows) k
+    name = let as_many = size_is own in number_named own k (omega (arith, less, as_many))
+
+    pub written_half : IsHalf p half
+    written_half = is_half own k name half is
+
+    module _ (next : ℕ) (leads : (d : Dart) → has_dart (darts p.rows) d ≡ true → half_in p d ≡ half → next ≡ half_in p (face_step (system p.rows) d)) where
+      pub written_within : next < length numbers
+      written_within = next_within own k name half next is leads
+
+      pub written_next : (number : ℕ) → number ≡ slice_index numbers next → number ≡ next_name (canonical p.rows) k
+      written_next = next_number own k name half next is leads
+
+-- one more is written
+pub next_more : (next : ℕ → ℕ) (nexts : List ℕ) (k number : ℕ) → k < length nexts → number ≡ next k → ((i : ℕ) → i < k → slice_index nexts i ≡ next i) → (i : ℕ) → i < k + 1 → slice_index (slice_set nexts k number) i ≡ next i
+next_more next nexts k number inside is so_far i less = elim (cases_lt i k) [
+  | inl before ↦
+      let other : i ≢ k = (λ e. (let z : ⊥ = omega arith in z)) in
+      rw get_or-set_other (so_far i before)
+  | inr last ↦
+      let same : i ≡ k = omega arith in
+      ap (slice_index (slice_set nexts k number)) same ∙ rw get_or-set_same is ∙ ap next (sym same)
+]

@@ -28,7 +28,7 @@ impl Model for Frozen {
 
     ghost view = { λ f. record { rows = f.embedded.rows; lawful = f.lawful } };
 
-    ghost invariant = { λ f. AreListsOf f.embedded f.lists.halves.items f.lists.numbers.items };
+    ghost invariant = { λ f. AreListsOf f.embedded f.lists.halves.items f.lists.numbers.items f.lists.nexts.items };
 }
 
 impl Frozen {

@@ -1,19 +1,22 @@
 //! The lists that number darts.
 
 ghost use Rattle.std.specs.Prelude.{◌≡◌, ◌<◌, ◌^◌, ℕ, OnOk, length, slice_index};
-ghost use Rattle.topo_core.specs.Lawful.{IsWellFormed};
-ghost use Rattle.topo_dual.specs.NumberedRows.{AreApart, AreListsOf};
+ghost use Rattle.topo_core.specs.Lawful.{Lawful};
+ghost use Rattle.topo_route.specs.Names.{canonical, next_name};
+ghost use Rattle.topo_dual.specs.NumberedRows.{AreApart, AreListsOf, AreNumbersOf};
 
 use std::alloc::{AllocError, Global};
 use topo_embedded::Embedded;
 use topo_map::Half;
 
-/// For each dart in canonical order its half, and for each half the number of its dart. The lists are
-/// written anew for each picture, and their memory serves for the next one.
+/// For each dart in canonical order its half, for each half the number of its dart, and for each dart the
+/// number of the next one along its face. The lists are written anew for each picture, and their memory
+/// serves for the next one.
 #[derive(Drop)]
 pub struct NumberLists {
     pub(crate) halves: Vec<u32>,
     pub(crate) numbers: Vec<u32>,
+    pub(crate) nexts: Vec<u32>,
 }
 
 impl NumberLists {
@@ -22,18 +25,22 @@ impl NumberLists {
         NumberLists {
             halves: Vec::new(alloc),
             numbers: Vec::new(alloc),
+            nexts: Vec::new(alloc),
         }
     }
 
     /// Writes the lists of these rows over what they held.
     pub(crate) fn fill(&mut self, embedded: &Embedded) -> Result<(), AllocError>
-        requires well_formed { IsWellFormed embedded.now.rows }
+        requires lawful { Lawful embedded.now.rows }
         requires vertices { length embedded.now.rows.rotations < 2 ^ 32 }
-        ensures { OnOk result (AreListsOf embedded.now self.new.halves.items self.new.numbers.items) }
+        ensures { OnOk result (AreListsOf embedded.now self.new.halves.items self.new.numbers.items self.new.nexts.items) }
     {
         embedded.fill_halves(&mut self.halves)?;
+        let halves = self.halves.as_slice();
         self.numbers.resize(embedded.size() as usize, 0)?;
-        write_numbers(&mut self.numbers, self.halves.as_slice());
+        self.nexts.resize(halves.len(), 0)?;
+        write_numbers(&mut self.numbers, halves);
+        write_nexts(&mut self.nexts, embedded, halves, self.numbers.as_slice());
         Ok(())
     }
 
@@ -52,6 +59,14 @@ impl NumberLists {
     {
         self.numbers[half.number() as usize]
     }
+
+    /// The number of the next dart along the face of the dart with a number.
+    pub(crate) fn next(&self, number: u32) -> u32
+        requires { number < length self.now.nexts.items }
+        ensures { result ≡ slice_index self.now.nexts.items number }
+    {
+        self.nexts[number as usize]
+    }
 }
 
 /// Writes for each half its place among the halves.
@@ -63,5 +78,18 @@ fn write_numbers(numbers: &mut [u32], halves: &[u32])
 {
     for number in 0..halves.len() {
         numbers[halves[number] as usize] = number as u32;
+    }
+}
+
+/// Writes for each dart the number of the next one along its face.
+fn write_nexts(nexts: &mut [u32], embedded: &Embedded, halves: &[u32], numbers: &[u32])
+    requires lawful { Lawful embedded.now.rows }
+    requires named { AreNumbersOf embedded.now halves.now numbers.now }
+    requires as_many { length nexts.old ≡ length halves.now }
+    ensures { (k : ℕ) → k < length halves.now → slice_index nexts.new k ≡ next_name (canonical embedded.now.rows) k }
+{
+    for dart in 0..halves.len() {
+        let next = embedded.face_next(Half::numbered(halves[dart]));
+        nexts[dart] = numbers[next.number() as usize];
     }
 }

@@ -13,9 +13,10 @@ use topo_route::walked::Walked;
 
 /// Lawful rows with their embedding, and with the lists that number their darts, all borrowed.
 /// Contracts see the rows. The darts are numbered in canonical order: 2i and 2i + 1 are the two of one
-/// segment. A number is turned into its half in one read, and a half into its number in another;
-/// what is asked is then answered by the embedding. No question takes memory. Where a dart lies on its edge
-/// is found by a look along the path of the edge, which is asked only of darts that a route crosses.
+/// segment. The next dart along a face is one read. A number is turned into its half in one read, and a half
+/// into its number in another; what else is asked is answered by the embedding. No question takes memory.
+/// Where a dart lies on its edge is found by a look along the path of the edge, which is asked only of darts
+/// that a route crosses.
 #[derive(Drop)]
 pub struct Numbered<'a> {
     pub(crate) embedded: &'a Embedded,
@@ -30,7 +31,7 @@ impl<'a> Model for Numbered<'a> {
 
     ghost view = { λ d. record { rows = d.embedded.now.rows; lawful = d.lawful } };
 
-    ghost invariant = { λ d. AreListsOf d.embedded.now d.lists.now.halves.items d.lists.now.numbers.items };
+    ghost invariant = { λ d. AreListsOf d.embedded.now d.lists.now.halves.items d.lists.now.numbers.items d.lists.now.nexts.items };
 }
 
 impl<'a> Numbered<'a> {
@@ -72,8 +73,7 @@ impl Walked for Numbered<'_> {
     }
 
     fn next(&self, dart: u32) -> u32 {
-        self.lists
-            .number(self.embedded.face_next(self.lists.half(dart)))
+        self.lists.next(dart)
     }
 
     fn twin(&self, dart: u32) -> u32 {

@@ -8,6 +8,6 @@ use Rattle.topo_dual.proofs.numbered.NumberedWalked.degree.Goals as goal
 pub overflow_cast-result : goal.overflow_cast-result
 overflow_cast-result c =
     let rows : Rows = c.self.inside.embedded.now.rows in
-    let most = degree_most rows (well_formed_again rows c.self.inside.lawful) c.self.invariant.few_vertices c.args.v in
-    let few = c.self.invariant.few_darts in
+    let most = degree_most rows (well_formed_again rows c.self.inside.lawful) c.self.invariant.named.few_vertices c.args.v in
+    let few = c.self.invariant.named.few_darts in
     grind (arith, darts_total)
