@@ -108,7 +108,7 @@ none_of_map : {X : Type 0} (f g : X → ℕ) (o : Option X) → None ≡ option_
 none_of_map f g (Some x) e = cc
 none_of_map f g None e = refl
 
-some_if : (t : Bool) (m n : ℕ) → t ≡ true → Some m ≡ (if t then Some n else None) → m ≡ n
+pub some_if : (t : Bool) (m n : ℕ) → t ≡ true → Some m ≡ (if t then Some n else None) → m ≡ n
 some_if true m n h e = cc
 some_if false m n h e = cc
 
@@ -138,6 +138,9 @@ module _ {p : Drawn} {rows : Rows} {halves numbers : List ℕ} (n : AreNumbered 
 
   lawful : Lawful p.rows
   lawful = n.lawful
+
+  pub lawful_shown : Lawful rows
+  lawful_shown = subst Lawful same lawful
 
   many : length halves ≡ length (darts p.rows)
   many = ap length l.in_order ∙ length-map (darts p.rows) (half_in p)

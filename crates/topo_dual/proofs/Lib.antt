@@ -1,1 +1,2 @@
+pub mod DartNumbers
 pub mod HalfNumbers

@@ -5,7 +5,8 @@ ghost use Rattle.topo_core.specs.Lawful.{Lawful};
 use crate::lists::NumberLists;
 use std::alloc::AllocError;
 use std::marker::Model;
-use topo_core::darts::{Dart, Point};
+use topo_core::darts::{Dart, Point, Way};
+use topo_core::ids::EdgeId;
 use topo_core::rows::Facts;
 use topo_embedded::Embedded;
 use topo_route::dual::Dual;
@@ -35,8 +36,12 @@ impl<'a> Model for Numbered<'a> {
 }
 
 impl<'a> Numbered<'a> {
-    ghost use Rattle.std.specs.Prelude.{◌≡◌, ◌<◌, ◌^◌, IfOk, length};
+    ghost use Rattle.std.specs.Prelude.{◌≡◌, ◌<◌, ◌^◌, true, IfOk, length};
     ghost use Rattle.topo_core.specs.Lawful.{Lawful};
+    ghost use Rattle.topo_core.specs.Picture.{darts, index_of};
+    ghost use Rattle.topo_core.specs.Systems.{has_dart};
+    ghost use Rattle.topo_core.specs.declared.darts.Dart.{Dart};
+    ghost use Rattle.topo_core.specs.declared.darts.Way.TheVariants.{Forward};
 
     /// These rows with their embedding, and with lists that are written for them. Nothing of the rows is
     /// copied.
@@ -49,10 +54,49 @@ impl<'a> Numbered<'a> {
         let lists: &'a NumberLists = &*lists;
         Ok(Numbered { embedded, lists })
     }
+
+    /// The number of the first dart of an edge.
+    fn first_on(&self, edge: EdgeId) -> u32
+        requires { has_dart (darts self.now.rows) (record { edge = edge; seg = 0; way = Forward }) ≡ true }
+        ensures { result ≡ index_of self.now.rows (record { edge = edge; seg = 0; way = Forward }) }
+    {
+        let first = Dart {
+            edge,
+            seg: 0,
+            way: Way::Forward,
+        };
+        match self.index(first) {
+            Some(first) => first,
+            None => unreachable!(),
+        }
+    }
 }
 
-ghost use Rattle.std.specs.Prelude.{◌≡◌};
+ghost use Rattle.std.specs.Prelude.{◌≡◌, ◌+◌, ◌*◌, ℕ};
 ghost use Rattle.topo_core.specs.Rotations.{twin};
+ghost use Rattle.topo_core.specs.declared.darts.Dart.{Dart};
+ghost use Rattle.topo_core.specs.declared.darts.Way.TheVariants.{Forward, Back};
+
+/// The dart of an edge that comes so many darts behind its first.
+fn dart_behind(edge: EdgeId, along: u32) -> Dart
+    ensures forward { (s : ℕ) → along ≡ 2 * s → result ≡ record { edge = edge; seg = s; way = Forward } }
+    ensures back { (s : ℕ) → along ≡ 2 * s + 1 → result ≡ record { edge = edge; seg = s; way = Back } }
+{
+    let seg = along / 2;
+    if along % 2 == 0 {
+        Dart {
+            edge,
+            seg,
+            way: Way::Forward,
+        }
+    } else {
+        Dart {
+            edge,
+            seg,
+            way: Way::Back,
+        }
+    }
+}
 
 /// The other dart of the segment.
 fn twin_of(dart: u32) -> u32
@@ -100,7 +144,8 @@ impl Walked for Numbered<'_> {
     }
 
     fn dart(&self, dart: u32) -> Dart {
-        self.embedded.dart_of(self.lists.half(dart))
+        let edge = EdgeId::new(self.embedded.edge(self.lists.half(dart)));
+        dart_behind(edge, dart - self.first_on(edge))
     }
 
     fn precedes(&self, dart: u32, other: u32) -> bool {
