@@ -16,8 +16,8 @@ use topo_route::walked::Walked;
 /// Contracts see the rows. The darts are numbered in canonical order: 2i and 2i + 1 are the two of one
 /// segment. The next dart along a face is one read. A number is turned into its half in one read, and a half
 /// into its number in another; what else is asked is answered by the embedding. No question takes memory.
-/// Where a dart lies on its edge is found by a look along the path of the edge, which is asked only of darts
-/// that a route crosses.
+/// Where a dart lies on its edge is told by how far its number is behind that of the first dart of the edge;
+/// `tail` alone looks along the path.
 #[derive(Drop)]
 pub struct Numbered<'a> {
     pub(crate) embedded: &'a Embedded,
