@@ -24,7 +24,6 @@ use topo_route::region::Region;
 /// only what it reaches, and a check copies nothing.
 /// Pictures that took part before are kept as well: brought up to date, one of them is the next picture,
 /// so that a call which others see at once costs its change, and not a copy.
-#[derive(Drop)]
 pub struct Book<F: Asks> {
     tariff: Arc<Tariff<F>>,
     start: Picture,
@@ -34,6 +33,27 @@ pub struct Book<F: Asks> {
     scratch: Scratch,
     // Whether the picture now is the second of the two that take turns.
     is_second: bool,
+}
+
+// Written out, so that it is proved once: a derived one is proved anew in each function that lets such a value go.
+impl<F: Asks + Drop> Drop for Book<F> {
+    fn drop(self) {
+        let Book {
+            tariff,
+            start,
+            history,
+            picture,
+            replicas,
+            scratch,
+            is_second: _,
+        } = self;
+        drop(tariff);
+        drop(start);
+        drop(history);
+        drop(picture);
+        drop(replicas);
+        drop(scratch);
+    }
 }
 
 /// So many entries are looked through at most for what they changed.
@@ -173,7 +193,15 @@ impl<F: Asks> Book<F> {
         ensures entries { result.items ≡ self.history }
         ensures legal { Replays (prices_of (F.answers self.tariff)) self.start.limits self.start.rows self.history self.picture.rows }
     {
-        let Book { history, .. } = self;
+        let Book {
+            tariff: _tariff,
+            start: _start,
+            history,
+            picture: _picture,
+            replicas: _replicas,
+            scratch: _scratch,
+            is_second: _,
+        } = self;
         history
     }
 

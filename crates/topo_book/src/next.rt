@@ -6,10 +6,18 @@ use topo_core::calls::Entry;
 use topo_picture::Picture;
 
 /// The entry of a call, and the picture after it where the call is accepted.
-#[derive(Drop)]
 pub struct Next {
     entry: Entry,
     picture: Option<Arc<Picture>>,
+}
+
+// Written out, so that it is proved once: a derived one is proved anew in each function that lets such a value go.
+impl Drop for Next {
+    fn drop(self) {
+        let Next { entry, picture } = self;
+        drop(entry);
+        drop(picture);
+    }
 }
 
 impl Model for Next {

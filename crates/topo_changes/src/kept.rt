@@ -38,13 +38,28 @@ impl Crossing {
 }
 
 /// The rows of a picture, which contracts see. Its crossings are in a table.
-#[derive(Drop)]
 pub struct KeptRows {
     pub(crate) rotations: Listed<Listed<u32>>,
     pub(crate) edges: Listed<EdgeRow>,
     pub(crate) crossings: Table<Crossing>,
     pub(crate) next_edge: u32,
     pub(crate) next_crossing: u32,
+}
+
+// Written out, so that it is proved once: a derived one is proved anew in each function that lets such a value go.
+impl Drop for KeptRows {
+    fn drop(self) {
+        let KeptRows {
+            rotations,
+            edges,
+            crossings,
+            next_edge: _,
+            next_crossing: _,
+        } = self;
+        drop(rotations);
+        drop(edges);
+        drop(crossings);
+    }
 }
 
 impl Model for KeptRows {

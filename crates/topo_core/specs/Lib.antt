@@ -14,6 +14,7 @@ pub mod Items
 pub mod Lawful
 pub mod Laws
 pub mod Limits
+pub mod Lists
 pub mod Openings
 pub mod Picture
 pub mod Pictures

@@ -14,11 +14,19 @@ use topo_route::walked::Walked;
 
 /// A frozen picture: lawful rows with their embedding, and with the lists that number their darts.
 /// Contracts see the rows. It answers what `Numbered` does, and nothing has to be lent to it.
-#[derive(Drop)]
 pub struct Frozen {
     embedded: Embedded,
     lists: NumberLists,
     ghost lawful: { ∥ Lawful embedded.rows ∥₁ },
+}
+
+// Written out, so that it is proved once: a derived one is proved anew in each function that lets such a value go.
+impl Drop for Frozen {
+    fn drop(self) {
+        let Frozen { embedded, lists } = self;
+        drop(embedded);
+        drop(lists);
+    }
 }
 
 impl Model for Frozen {

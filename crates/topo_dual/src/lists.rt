@@ -12,11 +12,24 @@ use topo_map::Half;
 /// For each dart in canonical order its half, for each half the number of its dart, and for each dart the
 /// number of the next one along its face. The lists are written anew for each picture, and their memory
 /// serves for the next one.
-#[derive(Drop)]
 pub struct NumberLists {
     pub(crate) halves: Vec<u32>,
     pub(crate) numbers: Vec<u32>,
     pub(crate) nexts: Vec<u32>,
+}
+
+// Written out, so that it is proved once: a derived one is proved anew in each function that lets such a value go.
+impl Drop for NumberLists {
+    fn drop(self) {
+        let NumberLists {
+            halves,
+            numbers,
+            nexts,
+        } = self;
+        drop(halves);
+        drop(numbers);
+        drop(nexts);
+    }
 }
 
 impl NumberLists {

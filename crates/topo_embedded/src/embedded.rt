@@ -37,12 +37,27 @@ use topo_rows::{Hints, Turns};
 
 /// Well-formed rows with their embedding. Contracts see the rows, and for each edge, by its place among
 /// the edges, the half that leads along it on each of its segments.
-#[derive(Drop)]
 pub struct Embedded {
     rows: KeptRows,
     paths: Listed<Path>,
     segments: Embedding,
     hints: Hints,
+}
+
+// Written out, so that it is proved once: a derived one is proved anew in each function that lets such a value go.
+impl Drop for Embedded {
+    fn drop(self) {
+        let Embedded {
+            rows,
+            paths,
+            segments,
+            hints,
+        } = self;
+        drop(rows);
+        drop(paths);
+        drop(segments);
+        drop(hints);
+    }
 }
 
 impl Model for Embedded {

@@ -19,9 +19,16 @@ enum Line {
 /// The halves along an edge, one on each of its segments. The first is kept beside the others, so that the
 /// path of an edge without crossings takes no memory of its own, and the half at its end is read at once.
 /// Contracts see the list of all.
-#[derive(Drop)]
 pub(crate) struct Path {
     line: Line,
+}
+
+// Written out, so that it is proved once: a derived one is proved anew in each function that lets such a value go.
+impl Drop for Path {
+    fn drop(self) {
+        let Path { line } = self;
+        drop(line);
+    }
 }
 
 const _: () = prove!(size_of::<Path>() == 16);

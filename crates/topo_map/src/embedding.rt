@@ -18,12 +18,22 @@ use std::marker::Model;
 
 /// A graph on closed surfaces: segments between points, and round each point its halves in clockwise
 /// order.
-#[derive(Drop)]
 pub struct Embedding {
     segments: Slab<Segment>,
     // The label that the next new face gets. None where there were more faces than
     // labels: then labels mean nothing.
     unused: Option<u32>,
+}
+
+// Written out, so that it is proved once: a derived one is proved anew in each function that lets such a value go.
+impl Drop for Embedding {
+    fn drop(self) {
+        let Embedding {
+            segments,
+            unused: _,
+        } = self;
+        drop(segments);
+    }
 }
 
 impl Model for Embedding {

@@ -24,10 +24,20 @@ use topo_rows::{Hints, Turns};
 
 /// A connected embedding of a graph of genus zero, within limits. It keeps its rows with the halves along
 /// their edges, in a slab of segments.
-#[derive(Drop)]
 pub struct Picture {
     limits: Limits,
     embedded: Embedded,
+}
+
+// Written out, so that it is proved once: a derived one is proved anew in each function that lets such a value go.
+impl Drop for Picture {
+    fn drop(self) {
+        let Picture {
+            limits: _,
+            embedded,
+        } = self;
+        drop(embedded);
+    }
 }
 
 impl Model for Picture {

@@ -9,10 +9,18 @@ use topo_core::rows::Facts;
 
 /// Edges and vertices of a picture, marked by their ids. A picture that comes later keeps the region if its
 /// edges, with the crossings on them, and the edges round its vertices are as they were.
-#[derive(Drop)]
 pub struct Region {
     edges: Vec<bool>,
     vertices: Vec<bool>,
+}
+
+// Written out, so that it is proved once: a derived one is proved anew in each function that lets such a value go.
+impl Drop for Region {
+    fn drop(self) {
+        let Region { edges, vertices } = self;
+        drop(edges);
+        drop(vertices);
+    }
 }
 
 impl Model for Region {

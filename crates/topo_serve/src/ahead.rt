@@ -15,10 +15,17 @@ use topo_settings::RunFault;
 const CHUNK: usize = 8192;
 
 /// Bytes that were read and are not yet part of a line.
-#[derive(Drop)]
 pub struct Ahead {
     bytes: Vec<u8>,
     at: usize,
+}
+
+// Written out, so that it is proved once: a derived one is proved anew in each function that lets such a value go.
+impl Drop for Ahead {
+    fn drop(self) {
+        let Ahead { bytes, at: _ } = self;
+        drop(bytes);
+    }
 }
 
 /// Where a part of a line ends.

@@ -26,7 +26,6 @@ use topo_versions::{LogPrefix, ServiceBrand, Version, VersionReader};
 /// version. It holds that version, and remembers what the search has seen of it. So the service takes the
 /// route with no search if that version is still the newest, and also if the calls since then have changed
 /// nothing that the search has seen.
-#[derive(Drop)]
 pub struct FoundRoute<F: Asks, K: ServiceBrand<F>> {
     u: u32,
     v: u32,
@@ -34,6 +33,22 @@ pub struct FoundRoute<F: Asks, K: ServiceBrand<F>> {
     // What the search has seen, where that is known.
     region: Option<Region>,
     version: Version<F, K>,
+}
+
+// Written out, so that it is proved once: a derived one is proved anew in each function that lets such a value go.
+impl<F: Asks, K: ServiceBrand<F>> Drop for FoundRoute<F, K> {
+    fn drop(self) {
+        let FoundRoute {
+            u: _,
+            v: _,
+            first,
+            region,
+            version,
+        } = self;
+        drop(first);
+        drop(region);
+        drop(version);
+    }
 }
 
 impl<F: Asks, K: ServiceBrand<F>> Model for FoundRoute<F, K> {

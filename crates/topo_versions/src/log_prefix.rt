@@ -106,11 +106,22 @@ pub struct LogLength<K: LogBrand> {
 
 /// A prefix of the log that was seen: accepted entries that lead by steps from the start, at the prices that
 /// K names. Contracts see it as its entries.
-#[derive(Drop)]
 pub struct LogPrefix<F: Asks, K: ServiceBrand<F>> {
     len: u64,
     seen: Seen<Entry, u64, AppendOnly>,
     of: PhantomData<(F, K)>,
+}
+
+// Written out, so that it is proved once: a derived one is proved anew in each function that lets such a value go.
+impl<F: Asks, K: ServiceBrand<F>> Drop for LogPrefix<F, K> {
+    fn drop(self) {
+        let LogPrefix {
+            len: _,
+            seen,
+            of: _,
+        } = self;
+        drop(seen);
+    }
 }
 
 impl<F: Asks, K: ServiceBrand<F>> Model for LogPrefix<F, K> {

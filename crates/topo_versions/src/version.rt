@@ -15,11 +15,23 @@ use topo_price::tariff::Asks;
 
 /// A picture that no longer changes, and the beginning of the list of accepted entries that leads to it.
 /// Contracts see the picture and the entries.
-#[derive(Drop)]
 pub struct Version<F: Asks, K: ServiceBrand<F>> {
     picture: Arc<Picture>,
     prefix: LogPrefix<F, K>,
     of: PhantomData<F>,
+}
+
+// Written out, so that it is proved once: a derived one is proved anew in each function that lets such a value go.
+impl<F: Asks, K: ServiceBrand<F>> Drop for Version<F, K> {
+    fn drop(self) {
+        let Version {
+            picture,
+            prefix,
+            of: _,
+        } = self;
+        drop(picture);
+        drop(prefix);
+    }
 }
 
 impl<F: Asks, K: ServiceBrand<F>> Model for Version<F, K> {
