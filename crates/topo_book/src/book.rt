@@ -202,7 +202,7 @@ impl<F: Asks> Book<F> {
             scratch: _scratch,
             is_second: _,
         } = self;
-        history
+        history // the oldest entry first
     }
 
     /// Inserts an edge of this kind from `u` to `v` along the first of the cheapest routes, or answers
