@@ -190,7 +190,7 @@ pub(crate) fn advance<F: Asks>(
             }
         }
         (Call::Delete { edge }, Reply::Deleted(_)) => {
-            picture.take_out(alloc, edge);
+            picture.take_out(edge);
             Ok(())
         }
         _ => Ok(()),

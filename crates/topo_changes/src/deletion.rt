@@ -12,8 +12,6 @@ ghost use Rattle.topo_table.specs.Places.{AreBelow, entries};
 ghost use Rattle.topo_changes.specs.Deleting.{IsCrossed, IsRotation, rotation_without, left_by, other_edge};
 
 use crate::kept::{Crossing, KeptRows};
-use std::alloc::Global;
-use std::mem;
 use topo_core::listed::Listed;
 use topo_core::rows::EdgeRow;
 use topo_rows::Hints;
@@ -21,12 +19,10 @@ use topo_rows::by_id::place_of_edge;
 use topo_table::Table;
 
 /// Takes an id out of a list.
-fn take_id(alloc: Global, list: &mut Listed<u32>, id: u32)
+fn take_id(list: &mut Listed<u32>, id: u32)
     ensures { list.new ≡ filter (λ y. not (y == id)) list.old }
 {
-    let mut items = mem::replace(list, Listed::new(alloc)).into_vec();
-    items.retain(|y| *y != id);
-    *list = Listed::from_vec(items);
+    list.as_vec_mut().retain(|y| *y != id);
 }
 
 /// The first place of the least number.
@@ -80,24 +76,23 @@ fn take_once(ids: &mut Vec<u32>, id: u32) -> usize
 
 /// Takes an edge out of a rotation. Where that was its least id, the rotation is listed from its least id
 /// again; else it begins as it did.
-fn leave_rotation(alloc: Global, around: &mut Listed<u32>, e: u32)
+fn leave_rotation(around: &mut Listed<u32>, e: u32)
     requires { IsRotation e around.old }
     ensures { around.new ≡ rotation_without e around.old }
 {
-    let mut items = mem::replace(around, Listed::new(alloc)).into_vec();
-    if take_once(&mut items, e) == 0 {
-        begin_at_least(&mut items);
+    let items = around.as_vec_mut();
+    if take_once(items, e) == 0 {
+        begin_at_least(items);
     }
-    *around = Listed::from_vec(items);
 }
 
 /// Takes an edge out of the rotation of a vertex.
-fn leave_vertex(alloc: Global, rotations: &mut Vec<Listed<u32>>, v: u32, e: u32)
+fn leave_vertex(rotations: &mut Vec<Listed<u32>>, v: u32, e: u32)
     requires vertex { v < length rotations.old.items }
     requires rotation { IsRotation e (slice_index_or rotations.old.items v []) }
     ensures { rotations.new.items ≡ left_by e v rotations.old.items }
 {
-    leave_rotation(alloc, &mut rotations[v as usize], e);
+    leave_rotation(&mut rotations[v as usize], e);
 }
 
 /// The other edge of a crossing of `e`.
@@ -112,25 +107,17 @@ fn edge_across(crossings: &Table<Crossing>, e: u32, x: u32) -> u32
 }
 
 /// Takes a crossing of `e` out of the path of the other edge.
-fn leave_path(
-    alloc: Global,
-    edges: &mut Vec<EdgeRow>,
-    crossings: &Table<Crossing>,
-    hints: &Hints,
-    e: u32,
-    x: u32,
-)
+fn leave_path(edges: &mut Vec<EdgeRow>, crossings: &Table<Crossing>, hints: &Hints, e: u32, x: u32)
     requires edges_rise { IdsRise (map (λ row. row.id) edges.old.items) }
     requires crossed { IsCrossed (rows_of crossings.now) e edges.old.items x }
     ensures { edges.new.items ≡ map (uncrossed_row (x ∷ [])) edges.old.items }
 {
     let place = place_of_edge(edges.as_slice(), hints, edge_across(crossings, e, x));
-    take_id(alloc, &mut edges[place].crossings, x);
+    take_id(&mut edges[place].crossings, x);
 }
 
 /// Takes the crossings of `e` out of the paths of the other edges.
 fn leave_paths(
-    alloc: Global,
     edges: &mut Vec<EdgeRow>,
     crossings: &Table<Crossing>,
     hints: &Hints,
@@ -142,35 +129,27 @@ fn leave_paths(
     ensures { edges.new.items ≡ map (uncrossed_row path.now) edges.old.items }
 {
     for x in path {
-        leave_path(alloc, edges, crossings, hints, e, *x);
+        leave_path(edges, crossings, hints, e, *x);
     }
 }
 
 /// Takes out the row of an edge, and its crossings out of the paths of the others.
-fn delete_edge(alloc: Global, rows: &mut KeptRows, hints: &mut Hints, e: u32) -> EdgeRow
+fn delete_edge(rows: &mut KeptRows, hints: &mut Hints, e: u32) -> EdgeRow
     requires well_formed { IsWellFormed rows.old }
     requires there { is_some (edge_row rows.old e) ≡ true }
     ensures row { edge_row rows.old e ≡ Some result }
     ensures rows { rows.new ≡ record rows.old { edges = map (uncrossed_row result.crossings) (filter (λ row. not (row.id == e)) rows.old.edges) } }
 {
-    let mut edges = mem::replace(&mut rows.edges, Listed::new(alloc)).into_vec();
+    let edges = rows.edges.as_vec_mut();
     let place = place_of_edge(edges.as_slice(), hints, e);
     let row = edges.remove(place);
     hints.leave(e);
-    leave_paths(
-        alloc,
-        &mut edges,
-        &rows.crossings,
-        hints,
-        e,
-        row.crossings.as_slice(),
-    );
-    rows.edges = Listed::from_vec(edges);
+    leave_paths(edges, &rows.crossings, hints, e, row.crossings.as_slice());
     row
 }
 
 /// Takes an edge out of the rotations of its two ends.
-fn leave_ends(alloc: Global, rows: &mut KeptRows, row: &EdgeRow)
+fn leave_ends(rows: &mut KeptRows, row: &EdgeRow)
     requires a { row.now.a < length rows.old.rotations }
     requires b { row.now.b < length rows.old.rotations }
     requires apart { row.now.a ≢ row.now.b }
@@ -178,10 +157,9 @@ fn leave_ends(alloc: Global, rows: &mut KeptRows, row: &EdgeRow)
     requires rotation_b { IsRotation row.now.id (rotation rows.old row.now.b) }
     ensures { rows.new ≡ record rows.old { rotations = left_by row.now.id row.now.b (left_by row.now.id row.now.a rows.old.rotations) } }
 {
-    let mut rotations = mem::replace(&mut rows.rotations, Listed::new(alloc)).into_vec();
-    leave_vertex(alloc, &mut rotations, row.a, row.id);
-    leave_vertex(alloc, &mut rotations, row.b, row.id);
-    rows.rotations = Listed::from_vec(rotations);
+    let rotations = rows.rotations.as_vec_mut();
+    leave_vertex(rotations, row.a, row.id);
+    leave_vertex(rotations, row.b, row.id);
 }
 
 /// Takes out the crossings on a path.
@@ -195,12 +173,12 @@ fn delete_crossings(crossings: &mut Table<Crossing>, path: &[u32])
 }
 
 /// Takes out an edge and its crossings. The counters stay.
-pub fn delete_rows(alloc: Global, rows: &mut KeptRows, hints: &mut Hints, e: u32)
+pub fn delete_rows(rows: &mut KeptRows, hints: &mut Hints, e: u32)
     requires well_formed { IsWellFormed rows.old }
     requires there { is_some (edge_row rows.old e) ≡ true }
     ensures { rows.new ≡ without rows.old e }
 {
-    let row = delete_edge(alloc, rows, hints, e);
-    leave_ends(alloc, rows, &row);
+    let row = delete_edge(rows, hints, e);
+    leave_ends(rows, &row);
     delete_crossings(&mut rows.crossings, row.crossings.as_slice());
 }

@@ -6,7 +6,6 @@ ghost use Rattle.topo_core.specs.Changes.{put_in, with_end, grown};
 
 use crate::kept::KeptRows;
 use std::alloc::{AllocError, Global};
-use std::mem;
 use topo_core::listed::Listed;
 use topo_core::rows::EdgeRow;
 
@@ -20,24 +19,17 @@ pub fn one_listed(alloc: Global, x: u32) -> Result<Listed<u32>, AllocError>
 }
 
 /// Puts `e` into the corner at a position of the list.
-pub(crate) fn put_into(
-    alloc: Global,
-    around: &mut Listed<u32>,
-    position: u32,
-    e: u32,
-) -> Result<(), AllocError>
+pub(crate) fn put_into(around: &mut Listed<u32>, position: u32, e: u32) -> Result<(), AllocError>
     requires { position ≤ length around.old }
     ensures ok { OnOk result (around.new ≡ put_in position e around.old) }
     ensures err { OnErr result (around.new ≡ around.old) }
 {
-    let mut items = mem::replace(around, Listed::new(alloc)).into_vec();
-    let done = if position == 0 {
-        items.push(e)
+    let items = around.as_vec_mut();
+    if position == 0 {
+        items.push(e)?;
     } else {
-        items.insert(position as usize, e)
-    };
-    *around = Listed::from_vec(items);
-    done?;
+        items.insert(position as usize, e)?;
+    }
     Ok(())
 }
 
@@ -55,7 +47,7 @@ fn grow_rotations(
     ensures err { OnErr result (rotations.new.items ≡ rotations.old.items) }
 {
     rotations.push(one_listed(alloc, e)?)?;
-    if put_into(alloc, &mut rotations[v as usize], position, e).is_err() {
+    if put_into(&mut rotations[v as usize], position, e).is_err() {
         let _ = rotations.pop();
         return Err(AllocError);
     }
@@ -77,19 +69,16 @@ pub fn grow_rows(
     ensures ok { OnOk result (rows.new ≡ grown rows.old u position kind) }
     ensures err { OnErr result (rows.new ≡ rows.old) }
 {
-    let mut rotations = mem::replace(&mut rows.rotations, Listed::new(alloc)).into_vec();
-    let mut edges = mem::replace(&mut rows.edges, Listed::new(alloc)).into_vec();
     let row = EdgeRow {
         id: rows.next_edge,
         a: u,
-        b: rotations.len() as u32,
+        b: rows.rotations.len() as u32,
         kind,
         crossings: Listed::new(alloc),
     };
-    let done = grow_lists(alloc, &mut rotations, &mut edges, row, position);
-    rows.rotations = Listed::from_vec(rotations);
-    rows.edges = Listed::from_vec(edges);
-    done?;
+    let rotations = rows.rotations.as_vec_mut();
+    let edges = rows.edges.as_vec_mut();
+    grow_lists(alloc, rotations, edges, row, position)?;
     rows.next_edge += 1;
     Ok(())
 }

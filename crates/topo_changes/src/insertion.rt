@@ -13,7 +13,6 @@ ghost use Rattle.topo_changes.specs.Inserting.{AreOnPaths, EdgesRise, crossed_by
 use crate::growth::put_into;
 use crate::kept::{Crossing, KeptRows};
 use std::alloc::{AllocError, Global};
-use std::mem;
 use topo_core::darts::{Dart, Sign, Way};
 use topo_core::listed::Listed;
 use topo_core::routes::Route;
@@ -40,36 +39,24 @@ fn segment_end(path: &[u32], segment: u32, first: u32) -> usize
 
 /// Puts crossing `x` on a path at the end of a segment, when only the crossings with ids before
 /// `first` count.
-fn cross_path(
-    alloc: Global,
-    path: &mut Listed<u32>,
-    segment: u32,
-    first: u32,
-    x: u32,
-) -> Result<(), AllocError>
+fn cross_path(path: &mut Listed<u32>, segment: u32, first: u32, x: u32) -> Result<(), AllocError>
     ensures ok { OnOk result (path.new ≡ crossed_path first segment x path.old) }
     ensures err { OnErr result (path.new ≡ path.old) }
 {
     let at = segment_end(path.as_slice(), segment, first);
-    let mut items = mem::replace(path, Listed::new(alloc)).into_vec();
-    let done = items.insert(at, x);
-    *path = Listed::from_vec(items);
-    done?;
+    path.as_vec_mut().insert(at, x)?;
     Ok(())
 }
 
 /// Takes the ids from `first` on out of a list.
-fn keep_below(alloc: Global, list: &mut Listed<u32>, first: u32)
+fn keep_below(list: &mut Listed<u32>, first: u32)
     ensures { list.new ≡ filter (λ x. nat_lt x first) list.old }
 {
-    let mut items = mem::replace(list, Listed::new(alloc)).into_vec();
-    items.retain(|x| *x < first);
-    *list = Listed::from_vec(items);
+    list.as_vec_mut().retain(|x| *x < first);
 }
 
 /// Puts crossing `x` on the path of edge `e`.
 fn cross_edge(
-    alloc: Global,
     edges: &mut [EdgeRow],
     hints: &Hints,
     e: u32,
@@ -82,31 +69,25 @@ fn cross_edge(
     ensures err { OnErr result (edges.new ≡ edges.old) }
 {
     match edge_place(edges, hints, e) {
-        Some(i) => cross_path(alloc, &mut edges[i].crossings, segment, first, x),
+        Some(i) => cross_path(&mut edges[i].crossings, segment, first, x),
         None => Ok(()),
     }
 }
 
 /// Takes the crossings from `first` on out of the path of edge `e`.
-fn uncross_edge(alloc: Global, edges: &mut [EdgeRow], hints: &Hints, e: u32, first: u32)
+fn uncross_edge(edges: &mut [EdgeRow], hints: &Hints, e: u32, first: u32)
     requires { EdgesRise edges.old }
     ensures { edges.new ≡ map (repathed e (filter (λ x. nat_lt x first))) edges.old }
 {
     match edge_place(edges, hints, e) {
-        Some(i) => keep_below(alloc, &mut edges[i].crossings, first),
+        Some(i) => keep_below(&mut edges[i].crossings, first),
         None => {}
     }
 }
 
 /// Puts crossings on the segments of the darts, with ids from `first` on, as far as there is memory,
 /// and answers how many.
-fn cross_some(
-    alloc: Global,
-    edges: &mut [EdgeRow],
-    hints: &Hints,
-    darts: &[Dart],
-    first: u32,
-) -> usize
+fn cross_some(edges: &mut [EdgeRow], hints: &Hints, darts: &[Dart], first: u32) -> usize
     requires rise { EdgesRise edges.old }
     requires below { paths_below first edges.old ≡ true }
     requires there { AreOnPaths edges.old darts.now }
@@ -116,7 +97,7 @@ fn cross_some(
 {
     for (i, dart) in darts.iter().enumerate() {
         let x = first + i as u32;
-        if cross_edge(alloc, edges, hints, dart.edge.number(), dart.seg, first, x).is_err() {
+        if cross_edge(edges, hints, dart.edge.number(), dart.seg, first, x).is_err() {
             return i;
         }
     }
@@ -124,7 +105,7 @@ fn cross_some(
 }
 
 /// Takes the crossings of the darts out again, the last one first.
-fn uncross(alloc: Global, edges: &mut [EdgeRow], hints: &Hints, darts: &[Dart], first: u32)
+fn uncross(edges: &mut [EdgeRow], hints: &Hints, darts: &[Dart], first: u32)
     requires rise { EdgesRise edges.old }
     requires ids { first + length darts.now < 2 ^ 32 }
     ensures { (was : List EdgeRow) → paths_below first was ≡ true → edges.old ≡ map (crossed_by first darts.now) was → edges.new ≡ was }
@@ -132,24 +113,12 @@ fn uncross(alloc: Global, edges: &mut [EdgeRow], hints: &Hints, darts: &[Dart], 
     let mut n = darts.len();
     while n > 0 {
         n -= 1;
-        uncross_edge(
-            alloc,
-            edges,
-            hints,
-            darts[n].edge.number(),
-            first + n as u32,
-        );
+        uncross_edge(edges, hints, darts[n].edge.number(), first + n as u32);
     }
 }
 
 /// Puts crossings on the segments of the darts, with ids from `first` on, or none where memory is short.
-fn cross(
-    alloc: Global,
-    edges: &mut [EdgeRow],
-    hints: &Hints,
-    darts: &[Dart],
-    first: u32,
-) -> Result<(), AllocError>
+fn cross(edges: &mut [EdgeRow], hints: &Hints, darts: &[Dart], first: u32) -> Result<(), AllocError>
     requires rise { EdgesRise edges.old }
     requires below { paths_below first edges.old ≡ true }
     requires there { AreOnPaths edges.old darts.now }
@@ -157,21 +126,16 @@ fn cross(
     ensures ok { OnOk result (edges.new ≡ map (crossed_by first darts.now) edges.old) }
     ensures err { OnErr result (edges.new ≡ edges.old) }
 {
-    let done = cross_some(alloc, edges, hints, darts, first);
+    let done = cross_some(edges, hints, darts, first);
     if done < darts.len() {
-        uncross(alloc, edges, hints, &darts[..done], first);
+        uncross(edges, hints, &darts[..done], first);
         return Err(AllocError);
     }
     Ok(())
 }
 
 /// Puts the edge of a row into the corners where a route starts and ends, or into none.
-fn join_ends(
-    alloc: Global,
-    rotations: &mut [Listed<u32>],
-    row: &EdgeRow,
-    route: &Route,
-) -> Result<(), AllocError>
+fn join_ends(rotations: &mut [Listed<u32>], row: &EdgeRow, route: &Route) -> Result<(), AllocError>
     requires a { row.now.a < length rotations.old }
     requires b { row.now.b < length rotations.old }
     requires apart { row.now.a ≢ row.now.b }
@@ -181,9 +145,9 @@ fn join_ends(
     ensures ok { OnOk result (rotations.new ≡ with_end (with_end rotations.old row.now.a route.now.start row.now.id) row.now.b route.now.end row.now.id) }
     ensures err { OnErr result (rotations.new ≡ rotations.old) }
 {
-    put_into(alloc, &mut rotations[row.a as usize], route.start, row.id)?;
-    if put_into(alloc, &mut rotations[row.b as usize], route.end, row.id).is_err() {
-        keep_below(alloc, &mut rotations[row.a as usize], row.id);
+    put_into(&mut rotations[row.a as usize], route.start, row.id)?;
+    if put_into(&mut rotations[row.b as usize], route.end, row.id).is_err() {
+        keep_below(&mut rotations[row.a as usize], row.id);
         return Err(AllocError);
     }
     Ok(())
@@ -233,7 +197,6 @@ fn add_crossings(crossings: &mut Table<Crossing>, darts: &[Dart], first: u32, ed
 
 /// Puts the edge of a row and its crossings into the three lists, or leaves them as they were.
 fn insert_lists(
-    alloc: Global,
     rotations: &mut [Listed<u32>],
     edges: &mut Vec<EdgeRow>,
     crossings: &mut Table<Crossing>,
@@ -264,9 +227,9 @@ fn insert_lists(
     let darts = route.crossed.as_slice();
     edges.reserve(1)?;
     crossings.reserve(darts.len())?;
-    cross(alloc, edges, hints, darts, first)?;
-    if join_ends(alloc, rotations, &row, route).is_err() {
-        uncross(alloc, edges, hints, darts, first);
+    cross(edges, hints, darts, first)?;
+    if join_ends(rotations, &row, route).is_err() {
+        uncross(edges, hints, darts, first);
         return Err(AllocError);
     }
     add_crossings(crossings, darts, first, row.id);
@@ -300,21 +263,15 @@ pub fn apply_rows(
         kind,
         crossings: path_across(alloc, route.crossed.as_slice(), first)?,
     };
-    let mut rotations = mem::replace(&mut rows.rotations, Listed::new(alloc)).into_vec();
-    let mut edges = mem::replace(&mut rows.edges, Listed::new(alloc)).into_vec();
-    let done = insert_lists(
-        alloc,
-        &mut rotations,
-        &mut edges,
+    insert_lists(
+        rows.rotations.as_vec_mut(),
+        rows.edges.as_vec_mut(),
         &mut rows.crossings,
         hints,
         row,
         route,
         first,
-    );
-    rows.rotations = Listed::from_vec(rotations);
-    rows.edges = Listed::from_vec(edges);
-    done?;
+    )?;
     rows.next_edge += 1;
     rows.next_crossing += route.crossed.as_slice().len() as u32;
     Ok(())

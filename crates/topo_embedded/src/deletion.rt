@@ -12,7 +12,6 @@ ghost use Rattle.topo_embedded.specs.Halves.{ShowsRows, path_of};
 ghost use Rattle.topo_embedded.specs.Opening.{IsOpenTo, IsOpened, IsSetOut, IsSmoothedTo, leads_in, mids_of, without_half};
 
 use crate::path::Path;
-use std::alloc::Global;
 use std::mem;
 use topo_changes::KeptRows;
 use topo_changes::deletion::delete_rows;
@@ -147,7 +146,6 @@ fn delete_lists(
 
 /// As `delete_rows`, and keeps the halves and the hints in step with the rows.
 pub(crate) fn delete_drawn(
-    alloc: Global,
     rows: &mut KeptRows,
     paths: &mut Listed<Path>,
     segments: &mut Embedding,
@@ -160,9 +158,7 @@ pub(crate) fn delete_drawn(
     ensures rows { rows.new ≡ without rows.old edge }
     ensures shows { ShowsRows (record { rows = rows.new; paths = paths.new }) segments.new }
 {
-    let mut lists = mem::replace(paths, Listed::new(alloc)).into_vec();
-    delete_lists(rows, &mut lists, segments, hints, edge);
-    *paths = Listed::from_vec(lists);
-    delete_rows(alloc, rows, hints, edge);
+    delete_lists(rows, paths.as_vec_mut(), segments, hints, edge);
+    delete_rows(rows, hints, edge);
     hints.settle(rows.edges());
 }

@@ -362,13 +362,12 @@ impl Embedded {
     ghost use Rattle.topo_core.specs.Lawful.{Lawful};
 
     /// Takes an edge out, with its crossings. It takes no memory.
-    pub fn delete(&mut self, alloc: Global, edge: u32)
+    pub fn delete(&mut self, edge: u32)
         requires lawful { Lawful self.old.rows }
         requires there { is_some (edge_row self.old.rows edge) ≡ true }
         ensures { self.new.rows ≡ without self.old.rows edge }
     {
         delete_drawn(
-            alloc,
             &mut self.rows,
             &mut self.paths,
             &mut self.segments,

@@ -9,7 +9,6 @@ ghost use Rattle.topo_embedded.specs.Halves.{ShowsRows, half_in};
 
 use crate::path::Path;
 use std::alloc::{AllocError, Global};
-use std::mem;
 use topo_changes::KeptRows;
 use topo_changes::growth::grow_rows;
 use topo_core::listed::Listed;
@@ -77,10 +76,8 @@ pub(crate) fn grow_drawn(
     ensures shows { ShowsRows (record { rows = rows.new; paths = paths.new }) segments.new }
 {
     hints.reserve()?;
-    let mut lists = mem::replace(paths, Listed::new(alloc)).into_vec();
-    let done = grow_lists(alloc, rows, &mut lists, segments, named, u, position, kind);
-    *paths = Listed::from_vec(lists);
-    done?;
+    let lists = paths.as_vec_mut();
+    grow_lists(alloc, rows, lists, segments, named, u, position, kind)?;
     hints.join(rows.edges());
     Ok(())
 }

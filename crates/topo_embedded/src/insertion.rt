@@ -15,7 +15,6 @@ ghost use Rattle.topo_embedded.specs.Padding.{ArePadded, ArePlaced};
 use crate::padding::{Crossed, pad, put_beside, unpad};
 use crate::path::Path;
 use std::alloc::{AllocError, Global};
-use std::mem;
 use topo_changes::KeptRows;
 use topo_changes::insertion::apply_rows;
 use topo_core::listed::Listed;
@@ -196,12 +195,10 @@ pub(crate) fn insert_drawn(
     ensures shows { ShowsRows (record { rows = rows.new; paths = paths.new }) segments.new }
 {
     hints.reserve()?;
-    let mut lists = mem::replace(paths, Listed::new(alloc)).into_vec();
-    let done = insert_lists(
-        alloc, rows, &mut lists, segments, hints, crossed, corners, ends, kind, route,
-    );
-    *paths = Listed::from_vec(lists);
-    done?;
+    let lists = paths.as_vec_mut();
+    insert_lists(
+        alloc, rows, lists, segments, hints, crossed, corners, ends, kind, route,
+    )?;
     hints.join(rows.edges());
     Ok(())
 }

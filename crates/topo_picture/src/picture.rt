@@ -323,7 +323,7 @@ impl Picture {
     /// that the picture falls apart when it and those before it are out. It takes no memory. The edge
     /// that was shown last can always go, and then the picture is as before but for the ids that were
     /// given.
-    pub fn delete(&mut self, alloc: Global, edge: u32) -> Result<(), Refusal>
+    pub fn delete(&mut self, edge: u32) -> Result<(), Refusal>
         ensures there { IfOk result (λ _. is_some (edge_row self.old.rows edge) ≡ true) }
         ensures whole { IfOk result (λ _. (i : ℕ) → IsCut self.old.rows edge i → ⊥) }
         ensures without { IfOk result (λ _. self.new.rows ≡ without self.old.rows edge) }
@@ -338,20 +338,20 @@ impl Picture {
         ensures lawful { IsPicture self.new.limits self.new.rows }
     {
         self.admit_deletion(edge)?;
-        self.take_out(alloc, edge);
+        self.take_out(edge);
         Ok(())
     }
 
     /// Takes out an edge without which the picture stays connected, with its crossings. It takes no
     /// memory.
-    pub fn take_out(&mut self, alloc: Global, edge: u32)
+    pub fn take_out(&mut self, edge: u32)
         requires there { is_some (edge_row self.old.rows edge) ≡ true }
         requires whole { (i : ℕ) → IsCut self.old.rows edge i → ⊥ }
         ensures without { self.new.rows ≡ without self.old.rows edge }
         ensures same_limits { self.new.limits ≡ self.old.limits }
         ensures lawful { IsPicture self.new.limits self.new.rows }
     {
-        self.embedded.delete(alloc, edge);
+        self.embedded.delete(edge);
     }
 }
 

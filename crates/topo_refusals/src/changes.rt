@@ -58,10 +58,10 @@ fn deleted<R: Print + Eprint + AllocGlobal>(
     edge: u32,
 ) -> Result<Result<(), Refusal>> {
     let before = picture_state(rt, picture)?;
-    match picture.delete(rt.alloc(), edge) {
+    match picture.delete(edge) {
         Err(Refusal::Memory) => {
             compare_picture(rt, "Picture::delete", before.as_str(), picture)?;
-            Ok(picture.delete(rt.alloc(), edge))
+            Ok(picture.delete(edge))
         }
         answer => Ok(answer),
     }

@@ -79,7 +79,7 @@ fn is_deleted(
     edge: u32,
     wanted: &Rows,
 ) -> Result<bool, AllocError> {
-    let deleted = picture.delete(alloc, edge).is_ok();
+    let deleted = picture.delete(edge).is_ok();
     Ok(shows(alloc, picture, wanted)? && deleted)
 }
 

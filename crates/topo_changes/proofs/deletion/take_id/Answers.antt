@@ -4,5 +4,5 @@ use Rattle.topo_changes.proofs.deletion.take_id.Goals as goal
 
 pub returns : goal.returns
 returns c =
-    c.from_vec.ensures ∙ filter_same _ (λ y. not (y == c.args.id)) _ (λ x b f' k. search rules) _ _ c.retain.ensures.filtered
-    ∙ ap (filter (λ y. not (y == c.args.id))) (c.into_vec-items.ensures ∙ c.replace.ensures.value)
+    filter_same _ (λ y. not (y == c.args.id)) _ (λ x b f' k. search rules) _ _ c.retain.ensures.filtered
+    ∙ ap (filter (λ y. not (y == c.args.id))) c.as_vec_mut.ensures.items

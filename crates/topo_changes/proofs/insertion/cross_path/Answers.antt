@@ -2,5 +2,5 @@ use Rattle.std.proofs.Common.{arith}
 use Rattle.topo_changes.proofs.CrossedPaths.{ends_within}
 use Rattle.topo_changes.proofs.insertion.cross_path.Goals as goal
 
-pub insert-done-requires : goal.insert-done-requires
-insert-done-requires c = grind (arith, ends_within)
+pub insert-requires : goal.insert-requires
+insert-requires c = grind (arith, ends_within)

@@ -5,6 +5,5 @@ use Rattle.topo_changes.proofs.insertion.keep_below.Goals as goal
 
 pub returns : goal.returns
 returns c =
-    c.from_vec.ensures
-    ∙ filter_same _ (λ x. nat_lt x c.args.first) _ (λ x b f' k. search rules) c.into_vec-items.result.items c.retain.new.self.items c.retain.ensures.filtered
-    ∙ ap (filter (λ x. nat_lt x c.args.first)) (c.into_vec-items.ensures ∙ c.replace.ensures.value)
+    filter_same _ (λ x. nat_lt x c.args.first) _ (λ x b f' k. search rules) c.as_vec_mut.result.now.items c.retain.new.self.items c.retain.ensures.filtered
+    ∙ ap (filter (λ x. nat_lt x c.args.first)) c.as_vec_mut.ensures.items
