@@ -1,9 +1,10 @@
 //! The embedding and its edits.
 
-ghost use Rattle.std.specs.Prelude.{◌≡◌, ◌≢◌, ◌↔◌, ◌*◌, ℕ, [], ◌∷◌, length, ◌<◌, ◌≤◌, ◌^◌, true, IsTrue, IsOk, IfOk, OnOk};
+ghost use Rattle.std.specs.Prelude.{◌≡◌, ◌≢◌, ◌↔◌, ◌+◌, ◌*◌, ℕ, [], ◌∷◌, length, ◌<◌, ◌≤◌, ◌^◌, true, IsTrue, IsOk, IfOk, OnOk};
 ghost use Rattle.topo_core.specs.Cycles.{IsPermutationList, SameCycle};
 ghost use Rattle.topo_core.specs.Edits.{IsChord, IsHang, IsSmooth, IsSplit, IsUnchord};
 ghost use Rattle.topo_core.specs.Rotations.{face_next, twin};
+ghost use Rattle.topo_perm.specs.Live.{live_segments};
 ghost use Rattle.topo_map.specs.Rotation.{AddsLabel, AreLabelled, CountsFewer, CountsMore, Grows, IsDegree, IsEmbedding, IsMadeFrom, IsOneFace, KeepsLabels, PartsFaces, Shrinks, edge_of, half_limit, is_live, turn};
 
 use crate::build::{isolated_halves, join_turns};
@@ -85,6 +86,7 @@ impl Embedding {
         ensures limit { result ≡ self.now.limit }
         ensures above { (a : ℕ) → is_live self.now a ≡ true → a < result }
         ensures fits { result < 2 ^ 32 }
+        ensures size { result < half_limit → result ≡ 2 * (live_segments (is_live self.now) half_limit + self.now.room) }
     {
         segments::limit(&self.segments)
     }
