@@ -1,5 +1,5 @@
 -- A half that is put in or taken out exchanges two images along the faces. The labels before and after.
-use Rattle.std.proofs.Common.{◌≡◌, ◌≢◌, ℕ, ◌+◌, ◌<◌, Bool, true, ◌⊎◌, inl, inr, refl, sym, ◌∙◌, ap, subst, arith, Option}
+use Rattle.std.proofs.Common.{◌≡◌, ◌≢◌, ℕ, ◌+◌, ◌<◌, Bool, true, ◌⊎◌, inl, inr, refl, sym, ◌∙◌, ap, subst, arith}
 use Rattle.slab.specs.Slab.{Slab}
 use Rattle.topo_core.specs.Cycles.{IsPermutation, SameCycle}
 use Rattle.topo_core.specs.Rotations.{twin, face_next}
@@ -10,7 +10,7 @@ use Rattle.topo_perm.proofs.Faces.{twin-twin}
 use Rattle.topo_perm.proofs.Walks.{face_next-permutation}
 use Rattle.topo_map.specs.Rotation.{half_limit}
 use Rattle.topo_map.specs.Segments.{put, without, holds, next_in, before_in, face_in, IsKept, IsTurned}
-use Rattle.topo_map.specs.Labels.{painted, AreLabels, IsLabelled, IsPainted, IsTakenLabel}
+use Rattle.topo_map.specs.Labels.{painted, IsLabelled, IsPainted}
 use Rattle.topo_map.specs.declared.segments.Segment.{Segment}
 use Rattle.topo_map.proofs.Maps.{IsLone}
 use Rattle.topo_map.proofs.Kept.{live_before}
@@ -43,67 +43,59 @@ pub record IsStep (s s1 : Slab Segment) (i j : ℕ) : Type 0 where
   pub faces : face_in s1 ≡ face_in s
   pub exchange : IsExchange (face_next (next_in s)) (face_next (next_in s1)) i j
 
-pub part_labels : (s s1 s2 : Slab Segment) (i j y label : ℕ) (unused rest : Option ℕ) → IsStep s s1 i j → AreLabels s unused → IsTakenLabel unused label rest
-    → ((bound : ℕ) → IsLabelled s bound → face_in s i ≡ face_in s j) → holds s y ≡ true → SameCycle (face_next (next_in s1)) i y ⊎ SameCycle (face_next (next_in s1)) j y → IsPainted s1 s2 y label → AreLabels s2 rest
-part_labels s s1 s2 i j y label unused rest w a taken same hy side p = record {
-  known = λ bound e.
-      let l : ℕ → ℕ = face_in s in
-      let f : ℕ → ℕ = next_in s in
-      let g : ℕ → ℕ = next_in s1 in
-      let n : ℕ = half_limit in
-      let t = taken bound e in
-      let was : IsLabelled s label = a.known label t.0 in
-      let hg : IsPermutation (face_next g) n = faces_permuted s1 w.kept_after in
-      let there : IsScene (holds s) (face_next g) n i j = record { permutation = hg; below = w.kept.within; first = w.first; second = w.second } in
-      let coarse : IsCoarse (holds s) (face_next g) l i j = parted (holds s) f g l n i j (scene s i j w.kept w.first w.second) w.exchange was.labels (same label was) in
-      let ends : SameCycle (face_next g) y i ⊎ SameCycle (face_next g) y j = grind (arith, i, j) in
-      let fresh : (b : ℕ) → holds s b ≡ true → l b ≢ label = λ b t d. (let lb : l b < label = was.below b t in let z : ⊥ = omega arith in z) in
-      let done : LabelsFaces (holds s) g (painted (face_next g) n y label l) = part_painted (holds s) g l n i j y label there coarse hy ends fresh in
-      let el : face_in s2 ≡ painted (face_next g) n y label l = p.faces ∙ ap (λ (m : ℕ → ℕ). painted (face_next g) n y label m) w.faces in
-      let eh : holds s2 ≡ holds s = p.live ∙ w.live in
-      let eb : bound ≡ label + 1 = t.1 in
-      record {
-        labels = labelled_by s2 (holds s) g (painted (face_next g) n y label l) eh p.next el done;
-        below = λ b tb.
-            let hb : holds s b ≡ true = ap (λ (h : ℕ → Bool). h b) (sym eh) ∙ tb in
-            let lb : l b < label = was.below b hb in
-            subst (λ (v : ℕ). v < bound) (ap (λ (m : ℕ → ℕ). m b) (sym el))
-            (painted_below (face_next g) n y label l b bound (let z : label < bound = omega arith in z) (let z : l b < bound = omega arith in z));
-      };
-}
+pub part_labels : (s s1 s2 : Slab Segment) (i j y label : ℕ) → IsStep s s1 i j → IsLabelled s label → face_in s i ≡ face_in s j → holds s y ≡ true
+    → SameCycle (face_next (next_in s1)) i y ⊎ SameCycle (face_next (next_in s1)) j y → IsPainted s1 s2 y label → IsLabelled s2 (label + 1)
+part_labels s s1 s2 i j y label w was same hy side p =
+    let l : ℕ → ℕ = face_in s in
+    let f : ℕ → ℕ = next_in s in
+    let g : ℕ → ℕ = next_in s1 in
+    let n : ℕ = half_limit in
+    let hg : IsPermutation (face_next g) n = faces_permuted s1 w.kept_after in
+    let there : IsScene (holds s) (face_next g) n i j = record { permutation = hg; below = w.kept.within; first = w.first; second = w.second } in
+    let coarse : IsCoarse (holds s) (face_next g) l i j = parted (holds s) f g l n i j (scene s i j w.kept w.first w.second) w.exchange was.labels same in
+    let ends : SameCycle (face_next g) y i ⊎ SameCycle (face_next g) y j = grind (arith, i, j) in
+    let fresh : (b : ℕ) → holds s b ≡ true → l b ≢ label = λ b t d. (let lb : l b < label = was.below b t in let z : ⊥ = omega arith in z) in
+    let done : LabelsFaces (holds s) g (painted (face_next g) n y label l) = part_painted (holds s) g l n i j y label there coarse hy ends fresh in
+    let el : face_in s2 ≡ painted (face_next g) n y label l = p.faces ∙ ap (λ (m : ℕ → ℕ). painted (face_next g) n y label m) w.faces in
+    let eh : holds s2 ≡ holds s = p.live ∙ w.live in
+    record {
+      labels = labelled_by s2 (holds s) g (painted (face_next g) n y label l) eh p.next el done;
+      below = λ b tb.
+          let hb : holds s b ≡ true = ap (λ (h : ℕ → Bool). h b) (sym eh) ∙ tb in
+          let lb : l b < label = was.below b hb in
+          subst (λ (v : ℕ). v < label + 1) (ap (λ (m : ℕ → ℕ). m b) (sym el))
+          (painted_below (face_next g) n y label l b (label + 1) (let z : label < label + 1 = omega arith in z) (let z : l b < label + 1 = omega arith in z));
+    }
 
 -- ---- A step between two faces
 
-pub join_labels : (s s1 s2 : Slab Segment) (i j y z : ℕ) (unused : Option ℕ) → IsKept s → IsStep s1 s2 i j → AreLabels s unused → holds s y ≡ true → holds s z ≡ true
-    → AreEnds (face_next (next_in s)) i j y z → face_in s y ≢ face_in s z → IsPainted s s1 y (face_in s z) → AreLabels s2 unused
-join_labels s s1 s2 i j y z unused k w a hy hz side apart p = record {
-  known = λ bound e.
-      let l : ℕ → ℕ = face_in s in
-      let f : ℕ → ℕ = next_in s in
-      let g : ℕ → ℕ = next_in s2 in
-      let n : ℕ = half_limit in
-      let was : IsLabelled s bound = a.known bound e in
-      let hf : IsPermutation (face_next f) n = faces_permuted s k in
-      let hi : holds s i ≡ true = ap (λ (h : ℕ → Bool). h i) (sym p.live) ∙ w.first in
-      let hj : holds s j ≡ true = ap (λ (h : ℕ → Bool). h j) (sym p.live) ∙ w.second in
-      let here : IsScene (holds s) (face_next f) n i j = scene s i j k hi hj in
-      let m : ℕ → ℕ = painted (face_next f) n y (l z) l in
-      let coarse : IsCoarse (holds s) (face_next f) m i j = share_painted (holds s) f l n i j y z here was.labels hy hz side in
-      let two : SameCycle (face_next f) i j → ⊥ = λ v. apart (elim side [
-        | inl u ↦ was.labels.same_label y z hy hz (SameCycle-trans (face_next f) y i z u.0 (SameCycle-trans (face_next f) i j z v (SameCycle-sym (face_next f) n hf z j (k.within z hz) u.1)))
-        | inr u ↦ was.labels.same_label y z hy hz (SameCycle-trans (face_next f) y j z u.0 (SameCycle-trans (face_next f) j i z (SameCycle-sym (face_next f) n hf i j (k.within i hi) v) (SameCycle-sym (face_next f) n hf z i (k.within z hz) u.1)))
-      ]) in
-      let x : IsExchange (face_next f) (face_next g) i j = subst (λ (h : ℕ → ℕ). IsExchange (face_next h) (face_next g) i j) p.next w.exchange in
-      let done : LabelsFaces (holds s) g m = joined (holds s) f g m n i j here x coarse two in
-      let eh : holds s2 ≡ holds s = w.live ∙ p.live in
-      let el : face_in s2 ≡ m = w.faces ∙ p.faces in
-      record {
-        labels = labelled_by s2 (holds s) g m eh refl el done;
-        below = λ b tb.
-            let hb : holds s b ≡ true = ap (λ (h : ℕ → Bool). h b) (sym eh) ∙ tb in
-            subst (λ (v : ℕ). v < bound) (ap (λ (h : ℕ → ℕ). h b) (sym el)) (painted_below (face_next f) n y (l z) l b bound (was.below z hz) (was.below b hb));
-      };
-}
+pub join_labels : (s s1 s2 : Slab Segment) (i j y z unused : ℕ) → IsKept s → IsStep s1 s2 i j → IsLabelled s unused → holds s y ≡ true → holds s z ≡ true
+    → AreEnds (face_next (next_in s)) i j y z → face_in s y ≢ face_in s z → IsPainted s s1 y (face_in s z) → IsLabelled s2 unused
+join_labels s s1 s2 i j y z unused k w was hy hz side apart p =
+    let l : ℕ → ℕ = face_in s in
+    let f : ℕ → ℕ = next_in s in
+    let g : ℕ → ℕ = next_in s2 in
+    let n : ℕ = half_limit in
+    let hf : IsPermutation (face_next f) n = faces_permuted s k in
+    let hi : holds s i ≡ true = ap (λ (h : ℕ → Bool). h i) (sym p.live) ∙ w.first in
+    let hj : holds s j ≡ true = ap (λ (h : ℕ → Bool). h j) (sym p.live) ∙ w.second in
+    let here : IsScene (holds s) (face_next f) n i j = scene s i j k hi hj in
+    let m : ℕ → ℕ = painted (face_next f) n y (l z) l in
+    let coarse : IsCoarse (holds s) (face_next f) m i j = share_painted (holds s) f l n i j y z here was.labels hy hz side in
+    let two : SameCycle (face_next f) i j → ⊥ = λ v. apart (elim side [
+      | inl u ↦ was.labels.same_label y z hy hz (SameCycle-trans (face_next f) y i z u.0 (SameCycle-trans (face_next f) i j z v (SameCycle-sym (face_next f) n hf z j (k.within z hz) u.1)))
+      | inr u ↦ was.labels.same_label y z hy hz (SameCycle-trans (face_next f) y j z u.0 (SameCycle-trans (face_next f) j i z (SameCycle-sym (face_next f) n hf i j (k.within i hi) v) (SameCycle-sym (face_next f) n hf z i (k.within z hz) u.1)))
+    ]) in
+    let x : IsExchange (face_next f) (face_next g) i j = subst (λ (h : ℕ → ℕ). IsExchange (face_next h) (face_next g) i j) p.next w.exchange in
+    let done : LabelsFaces (holds s) g m = joined (holds s) f g m n i j here x coarse two in
+    let eh : holds s2 ≡ holds s = w.live ∙ p.live in
+    let el : face_in s2 ≡ m = w.faces ∙ p.faces in
+    record {
+      labels = labelled_by s2 (holds s) g m eh refl el done;
+      below = λ b tb.
+          let hb : holds s b ≡ true = ap (λ (h : ℕ → Bool). h b) (sym eh) ∙ tb in
+          subst (λ (v : ℕ). v < unused) (ap (λ (h : ℕ → ℕ). h b) (sym el)) (painted_below (face_next f) n y (l z) l b unused (was.below z hz) (was.below b hb));
+    }
 
 -- ---- A half that is put in
 
@@ -128,23 +120,22 @@ onto s c k = ap (next_in s) (twin-twin (before_in s c)) ∙ k.inverse.onward c
 self : (s : Slab Segment) (x : ℕ) → face_next (next_in s) (twin x) ≡ next_in s x
 self s x = ap (next_in s) (twin-twin x)
 
-pub put_parts : (s s1 s2 : Slab Segment) (x c label : ℕ) (unused rest : Option ℕ) → IsKept s → holds s x ≡ true → holds s c ≡ true → next_in s x ≡ x → c ≢ x → AreLabels s unused → face_in s x ≡ face_in s c
-    → IsTakenLabel unused label rest → IsTurned s s1 (put (next_in s) x c) → face_in s1 ≡ face_in s → IsPainted s1 s2 x label ⊎ IsPainted s1 s2 c label → AreLabels s2 rest
-put_parts s s1 s2 x c label unused rest k hx hc alone ne a same taken t e p =
+pub put_parts : (s s1 s2 : Slab Segment) (x c label : ℕ) → IsKept s → holds s x ≡ true → holds s c ≡ true → next_in s x ≡ x → c ≢ x → IsLabelled s label → face_in s x ≡ face_in s c
+    → IsTurned s s1 (put (next_in s) x c) → face_in s1 ≡ face_in s → IsPainted s1 s2 x label ⊎ IsPainted s1 s2 c label → IsLabelled s2 (label + 1)
+put_parts s s1 s2 x c label k hx hc alone ne was same t e p =
     let i : ℕ = twin (before_in s c) in
     let j : ℕ = twin x in
     let w : IsStep s s1 i j = put_step s s1 x c k hx hc alone ne t e in
     let f : ℕ → ℕ = face_next (next_in s) in
     let g : ℕ → ℕ = face_next (next_in s1) in
-    let equal : (bound : ℕ) → IsLabelled s bound → face_in s i ≡ face_in s j = λ bound b.
-    b.labels.same_label i c w.first hc (step f i c (onto s c k)) ∙ sym same ∙ sym (b.labels.same_label j x w.second hx (step f j x (self s x ∙ alone))) in
+    let equal : face_in s i ≡ face_in s j = was.labels.same_label i c w.first hc (step f i c (onto s c k)) ∙ sym same ∙ sym (was.labels.same_label j x w.second hx (step f j x (self s x ∙ alone))) in
     elim p [
-      | inl v ↦ part_labels s s1 s2 i j x label unused rest w a taken equal hx (inl (step g i x (w.exchange.at_first ∙ self s x ∙ alone))) v
-      | inr v ↦ part_labels s s1 s2 i j c label unused rest w a taken equal hc (inr (step g j c (w.exchange.at_second ∙ onto s c k))) v
+      | inl v ↦ part_labels s s1 s2 i j x label w was equal hx (inl (step g i x (w.exchange.at_first ∙ self s x ∙ alone))) v
+      | inr v ↦ part_labels s s1 s2 i j c label w was equal hc (inr (step g j c (w.exchange.at_second ∙ onto s c k))) v
     ]
 
-pub put_joins : (s s1 s2 : Slab Segment) (x c : ℕ) (unused : Option ℕ) → IsKept s → holds s x ≡ true → holds s c ≡ true → next_in s x ≡ x → c ≢ x → AreLabels s unused → face_in s x ≢ face_in s c
-    → IsPainted s s1 x (face_in s c) ⊎ IsPainted s s1 c (face_in s x) → IsTurned s1 s2 (put (next_in s1) x c) → face_in s2 ≡ face_in s1 → AreLabels s2 unused
+pub put_joins : (s s1 s2 : Slab Segment) (x c unused : ℕ) → IsKept s → holds s x ≡ true → holds s c ≡ true → next_in s x ≡ x → c ≢ x → IsLabelled s unused → face_in s x ≢ face_in s c
+    → IsPainted s s1 x (face_in s c) ⊎ IsPainted s s1 c (face_in s x) → IsTurned s1 s2 (put (next_in s1) x c) → face_in s2 ≡ face_in s1 → IsLabelled s2 unused
 put_joins s s1 s2 x c unused k hx hc alone ne a apart p t e = elim p [
   | inl v ↦
       let w : IsStep s1 s2 (twin (before_in s1 c)) j = put_step s1 s2 x c (painted_kept s s1 _ k v) (ap (λ (h : ℕ → Bool). h x) v.live ∙ hx) (ap (λ (h : ℕ → Bool). h c) v.live ∙ hc) (ap (λ (h : ℕ → ℕ). h x) v.next ∙ alone) ne t e in
@@ -184,22 +175,22 @@ without_step s s1 x k hx t e = record {
   exchange = subst (λ (g : ℕ → ℕ). IsExchange (face_next (next_in s)) (face_next g) (twin (before_in s x)) (twin x)) (sym t.next) (without_exchange (next_in s) (before_in s) x k.inverse);
 }
 
-pub without_parts : (s s1 s2 : Slab Segment) (x y on label : ℕ) (unused rest : Option ℕ) → IsKept s → holds s x ≡ true → y ≡ twin x → on ≡ next_in s x → holds s on ≡ true → AreLabels s unused → face_in s x ≡ face_in s y
-    → IsTakenLabel unused label rest → IsTurned s s1 (without (next_in s) x) → face_in s1 ≡ face_in s → IsPainted s1 s2 x label ⊎ IsPainted s1 s2 on label → AreLabels s2 rest
-without_parts s s1 s2 x y on label unused rest k hx ey eo ho a same taken t e p =
+pub without_parts : (s s1 s2 : Slab Segment) (x y on label : ℕ) → IsKept s → holds s x ≡ true → y ≡ twin x → on ≡ next_in s x → holds s on ≡ true → IsLabelled s label → face_in s x ≡ face_in s y
+    → IsTurned s s1 (without (next_in s) x) → face_in s1 ≡ face_in s → IsPainted s1 s2 x label ⊎ IsPainted s1 s2 on label → IsLabelled s2 (label + 1)
+without_parts s s1 s2 x y on label k hx ey eo ho was same t e p =
     let i : ℕ = twin (before_in s x) in
     let j : ℕ = twin x in
     let w : IsStep s s1 i j = without_step s s1 x k hx t e in
     let f : ℕ → ℕ = face_next (next_in s) in
     let g : ℕ → ℕ = face_next (next_in s1) in
-    let equal : (bound : ℕ) → IsLabelled s bound → face_in s i ≡ face_in s j = λ bound b. b.labels.same_label i x w.first hx (step f i x (onto s x k)) ∙ same ∙ ap (face_in s) ey in
+    let equal : face_in s i ≡ face_in s j = was.labels.same_label i x w.first hx (step f i x (onto s x k)) ∙ same ∙ ap (face_in s) ey in
     elim p [
-      | inl v ↦ part_labels s s1 s2 i j x label unused rest w a taken equal hx (inr (step g j x (w.exchange.at_second ∙ onto s x k))) v
-      | inr v ↦ part_labels s s1 s2 i j on label unused rest w a taken equal ho (inl (step g i on (w.exchange.at_first ∙ self s x ∙ sym eo))) v
+      | inl v ↦ part_labels s s1 s2 i j x label w was equal hx (inr (step g j x (w.exchange.at_second ∙ onto s x k))) v
+      | inr v ↦ part_labels s s1 s2 i j on label w was equal ho (inl (step g i on (w.exchange.at_first ∙ self s x ∙ sym eo))) v
     ]
 
-pub without_joins : (s s1 s2 : Slab Segment) (x y : ℕ) (unused : Option ℕ) → IsKept s → holds s x ≡ true → y ≡ twin x → AreLabels s unused → face_in s x ≢ face_in s y
-    → IsPainted s s1 x (face_in s y) ⊎ IsPainted s s1 y (face_in s x) → IsTurned s1 s2 (without (next_in s1) x) → face_in s2 ≡ face_in s1 → AreLabels s2 unused
+pub without_joins : (s s1 s2 : Slab Segment) (x y unused : ℕ) → IsKept s → holds s x ≡ true → y ≡ twin x → IsLabelled s unused → face_in s x ≢ face_in s y
+    → IsPainted s s1 x (face_in s y) ⊎ IsPainted s s1 y (face_in s x) → IsTurned s1 s2 (without (next_in s1) x) → face_in s2 ≡ face_in s1 → IsLabelled s2 unused
 without_joins s s1 s2 x y unused k hx ey a apart p t e = elim p [
   | inl v ↦
       let w : IsStep s1 s2 (twin (before_in s1 x)) j = without_step s1 s2 x (painted_kept s s1 _ k v) (ap (λ (h : ℕ → Bool). h x) v.live ∙ hx) t e in

@@ -16,7 +16,7 @@ use Rattle.topo_perm.proofs.LabelledFaces.{hang_labels, split_labels, smooth_lab
 use Rattle.topo_map.specs.Rotation.{half_limit, live_in, turn_in, KeepsLabels, Slot}
 use Rattle.topo_map.specs.Segments.{put, without, holds, next_in, before_in, face_in, nexts, AddsFaces, IsKept, IsInserted, IsRemoved, IsTurned, Repaints}
 use Rattle.topo_map.specs.Building.{AreBlank, IsJoined, IsListed}
-use Rattle.topo_map.specs.Labels.{AreLabels, IsLabelled, IsSound}
+use Rattle.topo_map.specs.Labels.{IsLabelled, IsSound}
 use Rattle.topo_map.specs.declared.segments.Segment.{Segment}
 use Rattle.topo_map.proofs.Steps.{IsStart, IsHung, IsSplitUp, IsSmoothed, alone, twin_alone, hung, live_twin, unchord_alone, without_alone}
 use Rattle.topo_map.proofs.Walked.{painted_kept}
@@ -32,7 +32,7 @@ turn_by : (Segment → Slot) → List (Option Segment) → ℕ → ℕ
 turn_by pick l = turn_in (map (option_map pick) l)
 
 -- what a slab holds lies in its slots
-pub same_slots_sound : (s s' : Slab Segment) (unused : Option ℕ) → s'.slots ≡ s.slots → IsSound s unused → IsSound s' unused
+pub same_slots_sound : (s s' : Slab Segment) (unused : ℕ) → s'.slots ≡ s.slots → IsSound s unused → IsSound s' unused
 unfolding live_by turn_by
 same_slots_sound s s' unused e k =
     let eh : holds s' ≡ holds s = ap live_by e in
@@ -53,96 +53,84 @@ adds_below : (s s' : Slab Segment) (x : ℕ) → IsKept s → IsKept s' → Adds
 adds_below s s' x k k' a = record { below = k.within; below_after = k'.within; adds = a }
 
 -- a new segment is given no label that is not in use
-new_below : (s s' : Slab Segment) (l : ℕ → ℕ) (x left right bound : ℕ) → IsKept s' → AddsSegment (holds s) (holds s') half_limit x → ((a : ℕ) → holds s a ≡ true → face_in s a < bound) → AddsFaces (holds s) (face_in s) l x left right → left < bound → right < bound → (a : ℕ) → holds s' a ≡ true → l a < bound
-new_below s s' l x left right bound k' t below f ll lr a h = grind (arith, cases_eq)
+new_below : (s s' : Slab Segment) (l : ℕ → ℕ) (x left right unused : ℕ) → IsKept s' → AddsSegment (holds s) (holds s') half_limit x → ((a : ℕ) → holds s a ≡ true → face_in s a < unused) → AddsFaces (holds s) (face_in s) l x left right → left < unused → right < unused → (a : ℕ) → holds s' a ≡ true → l a < unused
+new_below s s' l x left right unused k' t below f ll lr a h = grind (arith, cases_eq)
 
 faces_added : (live : ℕ → Bool) (old l m : ℕ → ℕ) (x left right : ℕ) → m ≡ l → AddsFaces live old l x left right → AddsFaces live old m x left right
 faces_added live old l m x left right e f = subst (λ (k : ℕ → ℕ). AddsFaces live old k x left right) (sym e) f
 
-pub hung_labels : (s s1 s2 : Slab Segment) (c x label : ℕ) (unused : Option ℕ) → IsStart s s1 x → holds s c ≡ true → IsTurned s1 s2 (put (next_in s1) x c) → AddsFaces (holds s) (face_in s) (face_in s1) x label label → label ≡ face_in s c → face_in s2 ≡ face_in s1 → AreLabels s unused → AreLabels s2 unused
-hung_labels s s1 s2 c x label unused st hc t f el e a = record {
-  known = λ bound d.
-      let w : IsLabelled s bound = a.known bound d in
-      let done : IsHung s s2 c x = hung s s1 s2 c x st hc t in
-      let new : AddsFaces (holds s) (face_in s) (face_in s2) x label label = faces_added (holds s) (face_in s) (face_in s1) (face_in s2) x label label e f in
-      let k : IsKept s2 = done.added.sound in
-      let ll : label < bound = subst (λ (v : ℕ). v < bound) (sym el) (w.below c hc) in
-      record {
-        labels = hang_labels (holds s) (holds s2) (next_in s) (next_in s2) (face_in s) (face_in s2) half_limit c x (adds_below s s2 x st.sound k done.added.grows.live) hc done.allowed w.labels new.others (new.here ∙ el) (new.here_twin ∙ el);
-        below = new_below s s2 (face_in s2) x label label bound k done.added.grows.live w.below new ll ll;
-      };
-}
+pub hung_labels : (s s1 s2 : Slab Segment) (c x label unused : ℕ) → IsStart s s1 x → holds s c ≡ true → IsTurned s1 s2 (put (next_in s1) x c) → AddsFaces (holds s) (face_in s) (face_in s1) x label label → label ≡ face_in s c → face_in s2 ≡ face_in s1 → IsLabelled s unused → IsLabelled s2 unused
+hung_labels s s1 s2 c x label unused st hc t f el e w =
+    let done : IsHung s s2 c x = hung s s1 s2 c x st hc t in
+    let new : AddsFaces (holds s) (face_in s) (face_in s2) x label label = faces_added (holds s) (face_in s) (face_in s1) (face_in s2) x label label e f in
+    let k : IsKept s2 = done.added.sound in
+    let ll : label < unused = subst (λ (v : ℕ). v < unused) (sym el) (w.below c hc) in
+    record {
+      labels = hang_labels (holds s) (holds s2) (next_in s) (next_in s2) (face_in s) (face_in s2) half_limit c x (adds_below s s2 x st.sound k done.added.grows.live) hc done.allowed w.labels new.others (new.here ∙ el) (new.here_twin ∙ el);
+      below = new_below s s2 (face_in s2) x label label unused k done.added.grows.live w.below new ll ll;
+    }
 
-pub split_labelled : (s s' : Slab Segment) (l : ℕ → ℕ) (h x t left right : ℕ) (unused : Option ℕ) → IsKept s → holds s h ≡ true → t ≡ twin h → IsSplitUp s s' h x → AddsFaces (holds s) (face_in s) l x left right → left ≡ face_in s h → right ≡ face_in s t → face_in s' ≡ l → AreLabels s unused → AreLabels s' unused
-split_labelled s s' l h x t left right unused k hh et done f el er e a = record {
-  known = λ bound d.
-      let w : IsLabelled s bound = a.known bound d in
-      let new : AddsFaces (holds s) (face_in s) (face_in s') x left right = faces_added (holds s) (face_in s) l (face_in s') x left right e f in
-      let k' : IsKept s' = done.added.sound in
-      let ht : holds s (twin h) ≡ true = live_twin s h (twin h) refl hh in
-      let er' : right ≡ face_in s (twin h) = er ∙ ap (face_in s) et in
-      record {
-        labels = split_labels (holds s) (holds s') (next_in s) (next_in s') (face_in s) (face_in s') half_limit h x (adds_below s s' x k k' done.added.grows.live) hh ht done.allowed w.labels new.others (new.here ∙ el) (new.here_twin ∙ er');
-        below = new_below s s' (face_in s') x left right bound k' done.added.grows.live w.below new (subst (λ (v : ℕ). v < bound) (sym el) (w.below h hh)) (subst (λ (v : ℕ). v < bound) (sym er') (w.below (twin h) ht));
-      };
-}
+pub split_labelled : (s s' : Slab Segment) (l : ℕ → ℕ) (h x t left right unused : ℕ) → IsKept s → holds s h ≡ true → t ≡ twin h → IsSplitUp s s' h x → AddsFaces (holds s) (face_in s) l x left right → left ≡ face_in s h → right ≡ face_in s t → face_in s' ≡ l → IsLabelled s unused → IsLabelled s' unused
+split_labelled s s' l h x t left right unused k hh et done f el er e w =
+    let new : AddsFaces (holds s) (face_in s) (face_in s') x left right = faces_added (holds s) (face_in s) l (face_in s') x left right e f in
+    let k' : IsKept s' = done.added.sound in
+    let ht : holds s (twin h) ≡ true = live_twin s h (twin h) refl hh in
+    let er' : right ≡ face_in s (twin h) = er ∙ ap (face_in s) et in
+    record {
+      labels = split_labels (holds s) (holds s') (next_in s) (next_in s') (face_in s) (face_in s') half_limit h x (adds_below s s' x k k' done.added.grows.live) hh ht done.allowed w.labels new.others (new.here ∙ el) (new.here_twin ∙ er');
+      below = new_below s s' (face_in s') x left right unused k' done.added.grows.live w.below new (subst (λ (v : ℕ). v < unused) (sym el) (w.below h hh)) (subst (λ (v : ℕ). v < unused) (sym er') (w.below (twin h) ht));
+    }
 
-pub smooth_labelled : (s s' : Slab Segment) (l : ℕ → ℕ) (x : ℕ) (unused : Option ℕ) → IsKept s → IsSmoothed s s' x → l ≡ face_in s → KeepsLabels (holds s') l (face_in s') → AreLabels s unused → AreLabels s' unused
-smooth_labelled s s' l x unused k done e kept a = record {
-  known = λ bound d.
-      let w : IsLabelled s bound = a.known bound d in
-      let k' : IsKept s' = done.taken.sound in
-      let t : AddsSegment (holds s') (holds s) half_limit x = done.taken.shrinks.live in
-      let same : (b : ℕ) → holds s' b ≡ true → face_in s' b ≡ face_in s b = λ b h. kept b h ∙ ap (λ (m : ℕ → ℕ). m b) e in
-      record {
-        labels = smooth_labels (holds s) (holds s') (next_in s) (next_in s') (face_in s) (face_in s') half_limit x (adds_below s' s x k' k t) done.allowed w.labels same;
-        below = λ b h.
-            let was : holds s b ≡ true = t.others b (k'.within b h) (λ z. false≢true (sym t.new ∙ ap (holds s') (sym z) ∙ h)) (λ z. false≢true (sym t.new_twin ∙ ap (holds s') (sym z) ∙ h)) ∙ h in
-            subst (λ (v : ℕ). v < bound) (sym (same b h)) (w.below b was);
-      };
-}
+pub smooth_labelled : (s s' : Slab Segment) (l : ℕ → ℕ) (x unused : ℕ) → IsKept s → IsSmoothed s s' x → l ≡ face_in s → KeepsLabels (holds s') l (face_in s') → IsLabelled s unused → IsLabelled s' unused
+smooth_labelled s s' l x unused k done e kept w =
+    let k' : IsKept s' = done.taken.sound in
+    let t : AddsSegment (holds s') (holds s) half_limit x = done.taken.shrinks.live in
+    let same : (b : ℕ) → holds s' b ≡ true → face_in s' b ≡ face_in s b = λ b h. kept b h ∙ ap (λ (m : ℕ → ℕ). m b) e in
+    record {
+      labels = smooth_labels (holds s) (holds s') (next_in s) (next_in s') (face_in s) (face_in s') half_limit x (adds_below s' s x k' k t) done.allowed w.labels same;
+      below = λ b h.
+          let was : holds s b ≡ true = t.others b (k'.within b h) (λ z. false≢true (sym t.new ∙ ap (holds s') (sym z) ∙ h)) (λ z. false≢true (sym t.new_twin ∙ ap (holds s') (sym z) ∙ h)) ∙ h in
+          subst (λ (v : ℕ). v < unused) (sym (same b h)) (w.below b was);
+    }
 
 -- ---- The second end of a segment that goes
 
-pub unhung_labels : (s s1 s2 s3 : Slab Segment) (h t : ℕ) (unused : Option ℕ) → holds s h ≡ true → t ≡ twin h → IsTurned s s1 (without (next_in s) h) → IsTurned s1 s2 (without (next_in s1) t) → face_in s2 ≡ face_in s1 → IsRemoved s2 s3 h → KeepsLabels (holds s3) (face_in s2) (face_in s3) → AreLabels s1 unused → AreLabels s3 unused
-unhung_labels s s1 s2 s3 h t unused hh et u v e r kept a = record {
-  known = λ bound d.
-      let w : IsLabelled s1 bound = a.known bound d in
-      let h1 : holds s1 h ≡ true = ap (λ (p : ℕ → Bool). p h) u.live ∙ hh in
-      let ht : holds s1 t ≡ true = live_twin s1 h t et h1 in
-      let i : ℕ = twin (before_in s1 t) in
-      let j : ℕ = twin t in
-      let ej : j ≡ h = ap twin et ∙ twin-twin h in
-      let x : IsStep s1 s2 i j = without_step s1 s2 t u.kept ht v e in
-      let f : ℕ → ℕ = face_next (next_in s1) in
-      let g : ℕ → ℕ = face_next (next_in s2) in
-      let fixed : next_in s1 h ≡ h = self_alone s s1 h u in
-      let two : SameCycle f i j = record { steps = 2; leads = ap f (onto s1 t u.kept) ∙ ap (next_in s1) ej ∙ fixed ∙ sym ej } in
-      let coarse : IsCoarse (holds s1) g (face_in s1) i j = parted (holds s1) (next_in s1) (next_in s2) (face_in s1) half_limit i j (scene s1 i j u.kept x.first x.second) x.exchange w.labels (w.labels.same_label i j x.first x.second two) in
-      let hg : IsPermutation g half_limit = faces_permuted s2 v.kept in
-      let isolated : IsIsolated (next_in s2) t = grind (arith, without_alone, unchord_alone) in
-      let was : (b : ℕ) → holds s3 b ≡ true → holds s1 b ≡ true = λ b hb.
-      ap (λ (p : ℕ → Bool). p b) (sym v.live) ∙ r.live.others b (r.kept.within b hb) (λ z. false≢true (sym r.live.new ∙ ap (holds s3) (sym z) ∙ hb)) (λ z. false≢true (sym r.live.new_twin ∙ ap (holds s3) (sym z) ∙ hb)) ∙ hb in
-      -- nothing that is left lies with the ends of what goes
-      let beyond : (b : ℕ) → holds s3 b ≡ true → SameCycle g j b → ⊥ = λ b hb m. elim (isolated_face (next_in s2) t b isolated m) [
-        | inl z ↦ false≢true (sym r.live.new ∙ ap (holds s3) (sym (z ∙ ej)) ∙ hb)
-        | inr z ↦ false≢true (sym r.live.new_twin ∙ ap (holds s3) (sym (z ∙ et)) ∙ hb)
-      ] in
-      let same : (b : ℕ) → holds s3 b ≡ true → face_in s3 b ≡ face_in s1 b = λ b hb. kept b hb ∙ ap (λ (m : ℕ → ℕ). m b) e in
-      record {
-        labels = record {
-          same_face = λ b c hb hc q. subst (λ (k : ℕ → ℕ). SameCycle (face_next k) b c) (sym r.next) (elim (coarse.same_face b c (was b hb) (was c hc) (sym (same b hb) ∙ q ∙ same c hc)) [
-            | inl m ↦ m
-            | inr m ↦ elim m [
-              | inl z ↦ absurd (beyond c hc z.1)
-              | inr z ↦ absurd (beyond b hb (SameCycle-sym g half_limit hg b j (r.kept.within b hb) z.0))
-            ]
-          ]);
-          same_label = λ b c hb hc m. same b hb ∙ coarse.same_label b c (was b hb) (was c hc) (subst (λ (k : ℕ → ℕ). SameCycle (face_next k) b c) r.next m) ∙ sym (same c hc);
-        };
-        below = λ b hb. subst (λ (q : ℕ). q < bound) (sym (same b hb)) (w.below b (was b hb));
+pub unhung_labels : (s s1 s2 s3 : Slab Segment) (h t unused : ℕ) → holds s h ≡ true → t ≡ twin h → IsTurned s s1 (without (next_in s) h) → IsTurned s1 s2 (without (next_in s1) t) → face_in s2 ≡ face_in s1 → IsRemoved s2 s3 h → KeepsLabels (holds s3) (face_in s2) (face_in s3) → IsLabelled s1 unused → IsLabelled s3 unused
+unhung_labels s s1 s2 s3 h t unused hh et u v e r kept w =
+    let h1 : holds s1 h ≡ true = ap (λ (p : ℕ → Bool). p h) u.live ∙ hh in
+    let ht : holds s1 t ≡ true = live_twin s1 h t et h1 in
+    let i : ℕ = twin (before_in s1 t) in
+    let j : ℕ = twin t in
+    let ej : j ≡ h = ap twin et ∙ twin-twin h in
+    let x : IsStep s1 s2 i j = without_step s1 s2 t u.kept ht v e in
+    let f : ℕ → ℕ = face_next (next_in s1) in
+    let g : ℕ → ℕ = face_next (next_in s2) in
+    let fixed : next_in s1 h ≡ h = self_alone s s1 h u in
+    let two : SameCycle f i j = record { steps = 2; leads = ap f (onto s1 t u.kept) ∙ ap (next_in s1) ej ∙ fixed ∙ sym ej } in
+    let coarse : IsCoarse (holds s1) g (face_in s1) i j = parted (holds s1) (next_in s1) (next_in s2) (face_in s1) half_limit i j (scene s1 i j u.kept x.first x.second) x.exchange w.labels (w.labels.same_label i j x.first x.second two) in
+    let hg : IsPermutation g half_limit = faces_permuted s2 v.kept in
+    let isolated : IsIsolated (next_in s2) t = grind (arith, without_alone, unchord_alone) in
+    let was : (b : ℕ) → holds s3 b ≡ true → holds s1 b ≡ true = λ b hb.
+    ap (λ (p : ℕ → Bool). p b) (sym v.live) ∙ r.live.others b (r.kept.within b hb) (λ z. false≢true (sym r.live.new ∙ ap (holds s3) (sym z) ∙ hb)) (λ z. false≢true (sym r.live.new_twin ∙ ap (holds s3) (sym z) ∙ hb)) ∙ hb in
+    -- nothing that is left lies with the ends of what goes
+    let beyond : (b : ℕ) → holds s3 b ≡ true → SameCycle g j b → ⊥ = λ b hb m. elim (isolated_face (next_in s2) t b isolated m) [
+      | inl z ↦ false≢true (sym r.live.new ∙ ap (holds s3) (sym (z ∙ ej)) ∙ hb)
+      | inr z ↦ false≢true (sym r.live.new_twin ∙ ap (holds s3) (sym (z ∙ et)) ∙ hb)
+    ] in
+    let same : (b : ℕ) → holds s3 b ≡ true → face_in s3 b ≡ face_in s1 b = λ b hb. kept b hb ∙ ap (λ (m : ℕ → ℕ). m b) e in
+    record {
+      labels = record {
+        same_face = λ b c hb hc q. subst (λ (k : ℕ → ℕ). SameCycle (face_next k) b c) (sym r.next) (elim (coarse.same_face b c (was b hb) (was c hc) (sym (same b hb) ∙ q ∙ same c hc)) [
+          | inl m ↦ m
+          | inr m ↦ elim m [
+            | inl z ↦ absurd (beyond c hc z.1)
+            | inr z ↦ absurd (beyond b hb (SameCycle-sym g half_limit hg b j (r.kept.within b hb) z.0))
+          ]
+        ]);
+        same_label = λ b c hb hc m. same b hb ∙ coarse.same_label b c (was b hb) (was c hc) (subst (λ (k : ℕ → ℕ). SameCycle (face_next k) b c) r.next m) ∙ sym (same c hc);
       };
-}
+      below = λ b hb. subst (λ (q : ℕ). q < unused) (sym (same b hb)) (w.below b (was b hb));
+    }
   where
     self_alone : (s s1 : Slab Segment) (h : ℕ) → IsTurned s s1 (without (next_in s) h) → next_in s1 h ≡ h
     self_alone s s1 h u = ap (λ (f : ℕ → ℕ). f h) u.next ∙ without-self (next_in s) h h refl
@@ -162,12 +150,9 @@ joined_painted s s' hs ts l j r = record {
   next = λ a la. ap (λ (f : ℕ → ℕ). f (map_of hs a)) r.next ∙ j.next a la;
 }
 
-some-apart : (a b : ℕ) → Some a ≡ Some b → a ≡ b
-some-apart a b e = cc
-
 -- one segment, whose halves lie in one face
-pub seed_labels : (s s' : Slab Segment) (x : ℕ) → ((a : ℕ) → holds s a ≡ true → ⊥) → IsStart s s' x → AddsFaces (holds s) (face_in s) (face_in s') x 0 0 → AreLabels s' (Some 1)
-seed_labels s s' x none st f = grind (arith, some-apart, blank_more, blank_none, twin_alone, twin-twin, alone)
+pub seed_labels : (s s' : Slab Segment) (x : ℕ) → ((a : ℕ) → holds s a ≡ true → ⊥) → IsStart s s' x → AddsFaces (holds s) (face_in s) (face_in s') x 0 0 → IsLabelled s' 1
+seed_labels s s' x none st f = grind (arith, blank_more, blank_none, twin_alone, twin-twin, alone)
   where
     which : (a : ℕ) → holds s' a ≡ true → (a ≡ x) ⊎ (a ≡ twin x)
     which a h = grind (arith, cases_eq)

@@ -1,5 +1,5 @@
 -- Labels of the faces of segments in a slab. No public clause cites this module.
-use Rattle.std.specs.Prelude.{◌≡◌, ℕ, ◌+◌, ◌<◌, true, cond, Option, Some}
+use Rattle.std.specs.Prelude.{◌≡◌, ℕ, ◌<◌, true, cond}
 use Rattle.slab.specs.Slab.{Slab}
 use Rattle.topo_core.specs.Cycles.{is_met}
 use Rattle.topo_core.specs.Rotations.{face_next}
@@ -8,23 +8,15 @@ use Rattle.topo_map.specs.Rotation.{half_limit}
 use Rattle.topo_map.specs.Segments.{IsKept, Repaints, face_in, holds, next_in}
 use Rattle.topo_map.specs.declared.segments.Segment.{Segment}
 
--- two live halves have one label exactly where they lie in one face, and no label from the bound on is given
-pub record IsLabelled (s : Slab Segment) (bound : ℕ) : Type 0 where
+-- two live halves have one label exactly where they lie in one face, and no label from the unused one on is given
+pub record IsLabelled (s : Slab Segment) (unused : ℕ) : Type 0 where
   pub labels : LabelsFaces (holds s) (next_in s) (face_in s)
-  pub below : (a : ℕ) → holds s a ≡ true → face_in s a < bound
-
--- while there is an unused label, the faces are labelled with those below it
-pub record AreLabels (s : Slab Segment) (unused : Option ℕ) : Type 0 where
-  pub known : (bound : ℕ) → unused ≡ Some bound → IsLabelled s bound
+  pub below : (a : ℕ) → holds s a ≡ true → face_in s a < unused
 
 -- what an embedding always is
-pub record IsSound (s : Slab Segment) (unused : Option ℕ) : Type 0 where
+pub record IsSound (s : Slab Segment) (unused : ℕ) : Type 0 where
   pub kept : IsKept s
-  pub labels : AreLabels s unused
-
--- where a label is left after this one was taken, it was unused, and the next is left
-abbrev pub IsTakenLabel : Option ℕ → ℕ → Option ℕ → Type 0
-IsTakenLabel unused label rest = (bound : ℕ) → rest ≡ Some bound → (unused ≡ Some label) × (bound ≡ label + 1)
+  pub labels : IsLabelled s unused
 
 -- what is met within n steps from a start has a new label
 abbrev pub painted : (ℕ → ℕ) → ℕ → ℕ → ℕ → (ℕ → ℕ) → ℕ → ℕ

@@ -1,9 +1,10 @@
 //! The embedding and its edits.
 
-ghost use Rattle.std.specs.Prelude.{◌≡◌, ◌≢◌, ◌↔◌, ◌*◌, ℕ, [], ◌∷◌, length, ◌<◌, ◌≤◌, ◌^◌, true, IsTrue, IsOk, IfOk, OnOk};
+ghost use Rattle.std.specs.Prelude.{◌≡◌, ◌≢◌, ◌↔◌, ◌+◌, ◌*◌, ℕ, [], ◌∷◌, length, ◌<◌, ◌≤◌, ◌^◌, true, IsTrue, IsOk, IfOk, OnOk};
 ghost use Rattle.topo_core.specs.Cycles.{IsPermutationList, SameCycle};
 ghost use Rattle.topo_core.specs.Edits.{IsChord, IsHang, IsSmooth, IsSplit, IsUnchord};
 ghost use Rattle.topo_core.specs.Rotations.{face_next, twin};
+ghost use Rattle.topo_perm.specs.Live.{live_segments};
 ghost use Rattle.topo_map.specs.Rotation.{AddsLabel, AreLabelled, CountsFewer, CountsMore, Grows, IsDegree, IsEmbedding, IsMadeFrom, IsOneFace, KeepsLabels, PartsFaces, Shrinks, edge_of, half_limit, is_live, turn};
 
 use crate::build::{isolated_halves, join_turns};
@@ -20,9 +21,8 @@ use std::marker::Model;
 /// order.
 pub struct Embedding {
     segments: Slab<Segment>,
-    // The label that the next new face gets. None where there were more faces than
-    // labels: then labels mean nothing.
-    unused: Option<u32>,
+    // The label that the next new face gets: each half has a smaller one.
+    unused: u32,
 }
 
 // Written out, so that it is proved once: a derived one is proved anew in each function that lets such a value go.
@@ -58,7 +58,7 @@ impl Embedding {
         let mut segments = Slab::new(alloc);
         segments::reserve(&mut segments, 1)?;
         let half = insert_isolated(&mut segments, edge, 0, 0);
-        let unused = Some(1);
+        let unused = 1;
         Ok((Embedding { segments, unused }, half))
     }
 
@@ -86,6 +86,7 @@ impl Embedding {
         ensures limit { result ≡ self.now.limit }
         ensures above { (a : ℕ) → is_live self.now a ≡ true → a < result }
         ensures fits { result < 2 ^ 32 }
+        ensures size { result < half_limit → result ≡ 2 * (live_segments (is_live self.now) half_limit + self.now.room) }
     {
         segments::limit(&self.segments)
     }
@@ -176,30 +177,7 @@ impl Embedding {
         requires live_other { is_live self.now b ≡ true }
         ensures { IsTrue result ↔ SameCycle (face_next (turn self.now)) a b }
     {
-        match self.unused {
-            Some(_) => face(&self.segments, a) == face(&self.segments, b),
-            None => self.walks_to(a, b),
-        }
-    }
-
-    // Whether `a` and `b` lie in one face, by a walk round the face of `a`.
-    fn walks_to(&self, a: Half, b: Half) -> bool
-        requires live { is_live self.now a ≡ true }
-        requires live_other { is_live self.now b ≡ true }
-        ensures { IsTrue result ↔ SameCycle (face_next (turn self.now)) a b }
-    {
-        self.laws();
-        let mut at = a;
-        for _steps in 0..HALF_LIMIT {
-            if at == b {
-                return true;
-            }
-            at = self.face_next(at);
-            if at == a {
-                return false;
-            }
-        }
-        false
+        face(&self.segments, a) == face(&self.segments, b)
     }
 
     /// How many halves start at the point of `h`. It walks round the point.
@@ -249,8 +227,7 @@ impl Embedding {
         let label = face(&self.segments, c);
         let start = insert_isolated(&mut self.segments, edge, label, label);
         put_before(&mut self.segments, start, c);
-        let unused = attach(&mut self.segments, self.unused, start.twin(), d);
-        self.unused = unused;
+        self.unused = attach(&mut self.segments, self.unused, start.twin(), d);
         start
     }
 
@@ -283,8 +260,7 @@ impl Embedding {
         ensures labels { KeepsLabels (is_live self.new) (edge_of self.old) (edge_of self.new) }
         ensures counts { PartsFaces self.old h → CountsFewer self.old self.new 0 1 }
     {
-        let unused = detach(&mut self.segments, self.unused, h);
-        self.unused = unused;
+        self.unused = detach(&mut self.segments, self.unused, h);
         take_out(&mut self.segments, h.twin());
         remove_isolated(&mut self.segments, h);
     }

@@ -2,13 +2,13 @@
 //! two are joined, the smaller of the two is labelled anew by a walk.
 //!
 //! Labels are counted upwards. Where the last of them was given, all faces are labelled anew from the
-//! first on. That is one pass for some four thousand million edits. Were there more faces than labels,
-//! the labels would be looked at no longer.
+//! first on. That always suffices, since there are more labels than halves, and so than faces. With at
+//! most 2^31 halves it is one pass over all of them in no fewer than 2^31 - 1 edits.
 
-ghost use Rattle.std.specs.Prelude.{◌≡◌, ◌≢◌, ◌⊎◌, ◌<◌, ℕ, true, false};
+ghost use Rattle.std.specs.Prelude.{◌≡◌, ◌≢◌, ◌⊎◌, ◌+◌, ◌<◌, ℕ, true, false};
 ghost use Rattle.topo_core.specs.Rotations.{face_next, twin};
 ghost use Rattle.topo_map.specs.Building.{AreBlank};
-ghost use Rattle.topo_map.specs.Labels.{AreLabels, IsPainted, IsTakenLabel};
+ghost use Rattle.topo_map.specs.Labels.{IsLabelled, IsPainted};
 ghost use Rattle.topo_map.specs.Rotation.{half_limit};
 ghost use Rattle.topo_map.specs.Segments.{IsKept, IsTurned, Repaints, face_in, holds, next_in, put, without};
 
@@ -18,16 +18,6 @@ use slab::Slab;
 
 /// Above the numbers of all halves.
 pub(crate) const HALF_LIMIT: u64 = 4_294_967_294;
-
-/// A label for a new face, and what is unused then.
-pub(crate) fn take_label(unused: Option<u32>) -> (u32, Option<u32>)
-    ensures { IsTakenLabel unused result.0 result.1 }
-{
-    match unused {
-        Some(label) => (label, label.checked_add(1)),
-        None => (0, None),
-    }
-}
 
 /// The whole face of `start` gets this label.
 pub(crate) fn paint(segments: &mut Slab<Segment>, start: Half, label: u32)
@@ -98,27 +88,21 @@ fn part_label(segments: &mut Slab<Segment>, a: Half, b: Half, label: u32)
 }
 
 /// Puts `x`, a point by itself, before `c`, and labels the faces of both as they lie then. Answers
-/// what is unused then.
-pub(crate) fn attach(
-    segments: &mut Slab<Segment>,
-    unused: Option<u32>,
-    x: Half,
-    c: Half,
-) -> Option<u32>
+/// the label that is unused then.
+pub(crate) fn attach(segments: &mut Slab<Segment>, unused: u32, x: Half, c: Half) -> u32
     requires kept { IsKept segments.old }
     requires live { holds segments.old x ≡ true }
     requires live_corner { holds segments.old c ≡ true }
     requires alone { next_in segments.old x ≡ x }
     requires different { c ≢ x }
-    requires labels { AreLabels segments.old unused }
+    requires labels { IsLabelled segments.old unused }
     ensures turned { IsTurned segments.old segments.new (put (next_in segments.old) x c) }
-    ensures labels { AreLabels segments.new result }
+    ensures labels { IsLabelled segments.new result }
 {
     if face(segments, x) == face(segments, c) {
-        let (label, rest) = take_label(unused);
         put_before(segments, x, c);
-        part_label(segments, x, c, label);
-        renew(segments, rest)
+        part_label(segments, x, c, unused);
+        label_after(segments, unused)
     } else {
         share_label(segments, x, c);
         put_before(segments, x, c);
@@ -126,22 +110,21 @@ pub(crate) fn attach(
     }
 }
 
-/// `x` becomes a point by itself, and the faces beside it are labelled as they lie then. Answers what
-/// is unused then.
-pub(crate) fn detach(segments: &mut Slab<Segment>, unused: Option<u32>, x: Half) -> Option<u32>
+/// `x` becomes a point by itself, and the faces beside it are labelled as they lie then. Answers the
+/// label that is unused then.
+pub(crate) fn detach(segments: &mut Slab<Segment>, unused: u32, x: Half) -> u32
     requires kept { IsKept segments.old }
     requires live { holds segments.old x ≡ true }
-    requires labels { AreLabels segments.old unused }
+    requires labels { IsLabelled segments.old unused }
     ensures turned { IsTurned segments.old segments.new (without (next_in segments.old) x) }
-    ensures labels { AreLabels segments.new result }
+    ensures labels { IsLabelled segments.new result }
 {
     let other = x.twin();
     if face(segments, x) == face(segments, other) {
-        let (label, rest) = take_label(unused);
         let after = next(segments, x);
         take_out(segments, x);
-        part_label(segments, x, after, label);
-        renew(segments, rest)
+        part_label(segments, x, after, unused);
+        label_after(segments, unused)
     } else {
         share_label(segments, x, other);
         take_out(segments, x);
@@ -179,34 +162,34 @@ fn unlabel(segments: &mut Slab<Segment>)
     }
 }
 
-/// Each face gets a label of its own, where none has one. Answers what is unused then.
-pub(crate) fn label_faces(segments: &mut Slab<Segment>) -> Option<u32>
+/// Each face gets a label of its own, where none has one. Answers the label that is unused then.
+pub(crate) fn label_faces(segments: &mut Slab<Segment>) -> u32
     requires kept { IsKept segments.old }
     requires blank { AreBlank segments.old }
     ensures same { Repaints segments.old segments.new (face_in segments.new) }
-    ensures labels { AreLabels segments.new result }
+    ensures labels { IsLabelled segments.new result }
 {
-    let mut unused = Some(1);
+    let mut unused = 1;
     for number in 0..limit(segments) {
         let half = Half::numbered(number as u32);
         if lacks_label(segments, half) {
-            let (label, rest) = take_label(unused);
-            paint(segments, half, label);
-            unused = rest;
+            paint(segments, half, unused);
+            unused += 1;
         }
     }
     unused
 }
 
-/// Where no label is left, all faces are labelled anew. Answers what is unused then.
-fn renew(segments: &mut Slab<Segment>, unused: Option<u32>) -> Option<u32>
+/// The label after `given`, which was given last. Where it has no room in 32 bits, all faces are
+/// labelled anew. Answers the label that is unused then.
+fn label_after(segments: &mut Slab<Segment>, given: u32) -> u32
     requires kept { IsKept segments.old }
-    requires labels { AreLabels segments.old unused }
+    requires labels { IsLabelled segments.old (given + 1) }
     ensures same { Repaints segments.old segments.new (face_in segments.new) }
-    ensures labels { AreLabels segments.new result }
+    ensures labels { IsLabelled segments.new result }
 {
-    match unused {
-        Some(_) => unused,
+    match given.checked_add(1) {
+        Some(unused) => unused,
         None => {
             unlabel(segments);
             label_faces(segments)

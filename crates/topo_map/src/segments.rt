@@ -217,7 +217,7 @@ pub(crate) fn remove_isolated(segments: &mut Slab<Segment>, x: Half)
 pub(crate) fn limit(segments: &Slab<Segment>) -> usize
     ensures value { result ≡ limit_of segments.now }
     ensures slots { length segments.now.slots ≤ segments.now.capacity }
-    ensures fits { result < 2 ^ 32 }
+    ensures fits { result + 1 < 2 ^ 32 }
 {
     2 * segments.capacity().min(MOST_SEGMENTS)
 }

@@ -2,9 +2,9 @@ use Rattle.std.proofs.Common.{sym, ◌∙◌}
 use Rattle.topo_map.proofs.Attaching.{put_parts, put_joins}
 use Rattle.topo_map.proofs.faces.attach.Goals as goal
 
-pub renew-requires-clause-labels : goal.renew-requires-clause-labels
-renew-requires-clause-labels c = put_parts c.args.segments.now c.put_before.new.segments c.part_label.new.segments c.args.x c.args.c c.take_label-label.result.0 c.args.unused c.take_label-label.result.1
-    c.requires.kept c.requires.live c.requires.live_corner c.requires.alone c.requires.different c.requires.labels (sym c.face.ensures ∙ c.if-face.true ∙ c.face-2.ensures) c.take_label-label.ensures
+pub label_after-requires-clause-labels : goal.label_after-requires-clause-labels
+label_after-requires-clause-labels c = put_parts c.args.segments.now c.put_before.new.segments c.part_label.new.segments c.args.x c.args.c c.args.unused
+    c.requires.kept c.requires.live c.requires.live_corner c.requires.alone c.requires.different c.requires.labels (sym c.face.ensures ∙ c.if-face.true ∙ c.face-2.ensures)
     c.put_before.ensures.turned c.put_before.ensures.faces c.part_label.ensures
 
 pub returns-else-face-clause-labels : goal.returns-else-face-clause-labels

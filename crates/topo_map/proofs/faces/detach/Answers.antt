@@ -14,10 +14,10 @@ part_label-requires-clause-live_other c = ap (λ (h : ℕ → Bool). h c.next-af
 pub share_label-requires-clause-live_other : goal.share_label-requires-clause-live_other
 share_label-requires-clause-live_other c = live_twin c.args.segments.now c.args.x c.twin-other.result c.twin-other.ensures c.requires.live
 
-pub renew-requires-clause-labels : goal.renew-requires-clause-labels
-renew-requires-clause-labels c = without_parts c.args.segments.now c.take_out.new.segments c.part_label.new.segments c.args.x c.twin-other.result c.next-after.result c.take_label-label.result.0 c.args.unused c.take_label-label.result.1
+pub label_after-requires-clause-labels : goal.label_after-requires-clause-labels
+label_after-requires-clause-labels c = without_parts c.args.segments.now c.take_out.new.segments c.part_label.new.segments c.args.x c.twin-other.result c.next-after.result c.args.unused
     c.requires.kept c.requires.live c.twin-other.ensures c.next-after.ensures (ap (holds c.args.segments.now) c.next-after.ensures ∙ live_next c.args.segments.now c.args.x c.requires.kept c.requires.live)
-    c.requires.labels (sym c.face.ensures ∙ c.if-face.true ∙ c.face-2.ensures) c.take_label-label.ensures c.take_out.ensures.turned c.take_out.ensures.faces c.part_label.ensures
+    c.requires.labels (sym c.face.ensures ∙ c.if-face.true ∙ c.face-2.ensures) c.take_out.ensures.turned c.take_out.ensures.faces c.part_label.ensures
 
 pub returns-else-face-clause-labels : goal.returns-else-face-clause-labels
 returns-else-face-clause-labels c = without_joins c.args.segments.now c.share_label.new.segments c.take_out-else-face.new.segments c.args.x c.twin-other.result c.args.unused

@@ -1,10 +1,16 @@
-use Rattle.std.proofs.Common.{◌≡◌, ◌+◌, ◌<◌, ℕ, sym, ◌∙◌, subst, arith}
+use Rattle.std.proofs.Common.{◌≡◌, ◌+◌, ◌<◌, ◌≤◌, ℕ, sym, ◌∙◌, subst, arith}
 use Rattle.slab.specs.Slab.{Slab}
 use Rattle.topo_map.specs.declared.segments.Segment.{Segment}
 use Rattle.topo_map.proofs.Stored.{below_limit}
 use Rattle.topo_map.proofs.LabelledAll.{IsPartlyLabelled, step_over, step_painted, all_given}
 use Rattle.topo_map.proofs.faces.label_faces.Goals as goal
 use Rattle.topo_map.proofs.faces.label_faces.Goals.{then-lacks_label, else-lacks_label}
+
+-- no more labels are given than there are halves
+pub overflow_add-unused : goal.overflow_add-unused
+overflow_add-unused c =
+    let few : c.loop-number.unused ≤ c.loop-number.number + 1 = c.loop-number.invariant.partly.partly.few in
+    omega arith
 
 pub loop-number-preserved : goal.loop-number-preserved
 loop-number-preserved c =
@@ -15,9 +21,9 @@ loop-number-preserved c =
       partly = elim c.if-lacks_label.branch [
         | then-lacks_label w ↦
             let at = c.lacks_label.ensures.yes w.if-lacks_label.true in
-            let done : IsPartlyLabelled s w.paint.new.segments (k + 1) w.take_label-label.result.1 =
-            step_painted s c.loop-number.segments w.paint.new.segments k y w.take_label-label.result.0 c.loop-number.unused w.take_label-label.result.1 c.requires.kept c.loop-number.invariant.partly c.numbered-half.ensures
-            at.0 at.1 w.take_label-label.ensures w.paint.ensures in
+            let done : IsPartlyLabelled s w.paint.new.segments (k + 1) (c.loop-number.unused + 1) =
+            step_painted s c.loop-number.segments w.paint.new.segments k y c.loop-number.unused c.requires.kept c.loop-number.invariant.partly c.numbered-half.ensures
+            at.0 at.1 w.paint.ensures in
             grind arith
         | else-lacks_label w ↦
             let done : IsPartlyLabelled s c.loop-number.segments (k + 1) c.loop-number.unused =

@@ -6,12 +6,12 @@ use Rattle.topo_map.specs.Rotation.{Rotation, is_live, turn}
 use Rattle.topo_map.specs.Labels.{IsLabelled}
 use Rattle.topo_map.proofs.embedding.Embedding.same_face.Goals as goal
 
-pub returns-in-Some : goal.returns-in-Some
-returns-in-Some c =
-    let w : IsLabelled c.self.inside.segments c.in-Some.field-0 = c.self.invariant.labels.known c.in-Some.field-0 c.in-Some.is in
+pub returns : goal.returns
+returns c =
+    let w : IsLabelled c.self.inside.segments c.self.inside.unused = c.self.invariant.labels in
     let ha = ap (λ (r : Rotation). is_live r c.args.a) c.self.view_is ∙ c.requires.live in
     let hb = ap (λ (r : Rotation). is_live r c.args.b) c.self.view_is ∙ c.requires.live_other in (
       λ t. subst (λ (r : Rotation). SameCycle (face_next (turn r)) c.args.a c.args.b) c.self.view_is
-          (w.labels.same_face c.args.a c.args.b ha hb (sym c.face.ensures ∙ eqb-true _ _ t ∙ c.face-in-Some.ensures)),
-      λ s. eq-eqb _ _ (c.face.ensures ∙ w.labels.same_label c.args.a c.args.b ha hb (subst (λ (r : Rotation). SameCycle (face_next (turn r)) c.args.a c.args.b) (sym c.self.view_is) s) ∙ sym c.face-in-Some.ensures),
+          (w.labels.same_face c.args.a c.args.b ha hb (sym c.face.ensures ∙ eqb-true _ _ t ∙ c.face-2.ensures)),
+      λ s. eq-eqb _ _ (c.face.ensures ∙ w.labels.same_label c.args.a c.args.b ha hb (subst (λ (r : Rotation). SameCycle (face_next (turn r)) c.args.a c.args.b) (sym c.self.view_is) s) ∙ sym c.face-2.ensures),
     )

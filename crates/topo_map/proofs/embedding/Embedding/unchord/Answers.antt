@@ -10,19 +10,19 @@ pub take_out-requires-clause-live : goal.take_out-requires-clause-live
 take_out-requires-clause-live c = grind (arith, same_twin)
 
 done : (c : goal.After-remove_isolated) → IsUnchorded c.self.inside.segments c.remove_isolated.new.segments c.args.h
-done c = unchorded c.self.inside.segments c.detach-unused.new.segments c.take_out.new.segments c.remove_isolated.new.segments c.args.h c.twin.result c.self.invariant.kept
+done c = unchorded c.self.inside.segments c.detach-self-inside.new.segments c.take_out.new.segments c.remove_isolated.new.segments c.args.h c.twin.result c.self.invariant.kept
     (ap (λ (r : Rotation). is_live r c.args.h) c.self.view_is ∙ c.requires)
-    c.twin.ensures c.detach-unused.ensures.turned c.take_out.ensures.turned c.remove_isolated.ensures.removed
+    c.twin.ensures c.detach-self-inside.ensures.turned c.take_out.ensures.turned c.remove_isolated.ensures.removed
 
-pub detach-unused-requires-clause-live : goal.detach-unused-requires-clause-live
-detach-unused-requires-clause-live c = ap (λ (r : Rotation). is_live r c.args.h) c.self.view_is ∙ c.requires
+pub detach-self-inside-requires-clause-live : goal.detach-self-inside-requires-clause-live
+detach-self-inside-requires-clause-live c = ap (λ (r : Rotation). is_live r c.args.h) c.self.view_is ∙ c.requires
 
 pub invariant_of-self : goal.invariant_of-self
 invariant_of-self c = record {
   kept = (done c).taken.sound;
-  labels = unhung_labels c.self.inside.segments c.detach-unused.new.segments c.take_out.new.segments c.remove_isolated.new.segments c.args.h c.twin.result c.detach-unused.result
+  labels = unhung_labels c.self.inside.segments c.detach-self-inside.new.segments c.take_out.new.segments c.remove_isolated.new.segments c.args.h c.twin.result c.detach-self-inside.result
       (ap (λ (r : Rotation). is_live r c.args.h) c.self.view_is ∙ c.requires)
-      c.twin.ensures c.detach-unused.ensures.turned c.take_out.ensures.turned c.take_out.ensures.faces c.remove_isolated.ensures.removed c.remove_isolated.ensures.faces c.detach-unused.ensures.labels;
+      c.twin.ensures c.detach-self-inside.ensures.turned c.take_out.ensures.turned c.take_out.ensures.faces c.remove_isolated.ensures.removed c.remove_isolated.ensures.faces c.detach-self-inside.ensures.labels;
 }
 
 pub returns-clause-edit : goal.returns-clause-edit
@@ -35,11 +35,11 @@ pub returns-clause-counts : goal.returns-clause-counts
 returns-clause-counts c = subst (λ (r : Rotation). PartsFaces r c.args.h → CountsFewer r (view_of c.remove_isolated.new.segments) 0 1) c.self.view_is (done c).counts
 
 pub remove_isolated-requires-clause-alone : goal.remove_isolated-requires-clause-alone
-remove_isolated-requires-clause-alone c = unchord_alone c.self.inside.segments c.detach-unused.new.segments c.take_out.new.segments c.args.h c.twin.result c.twin.ensures c.detach-unused.ensures.turned c.take_out.ensures.turned
+remove_isolated-requires-clause-alone c = unchord_alone c.self.inside.segments c.detach-self-inside.new.segments c.take_out.new.segments c.args.h c.twin.result c.twin.ensures c.detach-self-inside.ensures.turned c.take_out.ensures.turned
 
 pub remove_isolated-requires-clause-twin_alone : goal.remove_isolated-requires-clause-twin_alone
-remove_isolated-requires-clause-twin_alone c = without_alone c.detach-unused.new.segments c.take_out.new.segments c.args.h c.twin.result c.twin.ensures c.take_out.ensures.turned
+remove_isolated-requires-clause-twin_alone c = without_alone c.detach-self-inside.new.segments c.take_out.new.segments c.args.h c.twin.result c.twin.ensures c.take_out.ensures.turned
 
 pub returns-clause-labels : goal.returns-clause-labels
 returns-clause-labels c = subst (λ (r : Rotation). KeepsLabels (holds c.remove_isolated.new.segments) (edge_of r) (label_in c.remove_isolated.new.segments)) c.self.view_is
-    (labels_kept c.self.inside.segments c.take_out.new.segments c.remove_isolated.new.segments (c.take_out.ensures.turned.edges ∙ c.detach-unused.ensures.turned.edges) c.remove_isolated.ensures.labels)
+    (labels_kept c.self.inside.segments c.take_out.new.segments c.remove_isolated.new.segments (c.take_out.ensures.turned.edges ∙ c.detach-self-inside.ensures.turned.edges) c.remove_isolated.ensures.labels)
