@@ -10,22 +10,22 @@ ghost use Rattle.std.specs.Prelude.{◌≡◌, Some};
 ghost use Rattle.std.specs.Arc.{arc_value};
 ghost use Rattle.topo_price.specs.Prices.{IsPromise};
 
-mod ending;
-mod people;
+mod editing;
+mod summary;
 
 use anyhow::{Error, Result};
-use ending::tell;
-use people::{edit, watch};
+use editing::{edit, watch};
 use std::alloc::Global;
 use std::marker::Brand;
 use std::sync::atomic::{AtomicBool, Ordering};
 use std::sync::{Arc, Wait};
 use std::thread;
 use std::thread::Threads;
+use summary::tell;
 use topo_core::limits::Limits;
 use topo_core::rows::Facts;
 use topo_picture::Picture;
-use topo_price::tariff::{Asks, Tariff};
+use topo_price::tariff::{PriceFn, Tariff};
 use topo_service::{FreshService, Pass, Service};
 use topo_versions::ServiceBrand;
 
@@ -42,12 +42,12 @@ fn main(rt: HostRuntime) -> Result<()> {
 
 /// Makes what a service begins with: an empty ledger of receipts, a picture and the prices. `Brand` is the
 /// type that stands for this one service, so that a pass of another cannot be handed in.
-fn begin<F: Asks + Drop + Send + Sync, R: Threads + Wait + Print + AllocGlobal + Sync>(
+fn begin<F: PriceFn + Drop + Send + Sync, R: Threads + Wait + Print + AllocGlobal + Sync>(
     rt: &R,
     prices: F,
 ) -> Result<()>
-    requires callable { F.can_ask prices }
-    requires promise { IsPromise (F.answers prices) }
+    requires callable { F.is_callable prices }
+    requires promise { IsPromise (F.may_return prices) }
 {
     let alloc = rt.alloc();
     let Ok(limits) = Limits::new(1_000, 1_000, 10_000) else {
@@ -62,7 +62,7 @@ fn begin<F: Asks + Drop + Send + Sync, R: Threads + Wait + Print + AllocGlobal +
 /// Two editors and a viewer at one service. The service and the passes are owned here, and handed back to it
 /// whatever happened: it has to be closed.
 fn share<
-    F: Asks + Drop + Send + Sync,
+    F: PriceFn + Drop + Send + Sync,
     K: ServiceBrand<F> + Send + Sync,
     R: Threads + Wait + Print + AllocGlobal + Sync,
 >(rt: &R, alloc: Global, fresh: FreshService, start: Picture, tariff: Arc<Tariff<F>>) -> Result<()>
@@ -80,12 +80,11 @@ fn share<
 }
 
 /// Gives the passes out, and lets everybody do their work.
-fn serve<F: Asks + Drop + Send + Sync, K: ServiceBrand<F> + Send + Sync, R: Threads + Wait + Sync>(
-    rt: &R,
-    alloc: Global,
-    service: &mut Service<F, K>,
-    passes: &mut Vec<Pass<F, K>>,
-) -> Result<()> {
+fn serve<
+    F: PriceFn + Drop + Send + Sync,
+    K: ServiceBrand<F> + Send + Sync,
+    R: Threads + Wait + Sync,
+>(rt: &R, alloc: Global, service: &mut Service<F, K>, passes: &mut Vec<Pass<F, K>>) -> Result<()> {
     give_out(service, passes)?;
     if work(rt, alloc, &*service, passes.as_mut_slice()) {
         Ok(())
@@ -95,7 +94,7 @@ fn serve<F: Asks + Drop + Send + Sync, K: ServiceBrand<F> + Send + Sync, R: Thre
 }
 
 /// A pass for each editor and one for the viewer.
-fn give_out<F: Asks + Drop, K: ServiceBrand<F>>(
+fn give_out<F: PriceFn + Drop, K: ServiceBrand<F>>(
     service: &mut Service<F, K>,
     passes: &mut Vec<Pass<F, K>>,
 ) -> Result<()> {
@@ -109,12 +108,11 @@ fn give_out<F: Asks + Drop, K: ServiceBrand<F>>(
 }
 
 /// A thread for each pass: the first ones edit, the last one looks. It says whether each came to its end.
-fn work<F: Asks + Drop + Send + Sync, K: ServiceBrand<F> + Send + Sync, R: Threads + Wait + Sync>(
-    rt: &R,
-    alloc: Global,
-    service: &Service<F, K>,
-    passes: &mut [Pass<F, K>],
-) -> bool {
+fn work<
+    F: PriceFn + Drop + Send + Sync,
+    K: ServiceBrand<F> + Send + Sync,
+    R: Threads + Wait + Sync,
+>(rt: &R, alloc: Global, service: &Service<F, K>, passes: &mut [Pass<F, K>]) -> bool {
     let well = AtomicBool::new(true);
     thread::for_each_mut(
         rt,

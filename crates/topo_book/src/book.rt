@@ -8,14 +8,14 @@ use crate::next::Next;
 use crate::replicas::{Replica, Replicas};
 use crate::scratch::Scratch;
 use crate::sparing::have_spared;
-use crate::steps::{advance, advance_alone, decide};
+use crate::steps::{apply_entry, apply_entry_unshared, decide};
 use std::alloc::{AllocError, Global};
 use std::marker::Model;
 use std::mem;
 use std::sync::Arc;
 use topo_core::calls::{Call, Entry, Reply};
 use topo_picture::Picture;
-use topo_price::tariff::{Asks, Tariff};
+use topo_price::tariff::{PriceFn, Tariff};
 use topo_route::plan::{Plan, PricedRoute};
 use topo_route::region::Region;
 
@@ -24,7 +24,7 @@ use topo_route::region::Region;
 /// only what it reaches, and a check copies nothing.
 /// Pictures that took part before are kept as well: brought up to date, one of them is the next picture,
 /// so that a call which others see at once costs its change, and not a copy.
-pub struct Book<F: Asks> {
+pub struct Book<F: PriceFn> {
     tariff: Arc<Tariff<F>>,
     start: Picture,
     history: Vec<Entry>,
@@ -32,11 +32,11 @@ pub struct Book<F: Asks> {
     replicas: Replicas,
     scratch: Scratch,
     // Whether the picture now is the second of the two that take turns.
-    is_second: bool,
+    search_on_replica: bool,
 }
 
 // Written out, so that it is proved once: a derived one is proved anew in each function that lets such a value go.
-impl<F: Asks + Drop> Drop for Book<F> {
+impl<F: PriceFn + Drop> Drop for Book<F> {
     fn drop(self) {
         let Book {
             tariff,
@@ -45,7 +45,7 @@ impl<F: Asks + Drop> Drop for Book<F> {
             picture,
             replicas,
             scratch,
-            is_second: _,
+            search_on_replica: _,
         } = self;
         drop(tariff);
         drop(start);
@@ -73,7 +73,7 @@ fn is_search(call: Call, hint: Hint) -> bool {
     matches!((call, hint), (Call::Insert { .. }, Hint::Nothing))
 }
 
-impl<F: Asks> Model for Book<F> {
+impl<F: PriceFn> Model for Book<F> {
     ghost use Rattle.std.specs.Prelude.{◌-◌, vec_len, vec_capacity};
     ghost use Rattle.std.specs.Arc.{arc_value};
     ghost use Rattle.topo_price.specs.Prices.{prices_of};
@@ -90,10 +90,10 @@ impl<F: Asks> Model for Book<F> {
       spare = vec_capacity b.history - vec_len b.history;
     } };
 
-    ghost invariant = { λ b. IsBookWith (prices_of (F.answers (arc_value b.tariff))) b.start b.history.items (arc_value b.picture) b.replicas };
+    ghost invariant = { λ b. IsBookWith (prices_of (F.may_return (arc_value b.tariff))) b.start b.history.items (arc_value b.picture) b.replicas };
 }
 
-impl<F: Asks> Book<F> {
+impl<F: PriceFn> Book<F> {
     ghost use Rattle.std.specs.Prelude.{◌≡◌, ◌≢◌, ◌<◌, true, IfOk, IfSome, OnOk, OnErr, [], ◌∷◌, ◌++◌};
     ghost use Rattle.topo_core.specs.History.{Replays, is_accepted};
     ghost use Rattle.topo_core.specs.Routes.{IsFirst};
@@ -124,7 +124,7 @@ impl<F: Asks> Book<F> {
             picture,
             replicas,
             scratch,
-            is_second: false,
+            search_on_replica: false,
         })
     }
 
@@ -145,8 +145,8 @@ impl<F: Asks> Book<F> {
     /// The entries so far, the oldest first. Want of memory is never entered.
     pub fn history(&self) -> &[Entry]
         ensures entries { result.now ≡ self.now.history }
-        ensures legal { Replays (prices_of (F.answers self.now.tariff)) self.now.start.limits self.now.start.rows self.now.history self.now.picture.rows }
-        ensures lawful { ReplaysLawfully (prices_of (F.answers self.now.tariff)) self.now.start.limits self.now.start.rows self.now.history self.now.picture.rows }
+        ensures legal { Replays (prices_of (F.may_return self.now.tariff)) self.now.start.limits self.now.start.rows self.now.history self.now.picture.rows }
+        ensures lawful { ReplaysLawfully (prices_of (F.may_return self.now.tariff)) self.now.start.limits self.now.start.rows self.now.history self.now.picture.rows }
     {
         self.history.as_slice()
     }
@@ -154,7 +154,7 @@ impl<F: Asks> Book<F> {
     /// The picture now, the replay of the history.
     pub fn picture(&self) -> &Picture
         ensures picture { result.now ≡ self.now.picture }
-        ensures replay { Replays (prices_of (F.answers self.now.tariff)) self.now.start.limits self.now.start.rows self.now.history self.now.picture.rows }
+        ensures replay { Replays (prices_of (F.may_return self.now.tariff)) self.now.start.limits self.now.start.rows self.now.history self.now.picture.rows }
         ensures lawful { IsPicture self.now.picture.limits self.now.picture.rows }
         ensures same_limits { self.now.picture.limits ≡ self.now.start.limits }
     {
@@ -165,7 +165,7 @@ impl<F: Asks> Book<F> {
     /// is held, and calls go on with another.
     pub fn shared_picture(&self) -> &Arc<Picture>
         ensures picture { arc_value result.now ≡ self.now.picture }
-        ensures replay { Replays (prices_of (F.answers self.now.tariff)) self.now.start.limits self.now.start.rows self.now.history self.now.picture.rows }
+        ensures replay { Replays (prices_of (F.may_return self.now.tariff)) self.now.start.limits self.now.start.rows self.now.history self.now.picture.rows }
         ensures lawful { IsPicture self.now.picture.limits self.now.picture.rows }
         ensures same_limits { self.now.picture.limits ≡ self.now.start.limits }
     {
@@ -191,7 +191,7 @@ impl<F: Asks> Book<F> {
     where
         F: Drop,
         ensures entries { result.items ≡ self.history }
-        ensures legal { Replays (prices_of (F.answers self.tariff)) self.start.limits self.start.rows self.history self.picture.rows }
+        ensures legal { Replays (prices_of (F.may_return self.tariff)) self.start.limits self.start.rows self.history self.picture.rows }
     {
         let Book {
             tariff: _tariff,
@@ -200,7 +200,7 @@ impl<F: Asks> Book<F> {
             picture: _picture,
             replicas: _replicas,
             scratch: _scratch,
-            is_second: _,
+            search_on_replica: _,
         } = self;
         history // the oldest entry first
     }
@@ -216,13 +216,13 @@ impl<F: Asks> Book<F> {
         v: u32,
         kind: u32,
     ) -> Result<Reply, AllocError>
-        ensures step { IfOk result (λ reply. Step (prices_of (F.answers self.old.tariff)) self.old.picture.limits self.old.picture.rows (Insert u v kind) reply self.new.picture.rows) }
+        ensures step { IfOk result (λ reply. Step (prices_of (F.may_return self.old.tariff)) self.old.picture.limits self.old.picture.rows (Insert u v kind) reply self.new.picture.rows) }
         ensures entered { IfOk result (λ reply. self.new.history ≡ self.old.history ++ record { caller = caller; call = Insert u v kind; reply = reply } ∷ []) }
         ensures no_memory { IfOk result (λ reply. reply ≢ Refused Memory) }
         ensures unchanged { OnErr result (IsUnchanged self.old self.new) }
         ensures same_book { IsSameBook self.old self.new }
     {
-        self.carry_out(alloc, caller, Call::Insert { u, v, kind }, Hint::Nothing)
+        self.call_in_place(alloc, caller, Call::Insert { u, v, kind }, Hint::Nothing)
     }
 
     /// As `insert`, whatever the plan: its route is taken where the plan passes the check on the
@@ -236,25 +236,25 @@ impl<F: Asks> Book<F> {
         kind: u32,
         plan: &Plan,
     ) -> Result<Reply, AllocError>
-        ensures step { IfOk result (λ reply. Step (prices_of (F.answers self.old.tariff)) self.old.picture.limits self.old.picture.rows (Insert u v kind) reply self.new.picture.rows) }
+        ensures step { IfOk result (λ reply. Step (prices_of (F.may_return self.old.tariff)) self.old.picture.limits self.old.picture.rows (Insert u v kind) reply self.new.picture.rows) }
         ensures entered { IfOk result (λ reply. self.new.history ≡ self.old.history ++ record { caller = caller; call = Insert u v kind; reply = reply } ∷ []) }
         ensures no_memory { IfOk result (λ reply. reply ≢ Refused Memory) }
         ensures unchanged { OnErr result (IsUnchanged self.old self.new) }
         ensures same_book { IsSameBook self.old self.new }
     {
-        self.carry_out(alloc, caller, Call::Insert { u, v, kind }, Hint::Plan(plan))
+        self.call_in_place(alloc, caller, Call::Insert { u, v, kind }, Hint::Plan(plan))
     }
 
     /// Takes an edge out, or answers why not. Both are entered. Want of memory may stand in place of
     /// any answer, and leaves history and picture as they were.
     pub fn delete(&mut self, alloc: Global, caller: u32, edge: u32) -> Result<Reply, AllocError>
-        ensures step { IfOk result (λ reply. Step (prices_of (F.answers self.old.tariff)) self.old.picture.limits self.old.picture.rows (Delete edge) reply self.new.picture.rows) }
+        ensures step { IfOk result (λ reply. Step (prices_of (F.may_return self.old.tariff)) self.old.picture.limits self.old.picture.rows (Delete edge) reply self.new.picture.rows) }
         ensures entered { IfOk result (λ reply. self.new.history ≡ self.old.history ++ record { caller = caller; call = Delete edge; reply = reply } ∷ []) }
         ensures no_memory { IfOk result (λ reply. reply ≢ Refused Memory) }
         ensures unchanged { OnErr result (IsUnchanged self.old self.new) }
         ensures same_book { IsSameBook self.old self.new }
     {
-        self.carry_out(alloc, caller, Call::Delete { edge }, Hint::Nothing)
+        self.call_in_place(alloc, caller, Call::Delete { edge }, Hint::Nothing)
     }
 
     /// Puts a new vertex on a new edge of this kind into the corner at `position` of `u`, or answers
@@ -268,13 +268,13 @@ impl<F: Asks> Book<F> {
         position: u32,
         kind: u32,
     ) -> Result<Reply, AllocError>
-        ensures step { IfOk result (λ reply. Step (prices_of (F.answers self.old.tariff)) self.old.picture.limits self.old.picture.rows (Grow u position kind) reply self.new.picture.rows) }
+        ensures step { IfOk result (λ reply. Step (prices_of (F.may_return self.old.tariff)) self.old.picture.limits self.old.picture.rows (Grow u position kind) reply self.new.picture.rows) }
         ensures entered { IfOk result (λ reply. self.new.history ≡ self.old.history ++ record { caller = caller; call = Grow u position kind; reply = reply } ∷ []) }
         ensures no_memory { IfOk result (λ reply. reply ≢ Refused Memory) }
         ensures unchanged { OnErr result (IsUnchanged self.old self.new) }
         ensures same_book { IsSameBook self.old self.new }
     {
-        self.carry_out(
+        self.call_in_place(
             alloc,
             caller,
             Call::Grow { u, position, kind },
@@ -288,11 +288,11 @@ impl<F: Asks> Book<F> {
     pub fn prepare(&mut self, alloc: Global, caller: u32, call: Call) -> Result<Next, AllocError>
         ensures caller { IfOk result (λ n. n.entry.caller ≡ caller) }
         ensures call { IfOk result (λ n. n.entry.call ≡ call) }
-        ensures ready { IfOk result (CanFollow (prices_of (F.answers self.new.tariff)) self.new) }
+        ensures ready { IfOk result (CanFollow (prices_of (F.may_return self.new.tariff)) self.new) }
         ensures unchanged { IsUnchanged self.old self.new }
         ensures same_book { IsSameBook self.old self.new }
     {
-        self.make_ready(alloc, caller, call, Hint::Nothing)
+        self.prepare_from(alloc, caller, call, Hint::Nothing)
     }
 
     /// As `prepare` of an insertion, whatever the plan: its route is taken where the plan passes the
@@ -308,11 +308,11 @@ impl<F: Asks> Book<F> {
     ) -> Result<Next, AllocError>
         ensures caller { IfOk result (λ n. n.entry.caller ≡ caller) }
         ensures call { IfOk result (λ n. n.entry.call ≡ Insert u v kind) }
-        ensures ready { IfOk result (CanFollow (prices_of (F.answers self.new.tariff)) self.new) }
+        ensures ready { IfOk result (CanFollow (prices_of (F.may_return self.new.tariff)) self.new) }
         ensures unchanged { IsUnchanged self.old self.new }
         ensures same_book { IsSameBook self.old self.new }
     {
-        self.make_ready(alloc, caller, Call::Insert { u, v, kind }, Hint::Plan(plan))
+        self.prepare_from(alloc, caller, Call::Insert { u, v, kind }, Hint::Plan(plan))
     }
 
     /// As `prepare` of an insertion whose first route is known: nothing is searched, and nothing of the
@@ -326,14 +326,14 @@ impl<F: Asks> Book<F> {
         kind: u32,
         first: &PricedRoute,
     ) -> Result<Next, AllocError>
-        requires first { IsFirst (prices_of (F.answers self.old.tariff)) self.old.picture.rows u v first.now.route first.now.price }
+        requires first { IsFirst (prices_of (F.may_return self.old.tariff)) self.old.picture.rows u v first.now.route first.now.price }
         ensures caller { IfOk result (λ n. n.entry.caller ≡ caller) }
         ensures call { IfOk result (λ n. n.entry.call ≡ Insert u v kind) }
-        ensures ready { IfOk result (CanFollow (prices_of (F.answers self.new.tariff)) self.new) }
+        ensures ready { IfOk result (CanFollow (prices_of (F.may_return self.new.tariff)) self.new) }
         ensures unchanged { IsUnchanged self.old self.new }
         ensures same_book { IsSameBook self.old self.new }
     {
-        self.make_ready(
+        self.prepare_from(
             alloc,
             caller,
             Call::Insert { u, v, kind },
@@ -343,7 +343,7 @@ impl<F: Asks> Book<F> {
 
     /// Enters what was made ready. It takes no memory.
     pub fn commit(&mut self, next: Next)
-        requires { CanFollow (prices_of (F.answers self.old.tariff)) self.old next }
+        requires { CanFollow (prices_of (F.may_return self.old.tariff)) self.old next }
         ensures entered { self.new.history ≡ self.old.history ++ next.entry ∷ [] }
         ensures picture { self.new.picture ≡ picture_after next.picture self.old.picture }
         ensures same_book { IsSameBook self.old self.new }
@@ -353,7 +353,7 @@ impl<F: Asks> Book<F> {
         self.history.push_reserved(entry);
         if let Some(picture) = picture {
             let before = mem::replace(&mut self.picture, picture);
-            self.is_second = !self.is_second;
+            self.search_on_replica = !self.search_on_replica;
             self.replicas.keep(Replica {
                 picture: before,
                 entries,
@@ -363,13 +363,13 @@ impl<F: Asks> Book<F> {
 
     /// Carries the entries out on a picture that stands after the first `from` of them, and answers after
     /// how many it stands then: after all of them, but where memory is wanted.
-    fn carry_on(&self, alloc: Global, picture: &mut Picture, from: usize) -> usize
-        requires { IsReplica (prices_of (F.answers self.now.tariff)) self.now.start self.now.history from picture.old }
-        ensures { IsReplica (prices_of (F.answers self.now.tariff)) self.now.start self.now.history result picture.new }
+    fn replay_missed(&self, alloc: Global, picture: &mut Picture, from: usize) -> usize
+        requires { IsReplica (prices_of (F.may_return self.now.tariff)) self.now.start self.now.history from picture.old }
+        ensures { IsReplica (prices_of (F.may_return self.now.tariff)) self.now.start self.now.history result picture.new }
     {
         let history = self.history();
         for index in from..history.len() {
-            if advance(alloc, picture, &self.tariff, &history[index]).is_err() {
+            if apply_entry(alloc, picture, &self.tariff, &history[index]).is_err() {
                 return index;
             }
         }
@@ -378,15 +378,15 @@ impl<F: Asks> Book<F> {
 
     /// Brings a replica up to date, if nobody else holds it. Where memory is wanted it stands after some
     /// later entry.
-    fn catch_up(&self, alloc: Global, replica: &mut Replica) -> Result<(), AllocError>
-        requires { IsReplica (prices_of (F.answers self.now.tariff)) self.now.start self.now.history replica.old.entries (arc_value replica.old.picture) }
-        ensures stands { IsReplica (prices_of (F.answers self.now.tariff)) self.now.start self.now.history replica.new.entries (arc_value replica.new.picture) }
+    fn bring_up_to_date(&self, alloc: Global, replica: &mut Replica) -> Result<(), AllocError>
+        requires { IsReplica (prices_of (F.may_return self.now.tariff)) self.now.start self.now.history replica.old.entries (arc_value replica.old.picture) }
+        ensures stands { IsReplica (prices_of (F.may_return self.now.tariff)) self.now.start self.now.history replica.new.entries (arc_value replica.new.picture) }
         ensures equal { OnOk result (arc_value replica.new.picture ≡ self.now.picture) }
     {
         let Some(picture) = Arc::get_mut(&mut replica.picture) else {
             return Err(AllocError);
         };
-        replica.entries = self.carry_on(alloc, picture, replica.entries);
+        replica.entries = self.replay_missed(alloc, picture, replica.entries);
         if replica.entries < self.history.len() {
             return Err(AllocError);
         }
@@ -408,18 +408,18 @@ impl<F: Asks> Book<F> {
     }
 
     /// A replica that nobody else holds, brought up to date; none where none is free. It is kept no longer.
-    fn take_current(&mut self, alloc: Global) -> Result<Option<Replica>, AllocError>
-        ensures stands { IfOk result (λ found. IfSome found (λ r. IsReplica (prices_of (F.answers self.new.tariff)) self.new.start self.new.history r.entries (arc_value r.picture))) }
+    fn take_current_replica(&mut self, alloc: Global) -> Result<Option<Replica>, AllocError>
+        ensures stands { IfOk result (λ found. IfSome found (λ r. IsReplica (prices_of (F.may_return self.new.tariff)) self.new.start self.new.history r.entries (arc_value r.picture))) }
         ensures equal { IfOk result (λ found. IfSome found (λ r. arc_value r.picture ≡ self.new.picture)) }
         ensures unchanged { IsUnchanged self.old self.new }
         ensures same_book { IsSameBook self.old self.new }
         ensures same_room { self.new.spare ≡ self.old.spare }
     {
         let least = self.history.len().saturating_sub(self.reach());
-        let Some(mut replica) = self.replicas.take_free(least) else {
+        let Some(mut replica) = self.replicas.take_unshared(least) else {
             return Ok(None);
         };
-        if self.catch_up(alloc, &mut replica).is_err() {
+        if self.bring_up_to_date(alloc, &mut replica).is_err() {
             self.replicas.keep(replica);
             return Err(AllocError);
         }
@@ -429,14 +429,14 @@ impl<F: Asks> Book<F> {
     /// A picture that equals the picture now, and that nobody else holds: a replica that is brought up to
     /// date, and a copy where none is free.
     #[tactic(auto, using(crate::proofs::ReplicaLaws::replica_lawful))]
-    fn take_twin(&mut self, alloc: Global) -> Result<Arc<Picture>, AllocError>
+    fn unshared_picture(&mut self, alloc: Global) -> Result<Arc<Picture>, AllocError>
         ensures equal { IfOk result (λ p. arc_value p ≡ self.new.picture) }
         ensures lawful { IfOk result (λ p. IsPicture (arc_value p).limits (arc_value p).rows) }
         ensures unchanged { IsUnchanged self.old self.new }
         ensures same_book { IsSameBook self.old self.new }
         ensures same_room { self.new.spare ≡ self.old.spare }
     {
-        match self.take_current(alloc)? {
+        match self.take_current_replica(alloc)? {
             Some(replica) => Ok(replica.picture),
             None => self.copied(alloc),
         }
@@ -444,17 +444,22 @@ impl<F: Asks> Book<F> {
 
     /// The reply that is due to a call. Of the two pictures that take turns, searches read one and the same, so
     /// that the processor's cache holds what they read, and the other is only changed.
-    fn decide_call(&mut self, alloc: Global, call: Call, hint: Hint) -> Result<Reply, AllocError>
-        requires { IsHintFor (prices_of (F.answers self.old.tariff)) self.old.picture.rows call hint }
-        ensures due { IfOk result (IsDue (prices_of (F.answers self.old.tariff)) self.old.picture.limits self.old.picture.rows call) }
+    fn decide_where_cached(
+        &mut self,
+        alloc: Global,
+        call: Call,
+        hint: Hint,
+    ) -> Result<Reply, AllocError>
+        requires { IsHintFor (prices_of (F.may_return self.old.tariff)) self.old.picture.rows call hint }
+        ensures due { IfOk result (IsDue (prices_of (F.may_return self.old.tariff)) self.old.picture.limits self.old.picture.rows call) }
         ensures no_memory { IfOk result (λ reply. reply ≢ Refused Memory) }
         ensures unchanged { IsUnchanged self.old self.new }
         ensures same_book { IsSameBook self.old self.new }
         ensures same_room { self.new.spare ≡ self.old.spare }
     {
-        if self.is_second && is_search(call, hint) {
-            if let Some(first) = self.take_current(alloc)? {
-                return self.decide_on(alloc, first, call, hint);
+        if self.search_on_replica && is_search(call, hint) {
+            if let Some(first) = self.take_current_replica(alloc)? {
+                return self.decide_on_replica(alloc, first, call, hint);
             }
         }
         decide(
@@ -468,17 +473,17 @@ impl<F: Asks> Book<F> {
     }
 
     /// The reply that is due to a call, read off a replica that is up to date. It is kept again.
-    fn decide_on(
+    fn decide_on_replica(
         &mut self,
         alloc: Global,
         replica: Replica,
         call: Call,
         hint: Hint,
     ) -> Result<Reply, AllocError>
-        requires stands { IsReplica (prices_of (F.answers self.old.tariff)) self.old.start self.old.history replica.entries (arc_value replica.picture) }
+        requires stands { IsReplica (prices_of (F.may_return self.old.tariff)) self.old.start self.old.history replica.entries (arc_value replica.picture) }
         requires equal { arc_value replica.picture ≡ self.old.picture }
-        requires known { IsHintFor (prices_of (F.answers self.old.tariff)) self.old.picture.rows call hint }
-        ensures due { IfOk result (IsDue (prices_of (F.answers self.old.tariff)) self.old.picture.limits self.old.picture.rows call) }
+        requires known { IsHintFor (prices_of (F.may_return self.old.tariff)) self.old.picture.rows call hint }
+        ensures due { IfOk result (IsDue (prices_of (F.may_return self.old.tariff)) self.old.picture.limits self.old.picture.rows call) }
         ensures no_memory { IfOk result (λ reply. reply ≢ Refused Memory) }
         ensures unchanged { IsUnchanged self.old self.new }
         ensures same_book { IsSameBook self.old self.new }
@@ -497,44 +502,44 @@ impl<F: Asks> Book<F> {
     }
 
     /// Makes an accepted entry ready, on a picture that nobody else holds.
-    fn make_accepted(&mut self, alloc: Global, entry: Entry) -> Result<Next, AllocError>
+    fn prepare_accepted(&mut self, alloc: Global, entry: Entry) -> Result<Next, AllocError>
         requires accepted { is_accepted entry.reply ≡ true }
-        requires due { IsDue (prices_of (F.answers self.old.tariff)) self.old.picture.limits self.old.picture.rows entry.call entry.reply }
+        requires due { IsDue (prices_of (F.may_return self.old.tariff)) self.old.picture.limits self.old.picture.rows entry.call entry.reply }
         requires no_memory { entry.reply ≢ Refused Memory }
         requires room { 0 < self.old.spare }
         ensures entry { IfOk result (λ n. n.entry ≡ entry) }
-        ensures ready { IfOk result (CanFollow (prices_of (F.answers self.new.tariff)) self.new) }
+        ensures ready { IfOk result (CanFollow (prices_of (F.may_return self.new.tariff)) self.new) }
         ensures unchanged { IsUnchanged self.old self.new }
         ensures same_book { IsSameBook self.old self.new }
     {
-        let mut twin = self.take_twin(alloc)?;
-        if advance_alone(alloc, &mut twin, &self.tariff, &entry).is_err() {
+        let mut unshared = self.unshared_picture(alloc)?;
+        if apply_entry_unshared(alloc, &mut unshared, &self.tariff, &entry).is_err() {
             self.replicas.keep(Replica {
-                picture: twin,
+                picture: unshared,
                 entries: self.history.len(),
             });
             return Err(AllocError);
         }
-        Ok(Next::accepted(entry, twin))
+        Ok(Next::accepted(entry, unshared))
     }
 
     /// Makes the call ready. A refused call takes no other picture.
-    fn make_ready(
+    fn prepare_from(
         &mut self,
         alloc: Global,
         caller: u32,
         call: Call,
         hint: Hint,
     ) -> Result<Next, AllocError>
-        requires { IsHintFor (prices_of (F.answers self.old.tariff)) self.old.picture.rows call hint }
+        requires { IsHintFor (prices_of (F.may_return self.old.tariff)) self.old.picture.rows call hint }
         ensures caller { IfOk result (λ n. n.entry.caller ≡ caller) }
         ensures call { IfOk result (λ n. n.entry.call ≡ call) }
-        ensures ready { IfOk result (CanFollow (prices_of (F.answers self.new.tariff)) self.new) }
+        ensures ready { IfOk result (CanFollow (prices_of (F.may_return self.new.tariff)) self.new) }
         ensures unchanged { IsUnchanged self.old self.new }
         ensures same_book { IsSameBook self.old self.new }
     {
         self.history.reserve(1)?;
-        let reply = self.decide_call(alloc, call, hint)?;
+        let reply = self.decide_where_cached(alloc, call, hint)?;
         let entry = Entry {
             caller,
             call,
@@ -542,27 +547,27 @@ impl<F: Asks> Book<F> {
         };
         match entry.reply {
             Reply::Refused(_) => Ok(Next::refused(entry)),
-            _ => self.make_accepted(alloc, entry),
+            _ => self.prepare_accepted(alloc, entry),
         }
     }
 
     /// Carries the call out and enters it. Whatever fails, fails before anything changes.
-    fn carry_out(
+    fn call_in_place(
         &mut self,
         alloc: Global,
         caller: u32,
         call: Call,
         hint: Hint,
     ) -> Result<Reply, AllocError>
-        requires { IsHintFor (prices_of (F.answers self.old.tariff)) self.old.picture.rows call hint }
-        ensures step { IfOk result (λ reply. Step (prices_of (F.answers self.old.tariff)) self.old.picture.limits self.old.picture.rows call reply self.new.picture.rows) }
+        requires { IsHintFor (prices_of (F.may_return self.old.tariff)) self.old.picture.rows call hint }
+        ensures step { IfOk result (λ reply. Step (prices_of (F.may_return self.old.tariff)) self.old.picture.limits self.old.picture.rows call reply self.new.picture.rows) }
         ensures entered { IfOk result (λ reply. self.new.history ≡ self.old.history ++ record { caller = caller; call = call; reply = reply } ∷ []) }
         ensures no_memory { IfOk result (λ reply. reply ≢ Refused Memory) }
         ensures unchanged { OnErr result (IsUnchanged self.old self.new) }
         ensures same_book { IsSameBook self.old self.new }
     {
         let Some(picture) = Arc::get_mut(&mut self.picture) else {
-            return self.carry_out_aside(alloc, caller, call, hint);
+            return self.call_on_copy(alloc, caller, call, hint);
         };
         self.history.reserve(1)?;
         let reply = decide(alloc, picture, &self.tariff, call, hint, &mut self.scratch)?;
@@ -572,28 +577,28 @@ impl<F: Asks> Book<F> {
             reply,
         };
         let told = entry.reply.copy(alloc)?;
-        advance(alloc, picture, &self.tariff, &entry)?;
+        apply_entry(alloc, picture, &self.tariff, &entry)?;
         self.history.push_reserved(entry);
         Ok(told)
     }
 
-    /// As `carry_out`, where readers share the picture now: the call is made ready on another, and then
+    /// As `call_in_place`, where readers share the picture now: the call is made ready on another, and then
     /// entered.
-    fn carry_out_aside(
+    fn call_on_copy(
         &mut self,
         alloc: Global,
         caller: u32,
         call: Call,
         hint: Hint,
     ) -> Result<Reply, AllocError>
-        requires { IsHintFor (prices_of (F.answers self.old.tariff)) self.old.picture.rows call hint }
-        ensures step { IfOk result (λ reply. Step (prices_of (F.answers self.old.tariff)) self.old.picture.limits self.old.picture.rows call reply self.new.picture.rows) }
+        requires { IsHintFor (prices_of (F.may_return self.old.tariff)) self.old.picture.rows call hint }
+        ensures step { IfOk result (λ reply. Step (prices_of (F.may_return self.old.tariff)) self.old.picture.limits self.old.picture.rows call reply self.new.picture.rows) }
         ensures entered { IfOk result (λ reply. self.new.history ≡ self.old.history ++ record { caller = caller; call = call; reply = reply } ∷ []) }
         ensures no_memory { IfOk result (λ reply. reply ≢ Refused Memory) }
         ensures unchanged { OnErr result (IsUnchanged self.old self.new) }
         ensures same_book { IsSameBook self.old self.new }
     {
-        let next = self.make_ready(alloc, caller, call, hint)?;
+        let next = self.prepare_from(alloc, caller, call, hint)?;
         let reply = next.entry().reply.copy(alloc)?;
         self.commit(next);
         Ok(reply)

@@ -10,13 +10,13 @@ ghost use Rattle.topo_book.specs.Faults.{IsFaultOf, IsIllegalAt};
 
 use crate::hint::Hint;
 use crate::scratch::Scratch;
-use crate::steps::{advance, decide};
+use crate::steps::{apply_entry, decide};
 use std::alloc::{AllocError, Global};
 use std::fmt;
 use thiserror::Error;
 use topo_core::calls::Entry;
 use topo_picture::Picture;
-use topo_price::tariff::{Asks, Tariff};
+use topo_price::tariff::{PriceFn, Tariff};
 
 /// Why a list of entries has no replay.
 #[derive(Clone, Copy, Debug, Drop, PartialEq, Eq, Error)]
@@ -70,7 +70,7 @@ impl fmt::Display for ReplayFault {
 
 /// Carries an entry out where its reply is the one due, and answers whether it is.
 #[tactic(auto, using(crate::proofs::Hinting::nothing_is_owed))]
-fn replay_entry<F: Asks>(
+fn replay_entry<F: PriceFn>(
     alloc: Global,
     picture: &mut Picture,
     tariff: &Tariff<F>,
@@ -78,8 +78,8 @@ fn replay_entry<F: Asks>(
     scratch: &mut Scratch,
 ) -> Result<bool, AllocError>
     requires { IsPicture picture.old.limits picture.old.rows }
-    ensures due { IfOk result (λ due. MatchBool due (Step (prices_of (F.answers tariff.now)) picture.old.limits picture.old.rows entry.now.call entry.now.reply picture.new.rows)
-        (IsDue (prices_of (F.answers tariff.now)) picture.old.limits picture.old.rows entry.now.call entry.now.reply → ⊥)) }
+    ensures due { IfOk result (λ due. MatchBool due (Step (prices_of (F.may_return tariff.now)) picture.old.limits picture.old.rows entry.now.call entry.now.reply picture.new.rows)
+        (IsDue (prices_of (F.may_return tariff.now)) picture.old.limits picture.old.rows entry.now.call entry.now.reply → ⊥)) }
     ensures same_limits { picture.new.limits ≡ picture.old.limits }
     ensures lawful { IsPicture picture.new.limits picture.new.rows }
 {
@@ -87,13 +87,13 @@ fn replay_entry<F: Asks>(
     if !reply.equals(&entry.reply) {
         return Ok(false);
     }
-    advance(alloc, picture, tariff, entry)?;
+    apply_entry(alloc, picture, tariff, entry)?;
     Ok(true)
 }
 
 /// Carries the entries out on a picture, one after the other. A reply that is not the one due in the picture
 /// at that point ends it.
-fn replay_all<F: Asks>(
+fn replay_all<F: PriceFn>(
     alloc: Global,
     picture: &mut Picture,
     tariff: &Tariff<F>,
@@ -101,11 +101,11 @@ fn replay_all<F: Asks>(
     scratch: &mut Scratch,
 ) -> Result<(), ReplayFault>
     requires { IsPicture picture.old.limits picture.old.rows }
-    ensures replayed { OnOk result (Replays (prices_of (F.answers tariff.now)) picture.old.limits picture.old.rows entries.now picture.new.rows) }
+    ensures replayed { OnOk result (Replays (prices_of (F.may_return tariff.now)) picture.old.limits picture.old.rows entries.now picture.new.rows) }
     ensures same_limits { picture.new.limits ≡ picture.old.limits }
     ensures lawful { IsPicture picture.new.limits picture.new.rows }
-    ensures first_wrong { IfErr result (IsFaultOf (prices_of (F.answers tariff.now)) picture.old.limits picture.old.rows entries.now) }
-    ensures illegal { IfErr result (IsIllegalAt (prices_of (F.answers tariff.now)) picture.old.limits picture.old.rows entries.now) }
+    ensures first_wrong { IfErr result (IsFaultOf (prices_of (F.may_return tariff.now)) picture.old.limits picture.old.rows entries.now) }
+    ensures illegal { IfErr result (IsIllegalAt (prices_of (F.may_return tariff.now)) picture.old.limits picture.old.rows entries.now) }
 {
     for (index, entry) in entries.iter().enumerate() {
         match replay_entry(alloc, picture, tariff, entry, scratch) {
@@ -119,17 +119,17 @@ fn replay_all<F: Asks>(
 
 /// The picture that the entries lead to from the start, each call carried out again. A reply that is
 /// not the one due in the picture at that point ends it. The start is copied, and stays.
-pub fn replay<F: Asks>(
+pub fn replay<F: PriceFn>(
     alloc: Global,
     start: &Picture,
     entries: &[Entry],
     tariff: &Tariff<F>,
 ) -> Result<Picture, ReplayFault>
-    ensures replayed { IfOk result (λ p. Replays (prices_of (F.answers tariff.now)) start.now.limits start.now.rows entries.now p.rows) }
+    ensures replayed { IfOk result (λ p. Replays (prices_of (F.may_return tariff.now)) start.now.limits start.now.rows entries.now p.rows) }
     ensures same_limits { IfOk result (λ p. p.limits ≡ start.now.limits) }
     ensures lawful { IfOk result (λ p. IsPicture p.limits p.rows) }
-    ensures first_wrong { IfErr result (IsFaultOf (prices_of (F.answers tariff.now)) start.now.limits start.now.rows entries.now) }
-    ensures illegal { IfErr result (IsIllegalAt (prices_of (F.answers tariff.now)) start.now.limits start.now.rows entries.now) }
+    ensures first_wrong { IfErr result (IsFaultOf (prices_of (F.may_return tariff.now)) start.now.limits start.now.rows entries.now) }
+    ensures illegal { IfErr result (IsIllegalAt (prices_of (F.may_return tariff.now)) start.now.limits start.now.rows entries.now) }
 {
     let Ok(mut picture) = start.copy(alloc) else {
         return Err(ReplayFault::Memory);

@@ -9,7 +9,7 @@ use std::sync::Arc;
 use topo_picture::Picture;
 
 /// So many replicas are kept at most.
-const MOST: usize = 20;
+const MAX_REPLICAS: usize = 20;
 
 /// A picture with the number of entries of a history that lead to it.
 #[derive(Drop)]
@@ -27,13 +27,13 @@ pub(crate) struct Replicas {
 impl Model for Replicas {
     ghost use Rattle.std.specs.Prelude.{◌≤◌, List, vec_len, vec_capacity};
     ghost use Rattle.topo_book.specs.declared.replicas.Replica.{Replica};
-    ghost use Rattle.topo_book.specs.declared.replicas.TheConstants.{MOST};
+    ghost use Rattle.topo_book.specs.declared.replicas.TheConstants.{MAX_REPLICAS};
 
     ghost Value = { List Replica };
 
     ghost view = { λ r. r.kept.items };
 
-    ghost invariant = { λ r. (vec_len r.kept ≤ MOST) × (MOST ≤ vec_capacity r.kept) };
+    ghost invariant = { λ r. (vec_len r.kept ≤ MAX_REPLICAS) × (MAX_REPLICAS ≤ vec_capacity r.kept) };
 }
 
 impl Replicas {
@@ -42,15 +42,15 @@ impl Replicas {
         ensures { IfOk result (λ r. r ≡ []) }
     {
         Ok(Replicas {
-            kept: Vec::with_capacity(alloc, MOST)?,
+            kept: Vec::with_capacity(alloc, MAX_REPLICAS)?,
         })
     }
 
     /// Keeps one more. Where as many are kept as may be, the one kept longest goes. It takes no memory.
     pub(crate) fn keep(&mut self, replica: Replica)
-        ensures { self.new ≡ (if nat_lt (length self.old) MOST then self.old else drop 1 self.old) ++ replica ∷ [] }
+        ensures { self.new ≡ (if nat_lt (length self.old) MAX_REPLICAS then self.old else drop 1 self.old) ++ replica ∷ [] }
     {
-        if self.kept.len() >= MOST {
+        if self.kept.len() >= MAX_REPLICAS {
             self.kept.remove(0);
         }
         self.kept.push_reserved(replica);
@@ -58,11 +58,11 @@ impl Replicas {
 
     /// The one kept last of those that nobody else holds and that stand after at least so many entries.
     /// It is kept no longer.
-    pub(crate) fn take_free(&mut self, least: usize) -> Option<Replica>
+    pub(crate) fn take_unshared(&mut self, least: usize) -> Option<Replica>
         ensures taken { IfSome result (Contains self.old) }
         ensures rest { All (Contains self.old) self.new }
     {
-        match free_place(self.kept.as_slice(), least) {
+        match unshared_place(self.kept.as_slice(), least) {
             Some(place) => Some(self.kept.remove(place)),
             None => None,
         }
@@ -70,7 +70,7 @@ impl Replicas {
 }
 
 /// The last place of a replica that nobody else holds and that stands after at least so many entries.
-fn free_place(kept: &[Replica], least: usize) -> Option<usize>
+fn unshared_place(kept: &[Replica], least: usize) -> Option<usize>
     ensures { IfSome result (λ i. i < length kept.now) }
 {
     for place in (0..kept.len()).rev() {

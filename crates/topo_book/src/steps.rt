@@ -21,7 +21,7 @@ use topo_core::ids::EdgeId;
 use topo_core::routes::{Inserted, Route};
 use topo_dual::NumberLists;
 use topo_picture::Picture;
-use topo_price::tariff::{Asks, Tariff};
+use topo_price::tariff::{PriceFn, Tariff};
 use topo_route::check::check;
 use topo_route::plan::{Plan, PricedRoute};
 use topo_route::search::first_route;
@@ -34,7 +34,7 @@ fn has_height_for_each_dart(picture: &Picture, plan: &Plan) -> bool {
 
 /// Whether a plan between these ends passes the check on the picture, of which nothing is copied: its
 /// darts are numbered in the lists.
-fn passes<F: Asks>(
+fn passes<F: PriceFn>(
     picture: &Picture,
     tariff: &Tariff<F>,
     ends: (u32, u32),
@@ -44,7 +44,7 @@ fn passes<F: Asks>(
     requires u_there { ends.0 < length picture.now.rows.rotations }
     requires v_there { ends.1 < length picture.now.rows.rotations }
     requires apart { ends.0 ≢ ends.1 }
-    ensures { IfOk result (λ good. good ≡ true → IsFirst (prices_of (F.answers tariff.now)) picture.now.rows ends.0 ends.1 plan.now.route plan.now.price) }
+    ensures { IfOk result (λ good. good ≡ true → IsFirst (prices_of (F.may_return tariff.now)) picture.now.rows ends.0 ends.1 plan.now.route plan.now.price) }
 {
     if !has_height_for_each_dart(picture, plan) {
         return Ok(false);
@@ -68,7 +68,7 @@ fn route_of(alloc: Global, route: &Route, price: u64) -> Result<PricedRoute, All
 
 /// The first route: the one that is known, the plan's where it passes the check, and else the one that a
 /// search finds.
-fn find_first<F: Asks>(
+fn find_first<F: PriceFn>(
     alloc: Global,
     picture: &Picture,
     tariff: &Tariff<F>,
@@ -77,13 +77,13 @@ fn find_first<F: Asks>(
     hint: Hint,
     scratch: &mut Scratch,
 ) -> Result<Option<PricedRoute>, AllocError>
-    requires known { IsTrueOf (prices_of (F.answers tariff.now)) picture.now.rows u v hint }
+    requires known { IsTrueOf (prices_of (F.may_return tariff.now)) picture.now.rows u v hint }
     requires u_there { u < length picture.now.rows.rotations }
     requires v_there { v < length picture.now.rows.rotations }
     requires apart { u ≢ v }
     ensures { IfOk result (λ found. MatchOption found
-        (HasNoRoute (prices_of (F.answers tariff.now)) picture.now.rows u v)
-        (λ r. IsFirst (prices_of (F.answers tariff.now)) picture.now.rows u v r.route r.price)) }
+        (HasNoRoute (prices_of (F.may_return tariff.now)) picture.now.rows u v)
+        (λ r. IsFirst (prices_of (F.may_return tariff.now)) picture.now.rows u v r.route r.price)) }
 {
     match hint {
         Hint::Nothing => {}
@@ -101,7 +101,7 @@ fn find_first<F: Asks>(
 
 /// The reply that is due to an insertion from `u` to `v`, for which what it brings along may spare the
 /// search.
-fn decide_insertion<F: Asks>(
+fn decide_insertion<F: PriceFn>(
     alloc: Global,
     picture: &Picture,
     tariff: &Tariff<F>,
@@ -110,8 +110,8 @@ fn decide_insertion<F: Asks>(
     hint: Hint,
     scratch: &mut Scratch,
 ) -> Result<Reply, AllocError>
-    requires { IsTrueOf (prices_of (F.answers tariff.now)) picture.now.rows ends.0 ends.1 hint }
-    ensures { IfOk result (IsDue (prices_of (F.answers tariff.now)) picture.now.limits picture.now.rows (Insert ends.0 ends.1 kind)) }
+    requires { IsTrueOf (prices_of (F.may_return tariff.now)) picture.now.rows ends.0 ends.1 hint }
+    ensures { IfOk result (IsDue (prices_of (F.may_return tariff.now)) picture.now.limits picture.now.rows (Insert ends.0 ends.1 kind)) }
 {
     let (u, v) = ends;
     if let Err(why) = picture.admit(u, v, kind) {
@@ -133,7 +133,7 @@ fn decide_insertion<F: Asks>(
 /// The reply that is due to a call. An insertion takes a first route that is known, and a plan's route where
 /// the plan passes the check.
 /// The picture is only read.
-pub(crate) fn decide<F: Asks>(
+pub(crate) fn decide<F: PriceFn>(
     alloc: Global,
     picture: &Picture,
     tariff: &Tariff<F>,
@@ -141,8 +141,8 @@ pub(crate) fn decide<F: Asks>(
     hint: Hint,
     scratch: &mut Scratch,
 ) -> Result<Reply, AllocError>
-    requires { IsHintFor (prices_of (F.answers tariff.now)) picture.now.rows call hint }
-    ensures due { IfOk result (IsDue (prices_of (F.answers tariff.now)) picture.now.limits picture.now.rows call) }
+    requires { IsHintFor (prices_of (F.may_return tariff.now)) picture.now.rows call hint }
+    ensures due { IfOk result (IsDue (prices_of (F.may_return tariff.now)) picture.now.limits picture.now.rows call) }
     ensures no_memory { IfOk result (λ reply. reply ≢ Refused Memory) }
 {
     match call {
@@ -162,15 +162,15 @@ pub(crate) fn decide<F: Asks>(
 
 /// Carries out in place what the reply of an entry says: an insertion along the route that it holds,
 /// with no search. A refusal changes nothing. Whatever fails, fails before the picture changes.
-pub(crate) fn advance<F: Asks>(
+pub(crate) fn apply_entry<F: PriceFn>(
     alloc: Global,
     picture: &mut Picture,
     tariff: &Tariff<F>,
     entry: &Entry,
 ) -> Result<(), AllocError>
     requires lawful { IsPicture picture.old.limits picture.old.rows }
-    requires due { IsDue (prices_of (F.answers tariff.now)) picture.old.limits picture.old.rows entry.now.call entry.now.reply }
-    ensures step { OnOk result (Step (prices_of (F.answers tariff.now)) picture.old.limits picture.old.rows entry.now.call entry.now.reply picture.new.rows) }
+    requires due { IsDue (prices_of (F.may_return tariff.now)) picture.old.limits picture.old.rows entry.now.call entry.now.reply }
+    ensures step { OnOk result (Step (prices_of (F.may_return tariff.now)) picture.old.limits picture.old.rows entry.now.call entry.now.reply picture.new.rows) }
     ensures same_limits { picture.new.limits ≡ picture.old.limits }
     ensures lawful { IsPicture picture.new.limits picture.new.rows }
     ensures unchanged { OnErr result (picture.new ≡ picture.old) }
@@ -197,22 +197,22 @@ pub(crate) fn advance<F: Asks>(
     }
 }
 
-/// As `advance`, on a picture that nobody else holds. One that others hold is left as it is.
-pub(crate) fn advance_alone<F: Asks>(
+/// As `apply_entry`, on a picture that nobody else holds. One that others hold is left as it is.
+pub(crate) fn apply_entry_unshared<F: PriceFn>(
     alloc: Global,
     picture: &mut Arc<Picture>,
     tariff: &Tariff<F>,
     entry: &Entry,
 ) -> Result<(), AllocError>
     requires lawful { IsPicture (arc_value picture.old).limits (arc_value picture.old).rows }
-    requires due { IsDue (prices_of (F.answers tariff.now)) (arc_value picture.old).limits (arc_value picture.old).rows entry.now.call entry.now.reply }
-    ensures step { OnOk result (Step (prices_of (F.answers tariff.now)) (arc_value picture.old).limits (arc_value picture.old).rows entry.now.call entry.now.reply (arc_value picture.new).rows) }
+    requires due { IsDue (prices_of (F.may_return tariff.now)) (arc_value picture.old).limits (arc_value picture.old).rows entry.now.call entry.now.reply }
+    ensures step { OnOk result (Step (prices_of (F.may_return tariff.now)) (arc_value picture.old).limits (arc_value picture.old).rows entry.now.call entry.now.reply (arc_value picture.new).rows) }
     ensures same_limits { (arc_value picture.new).limits ≡ (arc_value picture.old).limits }
     ensures lawful { IsPicture (arc_value picture.new).limits (arc_value picture.new).rows }
     ensures unchanged { OnErr result (arc_value picture.new ≡ arc_value picture.old) }
 {
     match Arc::get_mut(picture) {
-        Some(picture) => advance(alloc, picture, tariff, entry),
+        Some(picture) => apply_entry(alloc, picture, tariff, entry),
         None => Err(AllocError),
     }
 }

@@ -14,7 +14,7 @@ ghost use Rattle.topo_changes.specs.Deleting.{IsCrossed, IsRotation, rotation_wi
 use crate::kept::{Crossing, KeptRows};
 use topo_core::listed::Listed;
 use topo_core::rows::EdgeRow;
-use topo_rows::Hints;
+use topo_rows::IdIndex;
 use topo_rows::by_id::place_of_edge;
 use topo_table::Table;
 
@@ -107,7 +107,13 @@ fn edge_across(crossings: &Table<Crossing>, e: u32, x: u32) -> u32
 }
 
 /// Takes a crossing of `e` out of the path of the other edge.
-fn leave_path(edges: &mut Vec<EdgeRow>, crossings: &Table<Crossing>, hints: &Hints, e: u32, x: u32)
+fn leave_path(
+    edges: &mut Vec<EdgeRow>,
+    crossings: &Table<Crossing>,
+    hints: &IdIndex,
+    e: u32,
+    x: u32,
+)
     requires edges_rise { IdsRise (map (λ row. row.id) edges.old.items) }
     requires crossed { IsCrossed (rows_of crossings.now) e edges.old.items x }
     ensures { edges.new.items ≡ map (uncrossed_row (x ∷ [])) edges.old.items }
@@ -120,7 +126,7 @@ fn leave_path(edges: &mut Vec<EdgeRow>, crossings: &Table<Crossing>, hints: &Hin
 fn leave_paths(
     edges: &mut Vec<EdgeRow>,
     crossings: &Table<Crossing>,
-    hints: &Hints,
+    hints: &IdIndex,
     e: u32,
     path: &[u32],
 )
@@ -134,7 +140,7 @@ fn leave_paths(
 }
 
 /// Takes out the row of an edge, and its crossings out of the paths of the others.
-fn delete_edge(rows: &mut KeptRows, hints: &mut Hints, e: u32) -> EdgeRow
+fn delete_edge(rows: &mut KeptRows, hints: &mut IdIndex, e: u32) -> EdgeRow
     requires well_formed { IsWellFormed rows.old }
     requires there { is_some (edge_row rows.old e) ≡ true }
     ensures row { edge_row rows.old e ≡ Some result }
@@ -173,7 +179,7 @@ fn delete_crossings(crossings: &mut Table<Crossing>, path: &[u32])
 }
 
 /// Takes out an edge and its crossings. The counters stay.
-pub fn delete_rows(rows: &mut KeptRows, hints: &mut Hints, e: u32)
+pub fn delete_rows(rows: &mut KeptRows, hints: &mut IdIndex, e: u32)
     requires well_formed { IsWellFormed rows.old }
     requires there { is_some (edge_row rows.old e) ≡ true }
     ensures { rows.new ≡ without rows.old e }

@@ -17,7 +17,7 @@ use topo_core::darts::{Dart, Sign, Way};
 use topo_core::listed::Listed;
 use topo_core::routes::Route;
 use topo_core::rows::EdgeRow;
-use topo_rows::Hints;
+use topo_rows::IdIndex;
 use topo_rows::by_id::edge_place;
 use topo_table::Table;
 
@@ -58,7 +58,7 @@ fn keep_below(list: &mut Listed<u32>, first: u32)
 /// Puts crossing `x` on the path of edge `e`.
 fn cross_edge(
     edges: &mut [EdgeRow],
-    hints: &Hints,
+    hints: &IdIndex,
     e: u32,
     segment: u32,
     first: u32,
@@ -75,7 +75,7 @@ fn cross_edge(
 }
 
 /// Takes the crossings from `first` on out of the path of edge `e`.
-fn uncross_edge(edges: &mut [EdgeRow], hints: &Hints, e: u32, first: u32)
+fn uncross_edge(edges: &mut [EdgeRow], hints: &IdIndex, e: u32, first: u32)
     requires { EdgesRise edges.old }
     ensures { edges.new ≡ map (repathed e (filter (λ x. nat_lt x first))) edges.old }
 {
@@ -87,7 +87,7 @@ fn uncross_edge(edges: &mut [EdgeRow], hints: &Hints, e: u32, first: u32)
 
 /// Puts crossings on the segments of the darts, with ids from `first` on, as far as there is memory,
 /// and answers how many.
-fn cross_some(edges: &mut [EdgeRow], hints: &Hints, darts: &[Dart], first: u32) -> usize
+fn cross_some(edges: &mut [EdgeRow], hints: &IdIndex, darts: &[Dart], first: u32) -> usize
     requires rise { EdgesRise edges.old }
     requires below { paths_below first edges.old ≡ true }
     requires there { AreOnPaths edges.old darts.now }
@@ -105,7 +105,7 @@ fn cross_some(edges: &mut [EdgeRow], hints: &Hints, darts: &[Dart], first: u32) 
 }
 
 /// Takes the crossings of the darts out again, the last one first.
-fn uncross(edges: &mut [EdgeRow], hints: &Hints, darts: &[Dart], first: u32)
+fn uncross(edges: &mut [EdgeRow], hints: &IdIndex, darts: &[Dart], first: u32)
     requires rise { EdgesRise edges.old }
     requires ids { first + length darts.now < 2 ^ 32 }
     ensures { (was : List EdgeRow) → paths_below first was ≡ true → edges.old ≡ map (crossed_by first darts.now) was → edges.new ≡ was }
@@ -118,7 +118,12 @@ fn uncross(edges: &mut [EdgeRow], hints: &Hints, darts: &[Dart], first: u32)
 }
 
 /// Puts crossings on the segments of the darts, with ids from `first` on, or none where memory is short.
-fn cross(edges: &mut [EdgeRow], hints: &Hints, darts: &[Dart], first: u32) -> Result<(), AllocError>
+fn cross(
+    edges: &mut [EdgeRow],
+    hints: &IdIndex,
+    darts: &[Dart],
+    first: u32,
+) -> Result<(), AllocError>
     requires rise { EdgesRise edges.old }
     requires below { paths_below first edges.old ≡ true }
     requires there { AreOnPaths edges.old darts.now }
@@ -200,7 +205,7 @@ fn insert_lists(
     rotations: &mut [Listed<u32>],
     edges: &mut Vec<EdgeRow>,
     crossings: &mut Table<Crossing>,
-    hints: &Hints,
+    hints: &IdIndex,
     row: EdgeRow,
     route: &Route,
     first: u32,
@@ -242,7 +247,7 @@ fn insert_lists(
 pub fn apply_rows(
     alloc: Global,
     rows: &mut KeptRows,
-    hints: &Hints,
+    hints: &IdIndex,
     u: u32,
     v: u32,
     kind: u32,

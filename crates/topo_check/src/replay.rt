@@ -15,10 +15,10 @@ use topo_forms::row_forms::MAX_PICTURE_BYTES;
 use topo_forms::{Report, read_report};
 use topo_picture::Picture;
 use topo_price::table::PriceTable;
-use topo_price::tariff::{Asks, Tariff};
+use topo_price::tariff::{PriceFn, Tariff};
 use topo_settings::RunFault;
 use topo_settings::reading::read_bytes;
-use topo_settings::settings::setting;
+use topo_settings::settings::validate;
 use topo_settings::writing::write_text;
 
 /// Reads a report, carries out its history again from its start, under its limits and at its prices,
@@ -75,7 +75,7 @@ fn judge(alloc: Global, report: &Report) -> Result<(), RunFault>
     ensures fault { IfErr result (IsUntrue report.now) }
 {
     let prices = report.prices.as_slice();
-    let (table, start) = setting(alloc, report.limits, prices, Some(&report.start))?;
+    let (table, start) = validate(alloc, report.limits, prices, Some(&report.start))?;
     let replayed = replayed_rows(alloc, report, &start, &table);
     drop(start);
     let rows = match replayed {
@@ -139,17 +139,17 @@ fn priced_replay(
 }
 
 /// The replay of a report's history at the prices that a closure answers.
-fn asked_replay<F: Asks + Drop>(
+fn asked_replay<F: PriceFn + Drop>(
     alloc: Global,
     report: &Report,
     start: &Picture,
     ask: F,
 ) -> Result<Picture, ReplayFault>
-    requires callable { F.can_ask ask }
-    requires promise { IsPromise (F.answers ask) }
-    ensures replayed { IfOk result (λ p. Replays (prices_of (F.answers ask)) start.now.limits start.now.rows report.now.history p.rows) }
-    ensures first_wrong { IfErr result (IsFaultOf (prices_of (F.answers ask)) start.now.limits start.now.rows report.now.history) }
-    ensures illegal { IfErr result (IsIllegalAt (prices_of (F.answers ask)) start.now.limits start.now.rows report.now.history) }
+    requires callable { F.is_callable ask }
+    requires promise { IsPromise (F.may_return ask) }
+    ensures replayed { IfOk result (λ p. Replays (prices_of (F.may_return ask)) start.now.limits start.now.rows report.now.history p.rows) }
+    ensures first_wrong { IfErr result (IsFaultOf (prices_of (F.may_return ask)) start.now.limits start.now.rows report.now.history) }
+    ensures illegal { IfErr result (IsIllegalAt (prices_of (F.may_return ask)) start.now.limits start.now.rows report.now.history) }
 {
     let tariff = Tariff::new(ask);
     replay(alloc, start, report.history.as_slice(), &tariff)

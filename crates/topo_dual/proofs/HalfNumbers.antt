@@ -15,7 +15,7 @@ use Rattle.topo_core.proofs.Numbering.{get_index, has_at, index_of_get, place_le
 use Rattle.topo_core.proofs.RouteDarts.{corner_in}
 use Rattle.topo_core.proofs.SystemDarts.{get_there}
 use Rattle.topo_rows.specs.Recovering.{lawful_again}
-use Rattle.topo_embedded.specs.Halves.{Drawn, IsHalf, half_in}
+use Rattle.topo_embedded.specs.Halves.{RowsWithPaths, IsHalf, half_in}
 use Rattle.topo_embedded.specs.Walking.{named_in}
 use Rattle.topo_route.specs.Names.{IsName, IsNamed, canonical, dart_named, next_name, no_dart}
 use Rattle.topo_route.specs.Numbers.{dart_of}
@@ -25,7 +25,7 @@ use Rattle.topo_dual.specs.NumberedRows.{AreApart, AreListsOf, AreNumbersOf, Law
 
 -- ---- The lists as they are written
 
-module _ (p : Drawn) (good : IsWellFormed p.rows) (size : ℕ) (named : IsNamed (named_in p size)) (halves : List ℕ) (in_order : halves ≡ map (half_in p) (darts p.rows)) where
+module _ (p : RowsWithPaths) (good : IsWellFormed p.rows) (size : ℕ) (named : IsNamed (named_in p size)) (halves : List ℕ) (in_order : halves ≡ map (half_in p) (darts p.rows)) where
   -- the dart at a place
   record StandsAt (i : ℕ) : Type 0 where
     dart : Dart
@@ -91,7 +91,7 @@ pub written_over : (written old : List ℕ) (n : ℕ) → n ≡ length written �
 written_over written old n is = ap (λ (m : ℕ). take m (written ++ drop (length written) old)) is ∙ take-append_seam written (drop (length written) old)
 
 -- the lists in their places are those that were written
-pub lists_are : {p : Drawn} {halves numbers nexts in_halves in_numbers in_nexts : List ℕ} → AreNumbersOf p halves numbers → length nexts ≡ length halves → ((k : ℕ) → k < length halves → slice_index nexts k ≡ next_name (canonical p.rows) k)
+pub lists_are : {p : RowsWithPaths} {halves numbers nexts in_halves in_numbers in_nexts : List ℕ} → AreNumbersOf p halves numbers → length nexts ≡ length halves → ((k : ℕ) → k < length halves → slice_index nexts k ≡ next_name (canonical p.rows) k)
     → halves ≡ in_halves → in_numbers ≡ numbers → in_nexts ≡ nexts → AreListsOf p in_halves in_numbers in_nexts
 lists_are {p} {halves} {numbers} {nexts} {in_halves} {in_numbers} {in_nexts} named as_many follow at_halves at_numbers at_nexts =
     subst (λ (xs : List ℕ). AreListsOf p in_halves in_numbers xs) (sym at_nexts)
@@ -121,15 +121,15 @@ no_if true m n e = cc
 no_if false m n e = refl
 
 -- rows that are shown, with lists that number their darts
-pub record AreNumbered (p : Drawn) (rows : Rows) (halves numbers : List ℕ) : Type 0 where
+pub record AreNumbered (p : RowsWithPaths) (rows : Rows) (halves numbers : List ℕ) : Type 0 where
   pub same : p.rows ≡ rows
   pub lawful : Lawful p.rows
   pub lists : AreNumbersOf p halves numbers
 
-pub known : {p : Drawn} {merely : ∥ Lawful p.rows ∥₁} {shown : LawfulRows} {halves numbers nexts : List ℕ} → record { rows = p.rows; lawful = merely } ≡ shown → AreListsOf p halves numbers nexts → AreNumbered p shown.rows halves numbers
+pub known : {p : RowsWithPaths} {merely : ∥ Lawful p.rows ∥₁} {shown : LawfulRows} {halves numbers nexts : List ℕ} → record { rows = p.rows; lawful = merely } ≡ shown → AreListsOf p halves numbers nexts → AreNumbered p shown.rows halves numbers
 known {p} {merely} view lists = record { same = ap (λ (v : LawfulRows). v.rows) view; lawful = lawful_again p.rows merely; lists = lists.named }
 
-module _ {p : Drawn} {rows : Rows} {halves numbers : List ℕ} (n : AreNumbered p rows halves numbers) where
+module _ {p : RowsWithPaths} {rows : Rows} {halves numbers : List ℕ} (n : AreNumbered p rows halves numbers) where
   l : AreNumbersOf p halves numbers
   l = n.lists
 
@@ -242,7 +242,7 @@ module _ {p : Drawn} {rows : Rows} {halves numbers : List ℕ} (n : AreNumbered 
 -- ---- The next darts
 
 -- they are read where a dart has a number
-module _ {p : Drawn} {merely : ∥ Lawful p.rows ∥₁} {shown : LawfulRows} {halves numbers nexts : List ℕ} (view : record { rows = p.rows; lawful = merely } ≡ shown) (lists : AreListsOf p halves numbers nexts)
+module _ {p : RowsWithPaths} {merely : ∥ Lawful p.rows ∥₁} {shown : LawfulRows} {halves numbers nexts : List ℕ} (view : record { rows = p.rows; lawful = merely } ≡ shown) (lists : AreListsOf p halves numbers nexts)
     (k : ℕ) (name : IsName (canonical shown.rows) k) where
   inside : k < length halves
   inside = number_within (known view lists) k name
@@ -254,7 +254,7 @@ module _ {p : Drawn} {merely : ∥ Lawful p.rows ∥₁} {shown : LawfulRows} {h
   read_next number read = read ∙ lists.follow k inside ∙ ap (λ (v : LawfulRows). next_name (canonical v.rows) k) view
 
 -- they are written one after the other, each by the half of its dart
-module _ (p : Drawn) (lawful : Lawful p.rows) (halves numbers : List ℕ) (named : AreNumbersOf p halves numbers) where
+module _ (p : RowsWithPaths) (lawful : Lawful p.rows) (halves numbers : List ℕ) (named : AreNumbersOf p halves numbers) where
   own : AreNumbered p p.rows halves numbers
   own = record { same = refl; lawful = lawful; lists = named }
 

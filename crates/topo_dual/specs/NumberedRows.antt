@@ -5,7 +5,7 @@ use Rattle.topo_core.specs.declared.rows.Rows.{Rows}
 use Rattle.topo_core.specs.Lawful.{Lawful}
 use Rattle.topo_core.specs.Picture.{darts, index_of}
 use Rattle.topo_core.specs.Systems.{has_dart}
-use Rattle.topo_embedded.specs.Halves.{Drawn, half_in}
+use Rattle.topo_embedded.specs.Halves.{RowsWithPaths, half_in}
 use Rattle.topo_route.specs.Names.{IsNamed, canonical, next_name}
 use Rattle.topo_route.proofs.Canonical.{canonical_named}
 use Rattle.topo_rows.specs.Recovering.{lawful_again}
@@ -20,7 +20,7 @@ abbrev pub AreApart : List ℕ → Type 0
 AreApart xs = (i j : ℕ) → i < length xs → j < length xs → slice_index xs i ≡ slice_index xs j → i ≡ j
 
 -- two lists number the darts of the rows: the halves of the darts in canonical order, and at the half of each dart its number
-pub record AreNumbersOf (p : Drawn) (halves numbers : List ℕ) : Type 0 where
+pub record AreNumbersOf (p : RowsWithPaths) (halves numbers : List ℕ) : Type 0 where
   pub in_order : halves ≡ map (half_in p) (darts p.rows)
   pub within : (d : Dart) → has_dart (darts p.rows) d ≡ true → half_in p d < length numbers
   pub numbered : (d : Dart) → has_dart (darts p.rows) d ≡ true → slice_index numbers (half_in p d) ≡ index_of p.rows d
@@ -28,7 +28,7 @@ pub record AreNumbersOf (p : Drawn) (halves numbers : List ℕ) : Type 0 where
   pub few_vertices : length p.rows.rotations < 4294967296
 
 -- the lists hold what they should of the rows: with these two, at each number that of the next dart along the face
-pub record AreListsOf (p : Drawn) (halves numbers nexts : List ℕ) : Type 0 where
+pub record AreListsOf (p : RowsWithPaths) (halves numbers nexts : List ℕ) : Type 0 where
   pub named : AreNumbersOf p halves numbers
   pub as_many : length nexts ≡ length halves
   pub follow : (k : ℕ) → k < length halves → slice_index nexts k ≡ next_name (canonical p.rows) k

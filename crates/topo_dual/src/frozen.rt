@@ -10,7 +10,7 @@ use topo_core::darts::{Dart, Point};
 use topo_core::rows::{Facts, Rows};
 use topo_embedded::Embedded;
 use topo_route::dual::Dual;
-use topo_route::walked::Walked;
+use topo_route::face_graph::FaceGraph;
 
 /// A frozen picture: lawful rows with their embedding, and with the lists that number their darts.
 /// Contracts see the rows. It answers what `Numbered` does, and nothing has to be lent to it.
@@ -80,7 +80,7 @@ impl Frozen {
     }
 }
 
-impl Walked for Frozen {
+impl FaceGraph for Frozen {
     ghost use Rattle.topo_rows.specs.Recovering.{lawful_again};
     ghost use Rattle.topo_route.specs.Names.{canonical};
     ghost use Rattle.topo_dual.specs.NumberedRows.{names_again};

@@ -10,7 +10,7 @@ use topo_core::ids::EdgeId;
 use topo_core::rows::Facts;
 use topo_embedded::Embedded;
 use topo_route::dual::Dual;
-use topo_route::walked::Walked;
+use topo_route::face_graph::FaceGraph;
 
 /// Lawful rows with their embedding, and with the lists that number their darts, all borrowed.
 /// Contracts see the rows. The darts are numbered in canonical order: 2i and 2i + 1 are the two of one
@@ -105,7 +105,7 @@ fn twin_of(dart: u32) -> u32
     if dart % 2 == 0 { dart + 1 } else { dart - 1 }
 }
 
-impl Walked for Numbered<'_> {
+impl FaceGraph for Numbered<'_> {
     ghost use Rattle.topo_rows.specs.Recovering.{lawful_again};
     ghost use Rattle.topo_route.specs.Names.{canonical};
     ghost use Rattle.topo_dual.specs.NumberedRows.{names_again};

@@ -23,7 +23,7 @@ use Rattle.topo_changes.proofs.DeletedOpening.{off_left}
 use Rattle.topo_changes.proofs.DeletedSlab.{left, n, segments}
 use Rattle.topo_changes.proofs.InsertedNumbers.{number_less}
 use Rattle.topo_embedded.specs.Deleting.{ArePathsLeft, AreAheads}
-use Rattle.topo_embedded.specs.Halves.{Drawn, ShowsRows, half_at, half_in}
+use Rattle.topo_embedded.specs.Halves.{RowsWithPaths, ShowsRows, half_at, half_in}
 use Rattle.topo_embedded.proofs.Numbers.{half_of_number}
 use Rattle.topo_embedded.proofs.Without.{without_shows}
 
@@ -32,7 +32,7 @@ first_place h zero a inside = absurd inside
 first_place h (suc n) a (inl e) = (n, omega arith, e)
 first_place h (suc n) a (inr later) = let (i, less, is) = first_place h n a later in (i, omega (arith, less), is)
 
-module _ (p : Drawn) (good : IsWellFormed p.rows) (r : Rotation) (s : ShowsRows p r) (e : ℕ) (row : EdgeRow) (known : edge_row p.rows e ≡ Some row) (connected : Connected (system p.rows)) (zero_genus : HasGenusZero p.rows) where
+module _ (p : RowsWithPaths) (good : IsWellFormed p.rows) (r : Rotation) (s : ShowsRows p r) (e : ℕ) (row : EdgeRow) (known : edge_row p.rows e ≡ Some row) (connected : Connected (system p.rows)) (zero_genus : HasGenusZero p.rows) where
   abbrev nu : ℕ → ℕ
   nu = half_at p
 

@@ -15,7 +15,7 @@ use Rattle.topo_perm.proofs.Faces.{twin-twin}
 use Rattle.topo_perm.proofs.Points.{count_below-into}
 use Rattle.topo_map.specs.Rotation.{Rotation, edge_of, half_limit, is_live}
 use Rattle.topo_route.specs.Names.{IsNamed}
-use Rattle.topo_embedded.specs.Halves.{Drawn, ShowsRows, by_way, half_at, half_in, path_of}
+use Rattle.topo_embedded.specs.Halves.{RowsWithPaths, ShowsRows, by_way, half_at, half_in, path_of}
 use Rattle.topo_embedded.specs.Walking.{named_in}
 use Rattle.topo_embedded.proofs.Numbers.{half_alive, half_of_number}
 
@@ -39,12 +39,12 @@ by_way-reversed h Forward = refl
 by_way-reversed h Back = twin-twin h
 
 -- the half of the twin is the twin of the half
-pub twin_in_path : (p : Drawn) (d : Dart) → twin (half_in p d) ≡ half_in p (dart_twin d)
+pub twin_in_path : (p : RowsWithPaths) (d : Dart) → twin (half_in p d) ≡ half_in p (dart_twin d)
 twin_in_path p d = by_way-reversed (slice_index_or (path_of p d.edge) d.seg 0) d.way
 
 -- ---- Halves of darts
 
-module _ (p : Drawn) (good : IsWellFormed p.rows) (r : Rotation) (s : ShowsRows p r) where
+module _ (p : RowsWithPaths) (good : IsWellFormed p.rows) (r : Rotation) (s : ShowsRows p r) where
   number_below : (d : Dart) → has_dart (darts p.rows) d ≡ true → index_of p.rows d < length (turn_images p.rows)
   number_below d h = index_less p.rows good.paths good.crossings good.rotations d h
 

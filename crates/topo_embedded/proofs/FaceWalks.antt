@@ -32,7 +32,7 @@ use Rattle.topo_map.proofs.Stored.{limit-is}
 use Rattle.topo_changes.specs.Cuts.{IsLeft, IsNextLeft}
 use Rattle.topo_changes.proofs.OpenedFaces.{face_told, forth_of_face, not_opened, one_face_forth, one_face_round, Passes, passes_few, passes_more, passes_none, passes_to, round_of_face, Walks, walks_home, walks_met, walks_more, walks_never, walks_none}
 use Rattle.topo_embedded.specs.Cutting.{IsOpenedOn}
-use Rattle.topo_embedded.specs.Halves.{Drawn, by_way, half_at, half_in}
+use Rattle.topo_embedded.specs.Halves.{RowsWithPaths, by_way, half_at, half_in}
 use Rattle.topo_embedded.specs.Walking.{IsOnPath}
 use Rattle.topo_embedded.proofs.Apart.{darts_limited, halves_apart, twin_in_path}
 use Rattle.topo_embedded.proofs.Numbers.{face_half, half_alive, half_of_number, stands_at, StandsAt, turned_half}
@@ -44,7 +44,7 @@ among e f s out same less = grind (arith, nat_tests)
 not_among : (e f s out : ℕ) → (e ≡ f → out ≤ s) → (f == e && nat_lt s out) ≡ false
 not_among e f s out past = grind (arith, cases_eq, nat_tests)
 
-module _ (p : Drawn) (r : Rotation) (e out : ℕ) (path : List ℕ) (o : IsOpenedOn p r e out path) where
+module _ (p : RowsWithPaths) (r : Rotation) (e out : ℕ) (path : List ℕ) (o : IsOpenedOn p r e out path) where
   abbrev rows : Rows
   rows = p.rows
 
@@ -257,7 +257,7 @@ module _ (p : Drawn) (r : Rotation) (e out : ℕ) (path : List ℕ) (o : IsOpene
 -- ---- Where nothing is out yet
 
 -- the halves of the first segment lie in one face just where it has one face on both sides
-module _ (p : Drawn) (r : Rotation) (e : ℕ) (path : List ℕ) (o : IsOpenedOn p r e 0 path) where
+module _ (p : RowsWithPaths) (r : Rotation) (e : ℕ) (path : List ℕ) (o : IsOpenedOn p r e 0 path) where
   abbrev ahead_number : ℕ
   ahead_number = index_of p.rows (forward e 0)
 

@@ -16,7 +16,7 @@ use Rattle.topo_core.proofs.Standing.{listed_test}
 use Rattle.topo_core.proofs.SystemDarts.{edge_at_row}
 use Rattle.topo_map.specs.Rotation.{Rotation}
 use Rattle.topo_rows.proofs.RowDarts.{dart_there}
-use Rattle.topo_embedded.specs.Halves.{Drawn, ShowsRows, by_way, half_in}
+use Rattle.topo_embedded.specs.Halves.{RowsWithPaths, ShowsRows, by_way, half_in}
 use Rattle.topo_embedded.proofs.Numbers.{StandsAt, stands_at}
 use Rattle.topo_embedded.proofs.Reading.{EdgeRead, list_many, list_read}
 
@@ -42,7 +42,7 @@ module _ (rows : Rows) (paths : has_good_paths rows ≡ true) where
 
 -- ---- The half of a dart, on the path of its edge
 
-module _ (p : Drawn) (good : IsWellFormed p.rows) (r : Rotation) (s : ShowsRows p r) (e place : ℕ) (row : EdgeRow) (at : EdgeRead p.rows e place row)
+module _ (p : RowsWithPaths) (good : IsWellFormed p.rows) (r : Rotation) (s : ShowsRows p r) (e place : ℕ) (row : EdgeRow) (at : EdgeRead p.rows e place row)
     (path : List ℕ) (path_is : path ≡ slice_index_or p.paths place path) (d : Dart) (same : e ≡ d.edge) where
   many : length path ≡ segment_count row
   many = list_many p good r s e place row at path path_is

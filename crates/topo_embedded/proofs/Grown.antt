@@ -33,7 +33,7 @@ use Rattle.topo_changes.proofs.GrownCorner.{grown_good, new_row, old_edge}
 use Rattle.topo_changes.proofs.GrownSlab.{grown_slab}
 use Rattle.topo_changes.proofs.InsertedNumbers.{even_count}
 use Rattle.topo_core.proofs.RouteDarts.{corner_in}
-use Rattle.topo_embedded.specs.Halves.{Drawn, ShowsRows, half_at, half_in, path_of}
+use Rattle.topo_embedded.specs.Halves.{RowsWithPaths, ShowsRows, half_at, half_in, path_of}
 use Rattle.topo_embedded.proofs.Made.{agreeing_numbers}
 use Rattle.topo_embedded.proofs.Numbers.{StandsAt, half_alive, half_of_number, stands_at}
 
@@ -78,13 +78,13 @@ got_two_more (x ∷ xs) y z d (suc a) h = grind (arith, got_two_more xs y z d a 
 
 module _ (rows : Rows) (good : IsWellFormed rows) (u v kind : ℕ) (u_in : u < length rows.rotations) (v_in : v < length (rotation rows u)) (known : kind < 64) (paths : List (List ℕ)) (r : Rotation)
     (s : ShowsRows (record { rows = rows; paths = paths }) r) (x : ℕ) where
-  abbrev p : Drawn
+  abbrev p : RowsWithPaths
   p = record { rows = rows; paths = paths }
 
   abbrev after : Rows
   after = grown rows u v kind
 
-  abbrev q : Drawn
+  abbrev q : RowsWithPaths
   q = record { rows = after; paths = paths ++ (x ∷ []) ∷ [] }
 
   abbrev f : ℕ
@@ -183,31 +183,31 @@ module _ (rows : Rows) (good : IsWellFormed rows) (u v kind : ℕ) (u_in : u < l
 -- ---- As the code goes
 
 -- the halves and the turn tell
-pub kept_shows : (p : Drawn) (r r' : Rotation) → r'.slots ≡ r.slots → ShowsRows p r → ShowsRows p r'
+pub kept_shows : (p : RowsWithPaths) (r r' : Rotation) → r'.slots ≡ r.slots → ShowsRows p r → ShowsRows p r'
 kept_shows p r r' same s = grind (arith, as_many)
 
-pub corner_alive : (p : Drawn) → IsWellFormed p.rows → (r r' : Rotation) → r'.slots ≡ r.slots → ShowsRows p r → (u v named : ℕ) → u < length p.rows.rotations → v < length (rotation p.rows u) → ((c : Dart) → corner p.rows u v ≡ Some c → named ≡ half_in p c)
+pub corner_alive : (p : RowsWithPaths) → IsWellFormed p.rows → (r r' : Rotation) → r'.slots ≡ r.slots → ShowsRows p r → (u v named : ℕ) → u < length p.rows.rotations → v < length (rotation p.rows u) → ((c : Dart) → corner p.rows u v ≡ Some c → named ≡ half_in p c)
     → is_live r' named ≡ true
 corner_alive p good r r' same s u v named u_in v_in is =
     let c : Dart = end_dart p.rows u (slice_index (rotation p.rows u) v) in
     let at : corner p.rows u v ≡ Some c = corner_is p.rows good u u_in v v_in in
     ap (is_live r') (is c at) ∙ half_alive p good r' (kept_shows p r r' same s) (half_in p c) (record { dart = c; there = corner_in p.rows good u v c at; is = refl })
 
-pub grown_drawn : (rows : Rows) → IsWellFormed rows → (u v kind : ℕ) → u < length rows.rotations → v < length (rotation rows u) → kind < 64 → (paths : List (List ℕ)) (r r' r'' : Rotation) → ShowsRows (record { rows = rows; paths = paths }) r → r'.slots ≡ r.slots
+pub grown_parts : (rows : Rows) → IsWellFormed rows → (u v kind : ℕ) → u < length rows.rotations → v < length (rotation rows u) → kind < 64 → (paths : List (List ℕ)) (r r' r'' : Rotation) → ShowsRows (record { rows = rows; paths = paths }) r → r'.slots ≡ r.slots
     → IsEmbedding r' → (named x : ℕ) → ((c : Dart) → corner rows u v ≡ Some c → named ≡ half_in (record { rows = rows; paths = paths }) c) → IsHang (turn r') (turn r'') half_limit named x → Grows r' r'' x → AddsLabel (is_live r') (edge_of r') (edge_of r'') x rows.next_edge
     → (after : Rows) (path : List ℕ) (paths_after : List (List ℕ)) → after ≡ grown rows u v kind → path ≡ x ∷ [] → paths_after ≡ paths ++ path ∷ [] → ShowsRows (record { rows = after; paths = paths_after }) r''
-grown_drawn rows good u v kind u_in v_in known paths r r' r'' s same whole named x is edit grows labels after path paths_after rows_are path_is paths_are =
+grown_parts rows good u v kind u_in v_in known paths r r' r'' s same whole named x is edit grows labels after path paths_after rows_are path_is paths_are =
     let c : Dart = end_dart rows u (slice_index (rotation rows u) v) in
     let at : corner rows u v ≡ Some c = corner_is rows good u u_in v v_in in
     let shows : ShowsRows (record { rows = grown rows u v kind; paths = paths ++ (x ∷ []) ∷ [] }) r'' =
     grown_shows rows good u v kind u_in v_in known paths r' (kept_shows (record { rows = rows; paths = paths }) r r' same s) x r'' whole named c at (is c at) edit grows labels in
-    subst (λ (q : Drawn). ShowsRows q r'') (ap (λ (rs : Rows). (let q : Drawn = record { rows = rs; paths = paths ++ (x ∷ []) ∷ [] } in q)) (sym rows_are)
-    ∙ ap (λ (ps : List (List ℕ)). (let q : Drawn = record { rows = after; paths = ps } in q)) (ap (λ (l : List ℕ). paths ++ l ∷ []) (sym path_is) ∙ sym paths_are)) shows
+    subst (λ (q : RowsWithPaths). ShowsRows q r'') (ap (λ (rs : Rows). (let q : RowsWithPaths = record { rows = rs; paths = paths ++ (x ∷ []) ∷ [] } in q)) (sym rows_are)
+    ∙ ap (λ (ps : List (List ℕ)). (let q : RowsWithPaths = record { rows = after; paths = ps } in q)) (ap (λ (l : List ℕ). paths ++ l ∷ []) (sym path_is) ∙ sym paths_are)) shows
 
 -- grown or not
-pub grown_formed : {A E : Type 0} (result : Result A E) (p : Drawn) (rows new : Rows) (paths : List (List ℕ)) → (let q : Drawn = record { rows = rows; paths = paths } in q ≡ p) → IsWellFormed rows → (u v kind : ℕ) → u < length p.rows.rotations → v < length (rotation p.rows u) → kind < 64
+pub grown_formed : {A E : Type 0} (result : Result A E) (p : RowsWithPaths) (rows new : Rows) (paths : List (List ℕ)) → (let q : RowsWithPaths = record { rows = rows; paths = paths } in q ≡ p) → IsWellFormed rows → (u v kind : ℕ) → u < length p.rows.rotations → v < length (rotation p.rows u) → kind < 64
     → OnOk result (new ≡ grown rows u v kind) → OnErr result (new ≡ rows) → IsWellFormed new
 grown_formed (Ok a) p rows new paths seen good u v kind u_in v_in known ok err =
-    let same : p.rows ≡ rows = ap (λ (q : Drawn). q.rows) (sym seen) in
+    let same : p.rows ≡ rows = ap (λ (q : RowsWithPaths). q.rows) (sym seen) in
     subst IsWellFormed (sym ok) (grown_good rows u v kind good (subst (λ (rs : Rows). u < length rs.rotations) same u_in) (subst (λ (rs : Rows). v < length (rotation rs u)) same v_in) known)
 grown_formed (Err e) p rows new paths seen good u v kind u_in v_in known ok err = subst IsWellFormed (sym err) good

@@ -13,7 +13,7 @@ use Rattle.topo_core.specs.Rotations.{twin}
 use Rattle.topo_map.specs.Rotation.{Rotation}
 use Rattle.topo_rows.proofs.Finding.{edges_rise, placed_here}
 use Rattle.topo_embedded.specs.Canonical.{halves_of}
-use Rattle.topo_embedded.specs.Halves.{Drawn, ShowsRows, half_in}
+use Rattle.topo_embedded.specs.Halves.{RowsWithPaths, ShowsRows, half_in}
 
 -- what a map gives for the darts of an edge from segment a on are the halves of a path
 record LiesAlong (f : Dart → ℕ) (e a : ℕ) (xs : List ℕ) : Type 0 where
@@ -44,7 +44,7 @@ edge_by_edge f (row ∷ edges) (path ∷ paths) many each =
     map-append f (darts_of row) (flat_map darts_of edges) ∙ ap (λ (hs : List ℕ). hs ++ map f (flat_map darts_of edges)) (each 0 row refl)
     ∙ ap (λ (hs : List ℕ). halves_of path ++ hs) (edge_by_edge f edges paths (omega arith) (λ k other at. each (suc k) other at))
 
-module _ (p : Drawn) (good : IsWellFormed p.rows) (r : Rotation) (s : ShowsRows p r) where
+module _ (p : RowsWithPaths) (good : IsWellFormed p.rows) (r : Rotation) (s : ShowsRows p r) where
   of_edge : (k : ℕ) (row : EdgeRow) → slice_get p.rows.edges k ≡ Some row → map (half_in p) (darts_of row) ≡ halves_of (slice_index_or p.paths k [])
   of_edge k row at =
       let first : position_or_len (λ other. other.id == row.id) p.rows.edges ≡ k = sym (placed_here (λ other. other.id) p.rows.edges row.id (edges_rise p.rows p.rows.edges good.paths refl) k row at refl).first in

@@ -27,7 +27,7 @@ use Rattle.topo_perm.proofs.PassageNumbers.{bent_number}
 use Rattle.topo_map.specs.Rotation.{Rotation}
 use Rattle.topo_rows.proofs.Rounds.{got_within}
 use Rattle.topo_embedded.specs.Crossing.{AreCrossedAt}
-use Rattle.topo_embedded.specs.Halves.{Drawn, ShowsRows, by_way, half_at, half_in, path_of}
+use Rattle.topo_embedded.specs.Halves.{RowsWithPaths, ShowsRows, by_way, half_at, half_in, path_of}
 use Rattle.topo_embedded.specs.Inserting.{put_halves}
 use Rattle.topo_embedded.proofs.Numbers.{StandsAt, found_place, stands_at}
 use Rattle.topo_embedded.proofs.Pieces.{AreAt, crossed_there, put_none}
@@ -59,19 +59,19 @@ module _ (rows : Rows) (r : Route) (e : ℕ) where
 -- ---- The numbers of the darts of the rows with the new edge
 
 -- a lifted dart has the half of the first part of its segment, the darts at crossings those of the bends, and the darts of the new edge those of a line
-pub record AreInserted (p : Drawn) (u v kind : ℕ) (route : Route) (js : List Bend) (line : List ℕ) (number : ℕ → ℕ) : Type 0 where
+pub record AreInserted (p : RowsWithPaths) (u v kind : ℕ) (route : Route) (js : List Bend) (line : List ℕ) (number : ℕ → ℕ) : Type 0 where
   pub names : (c : Dart) → has_dart (darts p.rows) c ≡ true → number (index_of (shown p.rows u v kind route) (lifted p.rows (shown p.rows u v kind route) c)) ≡ bent_number (half_at p) js (index_of p.rows c)
   pub met : (x : ℕ) (d : Dart) (j : Bend) → AreAt x d j p.rows.next_crossing route.crossed js
       → (number (index_of (shown p.rows u v kind route) (onward (shown p.rows u v kind route) x d)) ≡ j.beyond) × (number (index_of (shown p.rows u v kind route) (backward (shown p.rows u v kind route) x d)) ≡ twin j.near)
   pub line_there : (i : ℕ) → i ≤ length route.crossed → number (index_of (shown p.rows u v kind route) (forward p.rows.next_edge i)) ≡ slice_index_or line i 0
   pub line_back : (i : ℕ) → i ≤ length route.crossed → number (index_of (shown p.rows u v kind route) (back p.rows.next_edge i)) ≡ twin (slice_index_or line i 0)
 
-module _ (p : Drawn) (good : IsWellFormed p.rows) (r : Rotation) (s : ShowsRows p r) (u v kind : ℕ) (route : Route) (once : CrossesOnce route.crossed) (now : IsWellFormed (shown p.rows u v kind route))
+module _ (p : RowsWithPaths) (good : IsWellFormed p.rows) (r : Rotation) (s : ShowsRows p r) (u v kind : ℕ) (route : Route) (once : CrossesOnce route.crossed) (now : IsWellFormed (shown p.rows u v kind route))
     (turns : ShowsTurns p.rows p.rows.next_edge u v route (shown p.rows u v kind route)) (js : List Bend) (all : AreCrossedAt p r route.crossed js) (line : List ℕ) where
   abbrev q : Rows
   q = shown p.rows u v kind route
 
-  abbrev pub inserted : Drawn
+  abbrev pub inserted : RowsWithPaths
   inserted = record { rows = q; paths = map (put_halves js) p.paths ++ line ∷ [] }
 
   abbrev put : Dart → ℕ

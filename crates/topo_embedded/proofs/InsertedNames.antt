@@ -26,7 +26,7 @@ use Rattle.topo_changes.proofs.InsertedLawful.{HasPassage}
 use Rattle.topo_changes.proofs.InsertedNumbers.{dart_of_number}
 use Rattle.topo_changes.proofs.InsertedPassage.{bends_of, links_of, name, path_bends, path_links}
 use Rattle.topo_embedded.specs.Crossing.{AreCrossedAt, halves_of}
-use Rattle.topo_embedded.specs.Halves.{Drawn, half_at}
+use Rattle.topo_embedded.specs.Halves.{RowsWithPaths, half_at}
 use Rattle.topo_embedded.proofs.Inserted.{AreInserted}
 use Rattle.topo_embedded.proofs.Pieces.{AreAt}
 
@@ -37,7 +37,7 @@ at_number x d j n (c ∷ ds) [] i = absurd i
 at_number x d j n (c ∷ ds) (k ∷ js) (inl same) = inl (ap (λ (y : ℕ). (let w : ℕ × Dart = (y, d) in w)) same.0 ∙ ap (λ (b : Dart). (let w : ℕ × Dart = (n, b) in w)) same.1)
 at_number x d j n (c ∷ ds) (k ∷ js) (inr i) = inr (at_number x d j (n + 1) ds js i)
 
-at_there : (p : Drawn) (r : Rotation) (x : ℕ) (d : Dart) (j : Bend) (n : ℕ) (ds : List Dart) (js : List Bend) → AreCrossedAt p r ds js → AreAt x d j n ds js → has_dart (darts p.rows) d ≡ true
+at_there : (p : RowsWithPaths) (r : Rotation) (x : ℕ) (d : Dart) (j : Bend) (n : ℕ) (ds : List Dart) (js : List Bend) → AreCrossedAt p r ds js → AreAt x d j n ds js → has_dart (darts p.rows) d ≡ true
 at_there p r x d j n [] js a i = absurd i
 at_there p r x d j n (c ∷ ds) [] a i = absurd i
 at_there p r x d j n (c ∷ ds) (k ∷ js) a (inl same) = subst (λ (b : Dart). has_dart (darts p.rows) b ≡ true) (sym same.1) a.0.there
@@ -81,7 +81,7 @@ module _ (rows : Rows) (u v kind : ℕ) (route : Route) (good : IsWellFormed row
   line_made x z (d ∷ ds) e (l ∷ is) (suc i) j low a le at =
       line_made (x + 1) (num (backward q x d)) ds e is i j (omega arith) a.2 (omega arith) (omega arith)
 
-module _ (p : Drawn) (r : Rotation) (u v kind : ℕ) (route : Route) (good : IsWellFormed p.rows) (h : HasPassage p.rows u v kind route good) (js : List Bend) (all : AreCrossedAt p r route.crossed js) (is : List Link) (t : Turning) (limit : ℕ)
+module _ (p : RowsWithPaths) (r : Rotation) (u v kind : ℕ) (route : Route) (good : IsWellFormed p.rows) (h : HasPassage p.rows u v kind route good) (js : List Bend) (all : AreCrossedAt p r route.crossed js) (is : List Link) (t : Turning) (limit : ℕ)
     (under : IsPassageUnder (map_of (turn_images (shown p.rows u v kind route))) (length (turn_images (shown p.rows u v kind route))) (length (turn_images p.rows)) (name p.rows (shown p.rows u v kind route) p.rows.next_edge u v route good h.form h.turns)
     (path_bends p.rows (shown p.rows u v kind route) p.rows.next_edge u v route good h.form h.turns (lifted p.rows (shown p.rows u v kind route) h.from) (lifted p.rows (shown p.rows u v kind route) h.to) h.path)
     (path_links p.rows (shown p.rows u v kind route) p.rows.next_edge u v route good h.form h.turns (lifted p.rows (shown p.rows u v kind route) h.from) (lifted p.rows (shown p.rows u v kind route) h.to)) (half_at p) js is t limit) where

@@ -25,7 +25,7 @@ use Rattle.topo_map.specs.Rotation.{Rotation, edge_of, half_limit, is_live, turn
 use Rattle.topo_rows.specs.Ids.{IsPlaceOf}
 use Rattle.topo_rows.proofs.Finding.{edges_rise, placed_here}
 use Rattle.topo_embedded.specs.Crossing.{AreCrossedAt}
-use Rattle.topo_embedded.specs.Halves.{Drawn, ShowsRows, by_way, half_at, half_in, path_of}
+use Rattle.topo_embedded.specs.Halves.{RowsWithPaths, ShowsRows, by_way, half_at, half_in, path_of}
 use Rattle.topo_embedded.proofs.Inserted.{AreInserted, all_have, inserted, path_new, path_old}
 use Rattle.topo_embedded.proofs.Made.{agreeing_numbers}
 use Rattle.topo_embedded.proofs.Numbers.{StandsAt, stands_at}
@@ -39,12 +39,12 @@ pub record IsLabelledPath (label : ℕ → ℕ) (id : ℕ) (path : List ℕ) : T
 pub record AreLabelledPaths (label : ℕ → ℕ) (edges : List EdgeRow) (paths : List (List ℕ)) : Type 0 where
   pub each : (k : ℕ) (row : EdgeRow) → slice_get edges k ≡ Some row → IsLabelledPath label row.id (slice_index_or paths k [])
 
-module _ (p : Drawn) (good : IsWellFormed p.rows) (r : Rotation) (s : ShowsRows p r) (u v kind : ℕ) (route : Route) (once : CrossesOnce route.crossed) (now : IsWellFormed (shown p.rows u v kind route))
+module _ (p : RowsWithPaths) (good : IsWellFormed p.rows) (r : Rotation) (s : ShowsRows p r) (u v kind : ℕ) (route : Route) (once : CrossesOnce route.crossed) (now : IsWellFormed (shown p.rows u v kind route))
     (turns : ShowsTurns p.rows p.rows.next_edge u v route (shown p.rows u v kind route)) (js : List Bend) (all : AreCrossedAt p r route.crossed js) (line : List ℕ) (long : length line ≡ length route.crossed + 1) where
   abbrev q : Rows
   q = shown p.rows u v kind route
 
-  abbrev after : Drawn
+  abbrev after : RowsWithPaths
   after = inserted p good r s u v kind route once now turns js all line
 
   -- the row at a place is that of its edge

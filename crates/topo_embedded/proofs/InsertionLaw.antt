@@ -18,13 +18,13 @@ use Rattle.topo_map.specs.Rotation.{IsEmbedding, Rotation, edge_of, half_limit, 
 use Rattle.topo_changes.proofs.InsertedLawful.{HasPassage}
 use Rattle.topo_changes.proofs.InsertedSlab.{AreCrossedHalves, inserted_slab}
 use Rattle.topo_embedded.specs.Crossing.{AreCrossedAt, halves_of}
-use Rattle.topo_embedded.specs.Halves.{Drawn, ShowsRows, half_at}
+use Rattle.topo_embedded.specs.Halves.{RowsWithPaths, ShowsRows, half_at}
 use Rattle.topo_embedded.specs.Inserting.{put_halves}
 use Rattle.topo_embedded.proofs.InsertedNames.{numbers_inserted}
 use Rattle.topo_embedded.proofs.InsertedShows.{AreLabelledPaths, inserted_shows}
 use Rattle.topo_embedded.proofs.Numbers.{half_of_number}
 
-as_many : (p : Drawn) (r : Rotation) (ds : List Dart) (js : List Bend) → AreCrossedAt p r ds js → length js ≡ length ds
+as_many : (p : RowsWithPaths) (r : Rotation) (ds : List Dart) (js : List Bend) → AreCrossedAt p r ds js → length js ≡ length ds
 as_many p r [] [] a = refl
 as_many p r [] (j ∷ js) a = absurd a
 as_many p r (d ∷ ds) [] a = absurd a
@@ -37,14 +37,14 @@ one_more name z [] e (l ∷ (k ∷ is)) a = absurd a
 one_more name z (j ∷ js) e [] a = absurd a
 one_more name z (j ∷ js) e (l ∷ is) a = omega (arith, one_more name (twin j.near) js e is a.2)
 
-crossed_halves : (p : Drawn) (good : IsWellFormed p.rows) (r : Rotation) (ds : List Dart) (js : List Bend) → AreCrossedAt p r ds js → AreCrossedHalves (half_at p) p.rows ds js
+crossed_halves : (p : RowsWithPaths) (good : IsWellFormed p.rows) (r : Rotation) (ds : List Dart) (js : List Bend) → AreCrossedAt p r ds js → AreCrossedHalves (half_at p) p.rows ds js
 crossed_halves p good r [] [] a = tt
 crossed_halves p good r [] (j ∷ js) a = absurd a
 crossed_halves p good r (d ∷ ds) [] a = absurd a
 crossed_halves p good r (d ∷ ds) (j ∷ js) a = (a.0.dart, a.0.near ∙ sym (half_of_number p good d a.0.there), crossed_halves p good r ds js a.1)
 
 -- the halves along the edges are then those of the crossed paths, and of the line of chords
-pub insertion_shows : (p : Drawn) (good : IsWellFormed p.rows) (r : Rotation) (s : ShowsRows p r) → IsEmbedding r → (u v kind : ℕ) (route : Route) → CrossesOnce route.crossed → (h : HasPassage p.rows u v kind route good)
+pub insertion_shows : (p : RowsWithPaths) (good : IsWellFormed p.rows) (r : Rotation) (s : ShowsRows p r) → IsEmbedding r → (u v kind : ℕ) (route : Route) → CrossesOnce route.crossed → (h : HasPassage p.rows u v kind route good)
     → (js : List Bend) → AreCrossedAt p r route.crossed js → (is : List Link) (middle : Turning) (r' : Rotation)
     → AreAlong (bent_number (half_at p) js) (bent_number (half_at p) js (index_of p.rows h.from)) js (index_of p.rows h.to) is → IsRun half_limit (turning_of r) (splits_of js) middle → IsRun half_limit middle (chords_of is) (turning_of r')
     → AreLabelledPaths (edge_of r') (shown p.rows u v kind route).edges (map (put_halves js) p.paths ++ halves_of is ∷ []) → ShowsRows (record { rows = shown p.rows u v kind route; paths = map (put_halves js) p.paths ++ halves_of is ∷ [] }) r'

@@ -22,7 +22,7 @@ pub mod OnSegments
 pub mod Pads
 pub mod OnPaths
 pub mod Splits
-pub mod Draws
+pub mod AddedChords
 pub mod Routed
 pub mod SameFaces
 pub mod InOrder

@@ -22,7 +22,7 @@ use Rattle.topo_map.specs.Rotation.{AreLabelled, IsMadeFrom, Rotation, edge_of, 
 use Rattle.topo_rows.specs.Flats.{begins_from}
 use Rattle.topo_rows.proofs.Begins.{number_back, number_forward}
 use Rattle.topo_rows.proofs.Rounds.{got_within}
-use Rattle.topo_embedded.specs.Halves.{Drawn, ShowsRows, by_way, half_at, half_in}
+use Rattle.topo_embedded.specs.Halves.{RowsWithPaths, ShowsRows, by_way, half_at, half_in}
 use Rattle.topo_embedded.specs.Making.{ArePathsOf, labels_of}
 use Rattle.topo_embedded.proofs.Numbers.{StandsAt, stands_at}
 
@@ -76,7 +76,7 @@ labels_at n (e ∷ rest) (suc k) row at =
 
 module _ (rows : Rows) (good : IsWellFormed rows) (begins halves : List ℕ) (paths : List (List ℕ)) (r : Rotation) (begin : begins ≡ begins_from 0 rows.edges) (made : IsMadeFrom (turn_images rows) halves r)
     (labels : AreLabelled (labels_of rows.edges) halves (edge_of r)) (are : ArePathsOf rows.edges begins halves (length rows.edges) paths) where
-  abbrev p : Drawn
+  abbrev p : RowsWithPaths
   p = record { rows = rows; paths = paths }
 
   abbrev Is : Dart → Type 0

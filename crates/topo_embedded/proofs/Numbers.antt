@@ -18,7 +18,7 @@ use Rattle.topo_core.proofs.SystemDarts.{edge_at_row, row_id, some_of}
 use Rattle.topo_core.proofs.WithoutPlaces.{edge_of_dart, segment_of_dart}
 use Rattle.topo_map.specs.Rotation.{Rotation, is_live, turn}
 use Rattle.topo_rows.proofs.Rounds.{got_within}
-use Rattle.topo_embedded.specs.Halves.{Drawn, IsHalf, ShowsRows, half_at, half_in, path_of}
+use Rattle.topo_embedded.specs.Halves.{RowsWithPaths, IsHalf, ShowsRows, half_at, half_in, path_of}
 
 -- what is found stands at its place
 pub found_place : {X : Type 0} (q : X → Bool) (xs : List X) (x : X) → find q xs ≡ Some x → slice_get xs (position_or_len q xs) ≡ Some x
@@ -44,7 +44,7 @@ stands_at rows good d h =
     let pick = some_of (edge_row rows d.edge) (edge_of_dart rows good d h) in
     grind (arith, segment_of_dart, edge_at_row, row_id, found_place)
 
-module _ (p : Drawn) (good : IsWellFormed p.rows) where
+module _ (p : RowsWithPaths) (good : IsWellFormed p.rows) where
   -- the half at the number of a dart is its half
   pub half_of_number : (d : Dart) → has_dart (darts p.rows) d ≡ true → half_at p (index_of p.rows d) ≡ half_in p d
   half_of_number d h = ap (λ (o : Option Dart). half_in p (unwrap_or o (record { edge = 0; seg = 0; way = Forward }))) (get_index p.rows good.paths d h)

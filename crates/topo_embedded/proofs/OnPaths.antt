@@ -26,7 +26,7 @@ use Rattle.topo_perm.proofs.Faces.{twin-twin}
 use Rattle.topo_map.specs.Rotation.{Rotation, is_live}
 use Rattle.topo_rows.proofs.Finding.{edges_rise, placed_here}
 use Rattle.topo_rows.proofs.RowDarts.{dart_there}
-use Rattle.topo_embedded.specs.Halves.{Drawn, ShowsRows, by_way, half_in, path_of}
+use Rattle.topo_embedded.specs.Halves.{RowsWithPaths, ShowsRows, by_way, half_in, path_of}
 use Rattle.topo_embedded.specs.Inserting.{piece, put_halves}
 use Rattle.topo_embedded.specs.Padding.{AreOff, IsOff, IsOn}
 use Rattle.topo_embedded.proofs.Apart.{halves_apart, twin_in_path}
@@ -106,7 +106,7 @@ among_split j hs a = grind (arith, flat_map-append, pieces_stay)
 
 -- ---- Halves of darts
 
-module _ (p : Drawn) (good : IsWellFormed p.rows) (r : Rotation) (s : ShowsRows p r) where
+module _ (p : RowsWithPaths) (good : IsWellFormed p.rows) (r : Rotation) (s : ShowsRows p r) where
   abbrev Is : Dart → Type 0
   Is d = has_dart (darts p.rows) d ≡ true
 

@@ -30,7 +30,7 @@ use Rattle.topo_perm.proofs.EditNumbers.{alive_turn, still_alive}
 use Rattle.topo_map.proofs.EditSteps.{live_half, unchord_step}
 use Rattle.topo_changes.proofs.DeletedMids.{across, in_place, is_even}
 use Rattle.topo_changes.proofs.DeletedStages.{back_alive, forward_alive, mid_found, over_dart, over_off, over_turn, segment_alive}
-use Rattle.topo_embedded.specs.Halves.{Drawn, ShowsRows, half_at, half_in, path_of}
+use Rattle.topo_embedded.specs.Halves.{RowsWithPaths, ShowsRows, half_at, half_in, path_of}
 use Rattle.topo_embedded.specs.Opening.{IsOpenTo, IsSetOut, leads_in, mid_at}
 use Rattle.topo_embedded.proofs.Apart.{halves_apart}
 use Rattle.topo_embedded.proofs.Numbers.{StandsAt, half_of_number, stands_at}
@@ -47,7 +47,7 @@ module _ (leads : ℕ → Bool) (t : ℕ → ℕ) (b f over : ℕ) (test : Bool)
 
 -- ---- Which halves lead along their edges
 
-module _ (p : Drawn) (good : IsWellFormed p.rows) (r : Rotation) (s : ShowsRows p r) where
+module _ (p : RowsWithPaths) (good : IsWellFormed p.rows) (r : Rotation) (s : ShowsRows p r) where
   pub path_many : (e : ℕ) → is_some (edge_row p.rows e) ≡ true → length (path_of p e) ≡ length (edge_at p.rows e).crossings + 1
   path_many e there =
       let at : StandsAt p.rows (forward e 0) = stands_at p.rows good (forward e 0) (dart_of_segment p.rows good e 0 Forward there (omega arith)) in
@@ -82,7 +82,7 @@ module _ (p : Drawn) (good : IsWellFormed p.rows) (r : Rotation) (s : ShowsRows 
   leads_even c seg Back h = off_list c seg h ∙ sym (odd_back c seg h)
 
 module _ (rows : Rows) (others : List (List ℕ)) (e : ℕ) (path0 : List ℕ) (r : Rotation) (o : IsSetOut rows others e path0 r) where
-  abbrev p : Drawn
+  abbrev p : RowsWithPaths
   p = record { rows = rows; paths = o.paths }
 
   abbrev last : ℕ

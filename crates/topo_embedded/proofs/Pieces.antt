@@ -26,7 +26,7 @@ use Rattle.topo_perm.proofs.Faces.{twin-other, twin-twin}
 use Rattle.topo_perm.proofs.PassageNumbers.{bent_number}
 use Rattle.topo_map.specs.Rotation.{Rotation, is_live}
 use Rattle.topo_embedded.specs.Crossing.{AreCrossedAt, IsCrossedAt}
-use Rattle.topo_embedded.specs.Halves.{Drawn, ShowsRows, by_way, half_at, half_in}
+use Rattle.topo_embedded.specs.Halves.{RowsWithPaths, ShowsRows, by_way, half_at, half_in}
 use Rattle.topo_embedded.specs.Inserting.{piece, put_halves}
 use Rattle.topo_embedded.proofs.Apart.{halves_apart, twin_in_path}
 use Rattle.topo_embedded.proofs.Numbers.{half_alive, half_of_number}
@@ -72,7 +72,7 @@ AreAt x d j n [] js = ⊥
 AreAt x d j n (c ∷ ds) [] = ⊥
 AreAt x d j n (c ∷ ds) (k ∷ js) = ((x ≡ n) × (d ≡ c) × (j ≡ k)) ⊎ AreAt x d j (n + 1) ds js
 
-module _ (p : Drawn) (good : IsWellFormed p.rows) (r : Rotation) (s : ShowsRows p r) where
+module _ (p : RowsWithPaths) (good : IsWellFormed p.rows) (r : Rotation) (s : ShowsRows p r) where
   abbrev Is : Dart → Type 0
   Is d = has_dart (darts p.rows) d ≡ true
 

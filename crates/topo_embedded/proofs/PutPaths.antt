@@ -25,7 +25,7 @@ use Rattle.topo_perm.proofs.Faces.{twin-twin}
 use Rattle.topo_perm.proofs.PassageNumbers.{bent_number}
 use Rattle.topo_map.specs.Rotation.{Rotation}
 use Rattle.topo_embedded.specs.Crossing.{AreCrossedAt}
-use Rattle.topo_embedded.specs.Halves.{Drawn, ShowsRows, by_way, half_at, path_of}
+use Rattle.topo_embedded.specs.Halves.{RowsWithPaths, ShowsRows, by_way, half_at, path_of}
 use Rattle.topo_embedded.specs.Inserting.{put_halves}
 use Rattle.topo_rows.proofs.RowDarts.{dart_there}
 use Rattle.topo_embedded.proofs.Numbers.{found_place}
@@ -59,7 +59,7 @@ module _ (js : List Bend) (hs : List ℕ) where
       ∙ get_or-append-add (put_halves js (take g hs)) (put_halves js (slice_index_or hs g 0 ∷ []) ++ put_halves js (drop (suc g) hs)) i 0
       ∙ get_or_append_left (put_halves js (slice_index_or hs g 0 ∷ [])) (put_halves js (drop (suc g) hs)) 0 i inside
 
-module _ (p : Drawn) (good : IsWellFormed p.rows) (r : Rotation) (s : ShowsRows p r) (u v kind : ℕ) (route : Route) (once : CrossesOnce route.crossed) (now : IsWellFormed (shown p.rows u v kind route))
+module _ (p : RowsWithPaths) (good : IsWellFormed p.rows) (r : Rotation) (s : ShowsRows p r) (u v kind : ℕ) (route : Route) (once : CrossesOnce route.crossed) (now : IsWellFormed (shown p.rows u v kind route))
     (js : List Bend) (all : AreCrossedAt p r route.crossed js) where
   abbrev q : Rows
   q = shown p.rows u v kind route

@@ -21,7 +21,7 @@ use Rattle.topo_rows.specs.Ids.{IsPlaceOf}
 use Rattle.topo_rows.proofs.RowDarts.{dart_there}
 use Rattle.topo_rows.proofs.Rounds.{got_within}
 use Rattle.topo_rows.proofs.Verdicts.{darts_total}
-use Rattle.topo_embedded.specs.Halves.{Drawn, ShowsRows, by_way, half_in, path_of}
+use Rattle.topo_embedded.specs.Halves.{RowsWithPaths, ShowsRows, by_way, half_in, path_of}
 use Rattle.topo_embedded.specs.Walking.{IsOnPath, end_seg, end_way}
 use Rattle.topo_embedded.proofs.Apart.{halves_apart}
 use Rattle.topo_embedded.proofs.Numbers.{StandsAt, stands_at}
@@ -73,7 +73,7 @@ vertex_there rows v p h = grind (arith, cases_lt, get_or_past)
 
 -- ---- Paths
 
-module _ (p : Drawn) (good : IsWellFormed p.rows) (r : Rotation) (s : ShowsRows p r) (e place : ℕ) (row : EdgeRow) (at : EdgeRead p.rows e place row)
+module _ (p : RowsWithPaths) (good : IsWellFormed p.rows) (r : Rotation) (s : ShowsRows p r) (e place : ℕ) (row : EdgeRow) (at : EdgeRead p.rows e place row)
     (path : List ℕ) (path_is : path ≡ slice_index_or p.paths place path) where
   path_inside : place < length p.paths
   path_inside = omega (arith, s.as_many, got_within p.rows.edges place row at.at)

@@ -19,11 +19,11 @@ use Rattle.topo_perm.proofs.Passages.{AreAlong}
 use Rattle.topo_map.specs.Rotation.{IsEmbedding, Rotation, is_live, turning_of}
 use Rattle.topo_changes.proofs.InsertedLawful.{HasPassage, has_passage}
 use Rattle.topo_embedded.specs.declared.padding.Crossed.{Crossed}
-use Rattle.topo_embedded.specs.Crossing.{AreCrossedAt, AreDrawn, HasLabel, HaveLabel, HaveLabels, IsMarked, IsReady, IsReadyFor, IsRouted, bends_of, bent_half, crossed_darts, halves_of}
-use Rattle.topo_embedded.specs.Halves.{Drawn, ShowsRows, half_at}
+use Rattle.topo_embedded.specs.Crossing.{AreCrossedAt, AreChordsAdded, HasLabel, HaveLabel, HaveLabels, IsMarked, IsReady, IsReadyFor, IsRouted, bends_of, bent_half, crossed_darts, halves_of}
+use Rattle.topo_embedded.specs.Halves.{RowsWithPaths, ShowsRows, half_at}
 use Rattle.topo_embedded.specs.Inserting.{put_halves}
 use Rattle.topo_embedded.specs.Padding.{ArePadded}
-use Rattle.topo_embedded.proofs.Draws.{bent_is}
+use Rattle.topo_embedded.proofs.AddedChords.{bent_is}
 use Rattle.topo_embedded.proofs.Grown.{corner_alive, kept_shows}
 use Rattle.topo_embedded.proofs.InsertedLabels.{shown_labels}
 use Rattle.topo_embedded.proofs.InsertionLaw.{insertion_shows}
@@ -33,7 +33,7 @@ labels_still : (r r' : Rotation) → ((id h : ℕ) → HasLabel r id h → HasLa
 labels_still r r' keeps id [] a = tt
 labels_still r r' keeps id (h ∷ path) a = (keeps id h a.0, labels_still r r' keeps id path a.1)
 
-module _ (p : Drawn) (r : Rotation) (cs : List Crossed) (u v kind : ℕ) (route : Route) (start end : ℕ) (ready : IsReadyFor p r cs u v kind route start end) (now : Rotation) (slots : now.slots ≡ r.slots) where
+module _ (p : RowsWithPaths) (r : Rotation) (cs : List Crossed) (u v kind : ℕ) (route : Route) (start end : ℕ) (ready : IsReadyFor p r cs u v kind route start end) (now : Rotation) (slots : now.slots ≡ r.slots) where
   shows : ShowsRows p now
   shows = kept_shows p r now slots ready.shows
 
@@ -57,25 +57,25 @@ module _ (p : Drawn) (r : Rotation) (cs : List Crossed) (u v kind : ℕ) (route 
       let to_there : has_dart (darts p.rows) h.to ≡ true = corner_in p.rows ready.formed v route.end h.to h.ends in
       let first : bent_half cs' start ≡ bent_number (half_at p) js (index_of p.rows h.from) = ap (bent_half cs') (ready.starts h.from h.starts) ∙ bent_is p ready.formed now shows h.from from_there cs' all in
       let last : bent_half cs' end ≡ bent_number (half_at p) js (index_of p.rows h.to) = ap (bent_half cs') (ready.ends h.to h.ends) ∙ bent_is p ready.formed now shows h.to to_there cs' all in
-      let drawn : AreDrawn routed.middle after cs' (bent_half cs' start) (bent_half cs' end) p.rows.next_edge line = routed.drawn in
-      let along : AreAlong (bent_number (half_at p) js) (bent_number (half_at p) js (index_of p.rows h.from)) js (index_of p.rows h.to) drawn.links =
-      subst (λ (z : ℕ). AreAlong (bent_number (half_at p) js) z js (index_of p.rows h.to) drawn.links) first (drawn.along p.rows (bent_number (half_at p) js) (index_of p.rows h.to) last) in
-      let labels : HaveLabels after p.rows.edges (map (put_halves js) p.paths) = λ k row at. labels_still routed.middle after drawn.keeps row.id (slice_index_or (map (put_halves js) p.paths) k []) (routed.split.labels k row at) in
-      subst (λ (l : List ℕ). ShowsRows (record { rows = shown p.rows u v kind route; paths = map (put_halves js) p.paths ++ l ∷ [] }) after) (sym drawn.halves)
-      (insertion_shows p ready.formed now shows whole u v kind route ready.insertable.once h js crossed drawn.links (turning_of routed.middle) after along routed.split.run drawn.run
-      (shown_labels p.rows u v kind route p.paths js (halves_of drawn.links) after shows.as_many labels (subst (HaveLabel after p.rows.next_edge) drawn.halves drawn.labels)))
+      let added : AreChordsAdded routed.middle after cs' (bent_half cs' start) (bent_half cs' end) p.rows.next_edge line = routed.added in
+      let along : AreAlong (bent_number (half_at p) js) (bent_number (half_at p) js (index_of p.rows h.from)) js (index_of p.rows h.to) added.links =
+      subst (λ (z : ℕ). AreAlong (bent_number (half_at p) js) z js (index_of p.rows h.to) added.links) first (added.along p.rows (bent_number (half_at p) js) (index_of p.rows h.to) last) in
+      let labels : HaveLabels after p.rows.edges (map (put_halves js) p.paths) = λ k row at. labels_still routed.middle after added.keeps row.id (slice_index_or (map (put_halves js) p.paths) k []) (routed.split.labels k row at) in
+      subst (λ (l : List ℕ). ShowsRows (record { rows = shown p.rows u v kind route; paths = map (put_halves js) p.paths ++ l ∷ [] }) after) (sym added.halves)
+      (insertion_shows p ready.formed now shows whole u v kind route ready.insertable.once h js crossed added.links (turning_of routed.middle) after along routed.split.run added.run
+      (shown_labels p.rows u v kind route p.paths js (halves_of added.links) after shows.as_many labels (subst (HaveLabel after p.rows.next_edge) added.halves added.labels)))
 
 -- as the code goes
-pub inserted_drawn : (p : Drawn) (r now after : Rotation) (cs cs' : List Crossed) (u v kind : ℕ) (route : Route) (start end edge : ℕ) → IsReadyFor p r cs u v kind route start end → now.slots ≡ r.slots → IsEmbedding now → crossed_darts cs' ≡ crossed_darts cs → All (IsMarked p) cs'
+pub inserted_parts : (p : RowsWithPaths) (r now after : Rotation) (cs cs' : List Crossed) (u v kind : ℕ) (route : Route) (start end edge : ℕ) → IsReadyFor p r cs u v kind route start end → now.slots ≡ r.slots → IsEmbedding now → crossed_darts cs' ≡ crossed_darts cs → All (IsMarked p) cs'
     → (line : List ℕ) (rows : Rows) (lists paths : List (List ℕ)) → edge ≡ p.rows.next_edge → IsRouted p now after cs' start end edge line → rows ≡ shown p.rows u v kind route → lists ≡ map (put_halves (bends_of p.rows cs')) p.paths → paths ≡ lists ++ line ∷ []
     → ShowsRows (record { rows = rows; paths = paths }) after
-inserted_drawn p r now after cs cs' u v kind route start end edge ready slots whole same marked line rows lists paths edge_is routed rows_are lists_are paths_are =
+inserted_parts p r now after cs cs' u v kind route start end edge ready slots whole same marked line rows lists paths edge_is routed rows_are lists_are paths_are =
     let shows = routed_shows p r cs u v kind route start end ready now slots whole after cs' same marked line (subst (λ (e : ℕ). IsRouted p now after cs' start end e line) edge_is routed) in
     grind (arith, shows)
 
 -- inserted or not
-pub inserted_formed : {A E : Type 0} (result : Result A E) (p : Drawn) (rows new : Rows) (paths : List (List ℕ)) → (let q : Drawn = record { rows = rows; paths = paths } in q ≡ p) → IsWellFormed rows → (u v kind : ℕ) (route : Route) → IsInsertable p.rows u v kind route
+pub inserted_formed : {A E : Type 0} (result : Result A E) (p : RowsWithPaths) (rows new : Rows) (paths : List (List ℕ)) → (let q : RowsWithPaths = record { rows = rows; paths = paths } in q ≡ p) → IsWellFormed rows → (u v kind : ℕ) (route : Route) → IsInsertable p.rows u v kind route
     → OnOk result (new ≡ shown rows u v kind route) → OnErr result (new ≡ rows) → IsWellFormed new
 inserted_formed (Ok a) p rows new paths seen good u v kind route may ok err =
-    subst IsWellFormed (sym ok) (shown_well_formed rows u v kind route good (subst (λ (rs : Rows). IsInsertable rs u v kind route) (ap (λ (q : Drawn). q.rows) (sym seen)) may))
+    subst IsWellFormed (sym ok) (shown_well_formed rows u v kind route good (subst (λ (rs : Rows). IsInsertable rs u v kind route) (ap (λ (q : RowsWithPaths). q.rows) (sym seen)) may))
 inserted_formed (Err e) p rows new paths seen good u v kind route may ok err = subst IsWellFormed (sym err) good

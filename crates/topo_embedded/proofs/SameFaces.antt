@@ -10,11 +10,11 @@ use Rattle.topo_core.specs.Rotations.{face_next}
 use Rattle.topo_core.specs.Systems.{SameFace, face_step, has_dart}
 use Rattle.topo_core.proofs.Numbering.{turn_stays, twin_in}
 use Rattle.topo_map.specs.Rotation.{Rotation, turn}
-use Rattle.topo_embedded.specs.Halves.{Drawn, ShowsRows, half_in}
+use Rattle.topo_embedded.specs.Halves.{RowsWithPaths, ShowsRows, half_in}
 use Rattle.topo_embedded.proofs.Apart.{halves_apart}
 use Rattle.topo_embedded.proofs.Numbers.{face_half}
 
-module _ (p : Drawn) (good : IsWellFormed p.rows) (r : Rotation) (s : ShowsRows p r) where
+module _ (p : RowsWithPaths) (good : IsWellFormed p.rows) (r : Rotation) (s : ShowsRows p r) where
   steps_stay : (k : ℕ) (d : Dart) → has_dart (darts p.rows) d ≡ true → has_dart (darts p.rows) (after (face_step (system p.rows)) k d) ≡ true
   steps_stay zero d h = h
   steps_stay (suc k) d h =

@@ -36,7 +36,7 @@ use Rattle.topo_changes.proofs.DeletedStages.{smoothable_along}
 use Rattle.topo_changes.proofs.Deleting.{rest_is}
 use Rattle.topo_changes.proofs.Leaving.{filter_alike, filter_twice}
 use Rattle.topo_embedded.specs.Deleting.{ArePathsLeft, spared}
-use Rattle.topo_embedded.specs.Halves.{Drawn, ShowsRows, half_at, path_of}
+use Rattle.topo_embedded.specs.Halves.{RowsWithPaths, ShowsRows, half_at, path_of}
 use Rattle.topo_embedded.specs.Opening.{IsOpened, IsOpenTo, IsSetOut, IsSmoothedTo, mid_at, mids_of, without_half}
 use Rattle.topo_embedded.proofs.Aheads.{aheads, AreMidHalves, deleted_shows}
 use Rattle.topo_embedded.proofs.LeftHalves.{spared_first}
@@ -120,7 +120,7 @@ module _ (rows : Rows) (paths : List (List ℕ)) (many : length paths ≡ length
 -- ---- A midpoint smoothed
 
 module _ (rows : Rows) (others : List (List ℕ)) (e : ℕ) (mids : List ℕ) (opened : Rotation) (o : IsOpened rows others e mids opened) where
-  abbrev p : Drawn
+  abbrev p : RowsWithPaths
   p = record { rows = rows; paths = o.set_out.paths }
 
   abbrev r : Rotation

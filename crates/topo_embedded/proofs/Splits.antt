@@ -28,7 +28,7 @@ use Rattle.topo_map.proofs.EditSteps.{live_half, split_step}
 use Rattle.topo_rows.proofs.Rounds.{got_within}
 use Rattle.topo_embedded.specs.declared.padding.Crossed.{Crossed}
 use Rattle.topo_embedded.specs.Crossing.{AreCrossedAt, AreSplit, AreSplitFrom, HasLabel, HaveLabel, IsMarked, bends_of, crossed_darts}
-use Rattle.topo_embedded.specs.Halves.{Drawn, ShowsRows, half_in}
+use Rattle.topo_embedded.specs.Halves.{RowsWithPaths, ShowsRows, half_in}
 use Rattle.topo_embedded.specs.Inserting.{piece, put_halves}
 use Rattle.topo_embedded.specs.Padding.{AreOff, ArePadded, ArePlaced, IsOff, IsOn, pads}
 use Rattle.topo_embedded.proofs.Apart.{twin_in_path}
@@ -65,7 +65,7 @@ once_at [] n c less once = absurd (omega arith)
 once_at (k ∷ cs) zero c less once = once.0
 once_at (k ∷ cs) (suc n) c less once = once_at cs n c (omega arith) once.1
 
-module _ (p : Drawn) (good : IsWellFormed p.rows) (r : Rotation) (s : ShowsRows p r) where
+module _ (p : RowsWithPaths) (good : IsWellFormed p.rows) (r : Rotation) (s : ShowsRows p r) where
   -- the list of a crossed edge is there
   pub marked_placed : (c : Crossed) → IsMarked p c → c.place < length p.paths
   marked_placed c is =
@@ -76,7 +76,7 @@ module _ (p : Drawn) (good : IsWellFormed p.rows) (r : Rotation) (s : ShowsRows 
   pub all_placed_here : (cs : List Crossed) → All (IsMarked p) cs → (paths : List (List ℕ)) → length paths ≡ length p.paths → ArePlaced (length paths) cs
   all_placed_here cs all paths long k d less = (let placed = marked_placed (slice_index_or cs k d) (all k d less) in omega (arith, placed, long))
 
-module _ (p : Drawn) (good : IsWellFormed p.rows) (r : Rotation) (s : ShowsRows p r) (whole : IsEmbedding r) where
+module _ (p : RowsWithPaths) (good : IsWellFormed p.rows) (r : Rotation) (s : ShowsRows p r) (whole : IsEmbedding r) where
   abbrev Is : Dart → Type 0
   Is d = has_dart (darts p.rows) d ≡ true
 

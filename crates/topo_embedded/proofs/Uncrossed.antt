@@ -19,7 +19,7 @@ use Rattle.topo_core.proofs.WovenPaths.{first_part, place_of}
 use Rattle.topo_core.proofs.Lengthening.{same_tests}
 use Rattle.topo_map.specs.Rotation.{Rotation}
 use Rattle.topo_embedded.specs.Deleting.{ArePathsLeft, AreAheads, IsAhead, spared}
-use Rattle.topo_embedded.specs.Halves.{Drawn, ShowsRows, half_in, path_of}
+use Rattle.topo_embedded.specs.Halves.{RowsWithPaths, ShowsRows, half_in, path_of}
 use Rattle.topo_embedded.proofs.Apart.{halves_apart}
 use Rattle.topo_embedded.proofs.LeftHalves.{IsUncrossed, uncrossed_halves, uncrossed_length}
 use Rattle.topo_embedded.proofs.Numbers.{StandsAt, stands_at}
@@ -28,7 +28,7 @@ pub not_true : (b : Bool) → (b ≡ true → ⊥) → b ≡ false
 not_true true wrong = absurd (wrong refl)
 not_true false wrong = refl
 
-module _ (p : Drawn) (good : IsWellFormed p.rows) (r : Rotation) (s : ShowsRows p r) (e : ℕ) (there : is_some (edge_row p.rows e) ≡ true) (goes : ℕ → Bool) (are : AreAheads p e goes) where
+module _ (p : RowsWithPaths) (good : IsWellFormed p.rows) (r : Rotation) (s : ShowsRows p r) (e : ℕ) (there : is_some (edge_row p.rows e) ≡ true) (goes : ℕ → Bool) (are : AreAheads p e goes) where
   abbrev after : Rows
   after = without p.rows e
 
@@ -86,7 +86,7 @@ module _ (p : Drawn) (good : IsWellFormed p.rows) (r : Rotation) (s : ShowsRows 
     -- ---- With the paths that are left
 
     module _ (paths : List (List ℕ)) (lists : ArePathsLeft p e goes paths) where
-      abbrev q : Drawn
+      abbrev q : RowsWithPaths
       q = record { rows = after; paths = paths }
 
       pub half_after : (good_after : IsWellFormed after) (seg : ℕ) → has_dart (darts after) (forward c seg) ≡ true → half_in q (forward c seg) ≡ half_in p (lifted after p.rows (forward c seg))

@@ -25,17 +25,17 @@ use Rattle.topo_core.proofs.RouteDarts.{item_at}
 use Rattle.topo_perm.proofs.DeletionNumbers.{IsSmoothedUnder}
 use Rattle.topo_map.specs.Rotation.{KeepsLabels, Rotation, edge_of, half_limit, is_live, turn, turning_of}
 use Rattle.topo_embedded.specs.Deleting.{ArePathsLeft, AreAheads, spared}
-use Rattle.topo_embedded.specs.Halves.{Drawn, ShowsRows, half_at, half_in, path_of}
+use Rattle.topo_embedded.specs.Halves.{RowsWithPaths, ShowsRows, half_at, half_in, path_of}
 use Rattle.topo_embedded.proofs.Made.{agreeing_numbers}
 use Rattle.topo_embedded.proofs.Numbers.{half_of_number, twin_half}
 use Rattle.topo_embedded.proofs.Uncrossed.{half_after, left_many}
 
 -- what is seen of rows well formed is so without the edge
-pub without_formed : (p : Drawn) (rows after : Rows) (paths : List (List ℕ)) (e : ℕ) → (let q : Drawn = record { rows = rows; paths = paths } in q ≡ p) → IsWellFormed rows → is_some (edge_row p.rows e) ≡ true → after ≡ without rows e → IsWellFormed after
+pub without_formed : (p : RowsWithPaths) (rows after : Rows) (paths : List (List ℕ)) (e : ℕ) → (let q : RowsWithPaths = record { rows = rows; paths = paths } in q ≡ p) → IsWellFormed rows → is_some (edge_row p.rows e) ≡ true → after ≡ without rows e → IsWellFormed after
 without_formed p rows after paths e view good there is =
-    subst IsWellFormed (sym is) (without_well_formed rows e good (ap (λ (q : Drawn). is_some (edge_row q.rows e)) view ∙ there))
+    subst IsWellFormed (sym is) (without_well_formed rows e good (ap (λ (q : RowsWithPaths). is_some (edge_row q.rows e)) view ∙ there))
 
-module _ (p : Drawn) (good : IsWellFormed p.rows) (r : Rotation) (s : ShowsRows p r) (e : ℕ) (there : is_some (edge_row p.rows e) ≡ true) (goes : ℕ → Bool) (are : AreAheads p e goes) where
+module _ (p : RowsWithPaths) (good : IsWellFormed p.rows) (r : Rotation) (s : ShowsRows p r) (e : ℕ) (there : is_some (edge_row p.rows e) ≡ true) (goes : ℕ → Bool) (are : AreAheads p e goes) where
   abbrev after : Rows
   after = without p.rows e
 
@@ -53,7 +53,7 @@ module _ (p : Drawn) (good : IsWellFormed p.rows) (r : Rotation) (s : ShowsRows 
   name a = index_of p.rows (lift (unwrap_or (slice_get (darts after) a) (record { edge = 0; seg = 0; way = Forward })))
 
   module _ (paths : List (List ℕ)) (lists : ArePathsLeft p e goes paths) (r' : Rotation) (under : IsSmoothedUnder (map_of (turn_images after)) m name (half_at p) (turning_of r') half_limit) (keeps : KeepsLabels (is_live r') (edge_of r) (edge_of r')) where
-    abbrev q : Drawn
+    abbrev q : RowsWithPaths
     q = record { rows = after; paths = paths }
 
     record HasHalf (a : ℕ) (d : Dart) : Type 0 where

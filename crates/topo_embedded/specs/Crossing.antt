@@ -17,21 +17,21 @@ use Rattle.topo_perm.proofs.Links.{Link, chords_of}
 use Rattle.topo_perm.proofs.Passages.{AreAlong}
 use Rattle.topo_map.specs.Rotation.{IsEmbedding, Rotation, edge_of, half_limit, is_live, turning_of}
 use Rattle.topo_embedded.specs.declared.padding.Crossed.{Crossed}
-use Rattle.topo_embedded.specs.Halves.{Drawn, ShowsRows, half_in}
+use Rattle.topo_embedded.specs.Halves.{RowsWithPaths, ShowsRows, half_in}
 use Rattle.topo_embedded.specs.Inserting.{put_halves}
 use Rattle.topo_embedded.specs.Padding.{ArePadded}
 
 -- ---- Halves, bends and links
 
 -- the bend is on the half of the dart, and the half beyond it is new
-pub record IsCrossedAt (p : Drawn) (r : Rotation) (d : Dart) (j : Bend) : Type 0 where
+pub record IsCrossedAt (p : RowsWithPaths) (r : Rotation) (d : Dart) (j : Bend) : Type 0 where
   pub there : has_dart (darts p.rows) d ≡ true
   pub dart : j.dart ≡ index_of p.rows d
   pub near : j.near ≡ half_in p d
   pub new : is_live r j.beyond ≡ false
   pub new_back : is_live r (twin j.beyond) ≡ false
 
-abbrev pub AreCrossedAt : Drawn → Rotation → List Dart → List Bend → Type 0
+abbrev pub AreCrossedAt : RowsWithPaths → Rotation → List Dart → List Bend → Type 0
 AreCrossedAt p r [] [] = Unit {0}
 AreCrossedAt p r [] (j ∷ js) = ⊥
 AreCrossedAt p r (d ∷ ds) [] = ⊥
@@ -69,7 +69,7 @@ bent_half [] h = h
 bent_half (c ∷ cs) h = cond (h == twin c.near) (twin c.beyond) (bent_half cs h)
 
 -- the dart is there, with its half, and its edge at this place
-pub record IsMarked (p : Drawn) (c : Crossed) : Type 0 where
+pub record IsMarked (p : RowsWithPaths) (c : Crossed) : Type 0 where
   pub there : has_dart (darts p.rows) c.dart ≡ true
   pub near : c.near ≡ half_in p c.dart
   pub place : c.place ≡ position_or_len (λ row. row.id == c.dart.edge) p.rows.edges
@@ -77,7 +77,7 @@ pub record IsMarked (p : Drawn) (c : Crossed) : Type 0 where
 -- ---- Before
 
 -- the crossed darts are marked, no two on one segment, and there is room for a half at each
-pub record IsReady (p : Drawn) (r : Rotation) (cs : List Crossed) (paths : List (List ℕ)) : Type 0 where
+pub record IsReady (p : RowsWithPaths) (r : Rotation) (cs : List Crossed) (paths : List (List ℕ)) : Type 0 where
   pub formed : IsWellFormed p.rows
   pub shows : ShowsRows p r
   pub marked : All (IsMarked p) cs
@@ -85,7 +85,7 @@ pub record IsReady (p : Drawn) (r : Rotation) (cs : List Crossed) (paths : List 
   pub padded : ArePadded (λ hs. hs) p.paths cs paths
 
 -- an edge of this kind can be shown along the route, with its crossed darts marked and the halves of its corners
-pub record IsReadyFor (p : Drawn) (r : Rotation) (cs : List Crossed) (u v kind : ℕ) (route : Route) (start end : ℕ) : Type 0 where
+pub record IsReadyFor (p : RowsWithPaths) (r : Rotation) (cs : List Crossed) (u v kind : ℕ) (route : Route) (start end : ℕ) : Type 0 where
   pub formed : IsWellFormed p.rows
   pub shows : ShowsRows p r
   pub insertable : IsInsertable p.rows u v kind route
@@ -98,7 +98,7 @@ pub record IsReadyFor (p : Drawn) (r : Rotation) (cs : List Crossed) (u v kind :
 -- ---- The splits
 
 -- the segments of these darts are split, and each path keeps its label
-pub record AreSplit (p : Drawn) (before now : Rotation) (cs : List Crossed) : Type 0 where
+pub record AreSplit (p : RowsWithPaths) (before now : Rotation) (cs : List Crossed) : Type 0 where
   pub crossed : AreCrossedAt p before (crossed_darts cs) (bends_of p.rows cs)
   pub run : IsRun half_limit (turning_of before) (splits_of (bends_of p.rows cs)) (turning_of now)
   pub whole : IsEmbedding now
@@ -106,7 +106,7 @@ pub record AreSplit (p : Drawn) (before now : Rotation) (cs : List Crossed) : Ty
   pub labels : HaveLabels now p.rows.edges (map (put_halves (bends_of p.rows cs)) p.paths)
 
 -- those from place n on are split
-pub record AreSplitFrom (p : Drawn) (before now : Rotation) (was cs : List Crossed) (n : ℕ) (paths : List (List ℕ)) : Type 0 where
+pub record AreSplitFrom (p : RowsWithPaths) (before now : Rotation) (was cs : List Crossed) (n : ℕ) (paths : List (List ℕ)) : Type 0 where
   pub within : n ≤ length cs
   pub darts : crossed_darts cs ≡ crossed_darts was
   pub marked : All (IsMarked p) cs
@@ -117,7 +117,7 @@ pub record AreSplitFrom (p : Drawn) (before now : Rotation) (was cs : List Cross
 -- ---- The new edge
 
 -- the segments of the new edge lead from one corner over the crossings to the other
-pub record AreDrawn (before now : Rotation) (cs : List Crossed) (start end edge : ℕ) (line : List ℕ) : Type 0 where
+pub record AreChordsAdded (before now : Rotation) (cs : List Crossed) (start end edge : ℕ) (line : List ℕ) : Type 0 where
   pub links : List Link
   pub along : (rows : Rows) (name : ℕ → ℕ) (e : ℕ) → end ≡ name e → AreAlong name start (bends_of rows cs) e links
   pub run : IsRun half_limit (turning_of before) (chords_of links) (turning_of now)
@@ -126,7 +126,7 @@ pub record AreDrawn (before now : Rotation) (cs : List Crossed) (start end edge 
   pub keeps : (id h : ℕ) → HasLabel before id h → HasLabel now id h
 
 -- those behind the crossings from place n on are drawn, and the next one ends at a half
-pub record AreDrawnFrom (before now : Rotation) (cs : List Crossed) (n to end edge : ℕ) (line : List ℕ) : Type 0 where
+pub record AreChordsAddedFrom (before now : Rotation) (cs : List Crossed) (n to end edge : ℕ) (line : List ℕ) : Type 0 where
   pub within : n ≤ length cs
   pub many : length line ≡ length cs + 1
   pub links : List Link
@@ -143,7 +143,7 @@ pub record AreDrawnFrom (before now : Rotation) (cs : List Crossed) (n to end ed
 -- ---- Both
 
 -- the segments of the crossed darts are split, and the new edge is drawn between two corners
-pub record IsRouted (p : Drawn) (before now : Rotation) (cs : List Crossed) (start end edge : ℕ) (line : List ℕ) : Type 0 where
+pub record IsRouted (p : RowsWithPaths) (before now : Rotation) (cs : List Crossed) (start end edge : ℕ) (line : List ℕ) : Type 0 where
   pub middle : Rotation
   pub split : AreSplit p before middle cs
-  pub drawn : AreDrawn middle now cs (bent_half cs start) (bent_half cs end) edge line
+  pub added : AreChordsAdded middle now cs (bent_half cs start) (bent_half cs end) edge line

@@ -12,7 +12,7 @@ use Rattle.topo_perm.proofs.DeletionNumbers.{smooths_of, unchords_of}
 use Rattle.topo_map.specs.Rotation.{IsEmbedding, KeepsLabels, Rotation, edge_of, half_limit, is_live, turning_of}
 use Rattle.topo_changes.proofs.DeletedMids.{across, first_of, is_even}
 use Rattle.topo_embedded.specs.Deleting.{spared}
-use Rattle.topo_embedded.specs.Halves.{Drawn, ShowsRows, half_at, path_of}
+use Rattle.topo_embedded.specs.Halves.{RowsWithPaths, ShowsRows, half_at, path_of}
 
 -- whether a half is on the list of its edge, and so leads along it
 abbrev pub leads_in : Rows → List (List ℕ) → (ℕ → ℕ) → ℕ → Bool
@@ -34,7 +34,7 @@ pub record IsSetOut (rows : Rows) (others : List (List ℕ)) (e : ℕ) (path : L
   pub same : (c : ℕ) → is_some (edge_row rows c) ≡ true → c ≢ e → path_of (record { rows = rows; paths = others }) c ≡ path_of (record { rows = rows; paths = paths }) c
 
 -- the first i segments of e are out, and the midpoints are at the places of those with a crossing behind them
-pub record IsOpenTo (p : Drawn) (e : ℕ) (r : Rotation) (i : ℕ) (now : Rotation) (path : List ℕ) : Type 0 where
+pub record IsOpenTo (p : RowsWithPaths) (e : ℕ) (r : Rotation) (i : ℕ) (now : Rotation) (path : List ℕ) : Type 0 where
   pub run : IsRun half_limit (turning_of r) (unchords_of (λ j. half_at p (index_of p.rows (forward e j))) i) (turning_of now)
   pub whole : IsEmbedding now
   pub keeps : KeepsLabels (is_live now) (edge_of r) (edge_of now)
@@ -53,7 +53,7 @@ abbrev pub without_half : Rows → ℕ → ℕ → List (List ℕ) → List (Lis
 without_half rows c h paths = slice_set paths (position_or_len (λ row. row.id == c) rows.edges) (filter (λ x. not (x == h)) (path_of (record { rows = rows; paths = paths }) c))
 
 -- e is out, and these are the halves at the midpoints that it left
-pub record LeavesMids (p : Drawn) (e : ℕ) (r : Rotation) (mids : List ℕ) (now : Rotation) : Type 0 where
+pub record LeavesMids (p : RowsWithPaths) (e : ℕ) (r : Rotation) (mids : List ℕ) (now : Rotation) : Type 0 where
   pub run : IsRun half_limit (turning_of r) (unchords_of (λ j. half_at p (index_of p.rows (forward e j))) (length (edge_at p.rows e).crossings + 1)) (turning_of now)
   pub whole : IsEmbedding now
   pub keeps : KeepsLabels (is_live now) (edge_of r) (edge_of now)
@@ -68,7 +68,7 @@ pub record IsOpened (rows : Rows) (others : List (List ℕ)) (e : ℕ) (mids : L
   pub opened : LeavesMids (record { rows = rows; paths = set_out.paths }) e before mids now
 
 -- the first i midpoints are smoothed, and their halves are out of the lists of the other edges
-pub record IsSmoothedTo (p : Drawn) (e : ℕ) (r opened : Rotation) (mids : List ℕ) (i : ℕ) (now : Rotation) (paths : List (List ℕ)) : Type 0 where
+pub record IsSmoothedTo (p : RowsWithPaths) (e : ℕ) (r opened : Rotation) (mids : List ℕ) (i : ℕ) (now : Rotation) (paths : List (List ℕ)) : Type 0 where
   pub run : IsRun half_limit (turning_of opened) (smooths_of (half_at p) (first_of (mid_at p.rows e) i)) (turning_of now)
   pub whole : IsEmbedding now
   pub keeps : KeepsLabels (is_live now) (edge_of r) (edge_of now)

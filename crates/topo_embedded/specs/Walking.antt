@@ -5,7 +5,7 @@ use Rattle.topo_core.specs.declared.darts.Way.TheVariants.{Forward, Back}
 use Rattle.topo_core.specs.declared.rows.EdgeRow.{EdgeRow}
 use Rattle.topo_core.specs.Lawful.{Lawful}
 use Rattle.topo_route.specs.Names.{IsNamed, Named}
-use Rattle.topo_embedded.specs.Halves.{Drawn, by_way, half_in}
+use Rattle.topo_embedded.specs.Halves.{RowsWithPaths, by_way, half_in}
 
 -- one of the two halves at a place of a path is this one
 pub record IsOnPath (path : List ℕ) (half : ℕ) : Type 0 where
@@ -22,18 +22,18 @@ abbrev pub end_way : Bool → Way
 end_way b = cond b Forward Back
 
 -- the darts by their halves, all of which are below a size
-abbrev pub named_in : Drawn → ℕ → Named
+abbrev pub named_in : RowsWithPaths → ℕ → Named
 named_in p size = record { rows = p.rows; name = half_in p; size = size }
 
 -- lawful rows whose darts have halves of their own below a size
-pub record WalkedRows : Type 0 where
-  pub drawn : Drawn
+pub record FaceGraphRows : Type 0 where
+  pub embedded : RowsWithPaths
   pub size : ℕ
-  pub named : IsNamed (named_in drawn size)
-  pub lawful : ∥ Lawful drawn.rows ∥₁
+  pub named : IsNamed (named_in embedded size)
+  pub lawful : ∥ Lawful embedded.rows ∥₁
 
-abbrev pub named_rows : WalkedRows → Named
-named_rows w = named_in w.drawn w.size
+abbrev pub named_rows : FaceGraphRows → Named
+named_rows w = named_in w.embedded w.size
 
-pub names_apart : (w : WalkedRows) → IsNamed (named_rows w)
+pub names_apart : (w : FaceGraphRows) → IsNamed (named_rows w)
 names_apart w = w.named

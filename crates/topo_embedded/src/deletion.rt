@@ -17,7 +17,7 @@ use topo_changes::KeptRows;
 use topo_changes::deletion::delete_rows;
 use topo_core::listed::Listed;
 use topo_map::{Embedding, Half};
-use topo_rows::Hints;
+use topo_rows::IdIndex;
 use topo_rows::by_id::place_of_edge;
 
 /// Whether a half is on the path of its edge, and so leads along it.
@@ -25,7 +25,7 @@ fn leads_along(
     rows: &KeptRows,
     paths: &[Path],
     segments: &Embedding,
-    hints: &Hints,
+    hints: &IdIndex,
     half: Half,
 ) -> bool
     requires formed { IsWellFormed rows.now }
@@ -44,7 +44,7 @@ fn midpoint(
     rows: &KeptRows,
     paths: &[Path],
     segments: &Embedding,
-    hints: &Hints,
+    hints: &IdIndex,
     before: Half,
     behind: Half,
 ) -> Half
@@ -68,7 +68,7 @@ fn open_path(
     rows: &KeptRows,
     paths: &[Path],
     segments: &mut Embedding,
-    hints: &Hints,
+    hints: &IdIndex,
     path: &mut Path,
 )
     requires { (e : ℕ) × IsSetOut rows.now paths.now e path.old segments.old }
@@ -89,7 +89,7 @@ fn leave_path(
     rows: &KeptRows,
     paths: &mut Vec<Path>,
     segments: &Embedding,
-    hints: &Hints,
+    hints: &IdIndex,
     half: Half,
 )
     requires formed { IsWellFormed rows.now }
@@ -109,7 +109,7 @@ fn smooth_path(
     rows: &KeptRows,
     paths: &mut Vec<Path>,
     segments: &mut Embedding,
-    hints: &Hints,
+    hints: &IdIndex,
     path: &Path,
 )
     requires { (e : ℕ) × IsOpened rows.now paths.old.items e (mids_of path.now) segments.old }
@@ -128,7 +128,7 @@ fn delete_lists(
     rows: &KeptRows,
     paths: &mut Vec<Path>,
     segments: &mut Embedding,
-    hints: &Hints,
+    hints: &IdIndex,
     edge: u32,
 )
     requires lawful { Lawful rows.now }
@@ -145,11 +145,11 @@ fn delete_lists(
 }
 
 /// As `delete_rows`, and keeps the halves and the hints in step with the rows.
-pub(crate) fn delete_drawn(
+pub(crate) fn delete_parts(
     rows: &mut KeptRows,
     paths: &mut Listed<Path>,
     segments: &mut Embedding,
-    hints: &mut Hints,
+    hints: &mut IdIndex,
     edge: u32,
 )
     requires lawful { Lawful rows.old }

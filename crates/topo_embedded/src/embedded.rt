@@ -16,9 +16,9 @@ mod canonical;
 
 use crate::copies::copy_paths;
 use crate::cuts::first_cut;
-use crate::deletion::delete_drawn;
-use crate::growth::grow_drawn;
-use crate::insertion::insert_drawn;
+use crate::deletion::delete_parts;
+use crate::growth::grow_parts;
+use crate::insertion::insert_parts;
 use crate::making::{labels_of, paths_of};
 use crate::padding::Crossed;
 use crate::path::Path;
@@ -33,7 +33,7 @@ use topo_core::routes::Route;
 use topo_core::rows::{Facts, Rows};
 use topo_map::{Embedding, Half};
 use topo_rows::by_id::place_of_edge;
-use topo_rows::{Hints, Turns};
+use topo_rows::{IdIndex, Turns};
 
 /// Well-formed rows with their embedding. Contracts see the rows, and for each edge, by its place among
 /// the edges, the half that leads along it on each of its segments.
@@ -41,7 +41,7 @@ pub struct Embedded {
     rows: KeptRows,
     paths: Listed<Path>,
     segments: Embedding,
-    hints: Hints,
+    hints: IdIndex,
 }
 
 // Written out, so that it is proved once: a derived one is proved anew in each function that lets such a value go.
@@ -62,9 +62,9 @@ impl Drop for Embedded {
 
 impl Model for Embedded {
     ghost use Rattle.topo_core.specs.Lawful.{IsWellFormed};
-    ghost use Rattle.topo_embedded.specs.Halves.{Drawn, ShowsRows};
+    ghost use Rattle.topo_embedded.specs.Halves.{RowsWithPaths, ShowsRows};
 
-    ghost Value = { Drawn };
+    ghost Value = { RowsWithPaths };
 
     ghost view = { λ e. record { rows = e.rows; paths = e.paths } };
 
@@ -119,7 +119,7 @@ impl Embedded {
     }
 
     /// Places of rows by their ids, to be tried before a search.
-    pub fn hints(&self) -> &Hints {
+    pub fn hints(&self) -> &IdIndex {
         &self.hints
     }
 
@@ -273,7 +273,7 @@ impl Embedded {
         let Some(named) = self.corner(u, position) else {
             unreachable!()
         };
-        grow_drawn(
+        grow_parts(
             alloc,
             &mut self.rows,
             &mut self.paths,
@@ -342,7 +342,7 @@ impl Embedded {
             unreachable!()
         };
         let mut crossed = self.crossed_of(alloc, route.crossed.as_slice())?;
-        insert_drawn(
+        insert_parts(
             alloc,
             &mut self.rows,
             &mut self.paths,
@@ -367,7 +367,7 @@ impl Embedded {
         requires there { is_some (edge_row self.old.rows edge) ≡ true }
         ensures { self.new.rows ≡ without self.old.rows edge }
     {
-        delete_drawn(
+        delete_parts(
             &mut self.rows,
             &mut self.paths,
             &mut self.segments,

@@ -13,7 +13,7 @@ use topo_changes::KeptRows;
 use topo_changes::growth::grow_rows;
 use topo_core::listed::Listed;
 use topo_map::{Embedding, Half};
-use topo_rows::Hints;
+use topo_rows::IdIndex;
 
 /// Puts a new vertex on a new edge into a corner of the rows, and its segment before the half of that
 /// corner, or leaves all as it was.
@@ -51,12 +51,12 @@ fn grow_lists(
 }
 
 /// As `grow_rows`, and keeps the halves and the hints in step with the rows. The half names the corner.
-pub(crate) fn grow_drawn(
+pub(crate) fn grow_parts(
     alloc: Global,
     rows: &mut KeptRows,
     paths: &mut Listed<Path>,
     segments: &mut Embedding,
-    hints: &mut Hints,
+    hints: &mut IdIndex,
     named: Half,
     u: u32,
     position: u32,

@@ -7,8 +7,8 @@ ghost use Rattle.std.specs.Vec.{vec_capacity, vec_len};
 ghost use Rattle.topo_core.specs.Changes.{shown};
 ghost use Rattle.topo_core.specs.Rotations.{twin};
 ghost use Rattle.topo_map.specs.Rotation.{is_live};
-ghost use Rattle.topo_embedded.specs.Crossing.{AreDrawn, AreSplit, IsMarked, IsReady, IsReadyFor, IsRouted, bends_of, bent_half, crossed_darts};
-ghost use Rattle.topo_embedded.specs.Halves.{Drawn, ShowsRows};
+ghost use Rattle.topo_embedded.specs.Crossing.{AreChordsAdded, AreSplit, IsMarked, IsReady, IsReadyFor, IsRouted, bends_of, bent_half, crossed_darts};
+ghost use Rattle.topo_embedded.specs.Halves.{RowsWithPaths, ShowsRows};
 ghost use Rattle.topo_embedded.specs.Inserting.{put_halves};
 ghost use Rattle.topo_embedded.specs.Padding.{ArePadded, ArePlaced};
 
@@ -20,11 +20,11 @@ use topo_changes::insertion::apply_rows;
 use topo_core::listed::Listed;
 use topo_core::routes::Route;
 use topo_map::{Embedding, Half};
-use topo_rows::Hints;
+use topo_rows::IdIndex;
 
 /// Splits the segments of the crossed darts, the last one first.
 fn split_crossed(paths: &mut [Path], segments: &mut Embedding, crossed: &mut [Crossed])
-    ghost p: { Drawn }
+    ghost p: { RowsWithPaths }
     requires ready { IsReady p segments.old crossed.old paths.old }
     requires room { length crossed.old ≤ segments.old.room }
     ensures darts { crossed_darts crossed.new ≡ crossed_darts crossed.old }
@@ -58,7 +58,7 @@ fn bent(crossed: &[Crossed], half: Half) -> Half
 
 /// Draws the segments of the new edge between the crossings and its ends, the last one first, and writes down
 /// their halves.
-fn draw(
+fn add_chords(
     segments: &mut Embedding,
     crossed: &[Crossed],
     start: Half,
@@ -71,7 +71,7 @@ fn draw(
     requires alive { All (λ c. (is_live segments.old (twin c.near) ≡ true) × (is_live segments.old c.beyond ≡ true)) crossed.now }
     requires room { length crossed.now + 1 ≤ segments.old.room }
     requires line { length line.old ≡ length crossed.now + 1 }
-    ensures { AreDrawn segments.old segments.new crossed.now start end edge line.new }
+    ensures { AreChordsAdded segments.old segments.new crossed.now start end edge line.new }
 {
     segments.laws();
     let mut to = end;
@@ -112,7 +112,7 @@ fn make_room(
 }
 
 /// Puts the new edge into the embedding.
-fn draw_route(
+fn add_route(
     paths: &mut [Path],
     segments: &mut Embedding,
     crossed: &mut [Crossed],
@@ -120,7 +120,7 @@ fn draw_route(
     edge: u32,
     line: &mut Path,
 )
-    ghost p: { Drawn }
+    ghost p: { RowsWithPaths }
     requires ready { IsReady p segments.old crossed.old paths.old }
     requires room { 2 * length crossed.old + 1 ≤ segments.old.room }
     requires start { is_live segments.old corners.0 ≡ true }
@@ -135,7 +135,7 @@ fn draw_route(
     split_crossed(paths, segments, crossed);
     let start = bent(crossed, corners.0);
     let end = bent(crossed, corners.1);
-    draw(segments, crossed, start, end, edge, line);
+    add_chords(segments, crossed, start, end, edge, line);
 }
 
 /// Puts a new edge along a route into the rows and the embedding, or leaves all as it was.
@@ -144,14 +144,14 @@ fn insert_lists(
     rows: &mut KeptRows,
     paths: &mut Vec<Path>,
     segments: &mut Embedding,
-    hints: &Hints,
+    hints: &IdIndex,
     crossed: &mut [Crossed],
     corners: (Half, Half),
     ends: (u32, u32),
     kind: u32,
     route: &Route,
 ) -> Result<(), AllocError>
-    ghost p: { Drawn }
+    ghost p: { RowsWithPaths }
     requires was { p ≡ record { rows = rows.old; paths = paths.old.items } }
     requires ready { IsReadyFor p segments.old crossed.old ends.0 ends.1 kind route.now corners.0 corners.1 }
     requires edges { rows.old.next_edge + 1 < 2 ^ 32 }
@@ -168,18 +168,18 @@ fn insert_lists(
         return Err(AllocError);
     }
     segments.laws();
-    draw_route(paths, segments, crossed, corners, edge, &mut line);
+    add_route(paths, segments, crossed, corners, edge, &mut line);
     paths.push(line).unwrap();
     Ok(())
 }
 
 /// As `apply_rows`, and keeps the halves and the hints in step with the rows. The halves name the corners.
-pub(crate) fn insert_drawn(
+pub(crate) fn insert_parts(
     alloc: Global,
     rows: &mut KeptRows,
     paths: &mut Listed<Path>,
     segments: &mut Embedding,
-    hints: &mut Hints,
+    hints: &mut IdIndex,
     crossed: &mut [Crossed],
     corners: (Half, Half),
     ends: (u32, u32),

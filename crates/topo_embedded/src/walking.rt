@@ -14,7 +14,7 @@ use std::marker::Model;
 use topo_core::darts::{Dart, Way};
 use topo_core::rows::{EdgeRow, Facts};
 use topo_map::Half;
-use topo_route::walked::Walked;
+use topo_route::face_graph::FaceGraph;
 
 /// Where a half lies on the path of its edge, and which way it leads along it.
 pub(crate) fn place_on_path(path: &Path, half: Half) -> (u32, Way)
@@ -68,11 +68,11 @@ pub struct EmbeddedRows<'a> {
 impl<'a> Model for EmbeddedRows<'a> {
     ghost use Rattle.std.specs.Prelude.{◌<◌, ◌^◌, length};
     ghost use Rattle.topo_core.specs.Picture.{darts};
-    ghost use Rattle.topo_embedded.specs.Walking.{WalkedRows};
+    ghost use Rattle.topo_embedded.specs.Walking.{FaceGraphRows};
 
-    ghost Value = { WalkedRows };
+    ghost Value = { FaceGraphRows };
 
-    ghost view = { λ d. record { drawn = d.embedded.now; size = d.size; named = d.named; lawful = d.lawful } };
+    ghost view = { λ d. record { embedded = d.embedded.now; size = d.size; named = d.named; lawful = d.lawful } };
 
     ghost invariant = { λ d. (length (darts d.embedded.now.rows) < 2 ^ 32) × (length d.embedded.now.rows.rotations < 2 ^ 32) };
 }
@@ -84,14 +84,14 @@ impl<'a> EmbeddedRows<'a> {
     pub fn new(embedded: &'a Embedded) -> Self
         requires lawful { Lawful embedded.now.rows }
         requires vertices { length embedded.now.rows.rotations < 2 ^ 32 }
-        ensures { result.drawn ≡ embedded.now }
+        ensures { result.embedded ≡ embedded.now }
     {
         let size = embedded.size();
         EmbeddedRows { embedded, size }
     }
 }
 
-impl Walked for EmbeddedRows<'_> {
+impl FaceGraph for EmbeddedRows<'_> {
     ghost use Rattle.topo_rows.specs.Recovering.{lawful_again};
     ghost use Rattle.topo_embedded.specs.Walking.{named_rows, names_apart};
 
@@ -147,7 +147,7 @@ impl Walked for EmbeddedRows<'_> {
             .same_face(Half::numbered(dart), Half::numbered(other))
     }
 
-    ghost lawful = { λ w. lawful_again w.drawn.rows w.lawful };
+    ghost lawful = { λ w. lawful_again w.embedded.rows w.lawful };
 
     ghost has_names = { names_apart };
 }

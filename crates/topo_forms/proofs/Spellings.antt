@@ -12,7 +12,7 @@ use Rattle.serde_json.specs.Read.{of_json, of_members, number_of, number_from, m
 use Rattle.topo_forms.specs.declared.path.Path.{Path}
 use Rattle.topo_forms.specs.Paths.{element_of}
 use Rattle.topo_forms.specs.Reads.{Read, and_then, number_below, list_form, items_from, value_of}
-use Rattle.topo_forms.specs.Spelled.{Spells, SpellsItems, GoesOn, SpellsMember, SpellsNumber, SpellsText}
+use Rattle.topo_forms.specs.Tokens.{Spells, SpellsItems, GoesOn, SpellsMember, SpellsNumber, SpellsText}
 use Rattle.topo_forms.proofs.Bytes.{within as within_limit, json_of-read}
 use Rattle.topo_forms.proofs.Steps.{went}
 
@@ -33,8 +33,8 @@ pub number_read : (bound n : ℕ) (path : Path) → n < bound → number_below b
 unfolding number_below and_then
 number_read bound n path h = rw (lt-ltb n bound h)
 
-pub number_spelled : (bound n : ℕ) (ts rest : List Token) → SpellsNumber ts n rest → n < bound → Spells 0 (number_below bound) ts n rest
-number_spelled bound n ts rest s h = record {
+pub number_tokens : (bound n : ℕ) (ts rest : List Token) → SpellsNumber ts n rest → n < bound → Spells 0 (number_below bound) ts n rest
+number_tokens bound n ts rest s h = record {
   written = json.number s.0;
   spelled = number (unsigned n);
   begins = λ depth le. ap (value depth) s.1 ∙ value_is depth (Token.number s.0 ∷ rest);
@@ -42,9 +42,9 @@ number_spelled bound n ts rest s h = record {
   reads = λ path. number_read bound n path h;
 }
 
-pub word_spelled : {A : Type 0} (form : Path → Data → Read A) (word text : List ℕ) (a : A) (ts rest : List Token) → ts ≡ Token.string text ∷ rest → text ≡ word
+pub word_tokens : {A : Type 0} (form : Path → Data → Read A) (word text : List ℕ) (a : A) (ts rest : List Token) → ts ≡ Token.string text ∷ rest → text ≡ word
     → ((path : Path) → form path (string word) ≡ Ok a) → Spells 0 form ts a rest
-word_spelled form word text a ts rest e is read = record {
+word_tokens form word text a ts rest e is read = record {
   written = json.string word;
   spelled = string word;
   begins = λ depth le. ap (value depth) (e ∙ ap (λ s. Token.string s ∷ rest) is) ∙ value_is depth (Token.string word ∷ rest);
@@ -64,8 +64,8 @@ deeper inner outer form ts a rest within s = record {
 
 -- ---- Arrays
 
-pub spelled-shorter : {A : Type 0} (nesting : ℕ) (form : Path → Data → Read A) (ts : List Token) (a : A) (rest : List Token) → Spells nesting form ts a rest → length rest < length ts
-spelled-shorter nesting form ts a rest s = skip_value-shorter nesting ts rest (ap left (s.begins nesting (omega arith)))
+pub tokens-shorter : {A : Type 0} (nesting : ℕ) (form : Path → Data → Read A) (ts : List Token) (a : A) (rest : List Token) → Spells nesting form ts a rest → length rest < length ts
+tokens-shorter nesting form ts a rest s = skip_value-shorter nesting ts rest (ap left (s.begins nesting (omega arith)))
 
 module _ {A : Type 0} (nesting : ℕ) (form : Path → Data → Read A) where
   pub items_done : (ts rest : List Token) → after_end_array ts ≡ Some rest → SpellsItems nesting form ts [] rest
@@ -79,7 +79,7 @@ module _ {A : Type 0} (nesting : ℕ) (form : Path → Data → Read A) where
 
   pub item_then : (ts mid rest : List Token) (x : A) (xs : List A) → after_end_array ts ≡ None → Spells nesting form ts x mid → SpellsItems nesting form mid xs rest → SpellsItems nesting form ts (x ∷ xs) rest
   item_then ts mid rest x xs going s more =
-      let less = spelled-shorter nesting form ts x mid s in record {
+      let less = tokens-shorter nesting form ts x mid s in record {
         written = json.item s.written more.written;
         spelled = item s.spelled more.spelled;
         begins = λ depth n d le. items_more (value depth) n ts mid s.written (omega arith) going (s.begins depth d) ∙ ap (parse_map (json.item s.written)) (more.begins depth (n - 1) d (omega arith));
@@ -87,9 +87,9 @@ module _ {A : Type 0} (nesting : ℕ) (form : Path → Data → Read A) where
         reads = λ path i. went (form (element_of path i) s.spelled) (λ (y : A). and_then (items_from form path (i + 1) more.spelled) (λ ys. Ok (y ∷ ys))) x (s.reads (element_of path i)) ∙ went _ (λ (ys : List A). Ok (x ∷ ys)) xs (more.reads path (i + 1));
       }
 
-  pub array_spelled : (ts mid rest : List Token) (xs : List A) → ts ≡ Token.begin_array ∷ mid → SpellsItems nesting form mid xs rest → Spells (nesting + 1) (list_form form) ts xs rest
+  pub array_tokens : (ts mid rest : List Token) (xs : List A) → ts ≡ Token.begin_array ∷ mid → SpellsItems nesting form mid xs rest → Spells (nesting + 1) (list_form form) ts xs rest
   unfolding list_form and_then
-  array_spelled ts mid rest xs e more = record {
+  array_tokens ts mid rest xs e more = record {
     written = json.array more.written;
     spelled = array more.spelled;
     begins = λ depth le. ap (value depth) e ∙ value-begin_array depth mid (omega arith) ∙ ap (parse_map json.array) (more.begins (depth - 1) (length mid) (omega arith) (omega arith));
@@ -97,10 +97,10 @@ module _ {A : Type 0} (nesting : ℕ) (form : Path → Data → Read A) where
     reads = λ path. more.reads path 0;
   }
 
-  pub list_spelled : (ts mid rest : List Token) (o : Option (List A)) → ts ≡ Token.begin_array ∷ mid → IfSome o (λ xs. SpellsItems nesting form mid xs rest)
+  pub list_tokens : (ts mid rest : List Token) (o : Option (List A)) → ts ≡ Token.begin_array ∷ mid → IfSome o (λ xs. SpellsItems nesting form mid xs rest)
       → IfSome o (λ xs. Spells (nesting + 1) (list_form form) ts xs rest)
-  list_spelled ts mid rest None e found = tt
-  list_spelled ts mid rest (Some xs) e found = array_spelled ts mid rest xs e found
+  list_tokens ts mid rest None e found = tt
+  list_tokens ts mid rest (Some xs) e found = array_tokens ts mid rest xs e found
 
   -- one more item was found at the front of what is left
   pub item_found : (first now mid : List Token) (found more : List A) (x : A) → after_end_array now ≡ None → Spells nesting form now x mid → more ≡ found ++ x ∷ []
@@ -153,9 +153,9 @@ pub number_then : (nesting n : ℕ) (ts mid rest : List Token) (ds : Items) → 
 number_then nesting n ts mid rest ds s more =
     one_more nesting ts mid rest (json.number s.0) (number (unsigned n)) ds (λ depth le. ap (value depth) s.1 ∙ value_is depth (Token.number s.0 ∷ mid)) (rw s.2) more
 
-pub few_spelled : {A : Type 0} (nesting : ℕ) (form : Path → Data → Read A) (ts mid rest : List Token) (a : A) (ds : Items) → ts ≡ Token.begin_array ∷ mid → GoesOn nesting mid ds rest
+pub few_tokens : {A : Type 0} (nesting : ℕ) (form : Path → Data → Read A) (ts mid rest : List Token) (a : A) (ds : Items) → ts ≡ Token.begin_array ∷ mid → GoesOn nesting mid ds rest
     → ((path : Path) → form path (array ds) ≡ Ok a) → Spells (nesting + 1) form ts a rest
-few_spelled nesting form ts mid rest a ds e more read = record {
+few_tokens nesting form ts mid rest a ds e more read = record {
   written = json.array more.written;
   spelled = array ds;
   begins = λ depth le. ap (value depth) e ∙ value-begin_array depth mid (omega arith) ∙ ap (parse_map json.array) (more.begins (depth - 1) (length mid) (omega arith) (omega arith));
@@ -182,15 +182,15 @@ pub member_then : {A : Type 0} (inner nesting : ℕ) (form : Path → Data → R
     → (m : SpellsMember inner form name ts a mid) → inner ≤ nesting → MembersTo nesting mid (put name m.2.spelled old) ms rest → MembersTo nesting ts old ms rest
 member_then inner nesting form name ts a mid rest old ms m within more =
     let less = read_key-shorter ts (Some name) m.0 m.1 in
-    let lesser = spelled-shorter inner form m.0 a mid m.2 in record {
+    let lesser = tokens-shorter inner form m.0 a mid m.2 in record {
       written = json.member name m.2.written more.written;
       begins = λ depth n d le. members_more (value depth) n name ts m.0 mid m.2.written (omega arith) m.1 (m.2.begins depth (omega arith)) ∙ ap (parse_map (json.member name m.2.written)) (more.begins depth (n - 1) d (omega arith));
       means = rw m.2.means more.means;
     }
 
-pub object_spelled : {A : Type 0} (nesting : ℕ) (form : Path → Data → Read A) (ts mid rest : List Token) (a : A) (ms : Members) → ts ≡ Token.begin_object ∷ mid → MembersTo nesting mid no_members ms rest
+pub object_tokens : {A : Type 0} (nesting : ℕ) (form : Path → Data → Read A) (ts mid rest : List Token) (a : A) (ms : Members) → ts ≡ Token.begin_object ∷ mid → MembersTo nesting mid no_members ms rest
     → ((path : Path) → form path (object ms) ≡ Ok a) → Spells (nesting + 1) form ts a rest
-object_spelled nesting form ts mid rest a ms e more read = record {
+object_tokens nesting form ts mid rest a ms e more read = record {
   written = json.object more.written;
   spelled = object ms;
   begins = λ depth le. ap (value depth) e ∙ value-begin_object depth mid (omega arith) ∙ ap (parse_map json.object) (more.begins (depth - 1) (length mid) (omega arith) (omega arith));
@@ -203,9 +203,9 @@ object_spelled nesting form ts mid rest a ms e more read = record {
 read_as : (bytes : List ℕ) (ts : List Token) (written : json.Json) (d : Data) → ts ≡ tokens bytes → value max_depth ts ≡ Some (written, []) → of_json written ≡ Some d → read bytes ≡ Some d
 read_as bytes ts written d same begins means = ap (λ us. option_and_then of_json (option_and_then (λ p. json.if_last p.0 p.1) (value max_depth us))) (sym same) ∙ rw begins means
 
-pub text_spelled : {A : Type 0} (nesting : ℕ) (form : Path → Data → Read A) (limit : ℕ) (bytes : List ℕ) (ts : List Token) (a : A) (rest : List Token)
+pub text_tokens : {A : Type 0} (nesting : ℕ) (form : Path → Data → Read A) (limit : ℕ) (bytes : List ℕ) (ts : List Token) (a : A) (rest : List Token)
     → length bytes ≤ limit → IsUtf8 bytes → ts ≡ tokens bytes → Spells nesting form ts a rest → rest ≡ [] → SpellsText nesting form limit bytes a
-text_spelled nesting form limit bytes ts a rest short utf8 same s last within path =
+text_tokens nesting form limit bytes ts a rest short utf8 same s last within path =
     let begins = s.begins max_depth within ∙ ap (λ r. Some (s.written, r)) last in
     let json = json_of-read bytes s.spelled utf8 (read_as bytes ts s.written s.spelled same begins s.means) in
     went (value_of limit bytes) (form path) s.spelled (within_limit limit bytes (Some s.spelled) short json) ∙ s.reads path

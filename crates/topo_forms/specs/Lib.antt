@@ -7,5 +7,5 @@ pub mod ReplyForms
 pub mod RowForms
 pub mod Scripts
 pub mod Sessions
-pub mod Spelled
-pub mod SpelledParts
+pub mod Tokens
+pub mod TokenParts

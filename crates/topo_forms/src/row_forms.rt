@@ -7,7 +7,7 @@ ghost use Rattle.topo_forms.specs.RowForms.{sign_form, edge_form, crossing_form,
 use crate::fault::ScriptFault;
 use crate::form::{Form, check_keys, is_text, parse, read_three, read_two};
 use crate::path::{Key, Path};
-use crate::spelled::read_spelled;
+use crate::tokens::read_tokens;
 use serde_json::Value;
 use std::alloc::Global;
 use topo_core::darts::Sign;
@@ -108,7 +108,7 @@ impl Form for Rows {
 pub fn read_rows(alloc: Global, bytes: &[u8]) -> Result<Rows, ScriptFault>
     ensures { Gives result (rows_of bytes.now) }
 {
-    match read_spelled(alloc, MAX_PICTURE_BYTES, bytes) {
+    match read_tokens(alloc, MAX_PICTURE_BYTES, bytes) {
         Some(rows) => Ok(rows),
         None => rows_of_value(alloc, bytes),
     }

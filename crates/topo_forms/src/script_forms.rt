@@ -20,7 +20,7 @@ use crate::prices::read_prices;
 use crate::reports::Report;
 use crate::row_forms::MAX_PICTURE_BYTES;
 use crate::scripts::{LimitRows, Script};
-use crate::spelled::read_spelled;
+use crate::tokens::read_tokens;
 use serde_json::Value;
 use std::alloc::Global;
 use topo_core::calls::Command;
@@ -208,7 +208,7 @@ fn script_in(alloc: Global, value: &Value) -> Result<Script, ScriptFault>
 pub fn read_script(alloc: Global, bytes: &[u8]) -> Result<Script, ScriptFault>
     ensures { Gives result (script_of bytes.now) }
 {
-    match read_spelled(alloc, MAX_SCRIPT_BYTES, bytes) {
+    match read_tokens(alloc, MAX_SCRIPT_BYTES, bytes) {
         Some(script) => Ok(script),
         None => script_of_value(alloc, bytes),
     }
@@ -273,7 +273,7 @@ fn report_in(alloc: Global, value: &Value) -> Result<Report, ScriptFault>
 pub fn read_report(alloc: Global, bytes: &[u8]) -> Result<Report, ScriptFault>
     ensures { Gives result (report_of bytes.now) }
 {
-    match read_spelled(alloc, MAX_PICTURE_BYTES, bytes) {
+    match read_tokens(alloc, MAX_PICTURE_BYTES, bytes) {
         Some(report) => Ok(report),
         None => report_of_value(alloc, bytes),
     }

@@ -11,7 +11,7 @@ use crate::path::{Key, Path};
 use crate::row_forms::MAX_PICTURE_BYTES;
 use crate::script_forms::{GREATEST_LIMITS, read_nulls, read_prices_or_none};
 use crate::scripts::LimitRows;
-use crate::spelled::read_spelled;
+use crate::tokens::read_tokens;
 use serde_json::Value;
 use std::alloc::Global;
 use topo_core::calls::Command;
@@ -65,7 +65,7 @@ fn opening_in(alloc: Global, value: &Value) -> Result<Opening, ScriptFault>
 pub fn read_opening(alloc: Global, bytes: &[u8]) -> Result<Opening, ScriptFault>
     ensures { Gives result (opening_of bytes.now) }
 {
-    match read_spelled(alloc, MAX_PICTURE_BYTES, bytes) {
+    match read_tokens(alloc, MAX_PICTURE_BYTES, bytes) {
         Some(opening) => Ok(opening),
         None => opening_of_value(alloc, bytes),
     }
@@ -107,7 +107,7 @@ impl Form for Request {
 pub fn read_request(alloc: Global, line: &[u8]) -> Result<Request, ScriptFault>
     ensures { Gives result (request_of line.now) }
 {
-    match read_spelled::<Command>(alloc, MAX_LINE_BYTES, line) {
+    match read_tokens::<Command>(alloc, MAX_LINE_BYTES, line) {
         Some(command) => Ok(Request::Carry(command)),
         None => request_of_value(alloc, line),
     }

@@ -9,7 +9,7 @@ use Rattle.topo_perm.specs.Joins.{AddsSegment}
 use Rattle.topo_perm.proofs.Faces.{twin-twin, twin-other}
 use Rattle.topo_perm.proofs.Splitting.{without-self, without-elsewhere}
 use Rattle.topo_perm.proofs.EditCounts.{put-elsewhere}
-use Rattle.topo_perm.proofs.Allowed.{AreDarts, IsDrawn, hang_allowed, chord_allowed, chord_drawn, unchord_allowed, unchord_made, split_allowed, smooth_allowed}
+use Rattle.topo_perm.proofs.Allowed.{AreDarts, IsChordPut, hang_allowed, chord_allowed, chord_put, unchord_allowed, unchord_made, split_allowed, smooth_allowed}
 use Rattle.topo_perm.proofs.SlabEdits.{segments_grow}
 use Rattle.topo_perm.proofs.Bypassing.{twin-half}
 use Rattle.topo_map.specs.Rotation.{half_limit, AddsLabel, CountsFewer, CountsMore, IsOneFace, IsWhole, KeepsLabels, Grows, PartsFaces, Shrinks}
@@ -172,7 +172,7 @@ hung s s1 s2 c x st alive t =
 -- ---- Chord
 
 pub record IsChorded (s s' : Slab Segment) (c d x : ℕ) : Type 0 where
-  pub drawn : IsDrawn (next_in s) (next_in s') half_limit c d x
+  pub drawn : IsChordPut (next_in s) (next_in s') half_limit c d x
   pub added : IsAdded s s' x
   pub counts : IsOneFace (view_of s) c d → CountsMore (view_of s) (view_of s') 0 1
 
@@ -183,8 +183,8 @@ pub chorded : (s s1 s2 s3 : Slab Segment) (c d x y : ℕ) → IsStart s s1 x →
 chorded s s1 s2 s3 c d x y st alive alive_d ey t u =
     let both : IsTurned s1 s3 (put (next_in s2) y d) = then_turned s1 s2 s3 (put (next_in s1) x c) (put (next_in s2) y d) t u in
     let e : next_in s3 ≡ put (put (next_in s) x c) (twin x) d = u.next ∙ ap (λ (v : ℕ). put (next_in s2) v d) ey ∙ ap (λ (f : ℕ → ℕ). put f (twin x) d) (t.next ∙ ap (λ (f : ℕ → ℕ). put f x c) st.inserted.next) in
-    let k : IsDrawn (next_in s) (next_in s3) half_limit c d x = subst (λ (g : ℕ → ℕ). IsDrawn (next_in s) g half_limit c d x) (sym e)
-    (chord_drawn (next_in s) half_limit c d x (darts s st.sound) st.inserted.within (isolated s s1 x st) (apart s s1 x c st alive) (apart s s1 x d st alive_d)) in
+    let k : IsChordPut (next_in s) (next_in s3) half_limit c d x = subst (λ (g : ℕ → ℕ). IsChordPut (next_in s) g half_limit c d x) (sym e)
+    (chord_put (next_in s) half_limit c d x (darts s st.sound) st.inserted.within (isolated s s1 x st) (apart s s1 x c st alive) (apart s s1 x d st alive_d)) in
     record {
       drawn = k;
       added = added s s1 s3 x (put (next_in s2) y d) st both;

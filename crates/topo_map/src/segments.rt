@@ -15,7 +15,7 @@ use topo_core::darts::Way;
 
 /// A slab of more segments is used for no new one, so that each half's number fits its type, and what is
 /// above all of them too.
-const MOST_SEGMENTS: usize = 2_147_483_647;
+const MAX_SEGMENTS: usize = 2_147_483_647;
 
 /// The halves after and before a half, clockwise at its point, and the label of the face on its left.
 #[derive(Clone, Copy)]
@@ -219,7 +219,7 @@ pub(crate) fn limit(segments: &Slab<Segment>) -> usize
     ensures slots { length segments.now.slots ≤ segments.now.capacity }
     ensures fits { result + 1 < 2 ^ 32 }
 {
-    2 * segments.capacity().min(MOST_SEGMENTS)
+    2 * segments.capacity().min(MAX_SEGMENTS)
 }
 
 /// How many segments fit with no memory taken. A slab that is so large that a key might not fit its
@@ -228,7 +228,7 @@ pub(crate) fn room(segments: &Slab<Segment>) -> usize
     ensures { result ≡ room_of segments.now }
 {
     let capacity = segments.capacity();
-    if capacity <= MOST_SEGMENTS {
+    if capacity <= MAX_SEGMENTS {
         capacity - segments.len()
     } else {
         0
@@ -247,11 +247,11 @@ pub(crate) fn reserve(segments: &mut Slab<Segment>, more: usize) -> Result<(), A
     if more <= room(segments) {
         return Ok(());
     }
-    if MOST_SEGMENTS.saturating_sub(segments.len()) < more {
+    if MAX_SEGMENTS.saturating_sub(segments.len()) < more {
         return Err(AllocError);
     }
     segments.reserve(more)?;
-    if segments.capacity() <= MOST_SEGMENTS {
+    if segments.capacity() <= MAX_SEGMENTS {
         Ok(())
     } else {
         Err(AllocError)

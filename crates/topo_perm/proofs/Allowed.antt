@@ -20,13 +20,13 @@ hang_allowed f n c x h lx room k =
     grind (arith, put_permutation, put, put_before)
 
 -- a chord, whether or not its corners lie in one face
-pub record IsDrawn (f g : ℕ → ℕ) (n c d x : ℕ) : Type 0 where
+pub record IsChordPut (f g : ℕ → ℕ) (n c d x : ℕ) : Type 0 where
   pub turns : AreTurns f g n x
   pub corner : IsApart n c x
   pub edit : IsChord f g n c d x
 
-pub chord_drawn : (f : ℕ → ℕ) (n c d x : ℕ) → AreDarts f n → x < n → IsIsolated f x → IsApart n c x → IsApart n d x → IsDrawn f (put (put f x c) (twin x) d) n c d x
-chord_drawn f n c d x h lx room k m =
+pub chord_put : (f : ℕ → ℕ) (n c d x : ℕ) → AreDarts f n → x < n → IsIsolated f x → IsApart n c x → IsApart n d x → IsChordPut f (put (put f x c) (twin x) d) n c d x
+chord_put f n c d x h lx room k m =
     let lt : twin x < n = twin-within n x h.even lx in
     let ld : d < n = m.within in
     let far : d ≢ twin x = m.not_twin in
@@ -47,7 +47,7 @@ chord_drawn f n c d x h lx room k m =
       };
     }
 
-pub chord_allowed : (f g : ℕ → ℕ) (n c d x : ℕ) → IsDrawn f g n c d x → SameCycle (face_next f) c d → IsAllowedChord f g n c d x
+pub chord_allowed : (f g : ℕ → ℕ) (n c d x : ℕ) → IsChordPut f g n c d x → SameCycle (face_next f) c d → IsAllowedChord f g n c d x
 chord_allowed f g n c d x w one = record { turns = w.turns; corner = w.corner; one_face = one; edit = w.edit }
 
 pub unchord_made : (f : ℕ → ℕ) (n h : ℕ) → IsUnchord f (without (without f h) (twin h)) n h

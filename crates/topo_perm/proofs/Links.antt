@@ -163,7 +163,7 @@ allowed_unlink g n k p even i one =
 -- ---- All of them
 
 -- g has all links, b none. Each link makes one face more, what hung together does so, and other faces stay
-pub record Drawn (live : ℕ → Bool) (b g : ℕ → ℕ) (n : ℕ) (ks : List Link) : Type 0 where
+pub record AreLinked (live : ℕ → Bool) (b g : ℕ → ℕ) (n : ℕ) (ks : List Link) : Type 0 where
   pub slab : IsSlab (with_links live ks) g n
   pub faces : live_cycle_count (with_links live ks) (face_next g) n ≡ live_cycle_count live (face_next b) n + length ks
   pub connected : IsConnectedAmong live b n → IsConnectedAmong (with_links live ks) g n
@@ -213,13 +213,13 @@ links_run live g n (k ∷ ks) p even h ready = (
   ),
 )
 
-pub draw : (live : ℕ → Bool) (g : ℕ → ℕ) (n : ℕ) (ks : List Link) → IsPermutation g n → n % 2 ≡ 0 → AreLinks g n ks → AreReady live ks → AreInFaces (without_links g ks) ks → IsSlab live (without_links g ks) n → Drawn live (without_links g ks) g n ks
-draw live g n [] p even h ready faces slab = grind arith
-draw live g n (k ∷ ks) p even h ready faces slab =
+pub link_all : (live : ℕ → Bool) (g : ℕ → ℕ) (n : ℕ) (ks : List Link) → IsPermutation g n → n % 2 ≡ 0 → AreLinks g n ks → AreReady live ks → AreInFaces (without_links g ks) ks → IsSlab live (without_links g ks) n → AreLinked live (without_links g ks) g n ks
+link_all live g n [] p even h ready faces slab = grind arith
+link_all live g n (k ∷ ks) p even h ready faces slab =
     let f : ℕ → ℕ = without_link g k in
     let b : ℕ → ℕ = without_links f ks in
     let i : IsLink g n k = h.0 in
-    let below : Drawn live b f n ks = draw live f n ks (link_permutation g n k p even i.there) even (links_stay g n k ks even h.1 h.2) ready.1 faces.2 slab in
+    let below : AreLinked live b f n ks = link_all live f n ks (link_permutation g n k p even i.there) even (links_stay g n k ks even h.1 h.2) ready.1 faces.2 slab in
     let from_unlinked : IsUnlinked n ks k.from = all_map (AreUnlinked n k) (λ l. IsApart n k.from l.half) (λ l w. w.from) ks h.1 in
     let one : SameCycle (face_next f) k.from k.to = below.kept k.from k.to i.from_apart.within from_unlinked faces.1 faces.0 in
     let allowed : IsAllowedChord f g n k.from k.to k.half = allowed_link g n k p even i one in

@@ -12,7 +12,7 @@ use Rattle.topo_perm.specs.Renumbering.{RenumbersTurn, Renumbers}
 use Rattle.topo_perm.proofs.Walks.{twin-within, face_next-permutation}
 use Rattle.topo_perm.proofs.Faces.{twin-twin, twin-apart}
 use Rattle.topo_perm.proofs.Renumbered.{renumbered_same_cycle, renumbered_cycles, renumbered_faces, renumbered_connected}
-use Rattle.topo_perm.proofs.Links.{Link, AreReady, AreInFaces, Drawn, draw, without_links, with_links, live_links, with_self, with_twin, with_old, all_map}
+use Rattle.topo_perm.proofs.Links.{Link, AreReady, AreInFaces, AreLinked, link_all, without_links, with_links, live_links, with_self, with_twin, with_old, all_map}
 use Rattle.topo_perm.proofs.Bends.{Bend, IsBend, AreBendable, Bent, IsNamed, IsWithin, Straightened, straighten, with_bends, live_bends, dead_bends, all_bends}
 use Rattle.topo_perm.proofs.Passages.{find_below, found_below, is_named, named_by, is_named-of, all_at, bent_or_not, AreAlong, Walks, MeetsOnce, AreStrange, IsPassage, all_of, links_alone}
 
@@ -323,7 +323,7 @@ passed g n f m name c ks e ls p =
     let good : AllByRecursion (GoodBend b m name s.names) ks = good_bends b n f m name ks i s in
     let faces : AreInFaces b ls = in_faces b n f m name s.names above (name c) c ks e ls p.along (p.named.within c p.from_there) p.from_there p.to_there (above.at_name c p.from_there) p.walk p.once good
     (all_map (IsBend b n m name) (λ k. twin k.near < n) (λ k w. twin-within n k.near even w.near_there) ks i) in
-    let d : Drawn live b g n ls = draw live g n ls p.permutation even p.links (ready g n f m name c ks e ls p i s) faces bent.slab in
+    let d : AreLinked live b g n ls = link_all live g n ls p.permutation even p.links (ready g n f m name c ks e ls p i s) faces bent.slab in
     let back : ℕ → ℕ = λ y. find_below (λ v. s.names v == y) m in
     let r : RenumbersTurn s.names back f s.bottom m below n = renumbers b n f m name ks s in
     let count_below : cycle_count (face_next f) m ≡ live_cycle_count below (face_next s.bottom) n = renumbered_cycles s.names back (face_next f) (face_next s.bottom) m below n (renumbered_faces s.names back f s.bottom m below n r) in

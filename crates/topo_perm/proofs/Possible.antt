@@ -6,7 +6,7 @@ use Rattle.topo_core.proofs.Orbits.{after-within}
 use Rattle.topo_perm.proofs.Walks.{face_next-permutation}
 use Rattle.topo_perm.proofs.Splitting.{without}
 use Rattle.topo_perm.proofs.EditCounts.{put, far_apart}
-use Rattle.topo_perm.proofs.Allowed.{hang_allowed, chord_drawn, chord_allowed, unchord_allowed, split_allowed, smooth_allowed}
+use Rattle.topo_perm.proofs.Allowed.{hang_allowed, chord_put, chord_allowed, unchord_allowed, split_allowed, smooth_allowed}
 
 pub hang_is_possible : HangIsPossible
 hang_is_possible f n c x h even lx room k = record { turn = put f x c; edit = hang_allowed f n c x (record { permutation = h; even = even }) lx room k }
@@ -16,7 +16,7 @@ chord_is_possible f n c d x h even lx room k one =
     let far = far_apart f n c d x h even k room one in
     let m : IsApart n d x = grind (arith, after-within, face_next-permutation) in
     let g : ℕ → ℕ = put (put f x c) (twin x) d in
-    record { turn = g; edit = chord_allowed f g n c d x (chord_drawn f n c d x (record { permutation = h; even = even }) lx room k m) one }
+    record { turn = g; edit = chord_allowed f g n c d x (chord_put f n c d x (record { permutation = h; even = even }) lx room k m) one }
 
 pub unchord_is_possible : UnchordIsPossible
 unchord_is_possible f n h hf even lh two not_alone = record { turn = without (without f h) (twin h); edit = unchord_allowed f n h (record { permutation = hf; even = even }) lh two not_alone }

@@ -20,7 +20,7 @@ use topo_route::region::Region;
 use topo_rows::by_id::edge_place;
 use topo_rows::flat::turns_of;
 use topo_rows::load::{LoadFault, judge};
-use topo_rows::{Hints, Turns};
+use topo_rows::{IdIndex, Turns};
 
 /// A connected embedding of a graph of genus zero, within limits. It keeps its rows with the halves along
 /// their edges, in a slab of segments.
@@ -145,7 +145,7 @@ impl Picture {
 
     /// Its rows with their embedding, for a search that hands out no heights. It takes no time to make.
     pub fn embedded(&self) -> EmbeddedRows<'_>
-        ensures { result.drawn.rows ≡ self.now.rows }
+        ensures { result.embedded.rows ≡ self.now.rows }
     {
         EmbeddedRows::new(&self.embedded)
     }
@@ -419,7 +419,7 @@ fn seed_rows(alloc: Global) -> Result<Rows, AllocError>
 }
 
 /// Whether there is an edge with this id.
-fn has_edge(rows: &KeptRows, hints: &Hints, e: u32) -> bool
+fn has_edge(rows: &KeptRows, hints: &IdIndex, e: u32) -> bool
     requires { has_good_paths rows.now ≡ true }
     ensures { result ≡ is_some (edge_row rows.now e) }
 {

@@ -12,29 +12,29 @@ use std::io;
 use std::sync::Wait;
 use std::thread::Threads;
 
-mod books;
-mod changes;
-mod deeds;
-mod founds;
-mod lists;
-mod named;
+mod book_calls;
+mod book_replays;
+mod book_scripts;
+mod embeddings;
+mod found_routes;
+mod named_pictures;
+mod picture_changes;
+mod picture_reads;
+mod prepared_calls;
 mod prices;
-mod ready;
-mod replays;
+mod printed;
 mod retry;
-mod seen;
+mod service_calls;
+mod service_views;
 mod services;
-mod sights;
-mod states;
-mod stores;
-mod stories;
+mod worker_lists;
 
-use changes::{Changes, change};
-use named::{BARRIER, BIPYRAMID, HEXAGON, Named};
-use seen::{loaded, read};
+use book_scripts::{APEXES, BASE, BookScript, CHORDS, run_script};
+use embeddings::embed;
+use named_pictures::{BARRIER, BIPYRAMID, HEXAGON, Named};
+use picture_changes::{Changes, change};
+use picture_reads::{loaded, read};
 use services::serve;
-use stores::embed;
-use stories::{APEXES, BASE, CHORDS, Story, tell_story};
 use topo_picture::Picture;
 
 /// The calls on a picture.
@@ -42,13 +42,13 @@ fn call<R: Print + Eprint + AllocGlobal>(
     rt: &R,
     picture: &Picture,
     changes: Option<Changes>,
-    story: &Story,
+    story: &BookScript,
 ) -> Result<()> {
     read(rt, picture)?;
     if let Some(changes) = changes {
         change(rt, changes, picture)?;
     }
-    tell_story(rt, story, picture)
+    run_script(rt, story, picture)
 }
 
 /// Loads a named picture, and makes the calls on it.
@@ -56,7 +56,7 @@ fn run_on<R: Print + Eprint + AllocGlobal>(
     rt: &R,
     named: &Named,
     changes: Option<Changes>,
-    story: &Story,
+    story: &BookScript,
 ) -> Result<()> {
     let picture = loaded(rt, named)?;
     let told = call(rt, &picture, changes, story);

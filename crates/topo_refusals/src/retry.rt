@@ -1,7 +1,7 @@
 //! Calls that are made once more where they want memory. In a run where only one allocation fails, the
 //! second time has what it wants.
 
-use crate::states::{compare, picture_state};
+use crate::printed::{compare, picture_state};
 use anyhow::Result;
 use std::alloc::AllocError;
 use topo_picture::Picture;

@@ -4,15 +4,15 @@ ghost use Rattle.std.specs.Prelude.{◌≡◌, Some};
 ghost use Rattle.std.specs.Arc.{arc_value};
 ghost use Rattle.topo_price.specs.Prices.{IsPromise};
 
-use crate::books::shared;
-use crate::deeds::tell_deeds;
-use crate::lists::Watch;
-use crate::named::BIPYRAMID;
+use crate::book_calls::shared;
+use crate::book_replays::replay_from;
+use crate::named_pictures::BIPYRAMID;
+use crate::picture_reads::loaded;
 use crate::prices::table_of;
-use crate::replays::replay_from;
+use crate::printed::{book_state, copied, picture_state};
 use crate::retry::{compare_picture, tell};
-use crate::seen::loaded;
-use crate::states::{book_state, copied, picture_state};
+use crate::service_calls::make_service_calls;
+use crate::worker_lists::Watch;
 use anyhow::{Result, bail};
 use std::marker::Brand;
 use std::sync::{Arc, Wait};
@@ -20,13 +20,13 @@ use std::thread::Threads;
 use topo_book::Book;
 use topo_core::rows::Facts;
 use topo_picture::Picture;
-use topo_price::tariff::{Asks, Tariff};
+use topo_price::tariff::{PriceFn, Tariff};
 use topo_service::close::CloseFault;
 use topo_service::{FreshService, Pass, Service};
 use topo_versions::{ServiceBrand, StoreReader};
 
 /// One pass looks at versions, one makes the calls, and one plans.
-const SEATS: usize = 3;
+const PASSES: usize = 3;
 
 /// A service that begins with the bipyramid.
 pub(crate) fn serve<R: Threads + Wait + Print + Eprint + AllocGlobal + Sync>(rt: &R) -> Result<()> {
@@ -44,23 +44,21 @@ pub(crate) fn serve<R: Threads + Wait + Print + Eprint + AllocGlobal + Sync>(rt:
 
 /// A service with the prices of a closure.
 fn serve_with<
-    F: Asks + Drop + Send + Sync,
+    F: PriceFn + Drop + Send + Sync,
     R: Threads + Wait + Print + Eprint + AllocGlobal + Sync,
 >(rt: &R, start: &Picture, ask: F, watch: &Watch) -> Result<()>
-    requires callable { F.can_ask ask }
-    requires promise { IsPromise (F.answers ask) }
+    requires callable { F.is_callable ask }
+    requires promise { IsPromise (F.may_return ask) }
 {
     let tariff = shared(rt, ask)?;
     serve_at(rt, start, &tariff, watch)
 }
 
 /// A service with the prices of a tariff. Where its beginning wants memory, it is begun once more.
-fn serve_at<F: Asks + Drop + Send + Sync, R: Threads + Wait + Print + Eprint + AllocGlobal + Sync>(
-    rt: &R,
-    start: &Picture,
-    tariff: &Arc<Tariff<F>>,
-    watch: &Watch,
-) -> Result<()> {
+fn serve_at<
+    F: PriceFn + Drop + Send + Sync,
+    R: Threads + Wait + Print + Eprint + AllocGlobal + Sync,
+>(rt: &R, start: &Picture, tariff: &Arc<Tariff<F>>, watch: &Watch) -> Result<()> {
     let before = picture_state(rt, start)?;
     if begun(rt, start, tariff, watch)? {
         return Ok(());
@@ -73,7 +71,7 @@ fn serve_at<F: Asks + Drop + Send + Sync, R: Threads + Wait + Print + Eprint + A
 }
 
 /// Whether a service began, which is then used and closed.
-fn begun<F: Asks + Drop + Send + Sync, R: Threads + Wait + Print + Eprint + AllocGlobal + Sync>(
+fn begun<F: PriceFn + Drop + Send + Sync, R: Threads + Wait + Print + Eprint + AllocGlobal + Sync>(
     rt: &R,
     start: &Picture,
     tariff: &Arc<Tariff<F>>,
@@ -86,7 +84,7 @@ fn begun<F: Asks + Drop + Send + Sync, R: Threads + Wait + Print + Eprint + Allo
 
 /// The same, over the service that K names.
 fn named<
-    F: Asks + Drop + Send + Sync,
+    F: PriceFn + Drop + Send + Sync,
     K: ServiceBrand<F> + Send + Sync,
     R: Threads + Wait + Print + Eprint + AllocGlobal + Sync,
 >(
@@ -111,7 +109,7 @@ fn named<
 /// Uses a service and closes it. The service and its passes are owned here alone, and nothing returns early
 /// while they are.
 fn use_and_close<
-    F: Asks + Drop + Send + Sync,
+    F: PriceFn + Drop + Send + Sync,
     K: ServiceBrand<F> + Send + Sync,
     R: Threads + Wait + Print + Eprint + AllocGlobal + Sync,
 >(rt: &R, mut service: Service<F, K>, watch: &Watch) -> Result<bool> {
@@ -121,7 +119,7 @@ fn use_and_close<
 }
 
 /// Closes a service with its passes. Prints only where the calls before were printed too.
-fn close<F: Asks + Drop, K: ServiceBrand<F>, R: Wait + Print + Eprint + AllocGlobal>(
+fn close<F: PriceFn + Drop, K: ServiceBrand<F>, R: Wait + Print + Eprint + AllocGlobal>(
     rt: &R,
     service: Service<F, K>,
     passes: Vec<Pass<F, K>>,
@@ -135,22 +133,22 @@ fn close<F: Asks + Drop, K: ServiceBrand<F>, R: Wait + Print + Eprint + AllocGlo
 
 /// Gives the passes out, and makes the calls.
 fn use_passes<
-    F: Asks + Drop + Send + Sync,
+    F: PriceFn + Drop + Send + Sync,
     K: ServiceBrand<F> + Send + Sync,
     R: Threads + Wait + Print + Eprint + AllocGlobal + Sync,
 >(rt: &R, service: &mut Service<F, K>, passes: &mut Vec<Pass<F, K>>, watch: &Watch) -> Result<()> {
-    if passes.reserve(SEATS).is_err() {
+    if passes.reserve(PASSES).is_err() {
         tell(rt, "bookkeeping");
-        passes.reserve(SEATS)?;
+        passes.reserve(PASSES)?;
     }
-    for _ in 0..SEATS {
+    for _ in 0..PASSES {
         give_out(rt, service, passes)?;
     }
-    tell_deeds(rt, &*service, passes.as_mut_slice(), watch)
+    make_service_calls(rt, &*service, passes.as_mut_slice(), watch)
 }
 
 /// The next pass, which is asked for again where it wants memory.
-fn give_out<F: Asks + Drop, K: ServiceBrand<F>, R: Print + Eprint>(
+fn give_out<F: PriceFn + Drop, K: ServiceBrand<F>, R: Print + Eprint>(
     rt: &R,
     service: &mut Service<F, K>,
     passes: &mut Vec<Pass<F, K>>,
@@ -172,7 +170,7 @@ fn print_pass<R: Print>(rt: &R, number: u32, receipts: usize, seen: u64) -> Resu
 }
 
 /// Prints a new pass and keeps it.
-fn keep<F: Asks + Drop, K: ServiceBrand<F>, R: Print>(
+fn keep<F: PriceFn + Drop, K: ServiceBrand<F>, R: Print>(
     rt: &R,
     passes: &mut Vec<Pass<F, K>>,
     pass: Pass<F, K>,
@@ -183,14 +181,14 @@ fn keep<F: Asks + Drop, K: ServiceBrand<F>, R: Print>(
 }
 
 /// Prints the book of a service that ended well, and replays its history.
-fn print_closed<R: Print + Eprint + AllocGlobal, F: Asks>(rt: &R, book: &Book<F>) -> Result<()> {
+fn print_closed<R: Print + Eprint + AllocGlobal, F: PriceFn>(rt: &R, book: &Book<F>) -> Result<()> {
     let state = book_state(rt, book)?;
     println!(rt; "closed:{state}")?;
     replay_from(rt, book, book.start())
 }
 
 /// The book of a service that ended well is printed, and its history replayed.
-fn finish<F: Asks + Drop, K: ServiceBrand<F>, R: Print + Eprint + AllocGlobal>(
+fn finish<F: PriceFn + Drop, K: ServiceBrand<F>, R: Print + Eprint + AllocGlobal>(
     rt: &R,
     told: Result<()>,
     end: &Result<Book<F>, CloseFault<F, K, StoreReader<F, K>>>,

@@ -9,14 +9,14 @@ ghost use Rattle.topo_route.specs.Meeting.{HasMet, SpreadsBoth};
 ghost use Rattle.topo_route.specs.Plans.{AreHeights};
 ghost use Rattle.topo_route.specs.Settling.{ArePrices};
 
-use crate::graph::Graph;
-use crate::walked::Walked;
+use crate::face_graph::FaceGraph;
+use crate::priced_graph::PricedGraph;
 use crate::workspace::Workspace;
 use std::alloc::AllocError;
-use topo_price::tariff::Asks;
+use topo_price::tariff::PriceFn;
 
 /// No two heights that are reached make up more than this.
-const MOST: u64 = u64::MAX - 1;
+const MAX_HEIGHT_SUM: u64 = u64::MAX - 1;
 
 /// Where a search from both ends has stopped.
 #[derive(Clone, Copy)]
@@ -29,22 +29,22 @@ pub(crate) struct Stop {
 }
 
 /// Gives the corners of both ends height 0: the least sum of the two heights of a dart so far.
-fn start_both<W: Walked, F: Asks>(
-    graph: &Graph<W, F>,
+fn start_both<W: FaceGraph, F: PriceFn>(
+    priced: &PricedGraph<W, F>,
     work: &mut Workspace,
     u: u32,
     v: u32,
 ) -> Result<u64, AllocError>
-    ensures { IfOk result (λ least. SpreadsBoth (prices_of (F.answers graph.now.tariff.now)) (W.named graph.now.walked.now) u v work.new.to_end.heights work.new.to_end.waiting work.new.to_start.heights work.new.to_start.waiting least) }
+    ensures { IfOk result (λ least. SpreadsBoth (prices_of (F.may_return priced.now.tariff.now)) (W.named priced.now.graph.now) u v work.new.to_end.heights work.new.to_end.waiting work.new.to_start.heights work.new.to_start.waiting least) }
 {
-    let size = graph.walked.size() as usize;
+    let size = priced.graph.size() as usize;
     work.to_end.clear(size)?;
     work.to_start.clear(size)?;
     let mut least = u64::MAX;
     work.to_end
-        .start_at(graph, &work.to_start.heights, &mut least, v)?;
+        .start_at(priced, &work.to_start.heights, &mut least, v)?;
     work.to_start
-        .start_at(graph, &work.to_end.heights, &mut least, u)?;
+        .start_at(priced, &work.to_end.heights, &mut least, u)?;
     Ok(least)
 }
 
@@ -52,16 +52,16 @@ fn start_both<W: Walked, F: Asks>(
 /// found, or until one end has nothing left. The end for which fewer wait goes on. The answer is how high
 /// the darts are that the target's end has taken. What is known does not rest on it: whatever the number,
 /// what is left to do from there is done.
-fn spread_both<W: Walked, F: Asks>(
-    graph: &Graph<W, F>,
+fn spread_both<W: FaceGraph, F: PriceFn>(
+    priced: &PricedGraph<W, F>,
     work: &mut Workspace,
     least: &mut u64,
     u: u32,
     v: u32,
 ) -> Result<u64, AllocError>
-    requires right { ArePrices (prices_of (F.answers graph.now.tariff.now)) (W.named graph.now.walked.now) graph.now.prices.items }
-    requires both { SpreadsBoth (prices_of (F.answers graph.now.tariff.now)) (W.named graph.now.walked.now) u v work.old.to_end.heights work.old.to_end.waiting work.old.to_start.heights work.old.to_start.waiting least.old }
-    ensures { IfOk result (λ _. SpreadsBoth (prices_of (F.answers graph.now.tariff.now)) (W.named graph.now.walked.now) u v work.new.to_end.heights work.new.to_end.waiting work.new.to_start.heights work.new.to_start.waiting least.new) }
+    requires right { ArePrices (prices_of (F.may_return priced.now.tariff.now)) (W.named priced.now.graph.now) priced.now.prices.items }
+    requires both { SpreadsBoth (prices_of (F.may_return priced.now.tariff.now)) (W.named priced.now.graph.now) u v work.old.to_end.heights work.old.to_end.waiting work.old.to_start.heights work.old.to_start.waiting least.old }
+    ensures { IfOk result (λ _. SpreadsBoth (prices_of (F.may_return priced.now.tariff.now)) (W.named priced.now.graph.now) u v work.new.to_end.heights work.new.to_end.waiting work.new.to_start.heights work.new.to_start.waiting least.new) }
 {
     let mut level = 0;
     let mut far = 0u64;
@@ -69,7 +69,7 @@ fn spread_both<W: Walked, F: Asks>(
         if work.to_start.waiting.count() < work.to_end.waiting.count() {
             match work
                 .to_start
-                .spread_next(graph, &work.to_end.heights, least, u)?
+                .spread_next(priced, &work.to_end.heights, least, u)?
             {
                 Some(height) => far = height,
                 None => return Ok(1),
@@ -77,7 +77,7 @@ fn spread_both<W: Walked, F: Asks>(
         } else {
             match work
                 .to_end
-                .spread_next(graph, &work.to_start.heights, least, v)?
+                .spread_next(priced, &work.to_start.heights, least, v)?
             {
                 Some(height) => level = height,
                 None => return Ok(u64::MAX),
@@ -91,27 +91,40 @@ fn spread_both<W: Walked, F: Asks>(
 /// level can have on its way there, and then from the target to all below the level, and on along the
 /// cheapest routes alone. The level is no higher than the least price, so that the faces at the start are
 /// among those that its end has settled.
-fn finish<W: Walked, F: Asks>(
-    graph: &Graph<W, F>,
+fn finish<W: FaceGraph, F: PriceFn>(
+    priced: &PricedGraph<W, F>,
     work: &mut Workspace,
     mut least: u64,
     u: u32,
     v: u32,
     level: u64,
 ) -> Result<Stop, AllocError>
-    requires right { ArePrices (prices_of (F.answers graph.now.tariff.now)) (W.named graph.now.walked.now) graph.now.prices.items }
-    requires some { 0 < length (darts (W.named graph.now.walked.now).rows) }
-    requires both { SpreadsBoth (prices_of (F.answers graph.now.tariff.now)) (W.named graph.now.walked.now) u v work.old.to_end.heights work.old.to_end.waiting work.old.to_start.heights work.old.to_start.waiting least }
-    ensures heights { OnOk result (AreHeightsFor (prices_of (F.answers graph.now.tariff.now)) (W.named graph.now.walked.now) u v work.new.to_end.heights) }
-    ensures met { IfOk result (λ stop. HasMet (prices_of (F.answers graph.now.tariff.now)) (W.named graph.now.walked.now) u v work.new.to_end.heights work.new.to_start.heights stop.level stop.least) }
+    requires right { ArePrices (prices_of (F.may_return priced.now.tariff.now)) (W.named priced.now.graph.now) priced.now.prices.items }
+    requires some { 0 < length (darts (W.named priced.now.graph.now).rows) }
+    requires both { SpreadsBoth (prices_of (F.may_return priced.now.tariff.now)) (W.named priced.now.graph.now) u v work.old.to_end.heights work.old.to_end.waiting work.old.to_start.heights work.old.to_start.waiting least }
+    ensures heights { OnOk result (AreHeightsFor (prices_of (F.may_return priced.now.tariff.now)) (W.named priced.now.graph.now) u v work.new.to_end.heights) }
+    ensures met { IfOk result (λ stop. HasMet (prices_of (F.may_return priced.now.tariff.now)) (W.named priced.now.graph.now) u v work.new.to_end.heights work.new.to_start.heights stop.level stop.least) }
 {
-    let _darts = graph.walked.size();
+    let _darts = priced.graph.size();
     let reach = least.saturating_add(1);
-    let level = level.clamp(1, least.clamp(1, MOST));
-    work.to_start.spread(graph, &work.to_end.heights, &mut least, u, reach - level, 0)?;
+    let level = level.clamp(1, least.clamp(1, MAX_HEIGHT_SUM));
+    work.to_start.spread(
+        priced,
+        &work.to_end.heights,
+        &mut least,
+        u,
+        reach - level,
+        0,
+    )?;
     let level = level.min(least.max(1));
-    work.to_end
-        .spread(graph, &work.to_start.heights, &mut least, v, level, MOST)?;
+    work.to_end.spread(
+        priced,
+        &work.to_start.heights,
+        &mut least,
+        v,
+        level,
+        MAX_HEIGHT_SUM,
+    )?;
     Ok(Stop {
         level: level.min(least.max(1)),
         least,
@@ -119,40 +132,40 @@ fn finish<W: Walked, F: Asks>(
 }
 
 /// The least prices of the darts' faces to a face at the target, as far as routes from `u` need them.
-pub(crate) fn heights_for<W: Walked, F: Asks>(
-    graph: &Graph<W, F>,
+pub(crate) fn heights_for<W: FaceGraph, F: PriceFn>(
+    priced: &PricedGraph<W, F>,
     u: u32,
     v: u32,
     work: &mut Workspace,
 ) -> Result<Stop, AllocError>
-    requires right { ArePrices (prices_of (F.answers graph.now.tariff.now)) (W.named graph.now.walked.now) graph.now.prices.items }
-    requires some { 0 < length (darts (W.named graph.now.walked.now).rows) }
-    ensures heights { OnOk result (AreHeightsFor (prices_of (F.answers graph.now.tariff.now)) (W.named graph.now.walked.now) u v work.new.to_end.heights) }
-    ensures met { IfOk result (λ stop. HasMet (prices_of (F.answers graph.now.tariff.now)) (W.named graph.now.walked.now) u v work.new.to_end.heights work.new.to_start.heights stop.level stop.least) }
+    requires right { ArePrices (prices_of (F.may_return priced.now.tariff.now)) (W.named priced.now.graph.now) priced.now.prices.items }
+    requires some { 0 < length (darts (W.named priced.now.graph.now).rows) }
+    ensures heights { OnOk result (AreHeightsFor (prices_of (F.may_return priced.now.tariff.now)) (W.named priced.now.graph.now) u v work.new.to_end.heights) }
+    ensures met { IfOk result (λ stop. HasMet (prices_of (F.may_return priced.now.tariff.now)) (W.named priced.now.graph.now) u v work.new.to_end.heights work.new.to_start.heights stop.level stop.least) }
 {
-    let mut least = start_both(graph, work, u, v)?;
-    let level = spread_both(graph, work, &mut least, u, v)?;
-    finish(graph, work, least, u, v, level)
+    let mut least = start_both(priced, work, u, v)?;
+    let level = spread_both(priced, work, &mut least, u, v)?;
+    finish(priced, work, least, u, v, level)
 }
 
 /// For each dart the least price from its face to a face at the target.
-pub(crate) fn least_heights<W: Walked, F: Asks>(
-    graph: &Graph<W, F>,
+pub(crate) fn least_heights<W: FaceGraph, F: PriceFn>(
+    priced: &PricedGraph<W, F>,
     v: u32,
     work: &mut Workspace,
 ) -> Result<(), AllocError>
-    requires right { ArePrices (prices_of (F.answers graph.now.tariff.now)) (W.named graph.now.walked.now) graph.now.prices.items }
-    requires some { 0 < length (darts (W.named graph.now.walked.now).rows) }
+    requires right { ArePrices (prices_of (F.may_return priced.now.tariff.now)) (W.named priced.now.graph.now) priced.now.prices.items }
+    requires some { 0 < length (darts (W.named priced.now.graph.now).rows) }
     requires alone { work.old.to_start.heights ≡ [] }
-    ensures are_heights { OnOk result (AreHeights (prices_of (F.answers graph.now.tariff.now)) (W.named graph.now.walked.now) v work.new.to_end.heights) }
+    ensures are_heights { OnOk result (AreHeights (prices_of (F.may_return priced.now.tariff.now)) (W.named priced.now.graph.now) v work.new.to_end.heights) }
     ensures in_range { OnOk result ((k : ℕ) → slice_index work.new.to_end.heights k ≤ unreached) }
 {
-    let size = graph.walked.size();
+    let size = priced.graph.size();
     work.to_end.clear(size as usize)?;
     let mut least = u64::MAX;
     work.to_end
-        .start_at(graph, &work.to_start.heights, &mut least, v)?;
+        .start_at(priced, &work.to_start.heights, &mut least, v)?;
     work.to_end
-        .spread(graph, &work.to_start.heights, &mut least, v, u64::MAX, 0)?;
+        .spread(priced, &work.to_start.heights, &mut least, v, u64::MAX, 0)?;
     Ok(())
 }

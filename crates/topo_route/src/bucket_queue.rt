@@ -7,10 +7,10 @@ use std::alloc::{AllocError, Global};
 use std::marker::Model;
 
 /// No price is above 1000, so the heights of those that wait are less than this number apart.
-const BUCKETS: usize = 1001;
+const BUCKET_COUNT: usize = 1001;
 
 /// How many numbers half an item holds.
-const HALF: u64 = 1 << 32;
+const ITEM_BASE: u64 = 1 << 32;
 
 /// An item that waits, or has waited, and what lies below it in its bucket: one more than the place
 /// of an earlier entry, and 0 where there is none.
@@ -49,7 +49,7 @@ impl BucketQueue {
         ensures { IfOk result (λ w. w ≡ []) }
     {
         let entries = Vec::with_capacity(alloc, room)?;
-        let heads = vec![in alloc; 0; BUCKETS]?;
+        let heads = vec![in alloc; 0; BUCKET_COUNT]?;
         Ok(BucketQueue {
             entries,
             heads,
@@ -78,7 +78,7 @@ impl BucketQueue {
         ensures waits { IfOk result (λ _. (k : ℕ) → is_waiting self.new k ≡ (item == k || is_waiting self.old k)) }
         ensures len { IfOk result (λ _. length self.new ≡ length self.old + 1) }
     {
-        let bucket = (height % BUCKETS as u64) as usize;
+        let bucket = (height % BUCKET_COUNT as u64) as usize;
         let below = self.heads[bucket];
         self.entries.push(Entry { item, below })?;
         self.heads[bucket] = self.entries.len();
@@ -135,19 +135,19 @@ fn full_between(heads: &[usize], from: usize, to: usize) -> Option<usize>
 pub(crate) fn item_of(dart: u32, height: u64) -> u64
     ensures { result ≡ item_of dart height }
 {
-    dart as u64 + HALF * (height % HALF)
+    dart as u64 + ITEM_BASE * (height % ITEM_BASE)
 }
 
 /// The low half of the height of an item: the height is not less.
 pub(crate) fn least_height(item: u64) -> u64
     ensures { result ≡ item / 2 ^ 32 }
 {
-    item / HALF
+    item / ITEM_BASE
 }
 
 /// The dart of an item.
 pub(crate) fn dart_of_item(item: u64) -> u32
     ensures { result ≡ dart_of_item item }
 {
-    (item % HALF) as u32
+    (item % ITEM_BASE) as u32
 }

@@ -10,19 +10,19 @@ use crate::faces::dart_count;
 use crate::heights::{is_even, is_gentle, is_least_height, meets_target};
 use crate::plan::{Plan, PlanFault};
 use crate::walks::{comes_first, start_of_route};
-use topo_price::tariff::{Asks, Tariff};
+use topo_price::tariff::{PriceFn, Tariff};
 
 /// The tests, in their order.
-fn verdict<D: Dual, F: Asks>(
+fn verdict<D: Dual, F: PriceFn>(
     dual: &D,
     tariff: &Tariff<F>,
     u: u32,
     v: u32,
     plan: &Plan,
 ) -> Result<(), PlanFault>
-    ensures verdict { MatchResult result (λ _. PassesAll (prices_of (F.answers tariff.now)) (D.shows dual.now) u v plan.now)
-        (FailsFirst (prices_of (F.answers tariff.now)) (D.shows dual.now) u v plan.now) }
-    ensures promise { OnOk result (KeepsPromise (prices_of (F.answers tariff.now))) }
+    ensures verdict { MatchResult result (λ _. PassesAll (prices_of (F.may_return tariff.now)) (D.shows dual.now) u v plan.now)
+        (FailsFirst (prices_of (F.may_return tariff.now)) (D.shows dual.now) u v plan.now) }
+    ensures promise { OnOk result (KeepsPromise (prices_of (F.may_return tariff.now))) }
 {
     let heights = plan.heights.as_slice();
     if heights.len() != dart_count(dual) as usize {
@@ -54,7 +54,7 @@ fn verdict<D: Dual, F: Asks>(
 /// Says of a plan from `u` to `v`, two different vertices, whether its route is the first of the
 /// least ones and its heights prove it; else the first test that it fails. A plan that `search`
 /// makes on the same picture and tariff passes.
-pub fn check<D: Dual, F: Asks>(
+pub fn check<D: Dual, F: PriceFn>(
     dual: &D,
     tariff: &Tariff<F>,
     u: u32,
@@ -64,10 +64,10 @@ pub fn check<D: Dual, F: Asks>(
     requires u_there { u < length (D.shows dual.now).rotations }
     requires v_there { v < length (D.shows dual.now).rotations }
     requires apart { u ≢ v }
-    ensures verdict { MatchResult result (λ _. PassesAll (prices_of (F.answers tariff.now)) (D.shows dual.now) u v plan.now)
-        (FailsFirst (prices_of (F.answers tariff.now)) (D.shows dual.now) u v plan.now) }
-    ensures first { OnOk result (IsFirst (prices_of (F.answers tariff.now)) (D.shows dual.now) u v plan.now.route plan.now.price) }
-    ensures own { IsPlan (prices_of (F.answers tariff.now)) (D.shows dual.now) u v plan.now → result ≡ Ok tt }
+    ensures verdict { MatchResult result (λ _. PassesAll (prices_of (F.may_return tariff.now)) (D.shows dual.now) u v plan.now)
+        (FailsFirst (prices_of (F.may_return tariff.now)) (D.shows dual.now) u v plan.now) }
+    ensures first { OnOk result (IsFirst (prices_of (F.may_return tariff.now)) (D.shows dual.now) u v plan.now.route plan.now.price) }
+    ensures own { IsPlan (prices_of (F.may_return tariff.now)) (D.shows dual.now) u v plan.now → result ≡ Ok tt }
 {
     verdict(dual, tariff, u, v, plan)
 }

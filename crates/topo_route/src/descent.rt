@@ -11,24 +11,24 @@ ghost use Rattle.topo_route.specs.Names.{IsName, dart_named, height_of};
 ghost use Rattle.topo_route.specs.Plans.{HasNoneBefore, IsLeastAt};
 ghost use Rattle.topo_route.specs.Settling.{ArePrices};
 
-use crate::graph::Graph;
+use crate::face_graph::FaceGraph;
+use crate::priced_graph::PricedGraph;
 use crate::stamped_array::StampedArray;
 use crate::steps::{across, corner_at, next_along};
-use crate::walked::Walked;
 use std::alloc::{AllocError, Global};
 use topo_core::darts::Dart;
-use topo_price::tariff::Asks;
+use topo_price::tariff::PriceFn;
 
 /// The least height of a corner, and the greatest number where there is none. No corner is asked after
 /// one of height 0.
-pub(crate) fn least_corner<W: Walked>(walked: &W, u: u32, heights: &StampedArray) -> u64
-    requires { length heights.now ≡ (W.named walked.now).size }
-    ensures low { (p : ℕ) → (c : Dart) → corner (W.named walked.now).rows u p ≡ Some c → result ≤ height_of (W.named walked.now) heights.now c }
-    ensures attained { result ≢ unreached → IsLeastAt (W.named walked.now).rows u (height_of (W.named walked.now) heights.now) result }
+pub(crate) fn least_corner<W: FaceGraph>(graph: &W, u: u32, heights: &StampedArray) -> u64
+    requires { length heights.now ≡ (W.named graph.now).size }
+    ensures low { (p : ℕ) → (c : Dart) → corner (W.named graph.now).rows u p ≡ Some c → result ≤ height_of (W.named graph.now) heights.now c }
+    ensures attained { result ≢ unreached → IsLeastAt (W.named graph.now).rows u (height_of (W.named graph.now) heights.now) result }
 {
     let mut least = u64::MAX;
-    for position in 0..walked.degree(u) {
-        if let Some(corner) = corner_at(walked, u, position) {
+    for position in 0..graph.degree(u) {
+        if let Some(corner) = corner_at(graph, u, position) {
             let height = heights.get(corner);
             if height == 0 {
                 return 0;
@@ -42,19 +42,19 @@ pub(crate) fn least_corner<W: Walked>(walked: &W, u: u32, heights: &StampedArray
 }
 
 /// The first corner of this height: its position and its dart.
-fn corner_of_height<W: Walked>(
-    walked: &W,
+fn corner_of_height<W: FaceGraph>(
+    graph: &W,
     u: u32,
     heights: &StampedArray,
     height: u64,
 ) -> Option<(u32, u32)>
-    requires { length heights.now ≡ (W.named walked.now).size }
-    ensures { MatchOption result ((p : ℕ) → (c : Dart) → corner (W.named walked.now).rows u p ≡ Some c → height_of (W.named walked.now) heights.now c ≢ height)
-        (λ r. IsName (W.named walked.now) r.1 × (corner (W.named walked.now).rows u r.0 ≡ Some (dart_named (W.named walked.now) r.1))
-        × (height_of (W.named walked.now) heights.now (dart_named (W.named walked.now) r.1) ≡ height) × HasNoneBefore (W.named walked.now).rows u (height_of (W.named walked.now) heights.now) r.0 height) }
+    requires { length heights.now ≡ (W.named graph.now).size }
+    ensures { MatchOption result ((p : ℕ) → (c : Dart) → corner (W.named graph.now).rows u p ≡ Some c → height_of (W.named graph.now) heights.now c ≢ height)
+        (λ r. IsName (W.named graph.now) r.1 × (corner (W.named graph.now).rows u r.0 ≡ Some (dart_named (W.named graph.now) r.1))
+        × (height_of (W.named graph.now) heights.now (dart_named (W.named graph.now) r.1) ≡ height) × HasNoneBefore (W.named graph.now).rows u (height_of (W.named graph.now) heights.now) r.0 height) }
 {
-    for position in 0..walked.degree(u) {
-        if let Some(corner) = corner_at(walked, u, position) {
+    for position in 0..graph.degree(u) {
+        if let Some(corner) = corner_at(graph, u, position) {
             if heights.get(corner) == height {
                 return Some((position, corner));
             }
@@ -64,31 +64,31 @@ fn corner_of_height<W: Walked>(
 }
 
 /// The first corner with the least height of all, if one is reached: its position and its dart.
-pub(crate) fn start_corner<W: Walked>(
-    walked: &W,
+pub(crate) fn start_corner<W: FaceGraph>(
+    graph: &W,
     u: u32,
     heights: &StampedArray,
 ) -> Option<(u32, u32)>
-    requires { length heights.now ≡ (W.named walked.now).size }
-    ensures { MatchOption result (HasNoStart (W.named walked.now) u heights.now) (λ r. IsStart (W.named walked.now) u heights.now r.0 r.1) }
+    requires { length heights.now ≡ (W.named graph.now).size }
+    ensures { MatchOption result (HasNoStart (W.named graph.now) u heights.now) (λ r. IsStart (W.named graph.now) u heights.now r.0 r.1) }
 {
-    let least = least_corner(walked, u, heights);
+    let least = least_corner(graph, u, heights);
     if least == u64::MAX {
         heights.in_range();
         return None;
     }
-    corner_of_height(walked, u, heights, least)
+    corner_of_height(graph, u, heights, least)
 }
 
 /// The first corner in the face of `last`.
-pub(crate) fn end_corner<W: Walked>(walked: &W, v: u32, last: u32) -> Option<u32>
-    requires { IsName (W.named walked.now) last }
-    ensures { MatchOption result (HasNoEnd (W.named walked.now).rows v (dart_named (W.named walked.now) last))
-        (IsEnd (W.named walked.now).rows v (dart_named (W.named walked.now) last)) }
+pub(crate) fn end_corner<W: FaceGraph>(graph: &W, v: u32, last: u32) -> Option<u32>
+    requires { IsName (W.named graph.now) last }
+    ensures { MatchOption result (HasNoEnd (W.named graph.now).rows v (dart_named (W.named graph.now) last))
+        (IsEnd (W.named graph.now).rows v (dart_named (W.named graph.now) last)) }
 {
-    for position in 0..walked.degree(v) {
-        if let Some(corner) = corner_at(walked, v, position) {
-            if walked.same_face(last, corner) {
+    for position in 0..graph.degree(v) {
+        if let Some(corner) = corner_at(graph, v, position) {
+            if graph.same_face(last, corner) {
                 return Some(position);
             }
         }
@@ -97,18 +97,22 @@ pub(crate) fn end_corner<W: Walked>(walked: &W, v: u32, last: u32) -> Option<u32
 }
 
 /// Whether crossing the dart costs just what its height is above that of its twin.
-fn is_tight<W: Walked, F: Asks>(graph: &Graph<W, F>, heights: &StampedArray, dart: u32) -> bool
-    requires right { ArePrices (prices_of (F.answers graph.now.tariff.now)) (W.named graph.now.walked.now) graph.now.prices.items }
-    requires one_each { length heights.now ≡ (W.named graph.now.walked.now).size }
-    requires name { IsName (W.named graph.now.walked.now) dart }
-    ensures { IsTrue result ↔ IsTight (prices_of (F.answers graph.now.tariff.now)) (W.named graph.now.walked.now).rows (height_of (W.named graph.now.walked.now) heights.now) (dart_named (W.named graph.now.walked.now) dart) }
+fn is_tight<W: FaceGraph, F: PriceFn>(
+    priced: &PricedGraph<W, F>,
+    heights: &StampedArray,
+    dart: u32,
+) -> bool
+    requires right { ArePrices (prices_of (F.may_return priced.now.tariff.now)) (W.named priced.now.graph.now) priced.now.prices.items }
+    requires one_each { length heights.now ≡ (W.named priced.now.graph.now).size }
+    requires name { IsName (W.named priced.now.graph.now) dart }
+    ensures { IsTrue result ↔ IsTight (prices_of (F.may_return priced.now.tariff.now)) (W.named priced.now.graph.now).rows (height_of (W.named priced.now.graph.now) heights.now) (dart_named (W.named priced.now.graph.now) dart) }
 {
-    let other = heights.get(across(graph.walked, dart));
+    let other = heights.get(across(priced.graph, dart));
     let height = heights.get(dart);
     if height <= other {
         return false;
     }
-    match graph.price(dart) {
+    match priced.price(dart) {
         Some(price) => height - other == price as u64,
         None => false,
     }
@@ -116,24 +120,24 @@ fn is_tight<W: Walked, F: Asks>(graph: &Graph<W, F>, heights: &StampedArray, dar
 
 /// The first of the tight darts so far, and of this one if it is tight. Only then is it asked which of
 /// the two comes first.
-fn first_of<W: Walked, F: Asks>(
-    graph: &Graph<W, F>,
+fn first_of<W: FaceGraph, F: PriceFn>(
+    priced: &PricedGraph<W, F>,
     heights: &StampedArray,
     first: Option<u32>,
     dart: u32,
 ) -> Option<u32>
-    requires right { ArePrices (prices_of (F.answers graph.now.tariff.now)) (W.named graph.now.walked.now) graph.now.prices.items }
-    requires one_each { length heights.now ≡ (W.named graph.now.walked.now).size }
-    requires first_there { IfSome first (IsName (W.named graph.now.walked.now)) }
-    requires name { IsName (W.named graph.now.walked.now) dart }
-    ensures { IsFirstOf (prices_of (F.answers graph.now.tariff.now)) (W.named graph.now.walked.now) heights.now first dart result }
+    requires right { ArePrices (prices_of (F.may_return priced.now.tariff.now)) (W.named priced.now.graph.now) priced.now.prices.items }
+    requires one_each { length heights.now ≡ (W.named priced.now.graph.now).size }
+    requires first_there { IfSome first (IsName (W.named priced.now.graph.now)) }
+    requires name { IsName (W.named priced.now.graph.now) dart }
+    ensures { IsFirstOf (prices_of (F.may_return priced.now.tariff.now)) (W.named priced.now.graph.now) heights.now first dart result }
 {
-    if !is_tight(graph, heights, dart) {
+    if !is_tight(priced, heights, dart) {
         return first;
     }
     match first {
         Some(before) => {
-            if graph.walked.precedes(dart, before) {
+            if priced.graph.precedes(dart, before) {
                 Some(dart)
             } else {
                 first
@@ -144,23 +148,23 @@ fn first_of<W: Walked, F: Asks>(
 }
 
 /// The first tight dart of the face of `at`, whose height is known and above 0: there is one.
-fn first_tight<W: Walked, F: Asks>(
-    graph: &Graph<W, F>,
+fn first_tight<W: FaceGraph, F: PriceFn>(
+    priced: &PricedGraph<W, F>,
     heights: &StampedArray,
     v: u32,
     at: u32,
 ) -> Option<u32>
-    requires right { ArePrices (prices_of (F.answers graph.now.tariff.now)) (W.named graph.now.walked.now) graph.now.prices.items }
-    requires known { AreHeightsUpTo (prices_of (F.answers graph.now.tariff.now)) (W.named graph.now.walked.now) v heights.now at }
-    requires name { IsName (W.named graph.now.walked.now) at }
-    requires above { 0 < height_of (W.named graph.now.walked.now) heights.now (dart_named (W.named graph.now.walked.now) at) }
-    ensures { IsSomeAnd result (IsFirstTight (prices_of (F.answers graph.now.tariff.now)) (W.named graph.now.walked.now) heights.now at) }
+    requires right { ArePrices (prices_of (F.may_return priced.now.tariff.now)) (W.named priced.now.graph.now) priced.now.prices.items }
+    requires known { AreHeightsUpTo (prices_of (F.may_return priced.now.tariff.now)) (W.named priced.now.graph.now) v heights.now at }
+    requires name { IsName (W.named priced.now.graph.now) at }
+    requires above { 0 < height_of (W.named priced.now.graph.now) heights.now (dart_named (W.named priced.now.graph.now) at) }
+    ensures { IsSomeAnd result (IsFirstTight (prices_of (F.may_return priced.now.tariff.now)) (W.named priced.now.graph.now) heights.now at) }
 {
     let mut dart = at;
     let mut first = None;
-    for _steps in 0..graph.walked.size() {
-        first = first_of(graph, heights, first, dart);
-        dart = next_along(graph.walked, dart);
+    for _steps in 0..priced.graph.size() {
+        first = first_of(priced, heights, first, dart);
+        dart = next_along(priced.graph, dart);
         if dart == at {
             return first;
         }
@@ -170,25 +174,25 @@ fn first_tight<W: Walked, F: Asks>(
 
 /// Walks down from a dart to the target across the first tight dart of each face: the darts that it
 /// crosses, and one of its last face.
-pub(crate) fn descend<W: Walked, F: Asks>(
+pub(crate) fn descend<W: FaceGraph, F: PriceFn>(
     alloc: Global,
-    graph: &Graph<W, F>,
+    priced: &PricedGraph<W, F>,
     heights: &StampedArray,
     v: u32,
     from: u32,
 ) -> Result<(Vec<Dart>, u32), AllocError>
-    requires right { ArePrices (prices_of (F.answers graph.now.tariff.now)) (W.named graph.now.walked.now) graph.now.prices.items }
-    requires known { AreHeightsUpTo (prices_of (F.answers graph.now.tariff.now)) (W.named graph.now.walked.now) v heights.now from }
-    requires name { IsName (W.named graph.now.walked.now) from }
-    ensures { IfOk result (λ r. IsDescent (prices_of (F.answers graph.now.tariff.now)) (W.named graph.now.walked.now) heights.now from r.0.items r.1) }
+    requires right { ArePrices (prices_of (F.may_return priced.now.tariff.now)) (W.named priced.now.graph.now) priced.now.prices.items }
+    requires known { AreHeightsUpTo (prices_of (F.may_return priced.now.tariff.now)) (W.named priced.now.graph.now) v heights.now from }
+    requires name { IsName (W.named priced.now.graph.now) from }
+    ensures { IfOk result (λ r. IsDescent (prices_of (F.may_return priced.now.tariff.now)) (W.named priced.now.graph.now) heights.now from r.0.items r.1) }
 {
     let mut crossed = Vec::new(alloc);
     let mut at = from;
     while heights.get(at) > 0 {
-        match first_tight(graph, heights, v, at) {
+        match first_tight(priced, heights, v, at) {
             Some(dart) => {
-                crossed.push(graph.walked.dart(dart))?;
-                at = across(graph.walked, dart);
+                crossed.push(priced.graph.dart(dart))?;
+                at = across(priced.graph, dart);
             }
             None => unreachable!(),
         }

@@ -6,13 +6,13 @@ ghost use Rattle.topo_core.specs.Systems.{has_dart};
 ghost use Rattle.topo_core.specs.declared.rows.Rows.{Rows};
 ghost use Rattle.topo_route.specs.Names.{IsName, canonical};
 
-use crate::walked::Walked;
+use crate::face_graph::FaceGraph;
 use topo_core::darts::{Dart, Point};
 
 /// A lawful picture whose darts are numbered in canonical order: 2i and 2i + 1 are the two of one
 /// segment. Their numbers are their names, from 0 up to the size, and a number that is handed in is
 /// below it.
-pub trait Dual: Walked {
+pub trait Dual: FaceGraph {
     /// The rows that it shows.
     ghost shows: { Self → Rows };
 

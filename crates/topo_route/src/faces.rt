@@ -11,7 +11,7 @@ ghost use Rattle.topo_route.specs.Numbers.{IsPriceAt, dart_of, next_of};
 use crate::dual::Dual;
 use crate::steps;
 use topo_core::darts::Dart;
-use topo_price::tariff::{Asks, Tariff};
+use topo_price::tariff::{PriceFn, Tariff};
 
 /// How many darts there are.
 pub(crate) fn dart_count<D: Dual>(dual: &D) -> u32
@@ -62,11 +62,11 @@ pub(crate) fn corner_at<D: Dual>(dual: &D, v: u32, position: u32) -> Option<u32>
 }
 
 /// The price of crossing a dart.
-pub(crate) fn price_at<D: Dual, F: Asks>(dual: &D, tariff: &Tariff<F>, dart: u32) -> Option<u32>
+pub(crate) fn price_at<D: Dual, F: PriceFn>(dual: &D, tariff: &Tariff<F>, dart: u32) -> Option<u32>
     requires { dart < length (darts (D.shows dual.now)) }
-    ensures price { IsPriceAt (prices_of (F.answers tariff.now)) (D.shows dual.now) dart result }
+    ensures price { IsPriceAt (prices_of (F.may_return tariff.now)) (D.shows dual.now) dart result }
     ensures in_range { IfSome result (λ p. (1 ≤ p) × (p ≤ 1000)) }
-    ensures promise { KeepsPromise (prices_of (F.answers tariff.now)) }
+    ensures promise { KeepsPromise (prices_of (F.may_return tariff.now)) }
 {
     steps::price_at(dual, tariff, dart)
 }

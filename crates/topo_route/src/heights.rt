@@ -8,7 +8,7 @@ ghost use Rattle.topo_route.specs.Plans.{HasFirstStart, HasOneEach, IsEven, IsGe
 
 use crate::dual::Dual;
 use crate::faces::{across, corner_at, dart_count, degree, next_along, price_at};
-use topo_price::tariff::{Asks, Tariff};
+use topo_price::tariff::{PriceFn, Tariff};
 
 /// Whether each dart has the height of the next along its face.
 pub(crate) fn is_even<D: Dual>(dual: &D, heights: &[u64]) -> bool
@@ -25,10 +25,10 @@ pub(crate) fn is_even<D: Dual>(dual: &D, heights: &[u64]) -> bool
 }
 
 /// Whether no dart with a price is higher than its twin by more than that price.
-pub(crate) fn is_gentle<D: Dual, F: Asks>(dual: &D, tariff: &Tariff<F>, heights: &[u64]) -> bool
+pub(crate) fn is_gentle<D: Dual, F: PriceFn>(dual: &D, tariff: &Tariff<F>, heights: &[u64]) -> bool
     requires { HasOneEach (D.shows dual.now) heights.now }
-    ensures gentle { IsTrue result ↔ IsGentle (prices_of (F.answers tariff.now)) (D.shows dual.now) heights.now }
-    ensures promise { 0 < length (darts (D.shows dual.now)) → KeepsPromise (prices_of (F.answers tariff.now)) }
+    ensures gentle { IsTrue result ↔ IsGentle (prices_of (F.may_return tariff.now)) (D.shows dual.now) heights.now }
+    ensures promise { 0 < length (darts (D.shows dual.now)) → KeepsPromise (prices_of (F.may_return tariff.now)) }
 {
     for dart in 0..dart_count(dual) {
         if let Some(price) = price_at(dual, tariff, dart) {

@@ -1,10 +1,10 @@
 //! Routes in the dual graph of a picture: the first of the cheapest, and the check of a plan that
 //! somebody hands in.
 //!
-//! `Walked` is what a picture has to answer of its darts, which have names in no particular order, and
+//! `FaceGraph` is what a picture has to answer of its darts, which have names in no particular order, and
 //! `Dual` what it has to where the names are the numbers in canonical order. `search` takes a `Dual` and
 //! gives the first of the least routes with its price and, as a certificate, the least cost from
-//! each face to the target; `first_route` takes any `Walked`, gives the route and its price alone, and
+//! each face to the target; `first_route` takes any `FaceGraph`, gives the route and its price alone, and
 //! searches from both ends, no further than until the two meet. `first_route_seen` hands out besides the
 //! region that its search has seen: a later picture that has kept it has the same first route. `check` says
 //! of any plan whether it is that, and which test it fails first: its Ok means that the route is the first
@@ -22,11 +22,12 @@ mod descent;
 mod direct;
 pub mod dual;
 pub mod evidence;
+pub mod face_graph;
 mod faces;
-mod graph;
 mod heights;
 pub mod laws;
 pub mod plan;
+mod priced_graph;
 pub mod region;
 pub mod region_evidence;
 pub mod search;
@@ -34,6 +35,5 @@ mod seen;
 mod spread;
 mod stamped_array;
 mod steps;
-pub mod walked;
 mod walks;
 pub mod workspace;

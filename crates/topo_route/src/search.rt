@@ -14,37 +14,37 @@ use crate::both_ends::{Stop, heights_for, least_heights};
 use crate::descent::{descend, end_corner, start_corner};
 use crate::direct::direct_route;
 use crate::dual::Dual;
-use crate::graph::{Graph, segment_prices};
+use crate::face_graph::FaceGraph;
 use crate::plan::{Plan, PricedRoute, SeenRoute};
+use crate::priced_graph::{PricedGraph, segment_prices};
 use crate::seen::seen_region;
 use crate::stamped_array::StampedArray;
-use crate::walked::Walked;
 use crate::workspace::Workspace;
 use std::alloc::{AllocError, Global};
 use topo_core::listed::Listed;
 use topo_core::routes::Route;
-use topo_price::tariff::{Asks, Tariff};
+use topo_price::tariff::{PriceFn, Tariff};
 
 /// Down the heights from `u` to `v`; none where no corner of `u` is reached.
-fn route_by_heights<W: Walked, F: Asks>(
+fn route_by_heights<W: FaceGraph, F: PriceFn>(
     alloc: Global,
-    graph: &Graph<W, F>,
+    priced: &PricedGraph<W, F>,
     u: u32,
     v: u32,
     heights: &StampedArray,
 ) -> Result<Option<PricedRoute>, AllocError>
-    requires right { ArePrices (prices_of (F.answers graph.now.tariff.now)) (W.named graph.now.walked.now) graph.now.prices.items }
-    requires known { AreHeightsFor (prices_of (F.answers graph.now.tariff.now)) (W.named graph.now.walked.now) u v heights.now }
-    requires some { 0 < length (darts (W.named graph.now.walked.now).rows) }
+    requires right { ArePrices (prices_of (F.may_return priced.now.tariff.now)) (W.named priced.now.graph.now) priced.now.prices.items }
+    requires known { AreHeightsFor (prices_of (F.may_return priced.now.tariff.now)) (W.named priced.now.graph.now) u v heights.now }
+    requires some { 0 < length (darts (W.named priced.now.graph.now).rows) }
     ensures { IfOk result (λ found. MatchOption found
-        (HasNoRoute (prices_of (F.answers graph.now.tariff.now)) (W.named graph.now.walked.now).rows u v)
-        (IsFirstRoute (prices_of (F.answers graph.now.tariff.now)) (W.named graph.now.walked.now) u v heights.now)) }
+        (HasNoRoute (prices_of (F.may_return priced.now.tariff.now)) (W.named priced.now.graph.now).rows u v)
+        (IsFirstRoute (prices_of (F.may_return priced.now.tariff.now)) (W.named priced.now.graph.now) u v heights.now)) }
 {
-    match start_corner(graph.walked, u, heights) {
+    match start_corner(priced.graph, u, heights) {
         Some((start, from)) => {
             let price = heights.get(from);
-            let (crossed, last) = descend(alloc, graph, heights, v, from)?;
-            match end_corner(graph.walked, v, last) {
+            let (crossed, last) = descend(alloc, priced, heights, v, from)?;
+            match end_corner(priced.graph, v, last) {
                 Some(end) => {
                     let route = Route {
                         start,
@@ -63,7 +63,7 @@ fn route_by_heights<W: Walked, F: Asks>(
 /// The first of the least routes from `u` to `v`, two different vertices, with its price and for
 /// each dart the least price from its face to a face at `v`; none where no route crosses only
 /// edges that have a price. Each edge is asked for its price once.
-pub fn search<D: Dual, F: Asks>(
+pub fn search<D: Dual, F: PriceFn>(
     alloc: Global,
     dual: &D,
     tariff: &Tariff<F>,
@@ -74,19 +74,19 @@ pub fn search<D: Dual, F: Asks>(
     requires v_there { v < length (D.shows dual.now).rotations }
     requires apart { u ≢ v }
     ensures { IfOk result (λ found. MatchOption found
-        (HasNoRoute (prices_of (F.answers tariff.now)) (D.shows dual.now) u v)
-        (IsPlan (prices_of (F.answers tariff.now)) (D.shows dual.now) u v)) }
+        (HasNoRoute (prices_of (F.may_return tariff.now)) (D.shows dual.now) u v)
+        (IsPlan (prices_of (F.may_return tariff.now)) (D.shows dual.now) u v)) }
 {
     let prices = segment_prices(alloc, dual, tariff)?;
-    let graph = Graph {
-        walked: dual,
+    let priced = PricedGraph {
+        graph: dual,
         tariff,
         prices,
     };
     let mut work = Workspace::with_room(alloc, dual.size() as usize)?;
-    least_heights(&graph, v, &mut work)?;
+    least_heights(&priced, v, &mut work)?;
     let numbers = work.to_end.heights.numbers(alloc)?;
-    let found = route_by_heights(alloc, &graph, u, v, &work.to_end.heights)?;
+    let found = route_by_heights(alloc, &priced, u, v, &work.to_end.heights)?;
     match found {
         Some(PricedRoute { route, price }) => Ok(Some(Plan {
             route,
@@ -105,36 +105,36 @@ struct Found {
 }
 
 /// As `first_route`, with where the search has stopped.
-fn find_route<W: Walked, F: Asks>(
+fn find_route<W: FaceGraph, F: PriceFn>(
     alloc: Global,
-    walked: &W,
+    graph: &W,
     tariff: &Tariff<F>,
     u: u32,
     v: u32,
     work: &mut Workspace,
 ) -> Result<Option<Found>, AllocError>
-    requires u_there { u < length (W.named walked.now).rows.rotations }
-    requires v_there { v < length (W.named walked.now).rows.rotations }
+    requires u_there { u < length (W.named graph.now).rows.rotations }
+    requires v_there { v < length (W.named graph.now).rows.rotations }
     requires apart { u ≢ v }
     ensures first { IfOk result (λ found. MatchOption found
-        (HasNoRoute (prices_of (F.answers tariff.now)) (W.named walked.now).rows u v)
-        (λ r. IsFirst (prices_of (F.answers tariff.now)) (W.named walked.now).rows u v r.first.route r.first.price)) }
+        (HasNoRoute (prices_of (F.may_return tariff.now)) (W.named graph.now).rows u v)
+        (λ r. IsFirst (prices_of (F.may_return tariff.now)) (W.named graph.now).rows u v r.first.route r.first.price)) }
     ensures stop { IfOk result (λ found. IfSome found (λ r. IfSome r.stop (λ stop.
-        RestsOn (prices_of (F.answers tariff.now)) (W.named walked.now) u v work.new.to_end.heights work.new.to_start.heights stop.level stop.least r.first.route r.first.price))) }
-    ensures promise { KeepsPromise (prices_of (F.answers tariff.now)) }
+        RestsOn (prices_of (F.may_return tariff.now)) (W.named graph.now) u v work.new.to_end.heights work.new.to_start.heights stop.level stop.least r.first.route r.first.price))) }
+    ensures promise { KeepsPromise (prices_of (F.may_return tariff.now)) }
 {
     tariff.keeps_promise();
-    if let Some(route) = direct_route(alloc, walked, u, v) {
+    if let Some(route) = direct_route(alloc, graph, u, v) {
         let first = PricedRoute { route, price: 0 };
         return Ok(Some(Found { first, stop: None }));
     }
-    let graph = Graph {
-        walked,
+    let priced = PricedGraph {
+        graph,
         tariff,
         prices: Vec::new(alloc),
     };
-    let stop = heights_for(&graph, u, v, work)?;
-    let found = route_by_heights(alloc, &graph, u, v, &work.to_end.heights)?;
+    let stop = heights_for(&priced, u, v, work)?;
+    let found = route_by_heights(alloc, &priced, u, v, &work.to_end.heights)?;
     match found {
         Some(first) => Ok(Some(Found {
             first,
@@ -158,22 +158,22 @@ fn find_route<W: Walked, F: Asks>(
 /// height (Dial 1969). What is spread from `u` says how high above `v` a dart may be that no spread from
 /// `v` has reached: the heights, cut off there, are a certificate. This is what proves the route, whatever
 /// the order in which darts were taken and wherever the two ends met.
-pub fn first_route<W: Walked, F: Asks>(
+pub fn first_route<W: FaceGraph, F: PriceFn>(
     alloc: Global,
-    walked: &W,
+    graph: &W,
     tariff: &Tariff<F>,
     u: u32,
     v: u32,
     work: &mut Workspace,
 ) -> Result<Option<PricedRoute>, AllocError>
-    requires u_there { u < length (W.named walked.now).rows.rotations }
-    requires v_there { v < length (W.named walked.now).rows.rotations }
+    requires u_there { u < length (W.named graph.now).rows.rotations }
+    requires v_there { v < length (W.named graph.now).rows.rotations }
     requires apart { u ≢ v }
     ensures { IfOk result (λ found. MatchOption found
-        (HasNoRoute (prices_of (F.answers tariff.now)) (W.named walked.now).rows u v)
-        (λ r. IsFirst (prices_of (F.answers tariff.now)) (W.named walked.now).rows u v r.route r.price)) }
+        (HasNoRoute (prices_of (F.may_return tariff.now)) (W.named graph.now).rows u v)
+        (λ r. IsFirst (prices_of (F.may_return tariff.now)) (W.named graph.now).rows u v r.route r.price)) }
 {
-    let found = find_route(alloc, walked, tariff, u, v, work)?;
+    let found = find_route(alloc, graph, tariff, u, v, work)?;
     match found {
         Some(found) => Ok(Some(found.first)),
         None => Ok(None),
@@ -185,28 +185,28 @@ pub fn first_route<W: Walked, F: Asks>(
 ///
 /// What is seen are the darts that the two ends have settled, so to go through them takes less time than
 /// the search did. The marks take a byte for each id up to the greatest that was seen.
-pub fn first_route_seen<W: Walked, F: Asks>(
+pub fn first_route_seen<W: FaceGraph, F: PriceFn>(
     alloc: Global,
-    walked: &W,
+    graph: &W,
     tariff: &Tariff<F>,
     u: u32,
     v: u32,
     work: &mut Workspace,
 ) -> Result<Option<SeenRoute>, AllocError>
-    requires u_there { u < length (W.named walked.now).rows.rotations }
-    requires v_there { v < length (W.named walked.now).rows.rotations }
+    requires u_there { u < length (W.named graph.now).rows.rotations }
+    requires v_there { v < length (W.named graph.now).rows.rotations }
     requires apart { u ≢ v }
     ensures first { IfOk result (λ found. MatchOption found
-        (HasNoRoute (prices_of (F.answers tariff.now)) (W.named walked.now).rows u v)
-        (λ r. IsFirst (prices_of (F.answers tariff.now)) (W.named walked.now).rows u v r.first.route r.first.price)) }
+        (HasNoRoute (prices_of (F.may_return tariff.now)) (W.named graph.now).rows u v)
+        (λ r. IsFirst (prices_of (F.may_return tariff.now)) (W.named graph.now).rows u v r.first.route r.first.price)) }
     ensures region { IfOk result (λ found. IfSome found (λ r. IfSome r.region (λ region.
-        IsRegionOf (W.named walked.now).rows region
-        × IsFirstWhileKept (prices_of (F.answers tariff.now)) (W.named walked.now).rows u v region r.first.route r.first.price))) }
+        IsRegionOf (W.named graph.now).rows region
+        × IsFirstWhileKept (prices_of (F.may_return tariff.now)) (W.named graph.now).rows u v region r.first.route r.first.price))) }
 {
-    let found = find_route(alloc, walked, tariff, u, v, work)?;
+    let found = find_route(alloc, graph, tariff, u, v, work)?;
     match found {
         Some(Found { first, stop }) => {
-            let region = seen_region(alloc, walked, work, stop)?;
+            let region = seen_region(alloc, graph, work, stop)?;
             Ok(Some(SeenRoute { first, region }))
         }
         None => Ok(None),

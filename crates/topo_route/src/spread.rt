@@ -10,12 +10,12 @@ ghost use Rattle.topo_route.specs.Settling.{AreCosts, AreLowered, ArePrices, Are
 ghost use Rattle.topo_route.specs.StampedArrays.{span};
 
 use crate::bucket_queue::{BucketQueue, dart_of_item, item_of, least_height};
-use crate::graph::Graph;
+use crate::face_graph::FaceGraph;
+use crate::priced_graph::PricedGraph;
 use crate::stamped_array::StampedArray;
 use crate::steps::{across, corner_at, next_along};
-use crate::walked::Walked;
 use std::alloc::{AllocError, Global};
-use topo_price::tariff::Asks;
+use topo_price::tariff::PriceFn;
 
 /// What a search knows of the darts from one of its ends: how high they lie above it, and those that wait.
 #[derive(Drop)]
@@ -69,31 +69,31 @@ impl Labels {
 
     /// Crosses a dart backwards: its twin reaches the end over it. A height that this lowers, and brings
     /// down to the least sum, waits. The price is not asked where not even 1 would do so.
-    fn relax_twin<W: Walked, F: Asks>(
+    fn relax_twin<W: FaceGraph, F: PriceFn>(
         &mut self,
-        graph: &Graph<W, F>,
+        priced: &PricedGraph<W, F>,
         other: &StampedArray,
         least: &mut u64,
         v: u32,
         dart: u32,
         height: u64,
     ) -> Result<(), AllocError>
-        requires right { ArePrices (prices_of (F.answers graph.now.tariff.now)) (W.named graph.now.walked.now) graph.now.prices.items }
-        requires costs { AreCosts (prices_of (F.answers graph.now.tariff.now)) (W.named graph.now.walked.now) v self.old.heights }
-        requires in_hand { IsReached (W.named graph.now.walked.now) self.old.heights dart }
+        requires right { ArePrices (prices_of (F.may_return priced.now.tariff.now)) (W.named priced.now.graph.now) priced.now.prices.items }
+        requires costs { AreCosts (prices_of (F.may_return priced.now.tariff.now)) (W.named priced.now.graph.now) v self.old.heights }
+        requires in_hand { IsReached (W.named priced.now.graph.now) self.old.heights dart }
         requires height { height ≡ slice_index self.old.heights dart }
-        requires sums { AreSums (W.named graph.now.walked.now) self.old.heights other.now least.old }
-        ensures relaxes { IfOk result (λ _. Relaxes (prices_of (F.answers graph.now.tariff.now)) (W.named graph.now.walked.now) v other.now self.old.heights self.old.waiting least.old dart self.new.heights self.new.waiting least.new dart) }
-        ensures crossed { IfOk result (λ _. IsCrossed (prices_of (F.answers graph.now.tariff.now)) (W.named graph.now.walked.now) (reach_of least.new) self.new.heights dart) }
+        requires sums { AreSums (W.named priced.now.graph.now) self.old.heights other.now least.old }
+        ensures relaxes { IfOk result (λ _. Relaxes (prices_of (F.may_return priced.now.tariff.now)) (W.named priced.now.graph.now) v other.now self.old.heights self.old.waiting least.old dart self.new.heights self.new.waiting least.new dart) }
+        ensures crossed { IfOk result (λ _. IsCrossed (prices_of (F.may_return priced.now.tariff.now)) (W.named priced.now.graph.now) (reach_of least.new) self.new.heights dart) }
         ensures same { IfOk result (λ _. slice_index self.new.heights dart ≡ height) }
     {
-        let _darts = graph.walked.size();
-        let twin = across(graph.walked, dart);
+        let _darts = priced.graph.size();
+        let twin = across(priced.graph, dart);
         let high = self.heights.get(twin).min((*least).saturating_add(1));
         if high.saturating_sub(height) <= 1 {
             return Ok(());
         }
-        match graph.price(dart) {
+        match priced.price(dart) {
             Some(price) => {
                 let price = price as u64;
                 if height < high.saturating_sub(price) {
@@ -109,26 +109,26 @@ impl Labels {
 
     /// Spreads the height of one dart round its face and over the segments along it, as far as it lowers
     /// what is there.
-    fn relax_face<W: Walked, F: Asks>(
+    fn relax_face<W: FaceGraph, F: PriceFn>(
         &mut self,
-        graph: &Graph<W, F>,
+        priced: &PricedGraph<W, F>,
         other: &StampedArray,
         least: &mut u64,
         v: u32,
         dart: u32,
     ) -> Result<(), AllocError>
-        requires right { ArePrices (prices_of (F.answers graph.now.tariff.now)) (W.named graph.now.walked.now) graph.now.prices.items }
-        requires costs { AreCosts (prices_of (F.answers graph.now.tariff.now)) (W.named graph.now.walked.now) v self.old.heights }
-        requires in_hand { IsReached (W.named graph.now.walked.now) self.old.heights dart }
-        requires sums { AreSums (W.named graph.now.walked.now) self.old.heights other.now least.old }
-        ensures relaxes { IfOk result (λ _. Relaxes (prices_of (F.answers graph.now.tariff.now)) (W.named graph.now.walked.now) v other.now self.old.heights self.old.waiting least.old dart self.new.heights self.new.waiting least.new (W.named graph.now.walked.now).size) }
+        requires right { ArePrices (prices_of (F.may_return priced.now.tariff.now)) (W.named priced.now.graph.now) priced.now.prices.items }
+        requires costs { AreCosts (prices_of (F.may_return priced.now.tariff.now)) (W.named priced.now.graph.now) v self.old.heights }
+        requires in_hand { IsReached (W.named priced.now.graph.now) self.old.heights dart }
+        requires sums { AreSums (W.named priced.now.graph.now) self.old.heights other.now least.old }
+        ensures relaxes { IfOk result (λ _. Relaxes (prices_of (F.may_return priced.now.tariff.now)) (W.named priced.now.graph.now) v other.now self.old.heights self.old.waiting least.old dart self.new.heights self.new.waiting least.new (W.named priced.now.graph.now).size) }
     {
-        let _darts = graph.walked.size();
+        let _darts = priced.graph.size();
         let height = self.heights.get(dart);
         let mut at = dart;
         loop {
-            let next = next_along(graph.walked, at);
-            self.relax_twin(graph, other, least, v, at, height)?;
+            let next = next_along(priced.graph, at);
+            self.relax_twin(priced, other, least, v, at, height)?;
             if self.heights.get(next) <= height {
                 return Ok(());
             }
@@ -139,25 +139,25 @@ impl Labels {
 
     /// Spreads the heights of all that wait and are lower than the level, or whose sum with the height
     /// above the other end is neither above `most` nor above the least.
-    pub(crate) fn spread<W: Walked, F: Asks>(
+    pub(crate) fn spread<W: FaceGraph, F: PriceFn>(
         &mut self,
-        graph: &Graph<W, F>,
+        priced: &PricedGraph<W, F>,
         other: &StampedArray,
         least: &mut u64,
         v: u32,
         level: u64,
         most: u64,
     ) -> Result<(), AllocError>
-        requires right { ArePrices (prices_of (F.answers graph.now.tariff.now)) (W.named graph.now.walked.now) graph.now.prices.items }
-        requires spreads { Spreads (prices_of (F.answers graph.now.tariff.now)) (W.named graph.now.walked.now) v (top_of level (min most least.old) other.now) (reach_of least.old) self.old.heights self.old.waiting (W.named graph.now.walked.now).size }
-        requires sums { AreSums (W.named graph.now.walked.now) self.old.heights other.now least.old }
-        ensures costs { IfOk result (λ _. AreCosts (prices_of (F.answers graph.now.tariff.now)) (W.named graph.now.walked.now) v self.new.heights) }
-        ensures settled { IfOk result (λ _. (k : ℕ) → IsName (W.named graph.now.walked.now) k → slice_index self.new.heights k < top_of level (min most least.new) other.now k → IsSettled (prices_of (F.answers graph.now.tariff.now)) (W.named graph.now.walked.now) (reach_of least.new) self.new.heights k) }
-        ensures sums { IfOk result (λ _. AreSums (W.named graph.now.walked.now) self.new.heights other.now least.new) }
+        requires right { ArePrices (prices_of (F.may_return priced.now.tariff.now)) (W.named priced.now.graph.now) priced.now.prices.items }
+        requires spreads { Spreads (prices_of (F.may_return priced.now.tariff.now)) (W.named priced.now.graph.now) v (top_of level (min most least.old) other.now) (reach_of least.old) self.old.heights self.old.waiting (W.named priced.now.graph.now).size }
+        requires sums { AreSums (W.named priced.now.graph.now) self.old.heights other.now least.old }
+        ensures costs { IfOk result (λ _. AreCosts (prices_of (F.may_return priced.now.tariff.now)) (W.named priced.now.graph.now) v self.new.heights) }
+        ensures settled { IfOk result (λ _. (k : ℕ) → IsName (W.named priced.now.graph.now) k → slice_index self.new.heights k < top_of level (min most least.new) other.now k → IsSettled (prices_of (F.may_return priced.now.tariff.now)) (W.named priced.now.graph.now) (reach_of least.new) self.new.heights k) }
+        ensures sums { IfOk result (λ _. AreSums (W.named priced.now.graph.now) self.new.heights other.now least.new) }
         ensures less { IfOk result (λ _. least.new ≤ least.old) }
         ensures lower { IfOk result (λ _. AreLowered self.old.heights self.new.heights) }
     {
-        let _darts = graph.walked.size();
+        let _darts = priced.graph.size();
         while let Some(dart) = next_pending(
             &self.heights,
             &mut self.waiting,
@@ -165,34 +165,34 @@ impl Labels {
             level,
             most.min(*least),
         ) {
-            self.relax_face(graph, other, least, v, dart)?;
+            self.relax_face(priced, other, least, v, dart)?;
         }
         Ok(())
     }
 
     /// Spreads the height of one that waits and is not above the least sum, if there is one: its height.
-    pub(crate) fn spread_next<W: Walked, F: Asks>(
+    pub(crate) fn spread_next<W: FaceGraph, F: PriceFn>(
         &mut self,
-        graph: &Graph<W, F>,
+        priced: &PricedGraph<W, F>,
         other: &StampedArray,
         least: &mut u64,
         v: u32,
     ) -> Result<Option<u64>, AllocError>
-        requires right { ArePrices (prices_of (F.answers graph.now.tariff.now)) (W.named graph.now.walked.now) graph.now.prices.items }
-        requires spreads { SpreadsTo (prices_of (F.answers graph.now.tariff.now)) (W.named graph.now.walked.now) v (reach_of least.old) self.old.heights self.old.waiting }
-        requires sums { AreSums (W.named graph.now.walked.now) self.old.heights other.now least.old }
-        ensures spreads { IfOk result (λ _. SpreadsTo (prices_of (F.answers graph.now.tariff.now)) (W.named graph.now.walked.now) v (reach_of least.new) self.new.heights self.new.waiting) }
-        ensures sums { IfOk result (λ _. AreSums (W.named graph.now.walked.now) self.new.heights other.now least.new) }
+        requires right { ArePrices (prices_of (F.may_return priced.now.tariff.now)) (W.named priced.now.graph.now) priced.now.prices.items }
+        requires spreads { SpreadsTo (prices_of (F.may_return priced.now.tariff.now)) (W.named priced.now.graph.now) v (reach_of least.old) self.old.heights self.old.waiting }
+        requires sums { AreSums (W.named priced.now.graph.now) self.old.heights other.now least.old }
+        ensures spreads { IfOk result (λ _. SpreadsTo (prices_of (F.may_return priced.now.tariff.now)) (W.named priced.now.graph.now) v (reach_of least.new) self.new.heights self.new.waiting) }
+        ensures sums { IfOk result (λ _. AreSums (W.named priced.now.graph.now) self.new.heights other.now least.new) }
         ensures less { IfOk result (λ _. least.new ≤ least.old) }
         ensures falls { IfOk result (λ found. IfSome found (λ _. effort self.new.heights self.new.waiting < effort self.old.heights self.old.waiting)) }
         ensures lower { IfOk result (λ _. AreLowered self.old.heights self.new.heights) }
     {
-        let _darts = graph.walked.size();
+        let _darts = priced.graph.size();
         let reach = (*least).saturating_add(1);
         match next_pending(&self.heights, &mut self.waiting, other, reach, 0) {
             Some(dart) => {
                 let height = self.heights.get(dart);
-                self.relax_face(graph, other, least, v, dart)?;
+                self.relax_face(priced, other, least, v, dart)?;
                 Ok(Some(height))
             }
             None => Ok(None),
@@ -200,20 +200,20 @@ impl Labels {
     }
 
     /// Gives the corners of the end height 0, and puts them among the items that wait.
-    pub(crate) fn start_at<W: Walked, F: Asks>(
+    pub(crate) fn start_at<W: FaceGraph, F: PriceFn>(
         &mut self,
-        graph: &Graph<W, F>,
+        priced: &PricedGraph<W, F>,
         other: &StampedArray,
         least: &mut u64,
         v: u32,
     ) -> Result<(), AllocError>
-        requires costs { AreCosts (prices_of (F.answers graph.now.tariff.now)) (W.named graph.now.walked.now) v self.old.heights }
-        requires sums { AreSums (W.named graph.now.walked.now) self.old.heights other.now least.old }
-        ensures relaxes { IfOk result (λ _. Relaxes (prices_of (F.answers graph.now.tariff.now)) (W.named graph.now.walked.now) v other.now self.old.heights self.old.waiting least.old (W.named graph.now.walked.now).size self.new.heights self.new.waiting least.new (W.named graph.now.walked.now).size) }
-        ensures ends { IfOk result (λ _. IsZeroAt (W.named graph.now.walked.now).rows v (height_of (W.named graph.now.walked.now) self.new.heights)) }
+        requires costs { AreCosts (prices_of (F.may_return priced.now.tariff.now)) (W.named priced.now.graph.now) v self.old.heights }
+        requires sums { AreSums (W.named priced.now.graph.now) self.old.heights other.now least.old }
+        ensures relaxes { IfOk result (λ _. Relaxes (prices_of (F.may_return priced.now.tariff.now)) (W.named priced.now.graph.now) v other.now self.old.heights self.old.waiting least.old (W.named priced.now.graph.now).size self.new.heights self.new.waiting least.new (W.named priced.now.graph.now).size) }
+        ensures ends { IfOk result (λ _. IsZeroAt (W.named priced.now.graph.now).rows v (height_of (W.named priced.now.graph.now) self.new.heights)) }
     {
-        for position in 0..graph.walked.degree(v) {
-            if let Some(corner) = corner_at(graph.walked, v, position) {
+        for position in 0..priced.graph.degree(v) {
+            if let Some(corner) = corner_at(priced.graph, v, position) {
                 if self.heights.get(corner) > 0 {
                     self.lower(other, least, corner, 0)?;
                     self.waiting.push(0, item_of(corner, 0))?;

@@ -7,42 +7,46 @@ ghost use Rattle.topo_price.specs.Prices.{prices_of};
 ghost use Rattle.topo_route.specs.Names.{IsName, dart_named, next_name, twin_name};
 ghost use Rattle.topo_route.specs.Numbers.{IsPriceFor};
 
-use crate::walked::Walked;
-use topo_price::tariff::{Asks, Tariff};
+use crate::face_graph::FaceGraph;
+use topo_price::tariff::{PriceFn, Tariff};
 
 /// The next dart along the face on the left.
-pub(crate) fn next_along<W: Walked>(walked: &W, dart: u32) -> u32
-    requires { IsName (W.named walked.now) dart }
-    ensures next { result ≡ next_name (W.named walked.now) dart }
-    ensures name { IsName (W.named walked.now) result }
+pub(crate) fn next_along<W: FaceGraph>(graph: &W, dart: u32) -> u32
+    requires { IsName (W.named graph.now) dart }
+    ensures next { result ≡ next_name (W.named graph.now) dart }
+    ensures name { IsName (W.named graph.now) result }
 {
-    walked.next(dart)
+    graph.next(dart)
 }
 
 /// The same segment, the other way.
-pub(crate) fn across<W: Walked>(walked: &W, dart: u32) -> u32
-    requires { IsName (W.named walked.now) dart }
-    ensures twin { result ≡ twin_name (W.named walked.now) dart }
-    ensures name { IsName (W.named walked.now) result }
+pub(crate) fn across<W: FaceGraph>(graph: &W, dart: u32) -> u32
+    requires { IsName (W.named graph.now) dart }
+    ensures twin { result ≡ twin_name (W.named graph.now) dart }
+    ensures name { IsName (W.named graph.now) result }
 {
-    walked.twin(dart)
+    graph.twin(dart)
 }
 
 /// The dart that names a corner.
-pub(crate) fn corner_at<W: Walked>(walked: &W, v: u32, position: u32) -> Option<u32>
-    ensures { MatchOption result (corner (W.named walked.now).rows v position ≡ None)
-        (λ c. IsName (W.named walked.now) c × (corner (W.named walked.now).rows v position ≡ Some (dart_named (W.named walked.now) c))) }
+pub(crate) fn corner_at<W: FaceGraph>(graph: &W, v: u32, position: u32) -> Option<u32>
+    ensures { MatchOption result (corner (W.named graph.now).rows v position ≡ None)
+        (λ c. IsName (W.named graph.now) c × (corner (W.named graph.now).rows v position ≡ Some (dart_named (W.named graph.now) c))) }
 {
-    walked.corner(v, position)
+    graph.corner(v, position)
 }
 
 /// The price of crossing a dart.
-pub(crate) fn price_at<W: Walked, F: Asks>(walked: &W, tariff: &Tariff<F>, dart: u32) -> Option<u32>
-    requires { IsName (W.named walked.now) dart }
-    ensures price { IsPriceFor (prices_of (F.answers tariff.now)) (W.named walked.now).rows (dart_named (W.named walked.now) dart) result }
+pub(crate) fn price_at<W: FaceGraph, F: PriceFn>(
+    graph: &W,
+    tariff: &Tariff<F>,
+    dart: u32,
+) -> Option<u32>
+    requires { IsName (W.named graph.now) dart }
+    ensures price { IsPriceFor (prices_of (F.may_return tariff.now)) (W.named graph.now).rows (dart_named (W.named graph.now) dart) result }
     ensures in_range { IfSome result (λ p. (1 ≤ p) × (p ≤ 1000)) }
-    ensures promise { KeepsPromise (prices_of (F.answers tariff.now)) }
+    ensures promise { KeepsPromise (prices_of (F.may_return tariff.now)) }
 {
-    let facts = walked.facts(dart);
+    let facts = graph.facts(dart);
     tariff.price(&facts)
 }

@@ -16,7 +16,7 @@ use crate::heights::has_first_start;
 use crate::plan::Plan;
 use topo_core::darts::Dart;
 use topo_core::routes::Route;
-use topo_price::tariff::{Asks, Tariff};
+use topo_price::tariff::{PriceFn, Tariff};
 
 /// The number of a dart of the picture.
 fn number_of<D: Dual>(dual: &D, dart: Dart) -> Option<u32>
@@ -27,10 +27,10 @@ fn number_of<D: Dual>(dual: &D, dart: Dart) -> Option<u32>
 }
 
 /// What is left of an amount when the price of a dart is taken from it.
-fn pay<D: Dual, F: Asks>(dual: &D, tariff: &Tariff<F>, number: u32, left: u64) -> Option<u64>
+fn pay<D: Dual, F: PriceFn>(dual: &D, tariff: &Tariff<F>, number: u32, left: u64) -> Option<u64>
     requires { number < length (darts (D.shows dual.now)) }
-    ensures { MatchOption result (CannotPay (prices_of (F.answers tariff.now)) (D.shows dual.now) (dart_of (D.shows dual.now) number) left)
-        (Payment (prices_of (F.answers tariff.now)) (D.shows dual.now) (dart_of (D.shows dual.now) number) left) }
+    ensures { MatchOption result (CannotPay (prices_of (F.may_return tariff.now)) (D.shows dual.now) (dart_of (D.shows dual.now) number) left)
+        (Payment (prices_of (F.may_return tariff.now)) (D.shows dual.now) (dart_of (D.shows dual.now) number) left) }
 {
     match price_at(dual, tariff, number) {
         Some(price) => {
@@ -46,7 +46,7 @@ fn pay<D: Dual, F: Asks>(dual: &D, tariff: &Tariff<F>, number: u32, left: u64) -
 }
 
 /// Crosses a dart from the face of `at`: where that leads, and what is left of an amount.
-fn cross<D: Dual, F: Asks>(
+fn cross<D: Dual, F: PriceFn>(
     dual: &D,
     tariff: &Tariff<F>,
     at: u32,
@@ -54,8 +54,8 @@ fn cross<D: Dual, F: Asks>(
     left: u64,
 ) -> Option<(u32, u64)>
     requires { at < length (darts (D.shows dual.now)) }
-    ensures { MatchOption result (CannotCross (prices_of (F.answers tariff.now)) (D.shows dual.now) at dart left)
-        (λ r. Crossing (prices_of (F.answers tariff.now)) (D.shows dual.now) at dart left r.0 r.1) }
+    ensures { MatchOption result (CannotCross (prices_of (F.may_return tariff.now)) (D.shows dual.now) at dart left)
+        (λ r. Crossing (prices_of (F.may_return tariff.now)) (D.shows dual.now) at dart left r.0 r.1) }
 {
     match number_of(dual, dart) {
         Some(number) => {
@@ -72,7 +72,7 @@ fn cross<D: Dual, F: Asks>(
 }
 
 /// Whether the darts lead from the face of `from` to that of `to` at this price.
-fn walks<D: Dual, F: Asks>(
+fn walks<D: Dual, F: PriceFn>(
     dual: &D,
     tariff: &Tariff<F>,
     from: u32,
@@ -82,7 +82,7 @@ fn walks<D: Dual, F: Asks>(
 ) -> bool
     requires from_within { from < length (darts (D.shows dual.now)) }
     requires to_within { to < length (darts (D.shows dual.now)) }
-    ensures { IsTrue result ↔ Walks (prices_of (F.answers tariff.now)) (D.shows dual.now) (dart_of (D.shows dual.now) from) crossed.now (dart_of (D.shows dual.now) to) price }
+    ensures { IsTrue result ↔ Walks (prices_of (F.may_return tariff.now)) (D.shows dual.now) (dart_of (D.shows dual.now) from) crossed.now (dart_of (D.shows dual.now) to) price }
 {
     let mut at = from;
     let mut left = price;
@@ -99,7 +99,7 @@ fn walks<D: Dual, F: Asks>(
 }
 
 /// The corner where a route starts, if it leads from `u` to `v` at this price.
-pub(crate) fn start_of_route<D: Dual, F: Asks>(
+pub(crate) fn start_of_route<D: Dual, F: PriceFn>(
     dual: &D,
     tariff: &Tariff<F>,
     u: u32,
@@ -107,9 +107,9 @@ pub(crate) fn start_of_route<D: Dual, F: Asks>(
     route: &Route,
     price: u64,
 ) -> Option<u32>
-    ensures { MatchOption result (IsPricedRoute (prices_of (F.answers tariff.now)) (D.shows dual.now) u v route.now price → ⊥)
+    ensures { MatchOption result (IsPricedRoute (prices_of (F.may_return tariff.now)) (D.shows dual.now) u v route.now price → ⊥)
         (λ from. (from < length (darts (D.shows dual.now)))
-        × (priced : IsPricedRoute (prices_of (F.answers tariff.now)) (D.shows dual.now) u v route.now price) × (priced.route.from ≡ dart_of (D.shows dual.now) from)) }
+        × (priced : IsPricedRoute (prices_of (F.may_return tariff.now)) (D.shows dual.now) u v route.now price) × (priced.route.from ≡ dart_of (D.shows dual.now) from)) }
 {
     match (
         corner_at(dual, u, route.start),
@@ -127,10 +127,10 @@ pub(crate) fn start_of_route<D: Dual, F: Asks>(
 }
 
 /// Whether crossing the dart costs just what its height is above that of its twin.
-fn is_tight<D: Dual, F: Asks>(dual: &D, tariff: &Tariff<F>, heights: &[u64], dart: u32) -> bool
+fn is_tight<D: Dual, F: PriceFn>(dual: &D, tariff: &Tariff<F>, heights: &[u64], dart: u32) -> bool
     requires one_each { HasOneEach (D.shows dual.now) heights.now }
     requires within { dart < length (darts (D.shows dual.now)) }
-    ensures { IsTrue result ↔ IsTight (prices_of (F.answers tariff.now)) (D.shows dual.now) (height_in (D.shows dual.now) heights.now) (dart_of (D.shows dual.now) dart) }
+    ensures { IsTrue result ↔ IsTight (prices_of (F.may_return tariff.now)) (D.shows dual.now) (height_in (D.shows dual.now) heights.now) (dart_of (D.shows dual.now) dart) }
 {
     let other = heights[across(dual, dart) as usize];
     let height = heights[dart as usize];
@@ -146,7 +146,7 @@ fn is_tight<D: Dual, F: Asks>(dual: &D, tariff: &Tariff<F>, heights: &[u64], dar
 }
 
 /// Whether a tight dart with a smaller number lies in the face of `at`.
-fn has_tight_before<D: Dual, F: Asks>(
+fn has_tight_before<D: Dual, F: PriceFn>(
     dual: &D,
     tariff: &Tariff<F>,
     heights: &[u64],
@@ -155,7 +155,7 @@ fn has_tight_before<D: Dual, F: Asks>(
 ) -> bool
     requires one_each { HasOneEach (D.shows dual.now) heights.now }
     requires within { at < length (darts (D.shows dual.now)) }
-    ensures { IsTrue result ↔ HasTightBefore (prices_of (F.answers tariff.now)) (D.shows dual.now) heights.now at number }
+    ensures { IsTrue result ↔ HasTightBefore (prices_of (F.may_return tariff.now)) (D.shows dual.now) heights.now at number }
 {
     let mut dart = at;
     for _steps in 0..dart_count(dual) {
@@ -171,7 +171,7 @@ fn has_tight_before<D: Dual, F: Asks>(
 }
 
 /// Where the walk leads, if it crosses the first tight dart of its face each time.
-fn first_walk<D: Dual, F: Asks>(
+fn first_walk<D: Dual, F: PriceFn>(
     dual: &D,
     tariff: &Tariff<F>,
     heights: &[u64],
@@ -181,9 +181,9 @@ fn first_walk<D: Dual, F: Asks>(
     requires one_each { HasOneEach (D.shows dual.now) heights.now }
     requires within { from < length (darts (D.shows dual.now)) }
     requires walk { (to : Dart) × Crosses (system (D.shows dual.now)) (dart_of (D.shows dual.now) from) crossed.now to }
-    ensures { MatchOption result (TakesFirstDarts (prices_of (F.answers tariff.now)) (D.shows dual.now) (height_in (D.shows dual.now) heights.now) (dart_of (D.shows dual.now) from) crossed.now → ⊥)
+    ensures { MatchOption result (TakesFirstDarts (prices_of (F.may_return tariff.now)) (D.shows dual.now) (height_in (D.shows dual.now) heights.now) (dart_of (D.shows dual.now) from) crossed.now → ⊥)
         (λ last. (last < length (darts (D.shows dual.now))) × (dart_of (D.shows dual.now) last ≡ arrival (dart_of (D.shows dual.now) from) crossed.now)
-        × TakesFirstDarts (prices_of (F.answers tariff.now)) (D.shows dual.now) (height_in (D.shows dual.now) heights.now) (dart_of (D.shows dual.now) from) crossed.now) }
+        × TakesFirstDarts (prices_of (F.may_return tariff.now)) (D.shows dual.now) (height_in (D.shows dual.now) heights.now) (dart_of (D.shows dual.now) from) crossed.now) }
 {
     let mut at = from;
     for dart in crossed {
@@ -216,7 +216,7 @@ pub(crate) fn has_first_end<D: Dual>(dual: &D, v: u32, end: u32, last: u32) -> b
 }
 
 /// Whether no start, crossed dart or end before those of the plan's route would do.
-pub(crate) fn comes_first<D: Dual, F: Asks>(
+pub(crate) fn comes_first<D: Dual, F: PriceFn>(
     dual: &D,
     tariff: &Tariff<F>,
     u: u32,
@@ -227,7 +227,7 @@ pub(crate) fn comes_first<D: Dual, F: Asks>(
     requires one_each { HasOneEach (D.shows dual.now) plan.now.heights }
     requires within { from < length (darts (D.shows dual.now)) }
     requires walk { (to : Dart) × Crosses (system (D.shows dual.now)) (dart_of (D.shows dual.now) from) plan.now.route.crossed to }
-    ensures { IsTrue result ↔ ComesFirst (prices_of (F.answers tariff.now)) (D.shows dual.now) u v plan.now (dart_of (D.shows dual.now) from) }
+    ensures { IsTrue result ↔ ComesFirst (prices_of (F.may_return tariff.now)) (D.shows dual.now) u v plan.now (dart_of (D.shows dual.now) from) }
 {
     let heights = plan.heights.as_slice();
     if !has_first_start(dual, u, heights, plan.route.start, plan.price) {

@@ -3,7 +3,7 @@
 ghost use Rattle.std.specs.Prelude.{◌≡◌, ◌==◌, ℕ, MatchOption, None, find, is_some, map, true};
 ghost use Rattle.topo_rows.specs.Ids.{IdsRise, IsPlaceOf};
 
-use crate::hints::Hints;
+use crate::id_index::IdIndex;
 use topo_core::rows::{CrossRow, EdgeRow};
 
 /// A row that has an id.
@@ -70,7 +70,7 @@ fn row_place<T: Identified>(rows: &[T], expected: usize, id: u32) -> Option<usiz
 }
 
 /// The place of the edge with an id, where ids rise; none where there is no such edge.
-pub fn edge_place(edges: &[EdgeRow], hints: &Hints, id: u32) -> Option<usize>
+pub fn edge_place(edges: &[EdgeRow], hints: &IdIndex, id: u32) -> Option<usize>
     requires { IdsRise (map (λ row. row.id) edges.now) }
     ensures { MatchOption result (find (λ row. row.id == id) edges.now ≡ None) (IsPlaceOf edges.now (λ row. row.id) id) }
 {
@@ -78,7 +78,7 @@ pub fn edge_place(edges: &[EdgeRow], hints: &Hints, id: u32) -> Option<usize>
 }
 
 /// The place of the crossing with an id, in the same way.
-pub fn crossing_place(crossings: &[CrossRow], hints: &Hints, id: u32) -> Option<usize>
+pub fn crossing_place(crossings: &[CrossRow], hints: &IdIndex, id: u32) -> Option<usize>
     requires { IdsRise (map (λ row. row.id) crossings.now) }
     ensures { MatchOption result (find (λ row. row.id == id) crossings.now ≡ None) (IsPlaceOf crossings.now (λ row. row.id) id) }
 {
@@ -86,7 +86,7 @@ pub fn crossing_place(crossings: &[CrossRow], hints: &Hints, id: u32) -> Option<
 }
 
 /// The place of an edge that is there.
-pub fn place_of_edge(edges: &[EdgeRow], hints: &Hints, id: u32) -> usize
+pub fn place_of_edge(edges: &[EdgeRow], hints: &IdIndex, id: u32) -> usize
     requires rise { IdsRise (map (λ row. row.id) edges.now) }
     requires there { is_some (find (λ row. row.id == id) edges.now) ≡ true }
     ensures { IsPlaceOf edges.now (λ row. row.id) id result }
@@ -98,7 +98,7 @@ pub fn place_of_edge(edges: &[EdgeRow], hints: &Hints, id: u32) -> usize
 }
 
 /// The place of a crossing that is there.
-pub fn place_of_crossing(crossings: &[CrossRow], hints: &Hints, id: u32) -> usize
+pub fn place_of_crossing(crossings: &[CrossRow], hints: &IdIndex, id: u32) -> usize
     requires rise { IdsRise (map (λ row. row.id) crossings.now) }
     requires there { is_some (find (λ row. row.id == id) crossings.now) ≡ true }
     ensures { IsPlaceOf crossings.now (λ row. row.id) id result }

@@ -8,7 +8,7 @@ ghost use Rattle.topo_core.specs.Lawful.{has_good_paths, has_good_crossings, has
 ghost use Rattle.topo_rows.specs.Loading.{fits};
 ghost use Rattle.topo_rows.specs.Pairs.{begins_with_least, crossing_pairs, end_pairs, is_path_over, path_pairs, rotation_pairs};
 
-use crate::hints::Hints;
+use crate::id_index::IdIndex;
 use crate::pairs::{Member, agree, crossing_pairs, end_pairs, path_pairs, rotation_pairs};
 use std::alloc::{AllocError, Global};
 use topo_core::limits::Limits;
@@ -140,7 +140,7 @@ fn paths_agree(
     alloc: Global,
     edges: &[EdgeRow],
     crossings: &[CrossRow],
-    hints: &Hints,
+    hints: &IdIndex,
 ) -> Result<bool, AllocError>
     ensures same { IfOk result (λ yes. IsTrue yes ↔ ((k : ℕ) → occurrences k (path_pairs edges.now) ≡ occurrences k (crossing_pairs crossings.now))) }
     ensures as_many { IfOk result (λ yes. IsTrue yes → length (path_pairs edges.now) ≡ length (crossing_pairs crossings.now)) }
@@ -155,7 +155,7 @@ fn paths_agree(
 pub(crate) fn are_crossings_good(
     alloc: Global,
     rows: &Rows,
-    hints: &Hints,
+    hints: &IdIndex,
 ) -> Result<bool, AllocError>
     requires { has_good_paths rows.now ≡ true }
     ensures good { IfOk result (λ yes. yes ≡ has_good_crossings rows.now) }
@@ -195,7 +195,7 @@ fn rotations_agree(
     alloc: Global,
     rotations: &[Listed<u32>],
     edges: &[EdgeRow],
-    hints: &Hints,
+    hints: &IdIndex,
 ) -> Result<bool, AllocError>
     requires { length rotations.now < 2 ^ 32 }
     ensures { IfOk result (λ yes. IsTrue yes ↔ ((k : ℕ) → occurrences k (rotation_pairs 0 rotations.now) ≡ occurrences k (end_pairs edges.now))) }
@@ -209,7 +209,7 @@ fn rotations_agree(
 pub(crate) fn are_rotations_good(
     alloc: Global,
     rows: &Rows,
-    hints: &Hints,
+    hints: &IdIndex,
 ) -> Result<bool, AllocError>
     requires paths { has_good_paths rows.now ≡ true }
     requires few { length rows.now.rotations < 2 ^ 32 }

@@ -8,7 +8,7 @@ ghost use Rattle.topo_rows.specs.Ids.{IdsRise};
 ghost use Rattle.topo_rows.specs.Flats.{begins_from, written, links, note_place, path_notes, notes_from, vertex_round, crossing_round, round_ahead, AreAhead, AreTurnsOf};
 
 use crate::by_id::{place_of_crossing, place_of_edge};
-use crate::hints::Hints;
+use crate::id_index::IdIndex;
 use std::alloc::{AllocError, Global};
 use topo_core::darts::Sign;
 use topo_core::rows::{CrossRow, EdgeRow, Rows};
@@ -56,7 +56,7 @@ fn link_round(images: &mut [u32], round: &[u32])
 }
 
 /// Where the dart ahead of crossing `x` on edge `e` is noted.
-fn note_place(crossings: &[CrossRow], hints: &Hints, e: u32, x: u32) -> usize
+fn note_place(crossings: &[CrossRow], hints: &IdIndex, e: u32, x: u32) -> usize
     requires rise { IdsRise (map (λ c. c.id) crossings.now) }
     requires there { is_some (find (λ c. c.id == x) crossings.now) ≡ true }
     requires few { length crossings.now < 2 ^ 32 }
@@ -76,7 +76,7 @@ fn note_place(crossings: &[CrossRow], hints: &Hints, e: u32, x: u32) -> usize
 fn note_path(
     ahead: &mut [u32],
     crossings: &[CrossRow],
-    hints: &Hints,
+    hints: &IdIndex,
     e: u32,
     begin: u32,
     path: &[u32],
@@ -94,7 +94,7 @@ fn note_path(
 }
 
 /// Notes that for each path.
-fn note_paths(ahead: &mut [u32], crossings: &[CrossRow], hints: &Hints, edges: &[EdgeRow])
+fn note_paths(ahead: &mut [u32], crossings: &[CrossRow], hints: &IdIndex, edges: &[EdgeRow])
     requires rise { IdsRise (map (λ c. c.id) crossings.now) }
     requires known { list_all (λ row. list_all (λ x. is_some (find (λ c. c.id == x) crossings.now)) row.crossings) edges.now ≡ true }
     requires few { length crossings.now < 2 ^ 32 }
@@ -113,7 +113,7 @@ fn note_paths(ahead: &mut [u32], crossings: &[CrossRow], hints: &Hints, edges: &
 
 /// Writes for each crossing the numbers of the darts ahead of it, on the crossed edge and on the
 /// newcomer, over what the list held.
-fn fill_ahead(ahead: &mut Vec<u32>, rows: &Rows, hints: &Hints) -> Result<(), AllocError>
+fn fill_ahead(ahead: &mut Vec<u32>, rows: &Rows, hints: &IdIndex) -> Result<(), AllocError>
     requires well_formed { IsWellFormed rows.now }
     requires few { 2 * sum_by segment_count rows.now.edges < 2 ^ 32 }
     requires crossings { length rows.now.crossings < 2 ^ 32 }
@@ -130,7 +130,7 @@ fn fill_ahead(ahead: &mut Vec<u32>, rows: &Rows, hints: &Hints) -> Result<(), Al
 }
 
 /// The number of the dart of edge `e` that starts at its end `v`.
-pub fn end_number(rows: &Rows, begins: &[u32], hints: &Hints, v: u32, e: u32) -> u32
+pub fn end_number(rows: &Rows, begins: &[u32], hints: &IdIndex, v: u32, e: u32) -> u32
     requires paths { has_good_paths rows.now ≡ true }
     requires begins { begins.now ≡ begins_from 0 rows.now.edges }
     requires there { is_some (edge_row rows.now e) ≡ true }
@@ -147,7 +147,7 @@ pub fn end_number(rows: &Rows, begins: &[u32], hints: &Hints, v: u32, e: u32) ->
 }
 
 /// Writes the turns round a vertex.
-fn link_vertex(images: &mut [u32], rows: &Rows, begins: &[u32], hints: &Hints, v: u32)
+fn link_vertex(images: &mut [u32], rows: &Rows, begins: &[u32], hints: &IdIndex, v: u32)
     requires well_formed { IsWellFormed rows.now }
     requires begins { begins.now ≡ begins_from 0 rows.now.edges }
     requires vertex { v < length rows.now.rotations }
@@ -169,7 +169,7 @@ fn link_vertex(images: &mut [u32], rows: &Rows, begins: &[u32], hints: &Hints, v
 }
 
 /// Writes the turns round the vertices.
-fn link_vertices(images: &mut [u32], rows: &Rows, begins: &[u32], hints: &Hints)
+fn link_vertices(images: &mut [u32], rows: &Rows, begins: &[u32], hints: &IdIndex)
     requires well_formed { IsWellFormed rows.now }
     requires begins { begins.now ≡ begins_from 0 rows.now.edges }
     requires vertices { length rows.now.rotations < 2 ^ 32 }
@@ -211,7 +211,7 @@ fn link_crossings(images: &mut [u32], rows: &Rows, ahead: &[u32])
 }
 
 /// Writes the images of the turn, from the numbers of the darts ahead of the crossings.
-fn link_points(images: &mut [u32], rows: &Rows, begins: &[u32], hints: &Hints, ahead: &[u32])
+fn link_points(images: &mut [u32], rows: &Rows, begins: &[u32], hints: &IdIndex, ahead: &[u32])
     requires well_formed { IsWellFormed rows.now }
     requires begins { begins.now ≡ begins_from 0 rows.now.edges }
     requires vertices { length rows.now.rotations < 2 ^ 32 }
@@ -240,7 +240,7 @@ pub fn fill_turns(
     ahead: &mut Vec<u32>,
     rows: &Rows,
     begins: &[u32],
-    hints: &Hints,
+    hints: &IdIndex,
 ) -> Result<(), AllocError>
     requires well_formed { IsWellFormed rows.now }
     requires begins { begins.now ≡ begins_from 0 rows.now.edges }
@@ -263,7 +263,7 @@ pub struct Turns {
     /// For each edge the number of its first dart, and last the number of all darts.
     pub begins: Vec<u32>,
     /// Places of rows by their ids, to be tried before a search.
-    pub hints: Hints,
+    pub hints: IdIndex,
 }
 
 /// How the darts of rows turn, in canonical numbers.
@@ -274,12 +274,12 @@ pub fn turns_of(alloc: Global, rows: &Rows) -> Result<Turns, AllocError>
     requires crossings { length rows.now.crossings < 2 ^ 32 }
     ensures { IfOk result (λ turns. AreTurnsOf rows.now turns.begins.items turns.images.items) }
 {
-    let hints = Hints::of(alloc, rows)?;
+    let hints = IdIndex::of(alloc, rows)?;
     hinted_turns(alloc, rows, hints)
 }
 
 /// The same, where hints are made already.
-pub(crate) fn hinted_turns(alloc: Global, rows: &Rows, hints: Hints) -> Result<Turns, AllocError>
+pub(crate) fn hinted_turns(alloc: Global, rows: &Rows, hints: IdIndex) -> Result<Turns, AllocError>
     requires well_formed { IsWellFormed rows.now }
     requires few { 2 * sum_by segment_count rows.now.edges < 2 ^ 32 }
     requires vertices { length rows.now.rotations < 2 ^ 32 }

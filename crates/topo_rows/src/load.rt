@@ -2,7 +2,7 @@
 
 use crate::faults::{are_crossings_good, are_paths_good, are_rotations_good, within_limits};
 use crate::flat::{Turns, hinted_turns};
-use crate::hints::Hints;
+use crate::id_index::IdIndex;
 use std::alloc::{AllocError, Global};
 use std::fmt;
 use thiserror::Error;
@@ -159,7 +159,7 @@ pub fn judge(
     if !are_paths_good(alloc, rows)? {
         return Ok(Err(LoadFault::BadPath));
     }
-    let hints = Hints::of(alloc, rows)?;
+    let hints = IdIndex::of(alloc, rows)?;
     if !are_crossings_good(alloc, rows, &hints)? {
         return Ok(Err(LoadFault::BadCrossing));
     }

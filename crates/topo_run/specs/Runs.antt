@@ -101,19 +101,19 @@ IsFaultOfBytes bytes WriteFault = ⊥
 -- ---- What a run reads and writes
 
 -- what was read is this script
-abbrev pub Asks : Option (List ℕ) → Option (List ℕ) → Script → Type 0
-Asks = Spells script_of 1048576
+abbrev pub SpellsScript : Option (List ℕ) → Option (List ℕ) → Script → Type 0
+SpellsScript = Spells script_of 1048576
 
 -- what was read is a script whose run has this fault
 pub record AsksInVain (old_left new_left : Option (List ℕ)) (fault : RunFault) : Type 0 where
   pub script : Script
-  pub asked : Asks old_left new_left script
+  pub asked : SpellsScript old_left new_left script
   pub fails : FailsRun script fault
 
 -- what was read is a script, and the text of the report of a run of it is written
 pub record IsDone (old_left new_left old_held new_held : Option (List ℕ)) : Type 0 where
   pub script : Script
-  pub asked : Asks old_left new_left script
+  pub asked : SpellsScript old_left new_left script
   pub line : List ℕ
   pub shown : IsRunLine script line
   pub written : Appends old_held new_held line
@@ -121,7 +121,7 @@ pub record IsDone (old_left new_left old_held new_held : Option (List ℕ)) : Ty
 -- what was read is a script, and a part of the text of the report of a run of it is written, from its beginning
 pub record IsPartlyDone (old_left new_left old_held new_held : Option (List ℕ)) : Type 0 where
   pub script : Script
-  pub asked : Asks old_left new_left script
+  pub asked : SpellsScript old_left new_left script
   pub line : List ℕ
   pub shown : IsRunLine script line
   pub written : AppendsPart old_held new_held line

@@ -7,18 +7,22 @@ ghost use Rattle.topo_core.specs.History.{IsRun, call_of};
 ghost use Rattle.topo_price.specs.Prices.{prices_of};
 ghost use Rattle.topo_run.specs.Working.{HasEntered, IsOfService};
 
-use crate::course::{Course, course_of};
+use crate::outcome::{RunOutcome, outcome_of};
 use std::alloc::{AllocError, Global};
 use std::sync::Arc;
 use topo_book::Book;
 use topo_core::calls::{Call, Command, Reply};
 use topo_picture::Picture;
-use topo_price::tariff::{Asks, Tariff};
+use topo_price::tariff::{PriceFn, Tariff};
 use topo_service::Gate;
 use topo_settings::RunFault;
 
 /// Carries a command out as the call of caller 0. A planned insertion is looked for as any other.
-fn enter<F: Asks>(alloc: Global, book: &mut Book<F>, command: Command) -> Result<Reply, AllocError>
+fn enter<F: PriceFn>(
+    alloc: Global,
+    book: &mut Book<F>,
+    command: Command,
+) -> Result<Reply, AllocError>
     ensures entered { IfOk result (λ reply. book.new.history ≡ book.old.history ++ record { caller = 0; call = call_of command; reply = reply } ∷ []) }
     ensures same_book { IsSameBook book.old book.new }
 {
@@ -32,7 +36,7 @@ fn enter<F: Asks>(alloc: Global, book: &mut Book<F>, command: Command) -> Result
 
 /// Carries a list out, each command between the gate's calls for it, until it is out of memory. Says
 /// whether all of it was carried out.
-fn carry_out<F: Asks, T: Gate>(
+fn carry_out<F: PriceFn, T: Gate>(
     alloc: Global,
     book: &mut Book<F>,
     list: &[Command],
@@ -54,14 +58,14 @@ fn carry_out<F: Asks, T: Gate>(
 }
 
 /// What one list leads to from a start.
-pub(crate) fn course_alone<F: Asks + Drop, T: Gate>(
+pub(crate) fn outcome_alone<F: PriceFn + Drop, T: Gate>(
     alloc: Global,
     start: Picture,
     tariff: Arc<Tariff<F>>,
     list: &[Command],
     gate: &T,
-) -> Result<Course, RunFault>
-    ensures run { IfOk result (λ course. IsRun (prices_of (F.answers (arc_value tariff))) start.limits start.rows (list.now ∷ []) course.history course.picture) }
+) -> Result<RunOutcome, RunFault>
+    ensures run { IfOk result (λ outcome. IsRun (prices_of (F.may_return (arc_value tariff))) start.limits start.rows (list.now ∷ []) outcome.history outcome.picture) }
     ensures fault { IfErr result IsOfService }
 {
     let Ok(mut book) = Book::new(alloc, start, tariff) else {
@@ -69,7 +73,7 @@ pub(crate) fn course_alone<F: Asks + Drop, T: Gate>(
     };
     if carry_out(alloc, &mut book, list, gate) {
         book.history();
-        course_of(alloc, book)
+        outcome_of(alloc, book)
     } else {
         Err(RunFault::Memory)
     }

@@ -9,8 +9,8 @@
 #![tactic(auto)]
 
 mod alone;
-mod course;
 pub mod gate;
+mod outcome;
 pub mod run;
 pub mod scripts;
 mod serving;

@@ -20,7 +20,7 @@ use topo_script::report;
 use topo_service::Gate;
 use topo_settings::RunFault;
 use topo_settings::reading::read_bytes;
-use topo_settings::settings::setting;
+use topo_settings::settings::validate;
 use topo_settings::writing::write_text;
 
 /// Reads a script, carries out its lists on its start under its limits and at its prices, and writes the
@@ -73,7 +73,7 @@ fn run_line<R: Threads + Wait + Sync, T: Gate>(
     ensures fault { IfErr result (FailsRun script.now) }
 {
     let prices = script.prices.as_slice();
-    let (table, start) = setting(alloc, script.limits, prices, script.start.as_ref())?;
+    let (table, start) = validate(alloc, script.limits, prices, script.start.as_ref())?;
     priced_line(rt, alloc, script, start, &table, gate)
 }
 

@@ -8,7 +8,7 @@ ghost use Rattle.topo_run.specs.Working.{IsOfService};
 ghost use Rattle.topo_settings.specs.Limiting.{AreLimits};
 ghost use Rattle.topo_settings.specs.Settings.{price_table};
 
-use crate::serving::{course_from, lists_of};
+use crate::serving::{lists_of, run_lists};
 use std::alloc::{AllocError, Global};
 use std::sync::{Arc, Wait};
 use std::thread::Threads;
@@ -18,10 +18,10 @@ use topo_core::rows::{Facts, Rows};
 use topo_forms::{LimitRows, Report, Script};
 use topo_picture::Picture;
 use topo_price::table::PriceTable;
-use topo_price::tariff::{Asks, Tariff};
+use topo_price::tariff::{PriceFn, Tariff};
 use topo_service::Gate;
 use topo_settings::RunFault;
-use topo_settings::settings::setting;
+use topo_settings::settings::validate;
 
 /// Carries out the lists of a script from its start, each list in a thread of its own, or in its turn
 /// where no thread can be made. The tariff answers the script's prices. A command is carried out between
@@ -30,19 +30,19 @@ use topo_settings::settings::setting;
 /// the script's limits, its prices and its start; then Memory where memory was wanted anywhere, also by
 /// one of the threads, NoSeat where there are more than 16 lists, and Mismatch where a receipt is not in
 /// the history.
-pub fn run_script<F: Asks + Drop + Send + Sync, R: Threads + Wait + Sync, T: Gate>(
+pub fn run_script<F: PriceFn + Drop + Send + Sync, R: Threads + Wait + Sync, T: Gate>(
     rt: &R,
     alloc: Global,
     script: &Script,
     tariff: Arc<Tariff<F>>,
     gate: &T,
 ) -> Result<Report, RunFault>
-    requires { AnswersPrices (F.answers (arc_value tariff)) script.now.prices }
+    requires { AnswersPrices (F.may_return (arc_value tariff)) script.now.prices }
     ensures report { IfOk result (IsReportOf script.now) }
     ensures fault { IfErr result (FailsRun script.now) }
 {
     let prices = script.prices.as_slice();
-    let (_table, start) = setting(alloc, script.limits, prices, script.start.as_ref())?;
+    let (_table, start) = validate(alloc, script.limits, prices, script.start.as_ref())?;
     run_from(rt, alloc, script, start, tariff, gate)
 }
 
@@ -81,7 +81,7 @@ fn limit_rows(limits: &Limits) -> LimitRows
 }
 
 /// The report of a run of the script's lists from this start.
-fn run_from<F: Asks + Drop + Send + Sync, R: Threads + Wait + Sync, T: Gate>(
+fn run_from<F: PriceFn + Drop + Send + Sync, R: Threads + Wait + Sync, T: Gate>(
     rt: &R,
     alloc: Global,
     script: &Script,
@@ -89,7 +89,7 @@ fn run_from<F: Asks + Drop + Send + Sync, R: Threads + Wait + Sync, T: Gate>(
     tariff: Arc<Tariff<F>>,
     gate: &T,
 ) -> Result<Report, RunFault>
-    requires { AnswersPrices (F.answers (arc_value tariff)) script.now.prices }
+    requires { AnswersPrices (F.may_return (arc_value tariff)) script.now.prices }
     ensures report { IfOk result (IsReportFrom script.now start.limits start.rows) }
     ensures fault { IfErr result IsOfService }
 {
@@ -99,18 +99,18 @@ fn run_from<F: Asks + Drop + Send + Sync, R: Threads + Wait + Sync, T: Gate>(
     let Ok(lists) = lists_of(alloc, script.workers.as_slice()) else {
         return Err(RunFault::Memory);
     };
-    let course = course_from(rt, alloc, start, tariff, lists.as_slice(), gate)?;
+    let outcome = run_lists(rt, alloc, start, tariff, lists.as_slice(), gate)?;
     Ok(Report {
         limits: heading.limits,
         prices: heading.prices,
         start: heading.start,
-        history: course.history,
-        picture: course.picture,
+        history: outcome.history,
+        picture: outcome.picture,
     })
 }
 
 /// The report of a script at the prices that a closure answers.
-fn asked_report<F: Asks + Drop + Send + Sync, R: Threads + Wait + Sync, T: Gate>(
+fn asked_report<F: PriceFn + Drop + Send + Sync, R: Threads + Wait + Sync, T: Gate>(
     rt: &R,
     alloc: Global,
     script: &Script,
@@ -118,9 +118,9 @@ fn asked_report<F: Asks + Drop + Send + Sync, R: Threads + Wait + Sync, T: Gate>
     ask: F,
     gate: &T,
 ) -> Result<Report, RunFault>
-    requires callable { F.can_ask ask }
-    requires promise { IsPromise (F.answers ask) }
-    requires own { AnswersPrices (F.answers ask) script.now.prices }
+    requires callable { F.is_callable ask }
+    requires promise { IsPromise (F.may_return ask) }
+    requires own { AnswersPrices (F.may_return ask) script.now.prices }
     ensures report { IfOk result (IsReportFrom script.now start.limits start.rows) }
     ensures fault { IfErr result IsOfService }
 {

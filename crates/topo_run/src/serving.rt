@@ -7,8 +7,8 @@ ghost use Rattle.topo_price.specs.Prices.{prices_of};
 ghost use Rattle.topo_run.specs.Working.{AreOpened, HaveWorked, IsOfService};
 ghost use Rattle.topo_service.specs.Commands.{commands};
 
-use crate::alone::course_alone;
-use crate::course::{Course, course_of};
+use crate::alone::outcome_alone;
+use crate::outcome::{RunOutcome, outcome_of};
 use std::alloc::{AllocError, Global};
 use std::marker::Brand;
 use std::sync::{Arc, Wait};
@@ -16,7 +16,7 @@ use std::thread::Threads;
 use topo_core::calls::Command;
 use topo_core::listed::Listed;
 use topo_picture::Picture;
-use topo_price::tariff::{Asks, Tariff};
+use topo_price::tariff::{PriceFn, Tariff};
 use topo_service::{EndFault, FreshService, Gate, Pass, Service, WorkerEnd, run_workers};
 use topo_settings::RunFault;
 use topo_versions::{ServiceBrand, StoreReader};
@@ -36,7 +36,7 @@ pub(crate) fn lists_of(
 }
 
 /// The next pass of a service.
-fn open_pass<F: Asks + Drop, K: ServiceBrand<F>>(
+fn open_pass<F: PriceFn + Drop, K: ServiceBrand<F>>(
     service: &mut Service<F, K>,
 ) -> Result<Pass<F, K>, RunFault>
     ensures number { IfOk result (λ p. p.number ≡ service.old.given) }
@@ -52,7 +52,7 @@ fn open_pass<F: Asks + Drop, K: ServiceBrand<F>>(
 }
 
 /// The first passes of a service, so many of them.
-fn open_passes<F: Asks + Drop, K: ServiceBrand<F>>(
+fn open_passes<F: PriceFn + Drop, K: ServiceBrand<F>>(
     alloc: Global,
     service: &mut Service<F, K>,
     count: usize,
@@ -88,8 +88,8 @@ fn are_done(ends: &[WorkerEnd]) -> bool
 }
 
 /// Carries the lists out, each with a pass of its own.
-fn work_all<
-    F: Asks + Drop + Send + Sync,
+fn run_all<
+    F: PriceFn + Drop + Send + Sync,
     K: ServiceBrand<F> + Send + Sync,
     R: Threads + Wait + Sync,
     T: Gate,
@@ -120,7 +120,7 @@ fn work_all<
 
 /// What the lists lead to from the start that K names, by a service of its own.
 fn serve<
-    F: Asks + Drop + Send + Sync,
+    F: PriceFn + Drop + Send + Sync,
     K: ServiceBrand<F> + Send + Sync,
     R: Threads + Wait + Sync,
     T: Gate,
@@ -132,22 +132,22 @@ fn serve<
     tariff: Arc<Tariff<F>>,
     lists: &[Vec<Command>],
     gate: &T,
-) -> Result<Course, RunFault>
+) -> Result<RunOutcome, RunFault>
     requires ledger { (fresh.blank.name ≡ K.name) × (fresh.blank.parts ≡ K.parts) }
     requires parts { K.parts ≡ 16 }
     requires list { fresh.log.seen.book ≡ K.book }
     requires start { start ≡ K.start }
     requires prices { K.closure ≡ Some (arc_value tariff) }
-    ensures run { IfOk result (λ course. IsRun (prices_of (F.answers (arc_value tariff))) start.limits start.rows (map commands lists.now) course.history course.picture) }
+    ensures run { IfOk result (λ outcome. IsRun (prices_of (F.may_return (arc_value tariff))) start.limits start.rows (map commands lists.now) outcome.history outcome.picture) }
     ensures fault { IfErr result IsOfService }
 {
     let places = lists.len().max(1).min(16) as u32;
     let Ok(mut service) = Service::<F, K>::with_places(alloc, fresh, start, tariff, places) else {
         return Err(RunFault::Memory);
     };
-    match work_all(rt, alloc, &mut service, lists, gate) {
+    match run_all(rt, alloc, &mut service, lists, gate) {
         Ok(passes) => match service.close(rt, passes) {
-            Ok(book) => course_of(alloc, book),
+            Ok(book) => outcome_of(alloc, book),
             Err(end) => match end.fault {
                 EndFault::PassMissing(_) => unreachable!(),
                 EndFault::Mismatch(number, k) => Err(RunFault::Mismatch(number, k)),
@@ -162,19 +162,19 @@ fn serve<
 
 /// What the lists lead to from a start, each carried out by a thread of its own. One list alone is carried
 /// out on a book.
-pub(crate) fn course_from<F: Asks + Drop + Send + Sync, R: Threads + Wait + Sync, T: Gate>(
+pub(crate) fn run_lists<F: PriceFn + Drop + Send + Sync, R: Threads + Wait + Sync, T: Gate>(
     rt: &R,
     alloc: Global,
     start: Picture,
     tariff: Arc<Tariff<F>>,
     lists: &[Vec<Command>],
     gate: &T,
-) -> Result<Course, RunFault>
-    ensures run { IfOk result (λ course. IsRun (prices_of (F.answers (arc_value tariff))) start.limits start.rows (map commands lists.now) course.history course.picture) }
+) -> Result<RunOutcome, RunFault>
+    ensures run { IfOk result (λ outcome. IsRun (prices_of (F.may_return (arc_value tariff))) start.limits start.rows (map commands lists.now) outcome.history outcome.picture) }
     ensures fault { IfErr result IsOfService }
 {
     match lists {
-        [list] => course_alone(alloc, start, tariff, list.as_slice(), gate),
+        [list] => outcome_alone(alloc, start, tariff, list.as_slice(), gate),
         _ => serve::<F, Brand, R, T>(rt, alloc, FreshService::new(), start, tariff, lists, gate),
     }
 }

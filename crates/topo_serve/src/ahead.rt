@@ -12,7 +12,7 @@ use std::marker::Model;
 use topo_settings::RunFault;
 
 /// The greatest number of bytes that one call of `read` is given room for.
-const CHUNK: usize = 8192;
+const CHUNK_BYTES: usize = 8192;
 
 /// Bytes that were read and are not yet part of a line.
 pub struct Ahead {
@@ -97,7 +97,7 @@ impl Ahead {
     {
         self.bytes.clear();
         self.at = 0;
-        let mut buffer = [0u8; CHUNK];
+        let mut buffer = [0u8; CHUNK_BYTES];
         match reader.read(&mut buffer) {
             Ok(0) => Ok(true),
             Ok(n) => match self.bytes.extend_from_slice(&buffer[..n]) {

@@ -21,20 +21,20 @@ use topo_core::listed::Listed;
 use topo_forms::path::Path;
 use topo_forms::{Opening, Report, Request, ScriptFault, read_request};
 use topo_picture::{Counts, Picture};
-use topo_price::tariff::Asks;
+use topo_price::tariff::PriceFn;
 use topo_script::written::{Written, write_after};
 use topo_script::{picture_text, report};
 
 /// Answers a line, which stands here without its line feed: a command by its reply, after it was carried out,
 /// and another request by its text. A line that is of no form is answered by its first fault, and changes
 /// nothing. The answer has no line feed.
-pub fn answer_line<F: Asks>(
+pub fn answer_line<F: PriceFn>(
     alloc: Global,
     opening: &Opening,
     book: &mut Book<F>,
     line: &[u8],
 ) -> Result<String, AllocError>
-    ensures answer { IfOk result (λ text. Answers (prices_of (F.answers book.old.tariff)) book.old.picture.limits (request_of line.now) (string_bytes text) (standing_of opening.now book.old) (standing_of opening.now book.new)) }
+    ensures answer { IfOk result (λ text. Answers (prices_of (F.may_return book.old.tariff)) book.old.picture.limits (request_of line.now) (string_bytes text) (standing_of opening.now book.old) (standing_of opening.now book.new)) }
     ensures same_book { IsSameBook book.old book.new }
 {
     match read_request(alloc, line) {
@@ -48,8 +48,12 @@ pub fn answer_line<F: Asks>(
 }
 
 /// Carries a command out as the call of caller 0. A planned insertion is looked for as any other.
-fn enter<F: Asks>(alloc: Global, book: &mut Book<F>, command: Command) -> Result<Reply, AllocError>
-    ensures step { IfOk result (λ reply. Step (prices_of (F.answers book.old.tariff)) book.old.picture.limits book.old.picture.rows (call_of command) reply book.new.picture.rows) }
+fn enter<F: PriceFn>(
+    alloc: Global,
+    book: &mut Book<F>,
+    command: Command,
+) -> Result<Reply, AllocError>
+    ensures step { IfOk result (λ reply. Step (prices_of (F.may_return book.old.tariff)) book.old.picture.limits book.old.picture.rows (call_of command) reply book.new.picture.rows) }
     ensures entered { IfOk result (λ reply. book.new.history ≡ book.old.history ++ record { caller = 0; call = call_of command; reply = reply } ∷ []) }
     ensures same_book { IsSameBook book.old book.new }
 {
@@ -62,12 +66,12 @@ fn enter<F: Asks>(alloc: Global, book: &mut Book<F>, command: Command) -> Result
 }
 
 /// Carries a command out, and gives the text of its reply.
-fn answer_command<F: Asks>(
+fn answer_command<F: PriceFn>(
     alloc: Global,
     book: &mut Book<F>,
     command: Command,
 ) -> Result<String, AllocError>
-    ensures carried { IfOk result (λ text. (h : Opening) → CarriesOut (prices_of (F.answers book.old.tariff)) book.old.picture.limits command (string_bytes text) (standing_of h book.old) (standing_of h book.new)) }
+    ensures carried { IfOk result (λ text. (h : Opening) → CarriesOut (prices_of (F.may_return book.old.tariff)) book.old.picture.limits command (string_bytes text) (standing_of h book.old) (standing_of h book.new)) }
     ensures same_book { IsSameBook book.old book.new }
 {
     let reply = enter(alloc, book, command)?;
@@ -131,7 +135,7 @@ fn copy_entries(alloc: Global, entries: &[Entry]) -> Result<Listed<Entry>, Alloc
 }
 
 /// The report so far.
-fn report_of<F: Asks>(
+fn report_of<F: PriceFn>(
     alloc: Global,
     opening: &Opening,
     book: &Book<F>,
@@ -152,7 +156,7 @@ fn report_of<F: Asks>(
 }
 
 /// The text of the report so far.
-fn report_answer<F: Asks>(
+fn report_answer<F: PriceFn>(
     alloc: Global,
     opening: &Opening,
     book: &Book<F>,

@@ -24,9 +24,9 @@ use topo_forms::sessions::MAX_LINE_BYTES;
 use topo_forms::{Opening, ScriptFault, read_opening};
 use topo_picture::Picture;
 use topo_price::table::PriceTable;
-use topo_price::tariff::{Asks, Tariff};
+use topo_price::tariff::{PriceFn, Tariff};
 use topo_settings::RunFault;
-use topo_settings::settings::setting;
+use topo_settings::settings::validate;
 use topo_settings::writing::write_text;
 
 /// Reads the line that opens a session, and answers it by the counts of its start; then reads one line after
@@ -120,7 +120,7 @@ fn set(alloc: Global, opening: &Opening) -> Result<(PriceTable, Picture), RunFau
     ensures fault { IfErr result (IsUnsound opening.now.limits opening.now.prices opening.now.start) }
 {
     let prices = opening.prices.as_slice();
-    setting(alloc, opening.limits, prices, opening.start.as_ref())
+    validate(alloc, opening.limits, prices, opening.start.as_ref())
 }
 
 /// Serves at the prices of a table.
@@ -155,7 +155,7 @@ fn serve_priced<I: Read, O: Write>(
 }
 
 /// Serves at the prices that a closure answers.
-fn serve_asked<F: Asks + Drop, I: Read, O: Write>(
+fn serve_asked<F: PriceFn + Drop, I: Read, O: Write>(
     alloc: Global,
     opening: &Opening,
     start: Picture,
@@ -165,10 +165,10 @@ fn serve_asked<F: Asks + Drop, I: Read, O: Write>(
     reader: &mut I,
     writer: &mut O,
 ) -> Result<(), RunFault>
-    requires callable { F.can_ask ask }
-    requires promise { IsPromise (F.answers ask) }
-    ensures done { IfOk result (λ _. BeginsAll has_feed (prices_of (F.answers ask)) start.limits (streams (I.remaining reader.old) ahead.old (O.contents writer.old)) (streams (I.remaining reader.new) ahead.new (O.contents writer.new)) (begins_at opening.now start.rows)) }
-    ensures fault { IfErr result (λ fault. BeginFailsBy fault has_feed (prices_of (F.answers ask)) start.limits (streams (I.remaining reader.old) ahead.old (O.contents writer.old)) (streams (I.remaining reader.new) ahead.new (O.contents writer.new)) (begins_at opening.now start.rows)) }
+    requires callable { F.is_callable ask }
+    requires promise { IsPromise (F.may_return ask) }
+    ensures done { IfOk result (λ _. BeginsAll has_feed (prices_of (F.may_return ask)) start.limits (streams (I.remaining reader.old) ahead.old (O.contents writer.old)) (streams (I.remaining reader.new) ahead.new (O.contents writer.new)) (begins_at opening.now start.rows)) }
+    ensures fault { IfErr result (λ fault. BeginFailsBy fault has_feed (prices_of (F.may_return ask)) start.limits (streams (I.remaining reader.old) ahead.old (O.contents writer.old)) (streams (I.remaining reader.new) ahead.new (O.contents writer.new)) (begins_at opening.now start.rows)) }
 {
     let Ok(mut book) = begin(alloc, start, ask) else {
         return Err(RunFault::Memory);
@@ -177,7 +177,7 @@ fn serve_asked<F: Asks + Drop, I: Read, O: Write>(
 }
 
 /// Answers the opening, and then all lines.
-fn serve_book<F: Asks, I: Read, O: Write>(
+fn serve_book<F: PriceFn, I: Read, O: Write>(
     alloc: Global,
     opening: &Opening,
     book: &mut Book<F>,
@@ -186,8 +186,8 @@ fn serve_book<F: Asks, I: Read, O: Write>(
     reader: &mut I,
     writer: &mut O,
 ) -> Result<(), RunFault>
-    ensures done { IfOk result (λ _. BeginsAll has_feed (prices_of (F.answers book.old.tariff)) book.old.picture.limits (streams (I.remaining reader.old) ahead.old (O.contents writer.old)) (streams (I.remaining reader.new) ahead.new (O.contents writer.new)) (standing_of opening.now book.old)) }
-    ensures fault { IfErr result (λ fault. BeginFailsBy fault has_feed (prices_of (F.answers book.old.tariff)) book.old.picture.limits (streams (I.remaining reader.old) ahead.old (O.contents writer.old)) (streams (I.remaining reader.new) ahead.new (O.contents writer.new)) (standing_of opening.now book.old)) }
+    ensures done { IfOk result (λ _. BeginsAll has_feed (prices_of (F.may_return book.old.tariff)) book.old.picture.limits (streams (I.remaining reader.old) ahead.old (O.contents writer.old)) (streams (I.remaining reader.new) ahead.new (O.contents writer.new)) (standing_of opening.now book.old)) }
+    ensures fault { IfErr result (λ fault. BeginFailsBy fault has_feed (prices_of (F.may_return book.old.tariff)) book.old.picture.limits (streams (I.remaining reader.old) ahead.old (O.contents writer.old)) (streams (I.remaining reader.new) ahead.new (O.contents writer.new)) (standing_of opening.now book.old)) }
 {
     answer_opening(alloc, book.picture(), writer)?;
     if has_feed {
@@ -212,9 +212,9 @@ fn answer_opening<O: Write>(
 }
 
 /// The book of a session.
-fn begin<F: Asks + Drop>(alloc: Global, start: Picture, ask: F) -> Result<Book<F>, AllocError>
-    requires callable { F.can_ask ask }
-    requires promise { IsPromise (F.answers ask) }
+fn begin<F: PriceFn + Drop>(alloc: Global, start: Picture, ask: F) -> Result<Book<F>, AllocError>
+    requires callable { F.is_callable ask }
+    requires promise { IsPromise (F.may_return ask) }
     ensures tariff { IfOk result (λ book. book.tariff ≡ ask) }
     ensures start { IfOk result (λ book. book.start ≡ start) }
     ensures history { IfOk result (λ book. book.history ≡ []) }
@@ -225,7 +225,7 @@ fn begin<F: Asks + Drop>(alloc: Global, start: Picture, ask: F) -> Result<Book<F
 }
 
 /// Reads one line after another until the input ends, and answers each before it reads the next.
-fn serve_lines<F: Asks, I: Read, O: Write>(
+fn serve_lines<F: PriceFn, I: Read, O: Write>(
     alloc: Global,
     opening: &Opening,
     book: &mut Book<F>,
@@ -233,8 +233,8 @@ fn serve_lines<F: Asks, I: Read, O: Write>(
     reader: &mut I,
     writer: &mut O,
 ) -> Result<(), RunFault>
-    ensures done { IfOk result (λ _. ServesAll (prices_of (F.answers book.old.tariff)) book.old.picture.limits (streams (I.remaining reader.old) ahead.old (O.contents writer.old)) (streams (I.remaining reader.new) ahead.new (O.contents writer.new)) (standing_of opening.now book.old)) }
-    ensures fault { IfErr result (λ fault. LinesFailBy fault (prices_of (F.answers book.old.tariff)) book.old.picture.limits (streams (I.remaining reader.old) ahead.old (O.contents writer.old)) (streams (I.remaining reader.new) ahead.new (O.contents writer.new)) (standing_of opening.now book.old)) }
+    ensures done { IfOk result (λ _. ServesAll (prices_of (F.may_return book.old.tariff)) book.old.picture.limits (streams (I.remaining reader.old) ahead.old (O.contents writer.old)) (streams (I.remaining reader.new) ahead.new (O.contents writer.new)) (standing_of opening.now book.old)) }
+    ensures fault { IfErr result (λ fault. LinesFailBy fault (prices_of (F.may_return book.old.tariff)) book.old.picture.limits (streams (I.remaining reader.old) ahead.old (O.contents writer.old)) (streams (I.remaining reader.new) ahead.new (O.contents writer.new)) (standing_of opening.now book.old)) }
 {
     let mut line = Vec::new(alloc);
     for _ in 0..u64::MAX {
@@ -246,7 +246,7 @@ fn serve_lines<F: Asks, I: Read, O: Write>(
 }
 
 /// Reads a line and answers it. Says whether the input goes on.
-fn serve_line<F: Asks, I: Read, O: Write>(
+fn serve_line<F: PriceFn, I: Read, O: Write>(
     alloc: Global,
     opening: &Opening,
     book: &mut Book<F>,
@@ -255,8 +255,8 @@ fn serve_line<F: Asks, I: Read, O: Write>(
     reader: &mut I,
     writer: &mut O,
 ) -> Result<bool, RunFault>
-    ensures turn { IfOk result (IsTurn (prices_of (F.answers book.old.tariff)) book.old.picture.limits (streams (I.remaining reader.old) ahead.old (O.contents writer.old)) (streams (I.remaining reader.new) ahead.new (O.contents writer.new)) (standing_of opening.now book.old) (standing_of opening.now book.new)) }
-    ensures fault { IfErr result (λ fault. TurnFailsBy fault (prices_of (F.answers book.old.tariff)) book.old.picture.limits (streams (I.remaining reader.old) ahead.old (O.contents writer.old)) (streams (I.remaining reader.new) ahead.new (O.contents writer.new)) (standing_of opening.now book.old)) }
+    ensures turn { IfOk result (IsTurn (prices_of (F.may_return book.old.tariff)) book.old.picture.limits (streams (I.remaining reader.old) ahead.old (O.contents writer.old)) (streams (I.remaining reader.new) ahead.new (O.contents writer.new)) (standing_of opening.now book.old) (standing_of opening.now book.new)) }
+    ensures fault { IfErr result (λ fault. TurnFailsBy fault (prices_of (F.may_return book.old.tariff)) book.old.picture.limits (streams (I.remaining reader.old) ahead.old (O.contents writer.old)) (streams (I.remaining reader.new) ahead.new (O.contents writer.new)) (standing_of opening.now book.old)) }
     ensures same_book { IsSameBook book.old book.new }
 {
     let has_feed = ahead.take_line(MAX_LINE_BYTES + 1, reader, line)?;
@@ -265,7 +265,7 @@ fn serve_line<F: Asks, I: Read, O: Write>(
 }
 
 /// Answers a line, if it is one: without a line feed an empty line is none.
-fn answer_if<F: Asks, O: Write>(
+fn answer_if<F: PriceFn, O: Write>(
     alloc: Global,
     opening: &Opening,
     book: &mut Book<F>,
@@ -273,8 +273,8 @@ fn answer_if<F: Asks, O: Write>(
     line: &[u8],
     writer: &mut O,
 ) -> Result<(), RunFault>
-    ensures told { IfOk result (λ _. OfLine has_feed line.now (IsAnsweredBy (prices_of (F.answers book.old.tariff)) book.old.picture.limits line.now (O.contents writer.old) (O.contents writer.new) (standing_of opening.now book.old) (standing_of opening.now book.new)) (Stays (O.contents writer.old) (O.contents writer.new) (standing_of opening.now book.old) (standing_of opening.now book.new))) }
-    ensures fault { IfErr result (λ fault. LineFailsBy fault has_feed (prices_of (F.answers book.old.tariff)) book.old.picture.limits line.now (O.contents writer.old) (O.contents writer.new) (standing_of opening.now book.old)) }
+    ensures told { IfOk result (λ _. OfLine has_feed line.now (IsAnsweredBy (prices_of (F.may_return book.old.tariff)) book.old.picture.limits line.now (O.contents writer.old) (O.contents writer.new) (standing_of opening.now book.old) (standing_of opening.now book.new)) (Stays (O.contents writer.old) (O.contents writer.new) (standing_of opening.now book.old) (standing_of opening.now book.new))) }
+    ensures fault { IfErr result (λ fault. LineFailsBy fault has_feed (prices_of (F.may_return book.old.tariff)) book.old.picture.limits line.now (O.contents writer.old) (O.contents writer.new) (standing_of opening.now book.old)) }
     ensures same_book { IsSameBook book.old book.new }
 {
     if has_feed {
@@ -287,15 +287,15 @@ fn answer_if<F: Asks, O: Write>(
 }
 
 /// Answers a line.
-fn answer<F: Asks, O: Write>(
+fn answer<F: PriceFn, O: Write>(
     alloc: Global,
     opening: &Opening,
     book: &mut Book<F>,
     line: &[u8],
     writer: &mut O,
 ) -> Result<(), RunFault>
-    ensures answered { IfOk result (λ _. IsAnsweredBy (prices_of (F.answers book.old.tariff)) book.old.picture.limits line.now (O.contents writer.old) (O.contents writer.new) (standing_of opening.now book.old) (standing_of opening.now book.new)) }
-    ensures fault { IfErr result (λ fault. AnswerFailsBy fault (prices_of (F.answers book.old.tariff)) book.old.picture.limits line.now (O.contents writer.old) (O.contents writer.new) (standing_of opening.now book.old)) }
+    ensures answered { IfOk result (λ _. IsAnsweredBy (prices_of (F.may_return book.old.tariff)) book.old.picture.limits line.now (O.contents writer.old) (O.contents writer.new) (standing_of opening.now book.old) (standing_of opening.now book.new)) }
+    ensures fault { IfErr result (λ fault. AnswerFailsBy fault (prices_of (F.may_return book.old.tariff)) book.old.picture.limits line.now (O.contents writer.old) (O.contents writer.new) (standing_of opening.now book.old)) }
     ensures same_book { IsSameBook book.old book.new }
 {
     match answer_line(alloc, opening, book, line) {

@@ -12,11 +12,11 @@ use crate::pass::{PassOver, Receipt};
 use std::sync::Wait;
 use std::sync::ledger::Share;
 use topo_core::calls::Entry;
-use topo_price::tariff::Asks;
+use topo_price::tariff::PriceFn;
 use topo_versions::{ServiceBrand, VersionReader, VersionWriter, wait_forever};
 
 /// Whether a pass with this number is there.
-fn is_there<F: Asks, K: ServiceBrand<F>, G: VersionReader<F, K>>(
+fn is_there<F: PriceFn, K: ServiceBrand<F>, G: VersionReader<F, K>>(
     number: u32,
     passes: &[PassOver<F, K, G>],
 ) -> bool
@@ -32,7 +32,7 @@ fn is_there<F: Asks, K: ServiceBrand<F>, G: VersionReader<F, K>>(
 }
 
 /// The least number below `given` that no pass has.
-fn first_missing<F: Asks, K: ServiceBrand<F>, G: VersionReader<F, K>>(
+fn first_missing<F: PriceFn, K: ServiceBrand<F>, G: VersionReader<F, K>>(
     given: u32,
     passes: &[PassOver<F, K, G>],
 ) -> Option<u32>
@@ -89,7 +89,7 @@ fn first_difference(number: u32, receipts: &[Receipt], history: &[Entry]) -> Opt
 }
 
 /// The first pass with a receipt that is not its caller's entry at its place, and the place.
-fn first_mismatch<F: Asks, K: ServiceBrand<F>, G: VersionReader<F, K>>(
+fn first_mismatch<F: PriceFn, K: ServiceBrand<F>, G: VersionReader<F, K>>(
     passes: &[PassOver<F, K, G>],
     history: &[Entry],
 ) -> Option<(u32, usize)>
@@ -105,7 +105,7 @@ fn first_mismatch<F: Asks, K: ServiceBrand<F>, G: VersionReader<F, K>>(
 }
 
 /// Why the service does not end well, if so.
-pub(crate) fn first_fault<F: Asks, K: ServiceBrand<F>, G: VersionReader<F, K>>(
+pub(crate) fn first_fault<F: PriceFn, K: ServiceBrand<F>, G: VersionReader<F, K>>(
     given: u32,
     passes: &[PassOver<F, K, G>],
     history: &[Entry],
@@ -125,7 +125,7 @@ pub(crate) fn first_fault<F: Asks, K: ServiceBrand<F>, G: VersionReader<F, K>>(
 
 /// Joins the shares of the ledger. What each pass has seen begins the accepted entries.
 pub(crate) fn gather<
-    F: Asks,
+    F: PriceFn,
     K: ServiceBrand<F>,
     W: VersionWriter<F, K>,
     G: VersionReader<F, K>,

@@ -20,7 +20,7 @@ use std::sync::ledger::{Blank, Book as Tally};
 use std::sync::{Arc, Mutex, Wait};
 use topo_book::Book;
 use topo_picture::Picture;
-use topo_price::tariff::{Asks, Tariff};
+use topo_price::tariff::{PriceFn, Tariff};
 use topo_versions::{
     FreshLog, LogLength, LogPrefix, ServiceBrand, StoreWriter, Version, VersionReader,
     VersionWriter, new_store, wait_forever,
@@ -28,7 +28,7 @@ use topo_versions::{
 
 /// The end of a service that was not well, with the book and the passes as they were handed in.
 #[derive(Drop)]
-pub struct CloseFault<F: Asks, K: ServiceBrand<F>, G: VersionReader<F, K>> {
+pub struct CloseFault<F: PriceFn, K: ServiceBrand<F>, G: VersionReader<F, K>> {
     pub fault: EndFault,
     pub book: Book<F>,
     pub passes: Vec<PassOver<F, K, G>>,
@@ -52,7 +52,7 @@ impl FreshService {
 }
 
 /// The store of versions of a service whose book is new, for so many readers: the first version is the start.
-fn writer_of<F: Asks + Drop, K: ServiceBrand<F>>(
+fn writer_of<F: PriceFn + Drop, K: ServiceBrand<F>>(
     alloc: Global,
     book: &Book<F>,
     prefix: &LogPrefix<F, K>,
@@ -69,7 +69,7 @@ fn writer_of<F: Asks + Drop, K: ServiceBrand<F>>(
 }
 
 /// A new book that shares the prices.
-fn book_of<F: Asks + Drop>(
+fn book_of<F: PriceFn + Drop>(
     alloc: Global,
     start: Picture,
     tariff: &Arc<Tariff<F>>,
@@ -83,7 +83,7 @@ fn book_of<F: Asks + Drop>(
 }
 
 /// A new book, and the store of its versions for so many readers.
-fn book_with_store<F: Asks + Drop, K: ServiceBrand<F>>(
+fn book_with_store<F: PriceFn + Drop, K: ServiceBrand<F>>(
     alloc: Global,
     start: Picture,
     tariff: &Arc<Tariff<F>>,
@@ -104,7 +104,7 @@ fn book_with_store<F: Asks + Drop, K: ServiceBrand<F>>(
 }
 
 /// What lies under the lock of a service with no call, for so many passes.
-fn state_of<F: Asks + Drop, K: ServiceBrand<F>>(
+fn state_of<F: PriceFn + Drop, K: ServiceBrand<F>>(
     alloc: Global,
     log_length: LogLength<K>,
     prefix: LogPrefix<F, K>,
@@ -126,7 +126,7 @@ fn state_of<F: Asks + Drop, K: ServiceBrand<F>>(
 /// A service over the version store.
 pub type Service<F, K> = ServiceOver<F, K, StoreWriter<F, K>>;
 
-impl<F: Asks + Drop, K: ServiceBrand<F>> Service<F, K> {
+impl<F: PriceFn + Drop, K: ServiceBrand<F>> Service<F, K> {
     /// Begins a service of 16 passes at most, at the start and with the closure that K names, with no entry
     /// and no pass.
     pub fn new(
@@ -183,7 +183,7 @@ impl<F: Asks + Drop, K: ServiceBrand<F>> Service<F, K> {
     }
 }
 
-impl<F: Asks + Drop, K: ServiceBrand<F>, W: VersionWriter<F, K>> ServiceOver<F, K, W> {
+impl<F: PriceFn + Drop, K: ServiceBrand<F>, W: VersionWriter<F, K>> ServiceOver<F, K, W> {
     /// Ends the service. Where each pass that was given out is there and every receipt agrees with the
     /// history, the book is handed back: its history is one thread's, from the start to its picture, and
     /// the receipts of the passes are all of it. Else the fault names the least number of a pass that is
@@ -195,8 +195,8 @@ impl<F: Asks + Drop, K: ServiceBrand<F>, W: VersionWriter<F, K>> ServiceOver<F, 
     ) -> Result<Book<F>, CloseFault<F, K, G>>
         ensures tariff { IfOk result (λ b. b.tariff ≡ self.tariff) }
         ensures start { IfOk result (λ b. b.start ≡ K.start) }
-        ensures legal { IfOk result (λ b. Replays (prices_of (F.answers b.tariff)) b.start.limits b.start.rows b.history b.picture.rows) }
-        ensures lawful { IfOk result (λ b. ReplaysLawfully (prices_of (F.answers b.tariff)) b.start.limits b.start.rows b.history b.picture.rows) }
+        ensures legal { IfOk result (λ b. Replays (prices_of (F.may_return b.tariff)) b.start.limits b.start.rows b.history b.picture.rows) }
+        ensures lawful { IfOk result (λ b. ReplaysLawfully (prices_of (F.may_return b.tariff)) b.start.limits b.start.rows b.history b.picture.rows) }
         ensures same_limits { IfOk result (λ b. b.picture.limits ≡ b.start.limits) }
 
         ensures all_there { OnOk result ((n : ℕ) → n < self.given → HasNumber n passes.items) }
@@ -209,8 +209,8 @@ impl<F: Asks + Drop, K: ServiceBrand<F>, W: VersionWriter<F, K>> ServiceOver<F, 
         ensures fault_passes { IfErr result (λ e. e.passes ≡ passes) }
         ensures fault_tariff { IfErr result (λ e. e.book.tariff ≡ self.tariff) }
         ensures fault_start { IfErr result (λ e. e.book.start ≡ K.start) }
-        ensures fault_legal { IfErr result (λ e. Replays (prices_of (F.answers e.book.tariff)) e.book.start.limits e.book.start.rows e.book.history e.book.picture.rows) }
-        ensures fault_lawful { IfErr result (λ e. ReplaysLawfully (prices_of (F.answers e.book.tariff)) e.book.start.limits e.book.start.rows e.book.history e.book.picture.rows) }
+        ensures fault_legal { IfErr result (λ e. Replays (prices_of (F.may_return e.book.tariff)) e.book.start.limits e.book.start.rows e.book.history e.book.picture.rows) }
+        ensures fault_lawful { IfErr result (λ e. ReplaysLawfully (prices_of (F.may_return e.book.tariff)) e.book.start.limits e.book.start.rows e.book.history e.book.picture.rows) }
     {
         let ServiceOver {
             alloc: _,

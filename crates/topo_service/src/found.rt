@@ -15,7 +15,7 @@ use std::marker::Model;
 use topo_book::Book;
 use topo_core::calls::Refusal;
 use topo_picture::Picture;
-use topo_price::tariff::{Asks, Tariff};
+use topo_price::tariff::{PriceFn, Tariff};
 use topo_route::plan::{Plan, PricedRoute, SeenRoute};
 use topo_route::region::Region;
 use topo_route::search::first_route_seen;
@@ -26,7 +26,7 @@ use topo_versions::{LogPrefix, ServiceBrand, Version, VersionReader};
 /// version. It holds that version, and remembers what the search has seen of it. So the service takes the
 /// route with no search if that version is still the newest, and also if the calls since then have changed
 /// nothing that the search has seen.
-pub struct FoundRoute<F: Asks, K: ServiceBrand<F>> {
+pub struct FoundRoute<F: PriceFn, K: ServiceBrand<F>> {
     u: u32,
     v: u32,
     first: PricedRoute,
@@ -36,7 +36,7 @@ pub struct FoundRoute<F: Asks, K: ServiceBrand<F>> {
 }
 
 // Written out, so that it is proved once: a derived one is proved anew in each function that lets such a value go.
-impl<F: Asks, K: ServiceBrand<F>> Drop for FoundRoute<F, K> {
+impl<F: PriceFn, K: ServiceBrand<F>> Drop for FoundRoute<F, K> {
     fn drop(self) {
         let FoundRoute {
             u: _,
@@ -51,7 +51,7 @@ impl<F: Asks, K: ServiceBrand<F>> Drop for FoundRoute<F, K> {
     }
 }
 
-impl<F: Asks, K: ServiceBrand<F>> Model for FoundRoute<F, K> {
+impl<F: PriceFn, K: ServiceBrand<F>> Model for FoundRoute<F, K> {
     ghost use Rattle.std.specs.Prelude.{IfSome};
     ghost use Rattle.topo_core.specs.Routes.{IsFirst};
     ghost use Rattle.topo_versions.specs.Names.{prices_named};
@@ -61,16 +61,16 @@ impl<F: Asks, K: ServiceBrand<F>> Model for FoundRoute<F, K> {
 
     ghost view = { λ f. record { u = f.u; v = f.v; route = f.first.route; price = f.first.price; entries = f.version.entries } };
 
-    ghost invariant = { λ f. IsFirst (prices_named F.answers K.closure) f.version.picture.rows f.u f.v f.first.route f.first.price
-        × IfSome f.region (IsHeldBy (prices_named F.answers K.closure) f.version.picture.rows f.u f.v f.first.route f.first.price) };
+    ghost invariant = { λ f. IsFirst (prices_named F.may_return K.closure) f.version.picture.rows f.u f.v f.first.route f.first.price
+        × IfSome f.region (IsHeldBy (prices_named F.may_return K.closure) f.version.picture.rows f.u f.v f.first.route f.first.price) };
 }
 
-impl<F: Asks, K: ServiceBrand<F>> FoundRoute<F, K> {
+impl<F: PriceFn, K: ServiceBrand<F>> FoundRoute<F, K> {
     /// The route and its price.
     pub fn first(&self) -> &PricedRoute
         ensures route { result.now.route ≡ self.now.route }
         ensures price { result.now.price ≡ self.now.price }
-        ensures found { IsFoundRoute (prices_named F.answers K.closure) K.start self.now }
+        ensures found { IsFoundRoute (prices_named F.may_return K.closure) K.start self.now }
     {
         self.version.picture();
         &self.first
@@ -105,7 +105,7 @@ impl<F: Asks, K: ServiceBrand<F>> FoundRoute<F, K> {
         requires begun { book.now.start ≡ K.start }
         requires named { K.closure ≡ Some book.now.tariff }
         requires entries { prefix.now ≡ versions book.now.history }
-        ensures { result ≡ true → IsFirst (prices_of (F.answers book.now.tariff)) book.now.picture.rows self.now.u self.now.v self.now.route self.now.price }
+        ensures { result ≡ true → IsFirst (prices_of (F.may_return book.now.tariff)) book.now.picture.rows self.now.u self.now.v self.now.route self.now.price }
     {
         book.history();
         self.version.picture();
@@ -129,7 +129,7 @@ impl<F: Asks, K: ServiceBrand<F>> FoundRoute<F, K> {
         ensures u { IfOk result (λ f. f.u ≡ ends.0) }
         ensures v { IfOk result (λ f. f.v ≡ ends.1) }
         ensures entries { IfOk result (λ f. f.entries ≡ version.entries) }
-        ensures refused { IfErr result (IsPlanRefusal (prices_named F.answers K.closure) version.picture.rows ends.0 ends.1) }
+        ensures refused { IfErr result (IsPlanRefusal (prices_named F.may_return K.closure) version.picture.rows ends.0 ends.1) }
     {
         let SeenRoute { first, region } = first_on(
             alloc,
@@ -151,7 +151,7 @@ impl<F: Asks, K: ServiceBrand<F>> FoundRoute<F, K> {
 
 /// The first of the cheapest routes on a picture, or the first reason why there is none. What the search
 /// writes on is made where there is none yet, and kept.
-fn first_on<A: Asks>(
+fn first_on<A: PriceFn>(
     alloc: Global,
     picture: &Picture,
     tariff: &Tariff<A>,
@@ -159,9 +159,9 @@ fn first_on<A: Asks>(
     v: u32,
     work: &mut Option<Workspace>,
 ) -> Result<SeenRoute, Refusal>
-    ensures first { IfOk result (λ r. IsFirst (prices_of (A.answers tariff.now)) picture.now.rows u v r.first.route r.first.price) }
-    ensures region { IfOk result (λ r. IfSome r.region (IsHeldBy (prices_of (A.answers tariff.now)) picture.now.rows u v r.first.route r.first.price)) }
-    ensures refused { IfErr result (IsPlanRefusal (prices_of (A.answers tariff.now)) picture.now.rows u v) }
+    ensures first { IfOk result (λ r. IsFirst (prices_of (A.may_return tariff.now)) picture.now.rows u v r.first.route r.first.price) }
+    ensures region { IfOk result (λ r. IfSome r.region (IsHeldBy (prices_of (A.may_return tariff.now)) picture.now.rows u v r.first.route r.first.price)) }
+    ensures refused { IfErr result (IsPlanRefusal (prices_of (A.may_return tariff.now)) picture.now.rows u v) }
     ensures there { OnOk result (HasVertices picture.now.rows u v) }
     ensures apart { OnOk result (u ≢ v) }
 {
@@ -190,7 +190,7 @@ fn first_on<A: Asks>(
 
 /// What a call brings along that may spare its search.
 #[derive(Drop)]
-pub enum Brought<'a, F: Asks, K: ServiceBrand<F>> {
+pub enum Brought<'a, F: PriceFn, K: ServiceBrand<F>> {
     /// Nothing.
     Nothing,
     /// A plan that is to be checked.
@@ -199,7 +199,7 @@ pub enum Brought<'a, F: Asks, K: ServiceBrand<F>> {
     Found(&'a FoundRoute<F, K>),
 }
 
-impl<F: Asks, K: ServiceBrand<F>, G: VersionReader<F, K>> PassOver<F, K, G> {
+impl<F: PriceFn, K: ServiceBrand<F>, G: VersionReader<F, K>> PassOver<F, K, G> {
     /// The first of the cheapest routes from `u` to `v` at the service's prices on the version of now. It
     /// copies nothing of the picture, and waits for nobody. NoView comes first, then NoVertex, then
     /// SameEnds, by the picture of that version, then NoRoute; Memory where the search wants it.
@@ -217,8 +217,8 @@ impl<F: Asks, K: ServiceBrand<F>, G: VersionReader<F, K>> PassOver<F, K, G> {
         ensures u { IfOk result (λ f. f.u ≡ u) }
         ensures v { IfOk result (λ f. f.v ≡ v) }
         ensures seen { IfOk result (λ f. f.entries ≡ self.new.seen) }
-        ensures found { IfOk result (IsFoundRoute (prices_named F.answers K.closure) K.start) }
-        ensures fault { IfErr result (IsPlanFault (prices_named F.answers K.closure) (prices_named F.answers K.closure) K.start self.new.seen u v) }
+        ensures found { IfOk result (IsFoundRoute (prices_named F.may_return K.closure) K.start) }
+        ensures fault { IfErr result (IsPlanFault (prices_named F.may_return K.closure) (prices_named F.may_return K.closure) K.start self.new.seen u v) }
     {
         let version = self.view()?;
         let found = match FoundRoute::on(alloc, version, tariff, (u, v), &mut self.work) {

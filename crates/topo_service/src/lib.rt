@@ -8,7 +8,6 @@
 //! have receipts. `run_workers` runs lists of commands, each with a pass in a thread of its own.
 #![tactic(auto)]
 
-pub mod answer;
 mod checks;
 pub mod close;
 pub mod faults;
@@ -16,6 +15,7 @@ pub mod found;
 pub mod locked_state;
 mod lookahead;
 pub mod pass;
+pub mod reply_pair;
 pub mod service;
 mod share_pool;
 pub mod workers;

@@ -13,15 +13,15 @@ ghost use Rattle.topo_versions.specs.Names.{prices_named};
 ghost use Rattle.topo_versions.specs.Versions.{IsVersionFrom};
 ghost use Rattle.topo_service.specs.Passes.{entry_of};
 
-use crate::answer::Answer;
 use crate::found::{Brought, FoundRoute};
+use crate::reply_pair::ReplyPair;
 use std::alloc::{AllocError, Global};
 use std::marker::Model;
 use std::sync::ledger::{Book as Tally, Share};
 use std::sync::{Arc, Wait};
 use topo_book::{Book, Hint, Next};
 use topo_core::calls::{Call, Entry};
-use topo_price::tariff::Asks;
+use topo_price::tariff::PriceFn;
 use topo_versions::{
     LogLength, LogPrefix, ReaderFactory, ServiceBrand, VersionReader, VersionWriter, wait_forever,
 };
@@ -30,7 +30,7 @@ use topo_versions::{
 ///
 /// At all times the book begins with the start and has the prices that K names, the ledger's total is the
 /// length of the history, and what is published are the accepted entries of the history.
-pub struct LockedState<F: Asks, K: ServiceBrand<F>, W: VersionWriter<F, K>> {
+pub struct LockedState<F: PriceFn, K: ServiceBrand<F>, W: VersionWriter<F, K>> {
     book: Book<F>,
     calls: Tally<K>,
     log_length: LogLength<K>,
@@ -41,7 +41,7 @@ pub struct LockedState<F: Asks, K: ServiceBrand<F>, W: VersionWriter<F, K>> {
     was_known: bool,
 }
 
-impl<F: Asks, K: ServiceBrand<F>, W: VersionWriter<F, K>> Model for LockedState<F, K, W> {
+impl<F: PriceFn, K: ServiceBrand<F>, W: VersionWriter<F, K>> Model for LockedState<F, K, W> {
     ghost use Rattle.std.specs.Prelude.{◌≡◌, length, Some};
     ghost use Rattle.topo_core.specs.History.{versions};
     ghost use Rattle.topo_book.specs.Books.{BookState};
@@ -56,20 +56,20 @@ impl<F: Asks, K: ServiceBrand<F>, W: VersionWriter<F, K>> Model for LockedState<
 
 /// Makes a call ready, with what is known of its route. The rest is what is true of every book.
 #[tactic(auto, using(topo_book::proofs::Hinting::nothing_is_owed))]
-fn make_ready<F: Asks>(
+fn prepare_call<F: PriceFn>(
     book: &mut Book<F>,
     alloc: Global,
     caller: u32,
     call: Call,
     hint: Hint,
 ) -> Result<Next, AllocError>
-    requires { IsHintFor (prices_of (F.answers book.old.tariff)) book.old.picture.rows call hint }
+    requires { IsHintFor (prices_of (F.may_return book.old.tariff)) book.old.picture.rows call hint }
     ensures caller { IfOk result (λ n. n.entry.caller ≡ caller) }
     ensures call { IfOk result (λ n. n.entry.call ≡ call) }
-    ensures ready { IfOk result (CanFollow (prices_of (F.answers book.new.tariff)) book.new) }
+    ensures ready { IfOk result (CanFollow (prices_of (F.may_return book.new.tariff)) book.new) }
     ensures unchanged { IsUnchanged book.old book.new }
     ensures same_book { IsSameBook book.old book.new }
-    ensures legal { Replays (prices_of (F.answers book.old.tariff)) book.old.start.limits book.old.start.rows book.old.history book.old.picture.rows }
+    ensures legal { Replays (prices_of (F.may_return book.old.tariff)) book.old.start.limits book.old.start.rows book.old.history book.old.picture.rows }
     ensures same_limits { book.old.picture.limits ≡ book.old.start.limits }
     ensures room { length book.old.history + 1 < 2 ^ 64 }
 {
@@ -88,7 +88,7 @@ fn make_ready<F: Asks>(
 
 /// Adds a call that was made ready to the accepted entries, and publishes the version after it, where it is
 /// accepted. After want of memory nothing has changed.
-fn show<F: Asks, K: ServiceBrand<F>, W: VersionWriter<F, K>, R: Wait>(
+fn show<F: PriceFn, K: ServiceBrand<F>, W: VersionWriter<F, K>, R: Wait>(
     rt: &R,
     log_length: &LogLength<K>,
     prefix: &mut LogPrefix<F, K>,
@@ -97,7 +97,7 @@ fn show<F: Asks, K: ServiceBrand<F>, W: VersionWriter<F, K>, R: Wait>(
 ) -> Result<(), AllocError>
     requires room { length prefix.old + 1 < 2 ^ 64 }
     requires whole { W.published writer.old ≡ Some prefix.old }
-    requires follows { IfSome next.now.picture (λ picture. IsVersionFrom (prices_named F.answers K.closure) K.start (prefix.old ++ next.now.entry ∷ []) picture) }
+    requires follows { IfSome next.now.picture (λ picture. IsVersionFrom (prices_named F.may_return K.closure) K.start (prefix.old ++ next.now.entry ∷ []) picture) }
     ensures prefix { OnOk result (prefix.new ≡ (if is_accepted next.now.entry.reply then prefix.old ++ next.now.entry ∷ [] else prefix.old)) }
     ensures published { OnOk result (W.published writer.new ≡ Some prefix.new) }
     ensures err { OnErr result ((prefix.new ≡ prefix.old) × (W.published writer.new ≡ W.published writer.old)) }
@@ -115,28 +115,28 @@ fn show<F: Asks, K: ServiceBrand<F>, W: VersionWriter<F, K>, R: Wait>(
 
 /// The answer to a call that was made ready, once the version after it is published where it is accepted.
 /// After want of memory nothing has changed.
-fn answer_ready<F: Asks, K: ServiceBrand<F>, W: VersionWriter<F, K>, R: Wait>(
+fn answer_ready<F: PriceFn, K: ServiceBrand<F>, W: VersionWriter<F, K>, R: Wait>(
     rt: &R,
     alloc: Global,
     log_length: &LogLength<K>,
     prefix: &mut LogPrefix<F, K>,
     writer: &mut W,
     next: &Next,
-) -> Result<Answer, AllocError>
+) -> Result<ReplyPair, AllocError>
     requires room { length prefix.old + 1 < 2 ^ 64 }
     requires whole { W.published writer.old ≡ Some prefix.old }
-    requires follows { IfSome next.now.picture (λ picture. IsVersionFrom (prices_named F.answers K.closure) K.start (prefix.old ++ next.now.entry ∷ []) picture) }
-    ensures told { IfOk result (λ answer. answer.told ≡ next.now.entry.reply) }
+    requires follows { IfSome next.now.picture (λ picture. IsVersionFrom (prices_named F.may_return K.closure) K.start (prefix.old ++ next.now.entry ∷ []) picture) }
+    ensures reply { IfOk result (λ pair. pair.reply ≡ next.now.entry.reply) }
     ensures prefix { OnOk result (prefix.new ≡ (if is_accepted next.now.entry.reply then prefix.old ++ next.now.entry ∷ [] else prefix.old)) }
     ensures published { OnOk result (W.published writer.new ≡ Some prefix.new) }
     ensures err { OnErr result ((prefix.new ≡ prefix.old) × (W.published writer.new ≡ W.published writer.old)) }
 {
-    let answer = Answer::of(alloc, &next.entry().reply)?;
+    let pair = ReplyPair::of(alloc, &next.entry().reply)?;
     show::<F, K, W, R>(rt, log_length, prefix, writer, next)?;
-    Ok(answer)
+    Ok(pair)
 }
 
-impl<F: Asks, K: ServiceBrand<F>, W: VersionWriter<F, K>> LockedState<F, K, W> {
+impl<F: PriceFn, K: ServiceBrand<F>, W: VersionWriter<F, K>> LockedState<F, K, W> {
     pub(crate) fn new(
         book: Book<F>,
         calls: Tally<K>,
@@ -167,7 +167,7 @@ impl<F: Asks, K: ServiceBrand<F>, W: VersionWriter<F, K>> LockedState<F, K, W> {
     /// Whether the route is known to be the first between these ends on the picture of now: it was found on
     /// the version that is published, or nothing that its search has seen was changed since.
     fn stands(&self, found: &FoundRoute<F, K>, u: u32, v: u32) -> bool
-        ensures { result ≡ true → IsFirst (prices_of (F.answers self.now.tariff)) self.now.picture.rows u v found.now.route found.now.price }
+        ensures { result ≡ true → IsFirst (prices_of (F.may_return self.now.tariff)) self.now.picture.rows u v found.now.route found.now.price }
     {
         self.book.history();
         found.first();
@@ -177,7 +177,7 @@ impl<F: Asks, K: ServiceBrand<F>, W: VersionWriter<F, K>> LockedState<F, K, W> {
 
     /// What is known of the route of a call, by what the call brings along.
     fn hint<'a>(&self, call: Call, brought: Brought<'a, F, K>) -> Hint<'a>
-        ensures { IsHintFor (prices_of (F.answers self.now.tariff)) self.now.picture.rows call result }
+        ensures { IsHintFor (prices_of (F.may_return self.now.tariff)) self.now.picture.rows call result }
     {
         match (call, brought) {
             (Call::Insert { .. }, Brought::Plan(plan)) => Hint::Plan(plan),
@@ -198,20 +198,20 @@ impl<F: Asks, K: ServiceBrand<F>, W: VersionWriter<F, K>> LockedState<F, K, W> {
         caller: u32,
         call: Call,
         brought: Brought<F, K>,
-    ) -> Result<Answer, AllocError>
+    ) -> Result<ReplyPair, AllocError>
         requires { 0 < mine.old.parts }
         ensures parts { mine.new.parts ≡ mine.old.parts }
         ensures amount { mine.new.amount ≡ (if is_ok result then mine.old.amount + 1 else mine.old.amount) }
         ensures same_book { IsSameBook self.old self.new }
-        ensures entered { IfOk result (λ answer. self.new.history ≡ self.old.history ++ entry_of caller call answer.told ∷ []) }
-        ensures step { IfOk result (λ answer. Step (prices_named F.answers K.closure) K.start.limits self.old.picture.rows call answer.told self.new.picture.rows) }
-        ensures no_memory { IfOk result (λ answer. answer.told ≢ Refused Memory) }
+        ensures entered { IfOk result (λ pair. self.new.history ≡ self.old.history ++ entry_of caller call pair.reply ∷ []) }
+        ensures step { IfOk result (λ pair. Step (prices_named F.may_return K.closure) K.start.limits self.old.picture.rows call pair.reply self.new.picture.rows) }
+        ensures no_memory { IfOk result (λ pair. pair.reply ≢ Refused Memory) }
         ensures unchanged { OnErr result (IsUnchanged self.old self.new) }
     {
         let hint = self.hint(call, brought);
         self.was_known = matches!(hint, Hint::First(_));
-        let next = make_ready(&mut self.book, alloc, caller, call, hint)?;
-        let answer = answer_ready::<F, K, W, R>(
+        let next = prepare_call(&mut self.book, alloc, caller, call, hint)?;
+        let pair = answer_ready::<F, K, W, R>(
             rt,
             alloc,
             &self.log_length,
@@ -221,13 +221,13 @@ impl<F: Asks, K: ServiceBrand<F>, W: VersionWriter<F, K>> LockedState<F, K, W> {
         )?;
         self.book.commit(next);
         self.calls.add(mine, 1);
-        Ok(answer)
+        Ok(pair)
     }
 
     /// The accepted entries.
     pub(crate) fn prefix(&self) -> &LogPrefix<F, K>
         ensures now { result.now ≡ versions self.now.history }
-        ensures replayed { IsVersion (prices_named F.answers K.closure) K.start.limits K.start.rows result.now self.now.picture.rows }
+        ensures replayed { IsVersion (prices_named F.may_return K.closure) K.start.limits K.start.rows result.now self.now.picture.rows }
     {
         self.book.history();
         &self.prefix
@@ -253,8 +253,8 @@ impl<F: Asks, K: ServiceBrand<F>, W: VersionWriter<F, K>> LockedState<F, K, W> {
         ensures same { result ≡ self }
         ensures start { result.start ≡ K.start }
         ensures named { K.closure ≡ Some result.tariff }
-        ensures legal { Replays (prices_of (F.answers result.tariff)) result.start.limits result.start.rows result.history result.picture.rows }
-        ensures lawful { ReplaysLawfully (prices_of (F.answers result.tariff)) result.start.limits result.start.rows result.history result.picture.rows }
+        ensures legal { Replays (prices_of (F.may_return result.tariff)) result.start.limits result.start.rows result.history result.picture.rows }
+        ensures lawful { ReplaysLawfully (prices_of (F.may_return result.tariff)) result.start.limits result.start.rows result.history result.picture.rows }
         ensures same_limits { result.picture.limits ≡ result.start.limits }
     {
         let LockedState {

@@ -17,7 +17,7 @@ use std::sync::ledger::Share;
 use topo_core::calls::{Call, Refusal, Reply};
 use topo_dual::Frozen;
 use topo_picture::Picture;
-use topo_price::tariff::{Asks, Tariff};
+use topo_price::tariff::{PriceFn, Tariff};
 use topo_route::plan::Plan;
 use topo_route::search::search;
 use topo_route::workspace::Workspace;
@@ -33,7 +33,7 @@ pub struct Receipt {
 /// A caller's number, its receipts, its share of the ledger, its reader of versions and the accepted entries
 /// that it has seen. Contracts see its number, its receipts and these entries.
 #[derive(Drop)]
-pub struct PassOver<F: Asks, K: ServiceBrand<F>, G: VersionReader<F, K>> {
+pub struct PassOver<F: PriceFn, K: ServiceBrand<F>, G: VersionReader<F, K>> {
     pub(crate) number: u32,
     pub(crate) receipts: Vec<Receipt>,
     pub(crate) share: Share<K>,
@@ -53,7 +53,7 @@ pub type View<F, K> = Version<F, K>;
 /// A pass of a service.
 pub type Pass<F, K> = PassOver<F, K, StoreReader<F, K>>;
 
-impl<F: Asks, K: ServiceBrand<F>, G: VersionReader<F, K>> Model for PassOver<F, K, G> {
+impl<F: PriceFn, K: ServiceBrand<F>, G: VersionReader<F, K>> Model for PassOver<F, K, G> {
     ghost use Rattle.std.specs.Prelude.{◌≡◌, length};
     ghost use Rattle.topo_service.specs.Passes.{PassState};
 
@@ -65,7 +65,7 @@ impl<F: Asks, K: ServiceBrand<F>, G: VersionReader<F, K>> Model for PassOver<F, 
 }
 
 /// The first cheapest route on a frozen picture, or why there is none.
-fn plan_in<A: Asks>(
+fn plan_in<A: PriceFn>(
     alloc: Global,
     frozen: &Frozen,
     tariff: &Tariff<A>,
@@ -74,8 +74,8 @@ fn plan_in<A: Asks>(
 ) -> Result<Plan, Refusal>
     requires there { HasVertices frozen.now.rows u v }
     requires apart { u ≢ v }
-    ensures planned { IfOk result (IsPlan (prices_of (A.answers tariff.now)) frozen.now.rows u v) }
-    ensures refused { IfErr result (IsPlanRefusal (prices_of (A.answers tariff.now)) frozen.now.rows u v) }
+    ensures planned { IfOk result (IsPlan (prices_of (A.may_return tariff.now)) frozen.now.rows u v) }
+    ensures refused { IfErr result (IsPlanRefusal (prices_of (A.may_return tariff.now)) frozen.now.rows u v) }
 {
     match search(alloc, frozen, tariff, u, v) {
         Ok(Some(plan)) => Ok(plan),
@@ -85,15 +85,15 @@ fn plan_in<A: Asks>(
 }
 
 /// The first cheapest route on a picture, or the first reason why there is no plan.
-fn plan_on<A: Asks>(
+fn plan_on<A: PriceFn>(
     alloc: Global,
     picture: &Picture,
     tariff: &Tariff<A>,
     u: u32,
     v: u32,
 ) -> Result<Plan, Refusal>
-    ensures planned { IfOk result (IsPlan (prices_of (A.answers tariff.now)) picture.now.rows u v) }
-    ensures refused { IfErr result (IsPlanRefusal (prices_of (A.answers tariff.now)) picture.now.rows u v) }
+    ensures planned { IfOk result (IsPlan (prices_of (A.may_return tariff.now)) picture.now.rows u v) }
+    ensures refused { IfErr result (IsPlanRefusal (prices_of (A.may_return tariff.now)) picture.now.rows u v) }
 {
     let vertices = picture.counts().vertices;
     if u >= vertices || v >= vertices {
@@ -108,7 +108,7 @@ fn plan_on<A: Asks>(
     }
 }
 
-impl<F: Asks, K: ServiceBrand<F>, G: VersionReader<F, K>> PassOver<F, K, G> {
+impl<F: PriceFn, K: ServiceBrand<F>, G: VersionReader<F, K>> PassOver<F, K, G> {
     /// Its number: the caller in the entries of its calls.
     pub fn number(&self) -> u32
         ensures { result ≡ self.now.number }
@@ -126,7 +126,7 @@ impl<F: Asks, K: ServiceBrand<F>, G: VersionReader<F, K>> PassOver<F, K, G> {
     /// How many accepted entries it has seen: they lead by steps from the start to some picture.
     pub fn seen(&self) -> u64
         ensures count { result ≡ length self.now.seen }
-        ensures legal { AreLegal (prices_named F.answers K.closure) K.start self.now.seen }
+        ensures legal { AreLegal (prices_named F.may_return K.closure) K.start self.now.seen }
     {
         self.prefix.len()
     }
@@ -146,7 +146,7 @@ impl<F: Asks, K: ServiceBrand<F>, G: VersionReader<F, K>> PassOver<F, K, G> {
         ensures receipts { self.new.receipts ≡ self.old.receipts }
         ensures later { IsPrefix self.old.seen self.new.seen }
         ensures seen { IfOk result (λ v. v.entries ≡ self.new.seen) }
-        ensures version { IfOk result (λ v. IsVersionFrom (prices_named F.answers K.closure) K.start v.entries v.picture) }
+        ensures version { IfOk result (λ v. IsVersionFrom (prices_named F.may_return K.closure) K.start v.entries v.picture) }
         ensures fault { IfErr result (λ e. e ≡ PassFault.NoView) }
     {
         let Some(version) = self.reader.current() else {
@@ -163,7 +163,7 @@ impl<F: Asks, K: ServiceBrand<F>, G: VersionReader<F, K>> PassOver<F, K, G> {
     /// The first cheapest route from `u` to `v` at these prices on the version of now, with its price and
     /// the least heights. It waits for nobody. NoView comes first, then NoVertex, then SameEnds, by the
     /// picture of that version, then NoRoute; Memory where the search wants it.
-    pub fn plan<A: Asks>(
+    pub fn plan<A: PriceFn>(
         &mut self,
         alloc: Global,
         tariff: &Tariff<A>,
@@ -173,9 +173,9 @@ impl<F: Asks, K: ServiceBrand<F>, G: VersionReader<F, K>> PassOver<F, K, G> {
         ensures number { self.new.number ≡ self.old.number }
         ensures receipts { self.new.receipts ≡ self.old.receipts }
         ensures later { IsPrefix self.old.seen self.new.seen }
-        ensures planned { IfOk result (λ plan. (picture : Shown) × IsVersionFrom (prices_named F.answers K.closure) K.start self.new.seen picture
-            × IsPlan (prices_of (A.answers tariff.now)) picture.rows u v plan) }
-        ensures fault { IfErr result (IsPlanFault (prices_named F.answers K.closure) (prices_of (A.answers tariff.now)) K.start self.new.seen u v) }
+        ensures planned { IfOk result (λ plan. (picture : Shown) × IsVersionFrom (prices_named F.may_return K.closure) K.start self.new.seen picture
+            × IsPlan (prices_of (A.may_return tariff.now)) picture.rows u v plan) }
+        ensures fault { IfErr result (IsPlanFault (prices_named F.may_return K.closure) (prices_of (A.may_return tariff.now)) K.start self.new.seen u v) }
     {
         let version = self.view()?;
         match plan_on(alloc, version.picture(), tariff, u, v) {

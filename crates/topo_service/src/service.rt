@@ -10,18 +10,18 @@ ghost use Rattle.topo_versions.specs.Versions.{AreLegal};
 ghost use Rattle.topo_service.specs.Answers.{HasSeenOwn, IsDueAfter};
 ghost use Rattle.topo_service.specs.Passes.{receipt_of};
 
-use crate::answer::Answer;
 use crate::faults::ServiceFault;
 use crate::found::{Brought, FoundRoute};
 use crate::locked_state::LockedState;
 use crate::lookahead::Lookahead;
 use crate::pass::{PassOver, Receipt};
+use crate::reply_pair::ReplyPair;
 use crate::share_pool::SharePool;
 use std::alloc::{AllocError, Global};
 use std::marker::{Model, PhantomData};
 use std::sync::{Arc, Mutex, Wait};
 use topo_core::calls::{Call, Reply};
-use topo_price::tariff::{Asks, Tariff};
+use topo_price::tariff::{PriceFn, Tariff};
 use topo_route::plan::Plan;
 use topo_versions::{
     LogPrefix, ReaderFactory, ServiceBrand, VersionReader, VersionWriter, wait_forever,
@@ -29,7 +29,7 @@ use topo_versions::{
 
 /// One lock round a book, with the passes that were given out. Contracts see what answers its prices, how
 /// many passes it gives out at most, and how many it has given out.
-pub struct ServiceOver<F: Asks, K: ServiceBrand<F>, W: VersionWriter<F, K>> {
+pub struct ServiceOver<F: PriceFn, K: ServiceBrand<F>, W: VersionWriter<F, K>> {
     pub(crate) alloc: Global,
     pub(crate) tariff: Arc<Tariff<F>>,
     pub(crate) state: Mutex<LockedState<F, K, W>>,
@@ -41,7 +41,7 @@ pub struct ServiceOver<F: Asks, K: ServiceBrand<F>, W: VersionWriter<F, K>> {
     pub(crate) given: u32,
 }
 
-impl<F: Asks, K: ServiceBrand<F>, W: VersionWriter<F, K>> Model for ServiceOver<F, K, W> {
+impl<F: PriceFn, K: ServiceBrand<F>, W: VersionWriter<F, K>> Model for ServiceOver<F, K, W> {
     ghost use Rattle.std.specs.Prelude.{◌≡◌, ◌≤◌, [], Some};
     ghost use Rattle.std.specs.Arc.{arc_value};
     ghost use Rattle.topo_service.specs.Passes.{ServiceState};
@@ -53,7 +53,7 @@ impl<F: Asks, K: ServiceBrand<F>, W: VersionWriter<F, K>> Model for ServiceOver<
     ghost invariant = { λ s. (K.closure ≡ Some (arc_value s.tariff)) × (K.parts ≡ 16) × (s.places ≤ 16) × (s.nothing ≡ []) };
 }
 
-impl<F: Asks, K: ServiceBrand<F>, W: VersionWriter<F, K>> ServiceOver<F, K, W> {
+impl<F: PriceFn, K: ServiceBrand<F>, W: VersionWriter<F, K>> ServiceOver<F, K, W> {
     /// The prices. It takes no lock.
     pub fn tariff(&self) -> &Tariff<F>
         ensures tariff { result.now ≡ self.now.tariff }
@@ -114,8 +114,8 @@ impl<F: Asks, K: ServiceBrand<F>, W: VersionWriter<F, K>> ServiceOver<F, K, W> {
         ensures receipt { IfOk result (λ reply. pass.new.receipts ≡ pass.old.receipts ++ receipt_of (Insert u v kind) reply ∷ []) }
         ensures later { IsPrefix pass.old.seen pass.new.seen }
         ensures accepted { IfOk result (λ reply. is_accepted reply ≡ true → HasSeenOwn pass.old pass.new (Insert u v kind) reply) }
-        ensures refused { IfOk result (λ reply. is_accepted reply ≡ false → IsDueAfter (prices_named F.answers K.closure) K.start pass.new.seen (Insert u v kind) reply) }
-        ensures legal { AreLegal (prices_named F.answers K.closure) K.start pass.new.seen }
+        ensures refused { IfOk result (λ reply. is_accepted reply ≡ false → IsDueAfter (prices_named F.may_return K.closure) K.start pass.new.seen (Insert u v kind) reply) }
+        ensures legal { AreLegal (prices_named F.may_return K.closure) K.start pass.new.seen }
         ensures no_memory { IfOk result (λ reply. reply ≢ Refused Memory) }
         ensures unchanged { OnErr result (pass.new ≡ pass.old) }
     {
@@ -137,8 +137,8 @@ impl<F: Asks, K: ServiceBrand<F>, W: VersionWriter<F, K>> ServiceOver<F, K, W> {
         ensures receipt { IfOk result (λ reply. pass.new.receipts ≡ pass.old.receipts ++ receipt_of (Insert u v kind) reply ∷ []) }
         ensures later { IsPrefix pass.old.seen pass.new.seen }
         ensures accepted { IfOk result (λ reply. is_accepted reply ≡ true → HasSeenOwn pass.old pass.new (Insert u v kind) reply) }
-        ensures refused { IfOk result (λ reply. is_accepted reply ≡ false → IsDueAfter (prices_named F.answers K.closure) K.start pass.new.seen (Insert u v kind) reply) }
-        ensures legal { AreLegal (prices_named F.answers K.closure) K.start pass.new.seen }
+        ensures refused { IfOk result (λ reply. is_accepted reply ≡ false → IsDueAfter (prices_named F.may_return K.closure) K.start pass.new.seen (Insert u v kind) reply) }
+        ensures legal { AreLegal (prices_named F.may_return K.closure) K.start pass.new.seen }
         ensures no_memory { IfOk result (λ reply. reply ≢ Refused Memory) }
         ensures unchanged { OnErr result (pass.new ≡ pass.old) }
     {
@@ -158,8 +158,8 @@ impl<F: Asks, K: ServiceBrand<F>, W: VersionWriter<F, K>> ServiceOver<F, K, W> {
         ensures receipt { IfOk result (λ reply. pass.new.receipts ≡ pass.old.receipts ++ receipt_of (Insert found.now.u found.now.v kind) reply ∷ []) }
         ensures later { IsPrefix pass.old.seen pass.new.seen }
         ensures accepted { IfOk result (λ reply. is_accepted reply ≡ true → HasSeenOwn pass.old pass.new (Insert found.now.u found.now.v kind) reply) }
-        ensures refused { IfOk result (λ reply. is_accepted reply ≡ false → IsDueAfter (prices_named F.answers K.closure) K.start pass.new.seen (Insert found.now.u found.now.v kind) reply) }
-        ensures legal { AreLegal (prices_named F.answers K.closure) K.start pass.new.seen }
+        ensures refused { IfOk result (λ reply. is_accepted reply ≡ false → IsDueAfter (prices_named F.may_return K.closure) K.start pass.new.seen (Insert found.now.u found.now.v kind) reply) }
+        ensures legal { AreLegal (prices_named F.may_return K.closure) K.start pass.new.seen }
         ensures no_memory { IfOk result (λ reply. reply ≢ Refused Memory) }
         ensures unchanged { OnErr result (pass.new ≡ pass.old) }
     {
@@ -178,8 +178,8 @@ impl<F: Asks, K: ServiceBrand<F>, W: VersionWriter<F, K>> ServiceOver<F, K, W> {
         ensures receipt { IfOk result (λ reply. pass.new.receipts ≡ pass.old.receipts ++ receipt_of (Delete edge) reply ∷ []) }
         ensures later { IsPrefix pass.old.seen pass.new.seen }
         ensures accepted { IfOk result (λ reply. is_accepted reply ≡ true → HasSeenOwn pass.old pass.new (Delete edge) reply) }
-        ensures refused { IfOk result (λ reply. is_accepted reply ≡ false → IsDueAfter (prices_named F.answers K.closure) K.start pass.new.seen (Delete edge) reply) }
-        ensures legal { AreLegal (prices_named F.answers K.closure) K.start pass.new.seen }
+        ensures refused { IfOk result (λ reply. is_accepted reply ≡ false → IsDueAfter (prices_named F.may_return K.closure) K.start pass.new.seen (Delete edge) reply) }
+        ensures legal { AreLegal (prices_named F.may_return K.closure) K.start pass.new.seen }
         ensures no_memory { IfOk result (λ reply. reply ≢ Refused Memory) }
         ensures unchanged { OnErr result (pass.new ≡ pass.old) }
     {
@@ -200,8 +200,8 @@ impl<F: Asks, K: ServiceBrand<F>, W: VersionWriter<F, K>> ServiceOver<F, K, W> {
         ensures receipt { IfOk result (λ reply. pass.new.receipts ≡ pass.old.receipts ++ receipt_of (Grow u position kind) reply ∷ []) }
         ensures later { IsPrefix pass.old.seen pass.new.seen }
         ensures accepted { IfOk result (λ reply. is_accepted reply ≡ true → HasSeenOwn pass.old pass.new (Grow u position kind) reply) }
-        ensures refused { IfOk result (λ reply. is_accepted reply ≡ false → IsDueAfter (prices_named F.answers K.closure) K.start pass.new.seen (Grow u position kind) reply) }
-        ensures legal { AreLegal (prices_named F.answers K.closure) K.start pass.new.seen }
+        ensures refused { IfOk result (λ reply. is_accepted reply ≡ false → IsDueAfter (prices_named F.may_return K.closure) K.start pass.new.seen (Grow u position kind) reply) }
+        ensures legal { AreLegal (prices_named F.may_return K.closure) K.start pass.new.seen }
         ensures no_memory { IfOk result (λ reply. reply ≢ Refused Memory) }
         ensures unchanged { OnErr result (pass.new ≡ pass.old) }
     {
@@ -220,8 +220,8 @@ impl<F: Asks, K: ServiceBrand<F>, W: VersionWriter<F, K>> ServiceOver<F, K, W> {
         ensures receipt { IfOk result (λ reply. pass.new.receipts ≡ pass.old.receipts ++ receipt_of call reply ∷ []) }
         ensures later { IsPrefix pass.old.seen pass.new.seen }
         ensures accepted { IfOk result (λ reply. is_accepted reply ≡ true → HasSeenOwn pass.old pass.new call reply) }
-        ensures refused { IfOk result (λ reply. is_accepted reply ≡ false → IsDueAfter (prices_named F.answers K.closure) K.start pass.new.seen call reply) }
-        ensures legal { AreLegal (prices_named F.answers K.closure) K.start pass.new.seen }
+        ensures refused { IfOk result (λ reply. is_accepted reply ≡ false → IsDueAfter (prices_named F.may_return K.closure) K.start pass.new.seen call reply) }
+        ensures legal { AreLegal (prices_named F.may_return K.closure) K.start pass.new.seen }
         ensures no_memory { IfOk result (λ reply. reply ≢ Refused Memory) }
         ensures unchanged { OnErr result (pass.new ≡ pass.old) }
     {
@@ -234,10 +234,13 @@ impl<F: Asks, K: ServiceBrand<F>, W: VersionWriter<F, K>> ServiceOver<F, K, W> {
             wait_forever(rt);
         }
         let made = state.call(rt, self.alloc, &mut pass.share, pass.number, call, brought);
-        let Answer { told, kept } = made?;
+        let ReplyPair { reply, receipt } = made?;
         pass.lookahead.note(is_found, state.was_known());
-        pass.receipts.push_reserved(Receipt { call, reply: kept });
+        pass.receipts.push_reserved(Receipt {
+            call,
+            reply: receipt,
+        });
         pass.prefix = state.prefix().share();
-        Ok(told)
+        Ok(reply)
     }
 }

@@ -16,7 +16,7 @@ use std::sync::Wait;
 use std::thread;
 use std::thread::Threads;
 use topo_core::calls::{Command, Reply};
-use topo_price::tariff::Asks;
+use topo_price::tariff::PriceFn;
 use topo_versions::{ServiceBrand, VersionReader, VersionWriter};
 
 /// What is called round each command: with the place of the list, and the command's place in it.
@@ -38,7 +38,7 @@ pub enum WorkerEnd {
 /// Inserts an edge whose route is looked for on a view first, without the lock. If that finds none, it is an
 /// insertion.
 fn insert_ahead<
-    F: Asks,
+    F: PriceFn,
     K: ServiceBrand<F>,
     W: VersionWriter<F, K>,
     G: VersionReader<F, K>,
@@ -65,7 +65,13 @@ fn insert_ahead<
 
 /// Carries a command out. A planned insertion looks for its route ahead, unless the routes that the pass found
 /// last came too late.
-fn carry_out<F: Asks, K: ServiceBrand<F>, W: VersionWriter<F, K>, G: VersionReader<F, K>, R: Wait>(
+fn carry_out<
+    F: PriceFn,
+    K: ServiceBrand<F>,
+    W: VersionWriter<F, K>,
+    G: VersionReader<F, K>,
+    R: Wait,
+>(
     rt: &R,
     alloc: Global,
     service: &ServiceOver<F, K, W>,
@@ -90,7 +96,7 @@ fn carry_out<F: Asks, K: ServiceBrand<F>, W: VersionWriter<F, K>, G: VersionRead
 
 /// Carries a list out, until memory is wanted.
 fn work<
-    F: Asks,
+    F: PriceFn,
     K: ServiceBrand<F>,
     W: VersionWriter<F, K>,
     G: VersionReader<F, K>,
@@ -119,7 +125,7 @@ fn work<
 
 /// Runs each list with the pass at its place, in a thread of its own.
 fn run_each<
-    F: Asks + Drop + Send + Sync,
+    F: PriceFn + Drop + Send + Sync,
     K: ServiceBrand<F> + Send + Sync,
     W: VersionWriter<F, K> + Send,
     G: VersionReader<F, K> + Send,
@@ -135,7 +141,7 @@ fn run_each<
 )
     requires { length passes.old ≡ length lists.now }
     ensures made { (i : ℕ) (p : PassState) → i < length lists.now → HasMade (slice_index_or passes.old i p) (slice_index_or passes.new i p) (slice_index_or (map commands lists.now) i []) }
-    ensures legal { (i : ℕ) (p : PassState) → i < length lists.now → AreLegal (prices_named F.answers K.closure) K.start (slice_index_or passes.new i p).seen }
+    ensures legal { (i : ℕ) (p : PassState) → i < length lists.now → AreLegal (prices_named F.may_return K.closure) K.start (slice_index_or passes.new i p).seen }
 {
     if passes.is_empty() {
         return;
@@ -148,7 +154,7 @@ fn run_each<
         &|i, pass: &mut PassOver<F, K, G>|
             requires { i < length lists.now }
             ensures made { HasMade pass.entry.now pass.exit.now (slice_index_or (map commands lists.entry.now) i []) }
-            ensures legal { AreLegal (prices_named F.answers K.closure) K.start pass.exit.now.seen }
+            ensures legal { AreLegal (prices_named F.may_return K.closure) K.start pass.exit.now.seen }
         {
             work(rt, alloc, service, pass, i, lists[i].as_slice(), gate);
             pass.seen();
@@ -157,7 +163,7 @@ fn run_each<
 }
 
 /// How many receipts each pass has.
-fn receipt_counts<F: Asks, K: ServiceBrand<F>, G: VersionReader<F, K>>(
+fn receipt_counts<F: PriceFn, K: ServiceBrand<F>, G: VersionReader<F, K>>(
     alloc: Global,
     passes: &[PassOver<F, K, G>],
 ) -> Result<Vec<usize>, AllocError>
@@ -183,7 +189,7 @@ fn end_of(before: usize, after: usize, commands: usize) -> WorkerEnd
 }
 
 /// Tells how the work on each list ended.
-fn tell_ends<F: Asks, K: ServiceBrand<F>, G: VersionReader<F, K>>(
+fn tell_ends<F: PriceFn, K: ServiceBrand<F>, G: VersionReader<F, K>>(
     ends: &mut Vec<WorkerEnd>,
     before: &[usize],
     passes: &[PassOver<F, K, G>],
@@ -208,7 +214,7 @@ fn tell_ends<F: Asks, K: ServiceBrand<F>, G: VersionReader<F, K>>(
 /// whether it was carried out, or where memory was wanted; its room is taken first, and where that is
 /// refused, no pass has changed.
 pub fn run_workers<
-    F: Asks + Drop + Send + Sync,
+    F: PriceFn + Drop + Send + Sync,
     K: ServiceBrand<F> + Send + Sync,
     W: VersionWriter<F, K> + Send,
     G: VersionReader<F, K> + Send,
@@ -226,7 +232,7 @@ pub fn run_workers<
     ensures one_each { IfOk result (λ ends. length ends.items ≡ length lists.now) }
     ensures ended { IfOk result (λ ends. (i : ℕ) (p : PassState) (e : WorkerEnd) → i < length lists.now
         → HasEnded (slice_index_or passes.old i p) (slice_index_or passes.new i p) (slice_index_or (map commands lists.now) i []) (slice_index_or ends.items i e)) }
-    ensures legal { IfOk result (λ ends. (i : ℕ) (p : PassState) → i < length lists.now → AreLegal (prices_named F.answers K.closure) K.start (slice_index_or passes.new i p).seen) }
+    ensures legal { IfOk result (λ ends. (i : ℕ) (p : PassState) → i < length lists.now → AreLegal (prices_named F.may_return K.closure) K.start (slice_index_or passes.new i p).seen) }
     ensures unchanged { OnErr result (passes.new ≡ passes.old) }
 {
     let before = receipt_counts(alloc, passes)?;

@@ -5,7 +5,7 @@ use std::alloc::Global;
 use std::sync::Wait;
 use std::test::Fail;
 use topo_price::table::PriceTable;
-use topo_price::tariff::Asks;
+use topo_price::tariff::PriceFn;
 use topo_service::{Pass, Service, WorkerEnd};
 use topo_versions::ServiceBrand;
 
@@ -18,7 +18,7 @@ impl Story for Closed {
         1
     }
 
-    fn tell<F: Asks + Drop, K: ServiceBrand<F>, R: Wait>(
+    fn tell<F: PriceFn + Drop, K: ServiceBrand<F>, R: Wait>(
         &self,
         rt: &R,
         alloc: Global,

@@ -13,7 +13,7 @@ use topo_core::calls::{Call, Command};
 use topo_core::limits::Limits;
 use topo_core::rows::Rows;
 use topo_picture::Picture;
-use topo_price::tariff::Asks;
+use topo_price::tariff::PriceFn;
 use topo_service::{Pass, Service, WorkerEnd};
 use topo_versions::{ServiceBrand, Version};
 
@@ -25,7 +25,9 @@ struct Workers {
 }
 
 /// How many calls are accepted, as the first pass sees it.
-fn accepted_by<F: Asks + Drop, K: ServiceBrand<F>>(passes: &mut [Pass<F, K>]) -> Result<u64, Fail> {
+fn accepted_by<F: PriceFn + Drop, K: ServiceBrand<F>>(
+    passes: &mut [Pass<F, K>],
+) -> Result<u64, Fail> {
     match passes.first_mut() {
         Some(pass) => {
             let view = view_of(pass)?;
@@ -42,7 +44,7 @@ impl Story for Workers {
         self.number
     }
 
-    fn tell<F: Asks + Drop, K: ServiceBrand<F>, R: Wait>(
+    fn tell<F: PriceFn + Drop, K: ServiceBrand<F>, R: Wait>(
         &self,
         _rt: &R,
         alloc: Global,
@@ -205,7 +207,7 @@ fn is_lawful(alloc: Global, picture: &Picture) -> bool {
 }
 
 /// Looks at a version, and answers its number.
-fn look_at<F: Asks + Drop, K: ServiceBrand<F>>(
+fn look_at<F: PriceFn + Drop, K: ServiceBrand<F>>(
     alloc: Global,
     view: &Version<F, K>,
     before: u64,
@@ -218,7 +220,7 @@ fn look_at<F: Asks + Drop, K: ServiceBrand<F>>(
 }
 
 /// Takes a view, and looks at it. It answers the number of the last view.
-fn look<F: Asks + Drop, K: ServiceBrand<F>>(
+fn look<F: PriceFn + Drop, K: ServiceBrand<F>>(
     alloc: Global,
     pass: &mut Pass<F, K>,
     before: u64,
@@ -235,7 +237,7 @@ fn look<F: Asks + Drop, K: ServiceBrand<F>>(
 }
 
 /// Whether a command was carried out.
-fn is_made<F: Asks + Drop, K: ServiceBrand<F>, R: Wait>(
+fn is_made<F: PriceFn + Drop, K: ServiceBrand<F>, R: Wait>(
     rt: &R,
     service: &Service<F, K>,
     pass: &mut Pass<F, K>,
@@ -252,7 +254,7 @@ fn is_made<F: Asks + Drop, K: ServiceBrand<F>, R: Wait>(
 }
 
 /// The same of a planned insertion.
-fn is_planned<F: Asks + Drop, K: ServiceBrand<F>, R: Wait>(
+fn is_planned<F: PriceFn + Drop, K: ServiceBrand<F>, R: Wait>(
     rt: &R,
     alloc: Global,
     service: &Service<F, K>,
@@ -272,7 +274,7 @@ fn is_planned<F: Asks + Drop, K: ServiceBrand<F>, R: Wait>(
 }
 
 /// Makes two thousand calls, and takes a view after each hundred.
-fn work_and_look<F: Asks + Drop, K: ServiceBrand<F>, R: Wait>(
+fn work_and_look<F: PriceFn + Drop, K: ServiceBrand<F>, R: Wait>(
     rt: &R,
     alloc: Global,
     service: &Service<F, K>,
@@ -297,7 +299,7 @@ fn work_and_look<F: Asks + Drop, K: ServiceBrand<F>, R: Wait>(
 
 /// Lets each pass make its calls, in a thread of its own, and looks at versions meanwhile.
 pub(crate) fn work_all<
-    F: Asks + Drop + Send + Sync,
+    F: PriceFn + Drop + Send + Sync,
     K: ServiceBrand<F> + Send + Sync,
     R: Threads + Wait + Sync,
 >(rt: &R, alloc: Global, service: &Service<F, K>, passes: &mut [Pass<F, K>], watch: &Watch) {

@@ -12,7 +12,7 @@ use std::test::Fail;
 use std::thread::Threads;
 use topo_core::calls::{Call, Command};
 use topo_core::rows::Facts;
-use topo_price::tariff::Asks;
+use topo_price::tariff::PriceFn;
 use topo_service::{Gate, Pass, Service, WorkerEnd};
 use topo_versions::ServiceBrand;
 
@@ -72,7 +72,7 @@ struct Pair<'a> {
 }
 
 /// How many receipts each pass has, and how many edges it sees.
-fn seen_of<F: Asks + Drop, K: ServiceBrand<F>>(
+fn seen_of<F: PriceFn + Drop, K: ServiceBrand<F>>(
     alloc: Global,
     passes: &mut [Pass<F, K>],
 ) -> Result<Vec<(usize, u32)>, Fail> {
@@ -91,7 +91,7 @@ impl Story for Pair<'_> {
         2
     }
 
-    fn tell<F: Asks + Drop, K: ServiceBrand<F>, R: Wait>(
+    fn tell<F: PriceFn + Drop, K: ServiceBrand<F>, R: Wait>(
         &self,
         _rt: &R,
         alloc: Global,
@@ -206,7 +206,7 @@ struct PlanAndDelete<'a> {
 }
 
 /// What the first call of the first pass was answered.
-fn first_reply<F: Asks + Drop, K: ServiceBrand<F>>(
+fn first_reply<F: PriceFn + Drop, K: ServiceBrand<F>>(
     alloc: Global,
     passes: &[Pass<F, K>],
 ) -> Result<String, Fail> {
@@ -224,7 +224,7 @@ impl Story for PlanAndDelete<'_> {
         2
     }
 
-    fn tell<F: Asks + Drop, K: ServiceBrand<F>, R: Wait>(
+    fn tell<F: PriceFn + Drop, K: ServiceBrand<F>, R: Wait>(
         &self,
         _rt: &R,
         alloc: Global,

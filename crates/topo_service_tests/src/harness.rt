@@ -18,7 +18,7 @@ use topo_core::listed::Listed;
 use topo_core::rows::{EdgeRow, Facts, Rows};
 use topo_picture::Picture;
 use topo_price::table::PriceTable;
-use topo_price::tariff::{Asks, Tariff};
+use topo_price::tariff::{PriceFn, Tariff};
 use topo_service::close::CloseFault;
 use topo_service::{EndFault, FreshService, Gate, Pass, Service, WorkerEnd, run_workers};
 use topo_versions::{ServiceBrand, StoreReader};
@@ -31,7 +31,7 @@ pub(crate) trait Story {
     /// Uses the service by its passes, of which there are fewer than asked for where the service gave no
     /// more, and says what it saw. It gets how the workers' lists ended. The passes that it leaves are
     /// those that the service is closed with.
-    fn tell<F: Asks + Drop, K: ServiceBrand<F>, R: Wait>(
+    fn tell<F: PriceFn + Drop, K: ServiceBrand<F>, R: Wait>(
         &self,
         rt: &R,
         alloc: Global,
@@ -97,30 +97,28 @@ pub(crate) fn run_work_at<S: Story, T: Gate, R: Threads + Wait + Sync>(
 }
 
 /// The text of the story, and how the service ended.
-pub(crate) fn run<F: Asks + Drop + Send + Sync, S: Story, R: Threads + Wait + Sync>(
+pub(crate) fn run<F: PriceFn + Drop + Send + Sync, S: Story, R: Threads + Wait + Sync>(
     rt: &R,
     alloc: Global,
     ask: F,
     start: Picture,
     story: &S,
 ) -> Result<String, Fail>
-    requires callable { F.can_ask ask }
-    requires promise { IsPromise (F.answers ask) }
+    requires callable { F.is_callable ask }
+    requires promise { IsPromise (F.may_return ask) }
 {
     run_work(rt, alloc, ask, start, Work::Lists(&[], &Still), story)
 }
 
 /// The same, where the passes have work to do before the story begins.
-pub(crate) fn run_work<F: Asks + Drop + Send + Sync, S: Story, T: Gate, R: Threads + Wait + Sync>(
-    rt: &R,
-    alloc: Global,
-    ask: F,
-    start: Picture,
-    work: Work<T>,
-    story: &S,
-) -> Result<String, Fail>
-    requires callable { F.can_ask ask }
-    requires promise { IsPromise (F.answers ask) }
+pub(crate) fn run_work<
+    F: PriceFn + Drop + Send + Sync,
+    S: Story,
+    T: Gate,
+    R: Threads + Wait + Sync,
+>(rt: &R, alloc: Global, ask: F, start: Picture, work: Work<T>, story: &S) -> Result<String, Fail>
+    requires callable { F.is_callable ask }
+    requires promise { IsPromise (F.may_return ask) }
 {
     let tariff = Arc::new(alloc, Tariff::new(ask))?;
     named::<F, Brand, S, T, R>(rt, alloc, FreshService::new(), start, tariff, work, story)
@@ -128,7 +126,7 @@ pub(crate) fn run_work<F: Asks + Drop + Send + Sync, S: Story, T: Gate, R: Threa
 
 /// The same, over the service that K names.
 fn named<
-    F: Asks + Drop + Send + Sync,
+    F: PriceFn + Drop + Send + Sync,
     K: ServiceBrand<F> + Send + Sync,
     S: Story,
     T: Gate,
@@ -155,7 +153,7 @@ fn named<
 /// The text of the story of a service, and how it ended. The service and its passes are owned here alone, and
 /// nothing returns early while they are.
 fn tell_and_close<
-    F: Asks + Drop + Send + Sync,
+    F: PriceFn + Drop + Send + Sync,
     K: ServiceBrand<F> + Send + Sync,
     S: Story,
     T: Gate,
@@ -184,7 +182,7 @@ fn both(
 }
 
 /// Closes the service with these passes. The text says how it ended.
-fn close<F: Asks + Drop, K: ServiceBrand<F>, R: Wait>(
+fn close<F: PriceFn + Drop, K: ServiceBrand<F>, R: Wait>(
     rt: &R,
     alloc: Global,
     service: Service<F, K>,
@@ -195,7 +193,7 @@ fn close<F: Asks + Drop, K: ServiceBrand<F>, R: Wait>(
 
 /// Gives out the passes that the story asks for, lets the workers do their work, and then plays the story.
 fn tell<
-    F: Asks + Drop + Send + Sync,
+    F: PriceFn + Drop + Send + Sync,
     K: ServiceBrand<F> + Send + Sync,
     S: Story,
     T: Gate,
@@ -214,7 +212,7 @@ fn tell<
 }
 
 /// Gives out so many passes, or as many as there are.
-fn give_out<F: Asks + Drop, K: ServiceBrand<F>>(
+fn give_out<F: PriceFn + Drop, K: ServiceBrand<F>>(
     service: &mut Service<F, K>,
     passes: &mut Vec<Pass<F, K>>,
     pass_count: usize,
@@ -229,7 +227,7 @@ fn give_out<F: Asks + Drop, K: ServiceBrand<F>>(
 }
 
 /// How a service ended: with a book or with a fault.
-fn ending<F: Asks + Drop, K: ServiceBrand<F>>(
+fn ending<F: PriceFn + Drop, K: ServiceBrand<F>>(
     alloc: Global,
     end: Result<Book<F>, CloseFault<F, K, StoreReader<F, K>>>,
 ) -> Result<String, AllocError> {
@@ -248,7 +246,7 @@ fn ending<F: Asks + Drop, K: ServiceBrand<F>>(
 }
 
 /// How many calls a book has, and whether their replay gives their replies.
-fn ended_well<F: Asks>(alloc: Global, book: &Book<F>) -> Result<String, AllocError> {
+fn ended_well<F: PriceFn>(alloc: Global, book: &Book<F>) -> Result<String, AllocError> {
     let calls = book.history().len();
     let again = replay(alloc, book.start(), book.history(), book.tariff());
     let is_replayed = again.is_ok();
@@ -264,7 +262,7 @@ fn ended_with(alloc: Global, fault: EndFault, left: usize) -> Result<String, All
 
 /// Lets the passes do their work, each in a thread of its own.
 fn carry_out<
-    F: Asks + Drop + Send + Sync,
+    F: PriceFn + Drop + Send + Sync,
     K: ServiceBrand<F> + Send + Sync,
     T: Gate,
     R: Threads + Wait + Sync,

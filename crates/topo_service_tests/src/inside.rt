@@ -9,7 +9,7 @@ use std::test::Fail;
 use std::thread;
 use std::thread::Threads;
 use topo_core::calls::{Call, Command};
-use topo_price::tariff::Asks;
+use topo_price::tariff::PriceFn;
 use topo_service::{Gate, Pass, Service, WorkerEnd};
 use topo_versions::ServiceBrand;
 
@@ -102,7 +102,7 @@ impl Story for Lists {
         self.0
     }
 
-    fn tell<F: Asks + Drop, K: ServiceBrand<F>, R: Wait>(
+    fn tell<F: PriceFn + Drop, K: ServiceBrand<F>, R: Wait>(
         &self,
         _rt: &R,
         alloc: Global,

@@ -8,7 +8,7 @@ use std::sync::Wait;
 use std::test::Fail;
 use std::thread::Threads;
 use topo_core::calls::{Call, Command};
-use topo_price::tariff::Asks;
+use topo_price::tariff::PriceFn;
 use topo_service::{Pass, Service, WorkerEnd};
 use topo_versions::ServiceBrand;
 
@@ -41,7 +41,7 @@ fn long_lists(alloc: Global) -> Result<Vec<Vec<Command>>, AllocError> {
 struct Ended;
 
 /// The number of the newest version, and whether a route is found on it.
-fn last_seen<F: Asks + Drop, K: ServiceBrand<F>>(
+fn last_seen<F: PriceFn + Drop, K: ServiceBrand<F>>(
     alloc: Global,
     service: &Service<F, K>,
     pass: &mut Pass<F, K>,
@@ -60,7 +60,7 @@ impl Story for Ended {
         1
     }
 
-    fn tell<F: Asks + Drop, K: ServiceBrand<F>, R: Wait>(
+    fn tell<F: PriceFn + Drop, K: ServiceBrand<F>, R: Wait>(
         &self,
         _rt: &R,
         alloc: Global,

@@ -13,7 +13,7 @@ use topo_core::ids::EdgeId;
 use topo_core::listed::Listed;
 use topo_core::routes::Route;
 use topo_core::rows::Rows;
-use topo_price::tariff::Asks;
+use topo_price::tariff::PriceFn;
 use topo_route::plan::Plan;
 use topo_service::{Pass, Service, WorkerEnd};
 use topo_versions::ServiceBrand;
@@ -55,7 +55,7 @@ fn invented(alloc: Global, crossed: Dart, heights: &[u64]) -> Result<Plan, Alloc
 }
 
 /// An insertion between the apexes, with the plan if there is one.
-fn join<F: Asks + Drop, K: ServiceBrand<F>, R: Wait>(
+fn join<F: PriceFn + Drop, K: ServiceBrand<F>, R: Wait>(
     rt: &R,
     service: &Service<F, K>,
     pass: &mut Pass<F, K>,
@@ -68,7 +68,7 @@ fn join<F: Asks + Drop, K: ServiceBrand<F>, R: Wait>(
 }
 
 /// The picture of now.
-fn rows_of<F: Asks + Drop, K: ServiceBrand<F>>(
+fn rows_of<F: PriceFn + Drop, K: ServiceBrand<F>>(
     alloc: Global,
     pass: &mut Pass<F, K>,
 ) -> Result<Rows, Fail> {
@@ -79,7 +79,7 @@ fn rows_of<F: Asks + Drop, K: ServiceBrand<F>>(
 }
 
 /// A reply, and the picture after it.
-fn text_of<F: Asks + Drop, K: ServiceBrand<F>>(
+fn text_of<F: PriceFn + Drop, K: ServiceBrand<F>>(
     alloc: Global,
     reply: &Reply,
     pass: &mut Pass<F, K>,
@@ -101,7 +101,7 @@ impl Story for Joined<'_> {
         1
     }
 
-    fn tell<F: Asks + Drop, K: ServiceBrand<F>, R: Wait>(
+    fn tell<F: PriceFn + Drop, K: ServiceBrand<F>, R: Wait>(
         &self,
         rt: &R,
         alloc: Global,
@@ -127,7 +127,7 @@ struct Late {
 }
 
 /// The two changes, and the insertion.
-fn join_late<F: Asks + Drop, K: ServiceBrand<F>, R: Wait>(
+fn join_late<F: PriceFn + Drop, K: ServiceBrand<F>, R: Wait>(
     rt: &R,
     service: &Service<F, K>,
     pass: &mut Pass<F, K>,
@@ -139,7 +139,7 @@ fn join_late<F: Asks + Drop, K: ServiceBrand<F>, R: Wait>(
 }
 
 /// The reply to the insertion, and the picture after it.
-fn told_late<F: Asks + Drop, K: ServiceBrand<F>, R: Wait>(
+fn told_late<F: PriceFn + Drop, K: ServiceBrand<F>, R: Wait>(
     rt: &R,
     alloc: Global,
     service: &Service<F, K>,
@@ -157,7 +157,7 @@ impl Story for Late {
         1
     }
 
-    fn tell<F: Asks + Drop, K: ServiceBrand<F>, R: Wait>(
+    fn tell<F: PriceFn + Drop, K: ServiceBrand<F>, R: Wait>(
         &self,
         rt: &R,
         alloc: Global,

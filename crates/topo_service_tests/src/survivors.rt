@@ -11,7 +11,7 @@ use topo_core::calls::{Call, Command, Reply};
 use topo_core::listed::Listed;
 use topo_core::rows::{EdgeRow, Facts, Rows};
 use topo_picture::Picture;
-use topo_price::tariff::Asks;
+use topo_price::tariff::PriceFn;
 use topo_service::{FoundRoute, Pass, Service, WorkerEnd};
 use topo_versions::ServiceBrand;
 
@@ -134,7 +134,7 @@ struct Late<'a> {
 }
 
 /// Makes a call, whatever is answered.
-fn make<F: Asks + Drop, K: ServiceBrand<F>, R: Wait>(
+fn make<F: PriceFn + Drop, K: ServiceBrand<F>, R: Wait>(
     rt: &R,
     service: &Service<F, K>,
     pass: &mut Pass<F, K>,
@@ -149,7 +149,7 @@ fn make<F: Asks + Drop, K: ServiceBrand<F>, R: Wait>(
 
 impl Late<'_> {
     /// The calls, and then an insertion along the route: whether it asked for a price, and its reply.
-    fn insert_late<F: Asks + Drop, K: ServiceBrand<F>, R: Wait>(
+    fn insert_late<F: PriceFn + Drop, K: ServiceBrand<F>, R: Wait>(
         &self,
         rt: &R,
         alloc: Global,
@@ -173,7 +173,7 @@ impl Story for Late<'_> {
         2
     }
 
-    fn tell<F: Asks + Drop, K: ServiceBrand<F>, R: Wait>(
+    fn tell<F: PriceFn + Drop, K: ServiceBrand<F>, R: Wait>(
         &self,
         rt: &R,
         alloc: Global,
@@ -301,7 +301,7 @@ impl Story for Prices<'_> {
         1
     }
 
-    fn tell<F: Asks + Drop, K: ServiceBrand<F>, R: Wait>(
+    fn tell<F: PriceFn + Drop, K: ServiceBrand<F>, R: Wait>(
         &self,
         _rt: &R,
         alloc: Global,

@@ -12,14 +12,14 @@ use std::thread::Threads;
 use topo_core::calls::Reply;
 use topo_core::rows::Facts;
 use topo_dual::Frozen;
-use topo_price::tariff::Asks;
+use topo_price::tariff::PriceFn;
 use topo_route::check::check;
 use topo_route::plan::Plan;
 use topo_service::{FoundRoute, Pass, PassFault, Service, WorkerEnd};
 use topo_versions::{ServiceBrand, Version};
 
 /// The version of now.
-pub(crate) fn view_of<F: Asks + Drop, K: ServiceBrand<F>>(
+pub(crate) fn view_of<F: PriceFn + Drop, K: ServiceBrand<F>>(
     pass: &mut Pass<F, K>,
 ) -> Result<Version<F, K>, Fail> {
     match pass.view() {
@@ -29,7 +29,7 @@ pub(crate) fn view_of<F: Asks + Drop, K: ServiceBrand<F>>(
 }
 
 /// How many edges the picture of a version has.
-pub(crate) fn edges_of<F: Asks + Drop, K: ServiceBrand<F>>(version: &Version<F, K>) -> u32 {
+pub(crate) fn edges_of<F: PriceFn + Drop, K: ServiceBrand<F>>(version: &Version<F, K>) -> u32 {
     version.picture().counts().edges
 }
 
@@ -38,7 +38,7 @@ pub(crate) fn edges_of<F: Asks + Drop, K: ServiceBrand<F>>(version: &Version<F, 
 struct Turns;
 
 /// Takes a further view and keeps it.
-fn keep<F: Asks + Drop, K: ServiceBrand<F>>(
+fn keep<F: PriceFn + Drop, K: ServiceBrand<F>>(
     pass: &mut Pass<F, K>,
     views: &mut Vec<Version<F, K>>,
 ) -> Result<(), Fail> {
@@ -47,7 +47,7 @@ fn keep<F: Asks + Drop, K: ServiceBrand<F>>(
 }
 
 /// Inserts an edge of kind 0, or asks for one.
-fn insert<F: Asks + Drop, K: ServiceBrand<F>, R: Wait>(
+fn insert<F: PriceFn + Drop, K: ServiceBrand<F>, R: Wait>(
     rt: &R,
     service: &Service<F, K>,
     pass: &mut Pass<F, K>,
@@ -60,7 +60,7 @@ fn insert<F: Asks + Drop, K: ServiceBrand<F>, R: Wait>(
 
 /// The first turn of each pass, with three views. It says how many accepted calls the first pass had seen
 /// after its call.
-fn take_first_turns<F: Asks + Drop, K: ServiceBrand<F>, R: Wait>(
+fn take_first_turns<F: PriceFn + Drop, K: ServiceBrand<F>, R: Wait>(
     rt: &R,
     service: &Service<F, K>,
     a: &mut Pass<F, K>,
@@ -78,7 +78,7 @@ fn take_first_turns<F: Asks + Drop, K: ServiceBrand<F>, R: Wait>(
 
 /// The last turn of each pass, with two views. It says how many accepted calls the first pass had seen after
 /// its call.
-fn take_last_turns<F: Asks + Drop, K: ServiceBrand<F>, R: Wait>(
+fn take_last_turns<F: PriceFn + Drop, K: ServiceBrand<F>, R: Wait>(
     rt: &R,
     service: &Service<F, K>,
     a: &mut Pass<F, K>,
@@ -95,7 +95,7 @@ fn take_last_turns<F: Asks + Drop, K: ServiceBrand<F>, R: Wait>(
 
 /// Calls by two passes in turn, with five views that are all kept. It says how many accepted calls the
 /// first pass had seen after its first call and after its second, and how a call was refused.
-fn take_turns<F: Asks + Drop, K: ServiceBrand<F>, R: Wait>(
+fn take_turns<F: PriceFn + Drop, K: ServiceBrand<F>, R: Wait>(
     rt: &R,
     service: &Service<F, K>,
     passes: &mut [Pass<F, K>],
@@ -119,7 +119,7 @@ fn take_turns<F: Asks + Drop, K: ServiceBrand<F>, R: Wait>(
 }
 
 /// The numbers of views and how many edges their pictures have, in turn.
-fn numbers_of<F: Asks + Drop, K: ServiceBrand<F>>(
+fn numbers_of<F: PriceFn + Drop, K: ServiceBrand<F>>(
     alloc: Global,
     views: &[Version<F, K>],
 ) -> Result<Vec<(u64, u32)>, AllocError> {
@@ -131,7 +131,7 @@ fn numbers_of<F: Asks + Drop, K: ServiceBrand<F>>(
 }
 
 /// How many receipts each pass has.
-fn receipts_of<F: Asks + Drop, K: ServiceBrand<F>>(
+fn receipts_of<F: PriceFn + Drop, K: ServiceBrand<F>>(
     alloc: Global,
     passes: &[Pass<F, K>],
 ) -> Result<Vec<usize>, AllocError> {
@@ -147,7 +147,7 @@ impl Story for Turns {
         2
     }
 
-    fn tell<F: Asks + Drop, K: ServiceBrand<F>, R: Wait>(
+    fn tell<F: PriceFn + Drop, K: ServiceBrand<F>, R: Wait>(
         &self,
         rt: &R,
         alloc: Global,
@@ -166,7 +166,7 @@ impl Story for Turns {
 }
 
 /// The text of what was seen.
-fn tell_turns<F: Asks + Drop, K: ServiceBrand<F>>(
+fn tell_turns<F: PriceFn + Drop, K: ServiceBrand<F>>(
     alloc: Global,
     passes: &[Pass<F, K>],
     views: &[Version<F, K>],
@@ -178,7 +178,7 @@ fn tell_turns<F: Asks + Drop, K: ServiceBrand<F>>(
 }
 
 /// The same, where the reply is still needed.
-fn text_of_turns<F: Asks + Drop, K: ServiceBrand<F>>(
+fn text_of_turns<F: PriceFn + Drop, K: ServiceBrand<F>>(
     alloc: Global,
     passes: &[Pass<F, K>],
     views: &[Version<F, K>],
@@ -220,7 +220,7 @@ impl Story for SharePool {
         20
     }
 
-    fn tell<F: Asks + Drop, K: ServiceBrand<F>, R: Wait>(
+    fn tell<F: PriceFn + Drop, K: ServiceBrand<F>, R: Wait>(
         &self,
         _rt: &R,
         alloc: Global,
@@ -248,7 +248,7 @@ impl Story for Nobody {
         0
     }
 
-    fn tell<F: Asks + Drop, K: ServiceBrand<F>, R: Wait>(
+    fn tell<F: PriceFn + Drop, K: ServiceBrand<F>, R: Wait>(
         &self,
         _rt: &R,
         alloc: Global,
@@ -273,7 +273,7 @@ struct Plans<'a> {
 
 impl Plans<'_> {
     /// How many prices a check of the plan on the version of now asks for, and whether the plan passes.
-    fn checked<F: Asks + Drop, K: ServiceBrand<F>>(
+    fn checked<F: PriceFn + Drop, K: ServiceBrand<F>>(
         &self,
         alloc: Global,
         service: &Service<F, K>,
@@ -287,7 +287,7 @@ impl Plans<'_> {
     }
 
     /// The same on the picture of a version.
-    fn checked_on<F: Asks + Drop, K: ServiceBrand<F>>(
+    fn checked_on<F: PriceFn + Drop, K: ServiceBrand<F>>(
         &self,
         frozen: &Frozen,
         service: &Service<F, K>,
@@ -303,7 +303,7 @@ impl Plans<'_> {
     }
 
     /// An insertion by the good plan, with the number of prices that it asked for.
-    fn insert<F: Asks + Drop, K: ServiceBrand<F>, R: Wait>(
+    fn insert<F: PriceFn + Drop, K: ServiceBrand<F>, R: Wait>(
         &self,
         rt: &R,
         service: &Service<F, K>,
@@ -318,7 +318,7 @@ impl Plans<'_> {
 
     /// Whether the good plan passes, and whether an insertion by it asks for no more prices than the check
     /// does.
-    fn tell_good<F: Asks + Drop, K: ServiceBrand<F>, R: Wait>(
+    fn tell_good<F: PriceFn + Drop, K: ServiceBrand<F>, R: Wait>(
         &self,
         rt: &R,
         alloc: Global,
@@ -335,7 +335,7 @@ impl Plans<'_> {
     }
 
     /// What comes of a plan of the first pass, and of one of the second that is stale by then.
-    fn tell_both<F: Asks + Drop, K: ServiceBrand<F>, R: Wait>(
+    fn tell_both<F: PriceFn + Drop, K: ServiceBrand<F>, R: Wait>(
         &self,
         rt: &R,
         alloc: Global,
@@ -352,7 +352,7 @@ impl Plans<'_> {
     }
 
     /// The same with a plan that the second pass makes now.
-    fn tell_from<F: Asks + Drop, K: ServiceBrand<F>, R: Wait>(
+    fn tell_from<F: PriceFn + Drop, K: ServiceBrand<F>, R: Wait>(
         &self,
         rt: &R,
         alloc: Global,
@@ -368,7 +368,7 @@ impl Plans<'_> {
 }
 
 /// The picture of now.
-fn frozen_of<F: Asks + Drop, K: ServiceBrand<F>>(
+fn frozen_of<F: PriceFn + Drop, K: ServiceBrand<F>>(
     alloc: Global,
     pass: &mut Pass<F, K>,
 ) -> Result<Frozen, Fail> {
@@ -387,7 +387,7 @@ fn has_apexes(frozen: &Frozen) -> bool
 }
 
 /// A plan between the apexes.
-pub(crate) fn plan_of<F: Asks + Drop, K: ServiceBrand<F>>(
+pub(crate) fn plan_of<F: PriceFn + Drop, K: ServiceBrand<F>>(
     alloc: Global,
     service: &Service<F, K>,
     pass: &mut Pass<F, K>,
@@ -399,7 +399,7 @@ pub(crate) fn plan_of<F: Asks + Drop, K: ServiceBrand<F>>(
 }
 
 /// Takes out the first inserted edge and the edge that it crossed.
-fn take_out<F: Asks + Drop, K: ServiceBrand<F>, R: Wait>(
+fn take_out<F: PriceFn + Drop, K: ServiceBrand<F>, R: Wait>(
     rt: &R,
     service: &Service<F, K>,
     pass: &mut Pass<F, K>,
@@ -410,7 +410,7 @@ fn take_out<F: Asks + Drop, K: ServiceBrand<F>, R: Wait>(
 }
 
 /// An insertion by a plan that was made before those edges are taken out.
-fn insert_late<F: Asks + Drop, K: ServiceBrand<F>, R: Wait>(
+fn insert_late<F: PriceFn + Drop, K: ServiceBrand<F>, R: Wait>(
     rt: &R,
     service: &Service<F, K>,
     early: &mut Pass<F, K>,
@@ -426,7 +426,7 @@ impl Story for Plans<'_> {
         2
     }
 
-    fn tell<F: Asks + Drop, K: ServiceBrand<F>, R: Wait>(
+    fn tell<F: PriceFn + Drop, K: ServiceBrand<F>, R: Wait>(
         &self,
         rt: &R,
         alloc: Global,
@@ -486,7 +486,7 @@ struct Finds<'a> {
 }
 
 /// A route between the apexes, as it is found on the version of now.
-fn found_of<F: Asks + Drop, K: ServiceBrand<F>>(
+fn found_of<F: PriceFn + Drop, K: ServiceBrand<F>>(
     alloc: Global,
     service: &Service<F, K>,
     pass: &mut Pass<F, K>,
@@ -498,7 +498,7 @@ fn found_of<F: Asks + Drop, K: ServiceBrand<F>>(
 }
 
 /// Why nothing is found from an apex to another vertex, where that is so.
-fn fault_of<F: Asks + Drop, K: ServiceBrand<F>>(
+fn fault_of<F: PriceFn + Drop, K: ServiceBrand<F>>(
     alloc: Global,
     service: &Service<F, K>,
     pass: &mut Pass<F, K>,
@@ -509,7 +509,7 @@ fn fault_of<F: Asks + Drop, K: ServiceBrand<F>>(
 
 impl Finds<'_> {
     /// An insertion along a found route, with the number of prices that it asked for.
-    fn insert<F: Asks + Drop, K: ServiceBrand<F>, R: Wait>(
+    fn insert<F: PriceFn + Drop, K: ServiceBrand<F>, R: Wait>(
         &self,
         rt: &R,
         service: &Service<F, K>,
@@ -523,7 +523,7 @@ impl Finds<'_> {
     }
 
     /// As `insert`, after the first inserted edge and the edge that it crossed were taken out.
-    fn insert_late<F: Asks + Drop, K: ServiceBrand<F>, R: Wait>(
+    fn insert_late<F: PriceFn + Drop, K: ServiceBrand<F>, R: Wait>(
         &self,
         rt: &R,
         service: &Service<F, K>,
@@ -536,7 +536,7 @@ impl Finds<'_> {
     }
 
     /// What the first route is, why other routes are not found, and what comes of an insertion along it.
-    fn tell_first<F: Asks + Drop, K: ServiceBrand<F>, R: Wait>(
+    fn tell_first<F: PriceFn + Drop, K: ServiceBrand<F>, R: Wait>(
         &self,
         rt: &R,
         alloc: Global,
@@ -556,7 +556,7 @@ impl Finds<'_> {
     }
 
     /// What comes of a route of the first pass, and of one of the second that is late by then.
-    fn tell_both<F: Asks + Drop, K: ServiceBrand<F>, R: Wait>(
+    fn tell_both<F: PriceFn + Drop, K: ServiceBrand<F>, R: Wait>(
         &self,
         rt: &R,
         alloc: Global,
@@ -573,7 +573,7 @@ impl Finds<'_> {
     }
 
     /// The same with a route that the second pass finds now.
-    fn tell_from<F: Asks + Drop, K: ServiceBrand<F>, R: Wait>(
+    fn tell_from<F: PriceFn + Drop, K: ServiceBrand<F>, R: Wait>(
         &self,
         rt: &R,
         alloc: Global,
@@ -593,7 +593,7 @@ impl Story for Finds<'_> {
         2
     }
 
-    fn tell<F: Asks + Drop, K: ServiceBrand<F>, R: Wait>(
+    fn tell<F: PriceFn + Drop, K: ServiceBrand<F>, R: Wait>(
         &self,
         rt: &R,
         alloc: Global,

@@ -1,4 +1,4 @@
 pub mod Faults
 pub mod Pricing
-pub mod Setting
+pub mod Validating
 pub mod Written

@@ -9,7 +9,7 @@ use std::alloc::Global;
 use std::io::{ErrorKind, Read};
 
 /// The greatest number of bytes that one call of `read` is given room for.
-const CHUNK: usize = 8192;
+const CHUNK_BYTES: usize = 8192;
 
 /// Reads until the end, or until there is one byte more than the limit. There are at most twice as
 /// many calls of `read` as the limit, and two; an interrupted call is one of them. ReadFault comes where
@@ -37,8 +37,8 @@ fn read_more<R: Read>(limit: usize, reader: &mut R, bytes: &mut Vec<u8>) -> Resu
     ensures within { OnOk result (length bytes.new.items ≤ limit + 1) }
     ensures err { IfErr result IsOfReading }
 {
-    let mut buffer = [0u8; CHUNK];
-    let room = CHUNK.min(limit + 1 - bytes.len());
+    let mut buffer = [0u8; CHUNK_BYTES];
+    let room = CHUNK_BYTES.min(limit + 1 - bytes.len());
     match reader.read(&mut buffer[..room]) {
         Ok(0) => Ok(true),
         Ok(n) => match bytes.extend_from_slice(&buffer[..n]) {

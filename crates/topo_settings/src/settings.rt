@@ -14,7 +14,7 @@ use topo_price::table::{PriceFault, PriceTable};
 
 /// The prices of all kinds and the picture that is started with, or the first fault of the limits, the
 /// prices and the start.
-pub fn setting(
+pub fn validate(
     alloc: Global,
     numbers: LimitRows,
     prices: &[Option<u32>],

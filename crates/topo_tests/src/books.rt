@@ -2,7 +2,7 @@
 
 ghost use Rattle.topo_price.specs.Prices.{IsPromise};
 
-use crate::calls::made;
+use crate::picture_calls::made;
 use std::alloc::{AllocError, Global};
 use std::process::Abort;
 use std::sync::Arc;
@@ -14,7 +14,7 @@ use topo_core::limits::Limits;
 use topo_core::rows::Facts;
 use topo_picture::Picture;
 use topo_price::table::PriceTable;
-use topo_price::tariff::{Asks, Tariff};
+use topo_price::tariff::{PriceFn, Tariff};
 
 /// The seed, with room for three vertices and three edges.
 fn seed(alloc: Global) -> Result<Picture, AllocError> {
@@ -22,9 +22,9 @@ fn seed(alloc: Global) -> Result<Picture, AllocError> {
 }
 
 /// A book that begins with the seed.
-fn seed_book<F: Asks + Drop>(alloc: Global, ask: F) -> Result<Book<F>, AllocError>
-    requires callable { F.can_ask ask }
-    requires promise { IsPromise (F.answers ask) }
+fn seed_book<F: PriceFn + Drop>(alloc: Global, ask: F) -> Result<Book<F>, AllocError>
+    requires callable { F.is_callable ask }
+    requires promise { IsPromise (F.may_return ask) }
 {
     let tariff = Arc::new(alloc, Tariff::new(ask))?;
     let start = seed(alloc)?;
@@ -32,7 +32,7 @@ fn seed_book<F: Asks + Drop>(alloc: Global, ask: F) -> Result<Book<F>, AllocErro
 }
 
 /// How many vertices its start, its picture and the replay of its history have.
-fn sizes<F: Asks>(alloc: Global, book: &Book<F>) -> Result<[u32; 3], ReplayFault> {
+fn sizes<F: PriceFn>(alloc: Global, book: &Book<F>) -> Result<[u32; 3], ReplayFault> {
     let again = replay(alloc, book.start(), book.history(), book.tariff())?;
     let vertices = again.counts().vertices;
     drop(again);
@@ -105,7 +105,7 @@ const TOLD: &str =
     Entry { caller: 0, call: Grow { u: 0, position: 0, kind: 0 }, reply: Refused(Full) }] Ok([2, 3, 3])";
 
 /// Makes the calls.
-fn make_all<F: Asks>(alloc: Global, book: &mut Book<F>) -> Result<(), AllocError> {
+fn make_all<F: PriceFn>(alloc: Global, book: &mut Book<F>) -> Result<(), AllocError> {
     for (caller, call) in CALLS {
         made(alloc, book, *caller, *call)?;
     }
@@ -113,7 +113,7 @@ fn make_all<F: Asks>(alloc: Global, book: &mut Book<F>) -> Result<(), AllocError
 }
 
 /// The history as text, with the sizes.
-fn text_of<F: Asks>(alloc: Global, book: &Book<F>) -> Result<String, AllocError> {
+fn text_of<F: PriceFn>(alloc: Global, book: &Book<F>) -> Result<String, AllocError> {
     let sizes = sizes(alloc, book);
     format!(in alloc; "{:?} {sizes:?}", book.history())
 }
@@ -124,7 +124,7 @@ fn is_told(rt: &impl Abort, told: &str, wanted: &str) {
 }
 
 /// The book's history and its sizes have these texts.
-fn tells<F: Asks>(
+fn tells<F: PriceFn>(
     rt: &impl Abort,
     alloc: Global,
     book: &Book<F>,
@@ -136,7 +136,7 @@ fn tells<F: Asks>(
 }
 
 /// The calls of a book, and its texts then.
-fn enters_calls<F: Asks>(
+fn enters_calls<F: PriceFn>(
     rt: &impl Abort,
     alloc: Global,
     book: &mut Book<F>,
@@ -146,13 +146,13 @@ fn enters_calls<F: Asks>(
 }
 
 /// The same of a book that begins with the seed.
-fn enters_calls_from_seed<F: Asks + Drop>(
+fn enters_calls_from_seed<F: PriceFn + Drop>(
     rt: &impl Abort,
     alloc: Global,
     ask: F,
 ) -> Result<(), AllocError>
-    requires callable { F.can_ask ask }
-    requires promise { IsPromise (F.answers ask) }
+    requires callable { F.is_callable ask }
+    requires promise { IsPromise (F.may_return ask) }
 {
     let mut book = seed_book(alloc, ask)?;
     let told = enters_calls(rt, alloc, &mut book);
@@ -175,7 +175,7 @@ fn next_text(alloc: Global, next: &Next, entries: usize) -> Result<String, Alloc
 
 /// Makes a growth in the corner of vertex 0 ready, and enters it. The text says what it is made ready as, and
 /// how many entries the book has before it is entered.
-fn enter<F: Asks>(alloc: Global, book: &mut Book<F>, caller: u32) -> Result<String, AllocError> {
+fn enter<F: PriceFn>(alloc: Global, book: &mut Book<F>, caller: u32) -> Result<String, AllocError> {
     let grow = Call::Grow {
         u: 0,
         position: 0,
@@ -188,7 +188,7 @@ fn enter<F: Asks>(alloc: Global, book: &mut Book<F>, caller: u32) -> Result<Stri
 }
 
 /// A growth of this caller is made ready and entered, with this text.
-fn enters<F: Asks>(
+fn enters<F: PriceFn>(
     rt: &impl Abort,
     alloc: Global,
     book: &mut Book<F>,
@@ -209,7 +209,7 @@ const REFUSAL: &str =
     "Entry { caller: 6, call: Grow { u: 0, position: 0, kind: 0 }, reply: Refused(Full) } false after 1";
 
 /// A growth and a refusal that are made ready and entered, and how large the book is at the end.
-fn enters_both<F: Asks>(
+fn enters_both<F: PriceFn>(
     rt: &impl Abort,
     alloc: Global,
     book: &mut Book<F>,
@@ -222,13 +222,13 @@ fn enters_both<F: Asks>(
 }
 
 /// Both of a book that begins with the seed.
-fn enters_both_from_seed<F: Asks + Drop>(
+fn enters_both_from_seed<F: PriceFn + Drop>(
     rt: &impl Abort,
     alloc: Global,
     ask: F,
 ) -> Result<(), AllocError>
-    requires callable { F.can_ask ask }
-    requires promise { IsPromise (F.answers ask) }
+    requires callable { F.is_callable ask }
+    requires promise { IsPromise (F.may_return ask) }
 {
     let mut book = seed_book(alloc, ask)?;
     let told = enters_both(rt, alloc, &mut book);
@@ -244,7 +244,7 @@ fn calls_are_prepared_and_committed(rt: HostRuntime) -> Result<(), Fail> {
 }
 
 /// How many vertices the replay of entries from a start has.
-fn size_from<F: Asks>(
+fn size_from<F: PriceFn>(
     alloc: Global,
     start: &Picture,
     entries: &[Entry],
@@ -257,13 +257,13 @@ fn size_from<F: Asks>(
 }
 
 /// The same from the seed.
-fn replay_from_seed<F: Asks + Drop>(
+fn replay_from_seed<F: PriceFn + Drop>(
     alloc: Global,
     entries: &[Entry],
     ask: F,
 ) -> Result<u32, ReplayFault>
-    requires callable { F.can_ask ask }
-    requires promise { IsPromise (F.answers ask) }
+    requires callable { F.is_callable ask }
+    requires promise { IsPromise (F.may_return ask) }
 {
     let tariff = Tariff::new(ask);
     match seed(alloc) {

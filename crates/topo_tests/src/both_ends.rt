@@ -2,9 +2,9 @@
 
 ghost use Rattle.topo_price.specs.Prices.{IsPromise};
 
-use crate::calls::{book_of, made};
 use crate::first_routes::{are_ends, is_planned};
 use crate::generated::{Numbers, next_call, next_ids};
+use crate::picture_calls::{book_of, made};
 use crate::pictures::SEED;
 use crate::searches::table_of;
 use std::alloc::{AllocError, Global};
@@ -14,7 +14,7 @@ use topo_book::Book;
 use topo_core::calls::Call;
 use topo_core::rows::Facts;
 use topo_picture::{Frozen, Picture};
-use topo_price::tariff::{Asks, Tariff};
+use topo_price::tariff::{PriceFn, Tariff};
 use topo_route::search::first_route;
 use topo_route::workspace::Workspace;
 
@@ -40,7 +40,7 @@ const CALLS: u32 = 40;
 const RUNS: u32 = 16;
 
 /// The two searches of a pair find the same.
-fn is_agreed<F: Asks>(
+fn is_agreed<F: PriceFn>(
     rt: &impl Abort,
     alloc: Global,
     picture: &Picture,
@@ -67,7 +67,7 @@ fn two_of(numbers: &mut Numbers, vertices: u32) -> (u32, u32) {
 }
 
 /// So do those of some pairs.
-fn are_agreed<F: Asks>(
+fn are_agreed<F: PriceFn>(
     rt: &impl Abort,
     alloc: Global,
     picture: &Picture,
@@ -85,7 +85,7 @@ fn are_agreed<F: Asks>(
 }
 
 /// The same with the prices of a closure.
-fn are_agreed_at<F: Asks + Drop>(
+fn are_agreed_at<F: PriceFn + Drop>(
     rt: &impl Abort,
     alloc: Global,
     picture: &Picture,
@@ -94,8 +94,8 @@ fn are_agreed_at<F: Asks + Drop>(
     numbers: &mut Numbers,
     work: &mut Workspace,
 ) -> Result<(), Fail>
-    requires callable { F.can_ask ask }
-    requires promise { IsPromise (F.answers ask) }
+    requires callable { F.is_callable ask }
+    requires promise { IsPromise (F.may_return ask) }
 {
     let tariff = Tariff::new(ask);
     are_agreed(rt, alloc, picture, frozen, &tariff, numbers, work)
@@ -146,7 +146,7 @@ fn call_to(numbers: &mut Numbers, vertices: u32, edges: u32, hubs: u32) -> Call 
 }
 
 /// One call more.
-fn go_on<F: Asks>(
+fn go_on<F: PriceFn>(
     alloc: Global,
     book: &mut Book<F>,
     numbers: &mut Numbers,
@@ -161,7 +161,7 @@ fn go_on<F: Asks>(
 }
 
 /// The two searches agree on each picture of a run.
-fn run<F: Asks>(
+fn run<F: PriceFn>(
     rt: &impl Abort,
     alloc: Global,
     book: &mut Book<F>,
@@ -178,15 +178,15 @@ fn run<F: Asks>(
 }
 
 /// The run of a book that begins with the seed.
-fn run_from_seed<F: Asks + Drop>(
+fn run_from_seed<F: PriceFn + Drop>(
     rt: &impl Abort,
     alloc: Global,
     of: (u32, u32),
     ask: F,
     work: &mut Workspace,
 ) -> Result<(), Fail>
-    requires callable { F.can_ask ask }
-    requires promise { IsPromise (F.answers ask) }
+    requires callable { F.is_callable ask }
+    requires promise { IsPromise (F.may_return ask) }
 {
     let mut book = book_of(alloc, SEED, (40, 1_000, 2_000), ask)?;
     let told = run(rt, alloc, &mut book, of, work);

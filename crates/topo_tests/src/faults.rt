@@ -192,7 +192,7 @@ fn faults_below_commands(rt: HostRuntime) -> Result<(), Fail> {
 }
 
 /// The room that the program has for the line of a fault.
-const LINE: usize = 160;
+const MAX_FAULT_LINE_BYTES: usize = 160;
 
 #[test]
 fn the_longest_line(rt: HostRuntime) -> Result<(), Fail> {
@@ -202,6 +202,6 @@ fn the_longest_line(rt: HostRuntime) -> Result<(), Fail> {
     }
     let fault = RunFault::Script(ScriptFault::BadNumber(path));
     let line = format!(in rt.alloc(); "planar: {fault}\n")?;
-    assert!(rt; line.len() == 149 && line.len() <= LINE);
+    assert!(rt; line.len() == 149 && line.len() <= MAX_FAULT_LINE_BYTES);
     Ok(())
 }

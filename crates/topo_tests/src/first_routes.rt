@@ -14,7 +14,7 @@ use std::test::Fail;
 use topo_core::rows::Facts;
 use topo_picture::{Frozen, Picture};
 use topo_price::table::PriceTable;
-use topo_price::tariff::{Asks, Tariff};
+use topo_price::tariff::{PriceFn, Tariff};
 use topo_route::plan::{Plan, PricedRoute};
 use topo_route::search::{first_route, search};
 use topo_route::workspace::Workspace;
@@ -30,7 +30,7 @@ pub(crate) fn are_ends(picture: &Picture, u: u32, v: u32) -> bool
 }
 
 /// The first route with the prices of a closure, if there is one.
-fn routed<F: Asks + Drop>(
+fn routed<F: PriceFn + Drop>(
     rt: &impl Abort,
     alloc: Global,
     picture: &Picture,
@@ -38,8 +38,8 @@ fn routed<F: Asks + Drop>(
     ends: (u32, u32),
     work: &mut Workspace,
 ) -> Result<Option<PricedRoute>, AllocError>
-    requires callable { F.can_ask ask }
-    requires promise { IsPromise (F.answers ask) }
+    requires callable { F.is_callable ask }
+    requires promise { IsPromise (F.may_return ask) }
 {
     let (u, v) = ends;
     assert!(rt; are_ends(picture, u, v));
@@ -222,7 +222,7 @@ fn is_same(found: &Option<PricedRoute>, plan: &Option<Plan>) -> bool {
 }
 
 /// Whether a search from nothing finds what was found.
-pub(crate) fn is_planned<F: Asks>(
+pub(crate) fn is_planned<F: PriceFn>(
     rt: &impl Abort,
     alloc: Global,
     frozen: &Frozen,
@@ -239,7 +239,7 @@ pub(crate) fn is_planned<F: Asks>(
 }
 
 /// The same of a picture.
-fn is_planned_on<F: Asks>(
+fn is_planned_on<F: PriceFn>(
     rt: &impl Abort,
     alloc: Global,
     picture: &Picture,
@@ -254,7 +254,7 @@ fn is_planned_on<F: Asks>(
 }
 
 /// Whether a search on a workspace that is kept finds what a search from nothing finds.
-fn agrees<F: Asks + Drop>(
+fn agrees<F: PriceFn + Drop>(
     rt: &impl Abort,
     alloc: Global,
     picture: &Picture,
@@ -262,8 +262,8 @@ fn agrees<F: Asks + Drop>(
     ends: (u32, u32),
     work: &mut Workspace,
 ) -> Result<bool, AllocError>
-    requires callable { F.can_ask ask }
-    requires promise { IsPromise (F.answers ask) }
+    requires callable { F.is_callable ask }
+    requires promise { IsPromise (F.may_return ask) }
 {
     let (u, v) = ends;
     assert!(rt; are_ends(picture, u, v));

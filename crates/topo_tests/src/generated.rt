@@ -2,10 +2,10 @@
 
 ghost use Rattle.topo_price.specs.Prices.{IsPromise};
 
-use crate::calls::{book_of, made};
+use crate::picture_calls::{book_of, made};
+use crate::picture_rows::{falls_apart, is_loaded_again, shows};
 use crate::pictures::SEED;
 use crate::searches::table_of;
-use crate::seen_rows::{falls_apart, is_loaded_again, shows};
 use std::alloc::{AllocError, Global};
 use std::process::Abort;
 use std::test::Fail;
@@ -15,7 +15,7 @@ use topo_core::calls::{Call, Entry, Refusal, Reply};
 use topo_core::listed::Listed;
 use topo_core::rows::{Facts, Rows};
 use topo_picture::Picture;
-use topo_price::tariff::Asks;
+use topo_price::tariff::PriceFn;
 use topo_script::{LimitRows, Report, report};
 
 /// The prices of kinds 0 to 3, which are those that the calls have.
@@ -138,7 +138,7 @@ fn is_right(
 }
 
 /// Makes one call on a picture that shows these rows, and looks at what comes of it.
-fn go_on_from<F: Asks>(
+fn go_on_from<F: PriceFn>(
     rt: &impl Abort,
     alloc: Global,
     book: &mut Book<F>,
@@ -154,7 +154,7 @@ fn go_on_from<F: Asks>(
 }
 
 /// Makes one call, and looks at what comes of it.
-fn go_on<F: Asks>(
+fn go_on<F: PriceFn>(
     rt: &impl Abort,
     alloc: Global,
     book: &mut Book<F>,
@@ -210,7 +210,7 @@ fn limits_of(picture: &Picture) -> LimitRows {
 }
 
 /// The report that a book is, of which the first and the last picture are read off.
-fn report_between<F: Asks>(
+fn report_between<F: PriceFn>(
     alloc: Global,
     book: &Book<F>,
     start: Rows,
@@ -226,14 +226,14 @@ fn report_between<F: Asks>(
 }
 
 /// The report that a book is.
-fn report_of<F: Asks>(alloc: Global, book: &Book<F>) -> Result<Report, AllocError> {
+fn report_of<F: PriceFn>(alloc: Global, book: &Book<F>) -> Result<Report, AllocError> {
     let start = book.start().rows(alloc)?;
     let picture = book.picture().rows(alloc)?;
     report_between(alloc, book, start, picture)
 }
 
 /// The text of that report.
-fn text_of<F: Asks>(alloc: Global, book: &Book<F>) -> Result<String, AllocError> {
+fn text_of<F: PriceFn>(alloc: Global, book: &Book<F>) -> Result<String, AllocError> {
     let made = report_of(alloc, book)?;
     let text = report(alloc, &made);
     drop(made);
@@ -256,7 +256,7 @@ fn is_alike(
 }
 
 /// The replay of a book's history is its picture.
-fn is_replayed<F: Asks>(rt: &impl Abort, alloc: Global, book: &Book<F>) -> Result<(), Fail> {
+fn is_replayed<F: PriceFn>(rt: &impl Abort, alloc: Global, book: &Book<F>) -> Result<(), Fail> {
     let again = replay(alloc, book.start(), book.history(), book.tariff())?;
     let told = is_alike(rt, alloc, &again, book.picture());
     drop(again);
@@ -287,7 +287,7 @@ fn passes(rt: &impl Abort, alloc: Global, text: &str, calls: u32) -> Result<(), 
 }
 
 /// The report that a book is passes.
-fn is_reported<F: Asks>(
+fn is_reported<F: PriceFn>(
     rt: &impl Abort,
     alloc: Global,
     book: &Book<F>,
@@ -298,7 +298,7 @@ fn is_reported<F: Asks>(
 }
 
 /// A run of calls, its replay, and the replay of its report.
-fn run<F: Asks>(
+fn run<F: PriceFn>(
     rt: &impl Abort,
     alloc: Global,
     book: &mut Book<F>,
@@ -315,15 +315,15 @@ fn run<F: Asks>(
 }
 
 /// The run of a book that begins with the seed.
-fn run_from_seed<F: Asks + Drop>(
+fn run_from_seed<F: PriceFn + Drop>(
     rt: &impl Abort,
     alloc: Global,
     state: u32,
     calls: u32,
     ask: F,
 ) -> Result<(), Fail>
-    requires callable { F.can_ask ask }
-    requires promise { IsPromise (F.answers ask) }
+    requires callable { F.is_callable ask }
+    requires promise { IsPromise (F.may_return ask) }
 {
     let mut book = book_of(alloc, SEED, (40, 1_000, 2_000), ask)?;
     let told = run(rt, alloc, &mut book, state, calls);

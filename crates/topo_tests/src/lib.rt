@@ -8,7 +8,7 @@ mod books;
 #[cfg(test)]
 mod both_ends;
 #[cfg(test)]
-mod calls;
+mod core_types;
 #[cfg(test)]
 mod embeddings;
 #[cfg(test)]
@@ -24,6 +24,10 @@ mod numbered;
 #[cfg(test)]
 mod permutations;
 #[cfg(test)]
+mod picture_calls;
+#[cfg(test)]
+mod picture_rows;
+#[cfg(test)]
 mod pictures;
 #[cfg(test)]
 mod plans;
@@ -38,8 +42,4 @@ mod replicas;
 #[cfg(test)]
 mod searches;
 #[cfg(test)]
-mod seen_rows;
-#[cfg(test)]
 mod stopping;
-#[cfg(test)]
-mod types;

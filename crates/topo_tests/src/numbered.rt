@@ -10,7 +10,7 @@ use topo_core::ids::VertexId;
 use topo_dual::NumberLists;
 use topo_picture::Picture;
 use topo_route::dual::{Dual, has_number};
-use topo_route::walked::Walked;
+use topo_route::face_graph::FaceGraph;
 
 /// How many darts a picture has, the number of a dart, where the last dart starts, and which comes next
 /// along its face.

@@ -3,7 +3,7 @@
 ghost use Rattle.std.specs.Prelude.{◌≢◌, ◌<◌, IsTrue, length};
 ghost use Rattle.topo_price.specs.Prices.{IsPromise};
 
-use crate::calls::book_of;
+use crate::picture_calls::book_of;
 use crate::pictures::{BIPYRAMID, WIDE};
 use crate::searches::{FIVE_TWO_NINE, LEAST, dart, invented, table_of};
 use std::alloc::{AllocError, Global};
@@ -16,7 +16,7 @@ use topo_core::darts::Way;
 use topo_core::rows::Facts;
 use topo_dual::Frozen;
 use topo_price::table::PriceTable;
-use topo_price::tariff::Asks;
+use topo_price::tariff::PriceFn;
 use topo_route::check::check;
 use topo_route::plan::Plan;
 
@@ -57,12 +57,12 @@ fn is_first(reply: &Reply) -> bool {
 }
 
 /// The reply to an insertion between the apexes by a plan.
-fn joined<F: Asks>(alloc: Global, book: &mut Book<F>, plan: &Plan) -> Result<Reply, Fail> {
+fn joined<F: PriceFn>(alloc: Global, book: &mut Book<F>, plan: &Plan) -> Result<Reply, Fail> {
     Ok(book.insert_planned(alloc, 0, 3, 4, 0, plan)?)
 }
 
 /// The reply to it takes the first route.
-fn takes_first<F: Asks>(
+fn takes_first<F: PriceFn>(
     rt: &impl Abort,
     alloc: Global,
     book: &mut Book<F>,
@@ -75,14 +75,14 @@ fn takes_first<F: Asks>(
 }
 
 /// The same of a book that begins with the bipyramid.
-fn takes_first_from_start<F: Asks + Drop>(
+fn takes_first_from_start<F: PriceFn + Drop>(
     rt: &impl Abort,
     alloc: Global,
     ask: F,
     plan: &Plan,
 ) -> Result<(), Fail>
-    requires callable { F.can_ask ask }
-    requires promise { IsPromise (F.answers ask) }
+    requires callable { F.is_callable ask }
+    requires promise { IsPromise (F.may_return ask) }
 {
     let mut book = book_of(alloc, BIPYRAMID, WIDE, ask)?;
     let told = takes_first(rt, alloc, &mut book, plan);
@@ -122,7 +122,7 @@ fn has_apexes(frozen: &Frozen) -> bool
 }
 
 /// Whether a plan passes the check on the picture of a book.
-fn passes<F: Asks>(
+fn passes<F: PriceFn>(
     rt: &impl Abort,
     alloc: Global,
     book: &Book<F>,
@@ -136,7 +136,7 @@ fn passes<F: Asks>(
 }
 
 /// How often the prices are asked for in a check of the plan, which it passes.
-fn count_check<F: Asks>(
+fn count_check<F: PriceFn>(
     rt: &impl Abort,
     alloc: Global,
     asked: &AtomicU32,
@@ -149,7 +149,7 @@ fn count_check<F: Asks>(
 }
 
 /// How often they are asked for in an insertion by the plan, which takes the first route.
-fn count_insertion<F: Asks>(
+fn count_insertion<F: PriceFn>(
     rt: &impl Abort,
     alloc: Global,
     asked: &AtomicU32,
@@ -162,7 +162,7 @@ fn count_insertion<F: Asks>(
 }
 
 /// Both.
-fn counted<F: Asks>(
+fn counted<F: PriceFn>(
     rt: &impl Abort,
     alloc: Global,
     asked: &AtomicU32,
@@ -175,15 +175,15 @@ fn counted<F: Asks>(
 }
 
 /// The same of a book that begins with the bipyramid.
-fn counted_from_start<F: Asks + Drop>(
+fn counted_from_start<F: PriceFn + Drop>(
     rt: &impl Abort,
     alloc: Global,
     asked: &AtomicU32,
     ask: F,
     plan: &Plan,
 ) -> Result<(u32, u32), Fail>
-    requires callable { F.can_ask ask }
-    requires promise { IsPromise (F.answers ask) }
+    requires callable { F.is_callable ask }
+    requires promise { IsPromise (F.may_return ask) }
 {
     let mut book = book_of(alloc, BIPYRAMID, WIDE, ask)?;
     let counted = counted(rt, alloc, asked, &mut book, plan);

@@ -5,7 +5,7 @@ ghost use Rattle.topo_price.specs.Prices.{IsPromise};
 
 use topo_core::rows::Facts;
 use topo_price::table::{PriceFault, PriceTable};
-use topo_price::tariff::{Asks, Tariff};
+use topo_price::tariff::{PriceFn, Tariff};
 
 fn facts(id: u32, kind: u8) -> Facts
     requires { kind < 64 }
@@ -19,9 +19,9 @@ fn facts(id: u32, kind: u8) -> Facts
 }
 
 /// The prices of edges of kinds 1 and 2 by a closure, whoever wrote it.
-fn prices_of<F: Asks + Drop>(ask: F) -> [Option<u32>; 2]
-    requires callable { F.can_ask ask }
-    requires promise { IsPromise (F.answers ask) }
+fn prices_of<F: PriceFn + Drop>(ask: F) -> [Option<u32>; 2]
+    requires callable { F.is_callable ask }
+    requires promise { IsPromise (F.may_return ask) }
 {
     let tariff = Tariff::new(ask);
     [tariff.price(&facts(0, 1)), tariff.price(&facts(1, 2))]

@@ -12,14 +12,14 @@ use topo_core::darts::Dart;
 use topo_core::rows::Facts;
 use topo_picture::Picture;
 use topo_price::table::PriceTable;
-use topo_price::tariff::{Asks, Tariff};
+use topo_price::tariff::{PriceFn, Tariff};
 use topo_route::plan::SeenRoute;
 use topo_route::region::Region;
 use topo_route::search::first_route_seen;
 use topo_route::workspace::Workspace;
 
 /// The first route with the prices of a closure, and what the search has seen.
-fn seen<F: Asks + Drop>(
+fn seen<F: PriceFn + Drop>(
     rt: &impl Abort,
     alloc: Global,
     picture: &Picture,
@@ -27,8 +27,8 @@ fn seen<F: Asks + Drop>(
     ends: (u32, u32),
     work: &mut Workspace,
 ) -> Result<Option<SeenRoute>, AllocError>
-    requires callable { F.can_ask ask }
-    requires promise { IsPromise (F.answers ask) }
+    requires callable { F.is_callable ask }
+    requires promise { IsPromise (F.may_return ask) }
 {
     let (u, v) = ends;
     assert!(rt; are_ends(picture, u, v));

@@ -3,10 +3,10 @@
 
 ghost use Rattle.topo_price.specs.Prices.{IsPromise};
 
-use crate::calls::made;
 use crate::generated::{Numbers, next_call, next_ids};
+use crate::picture_calls::made;
+use crate::picture_rows::shows;
 use crate::searches::table_of;
-use crate::seen_rows::shows;
 use std::alloc::{AllocError, Global};
 use std::process::Abort;
 use std::sync::Arc;
@@ -16,7 +16,7 @@ use topo_core::calls::Call;
 use topo_core::limits::Limits;
 use topo_core::rows::{Facts, Rows};
 use topo_picture::Picture;
-use topo_price::tariff::{Asks, Tariff};
+use topo_price::tariff::{PriceFn, Tariff};
 
 /// A version that a reader holds, with the rows that it showed when it was taken.
 #[derive(Drop)]
@@ -52,14 +52,14 @@ fn hold_next(alloc: Global, held: &mut Vec<Held>, next: &Next) -> Result<String,
 }
 
 /// Makes a call ready, and drops that.
-fn let_go<F: Asks>(alloc: Global, book: &mut Book<F>, call: Call) -> Result<(), AllocError> {
+fn let_go<F: PriceFn>(alloc: Global, book: &mut Book<F>, call: Call) -> Result<(), AllocError> {
     drop(book.prepare(alloc, 0, call)?);
     Ok(())
 }
 
 /// Makes a call ready, drops that, makes it ready again and enters it. Its version is held. The answer is
 /// the reply as text.
-fn enter<F: Asks>(
+fn enter<F: PriceFn>(
     alloc: Global,
     book: &mut Book<F>,
     held: &mut Vec<Held>,
@@ -73,7 +73,7 @@ fn enter<F: Asks>(
 }
 
 /// Makes a call in place. The answer is the reply as text.
-fn make<F: Asks>(alloc: Global, book: &mut Book<F>, call: Call) -> Result<String, AllocError> {
+fn make<F: PriceFn>(alloc: Global, book: &mut Book<F>, call: Call) -> Result<String, AllocError> {
     let reply = made(alloc, book, 0, call)?;
     let told = format!(in alloc; "{reply:?}");
     drop(reply);
@@ -81,7 +81,7 @@ fn make<F: Asks>(alloc: Global, book: &mut Book<F>, call: Call) -> Result<String
 }
 
 /// The same. The version that it makes is held.
-fn make_and_hold<F: Asks>(
+fn make_and_hold<F: PriceFn>(
     alloc: Global,
     book: &mut Book<F>,
     held: &mut Vec<Held>,
@@ -98,7 +98,7 @@ fn is_replied(rt: &impl Abort, call: Call, told: &str, wanted: &str) {
 }
 
 /// Makes a call in place where it is to, and else ready first. It is replied as it is to be.
-fn makes<F: Asks>(
+fn makes<F: PriceFn>(
     rt: &impl Abort,
     alloc: Global,
     book: &mut Book<F>,
@@ -118,7 +118,7 @@ fn makes<F: Asks>(
 
 /// Makes the same call of both books: of the first in place, of the second in place too, beside the
 /// versions that are held, where it is to, and else ready first. The replies are equal.
-fn make_of_both<F: Asks>(
+fn make_of_both<F: PriceFn>(
     rt: &impl Abort,
     alloc: Global,
     books: (&mut Book<F>, &mut Book<F>),
@@ -170,7 +170,7 @@ fn keep_most(
 
 /// Makes a call of both books that the generator makes, every fifth in place. The versions that are held stay
 /// as they were. Where they are more than so many, the one held longest is dropped.
-fn go_on<F: Asks>(
+fn go_on<F: PriceFn>(
     rt: &impl Abort,
     alloc: Global,
     books: (&mut Book<F>, &mut Book<F>),
@@ -194,7 +194,7 @@ fn go_on<F: Asks>(
 }
 
 /// A book has the history of a text.
-fn has_history<F: Asks>(
+fn has_history<F: PriceFn>(
     rt: &impl Abort,
     alloc: Global,
     book: &Book<F>,
@@ -206,7 +206,7 @@ fn has_history<F: Asks>(
 }
 
 /// Both books have the same history.
-fn have_one_history<F: Asks>(
+fn have_one_history<F: PriceFn>(
     rt: &impl Abort,
     alloc: Global,
     first: &Book<F>,
@@ -218,7 +218,7 @@ fn have_one_history<F: Asks>(
 
 /// Makes calls of both books, with so many versions held of the second. Each is held until as many came
 /// after it.
-fn go_on_often<F: Asks>(
+fn go_on_often<F: PriceFn>(
     rt: &impl Abort,
     alloc: Global,
     books: (&mut Book<F>, &mut Book<F>),
@@ -236,7 +236,7 @@ fn go_on_often<F: Asks>(
 }
 
 /// A run of calls of two books.
-fn run<F: Asks>(
+fn run<F: PriceFn>(
     rt: &impl Abort,
     alloc: Global,
     books: (&mut Book<F>, &mut Book<F>),
@@ -264,7 +264,7 @@ fn seed(alloc: Global) -> Result<Picture, AllocError> {
 }
 
 /// A book that begins with the seed.
-fn seed_book<F: Asks + Drop>(
+fn seed_book<F: PriceFn + Drop>(
     alloc: Global,
     tariff: &Arc<Tariff<F>>,
 ) -> Result<Book<F>, AllocError> {
@@ -274,7 +274,7 @@ fn seed_book<F: Asks + Drop>(
 }
 
 /// The run of a book and a second one, which begins with the seed.
-fn run_beside<F: Asks + Drop>(
+fn run_beside<F: PriceFn + Drop>(
     rt: &impl Abort,
     alloc: Global,
     first: &mut Book<F>,
@@ -288,7 +288,7 @@ fn run_beside<F: Asks + Drop>(
 }
 
 /// The run of two books of the same prices that begin with the seed.
-fn run_both<F: Asks + Drop>(
+fn run_both<F: PriceFn + Drop>(
     rt: &impl Abort,
     alloc: Global,
     tariff: &Arc<Tariff<F>>,
@@ -301,14 +301,14 @@ fn run_both<F: Asks + Drop>(
 }
 
 /// The run of two books with the prices of a closure.
-fn run_from_seed<F: Asks + Drop>(
+fn run_from_seed<F: PriceFn + Drop>(
     rt: &impl Abort,
     alloc: Global,
     most: usize,
     ask: F,
 ) -> Result<(), AllocError>
-    requires callable { F.can_ask ask }
-    requires promise { IsPromise (F.answers ask) }
+    requires callable { F.is_callable ask }
+    requires promise { IsPromise (F.may_return ask) }
 {
     let tariff = Arc::new(alloc, Tariff::new(ask))?;
     run_both(rt, alloc, &tariff, most)

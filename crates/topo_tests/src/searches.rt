@@ -15,12 +15,12 @@ use topo_core::routes::Route;
 use topo_core::rows::Facts;
 use topo_picture::{Frozen, Picture};
 use topo_price::table::PriceTable;
-use topo_price::tariff::{Asks, Tariff};
+use topo_price::tariff::{PriceFn, Tariff};
 use topo_route::check::check;
 use topo_route::dual::{Dual, has_number};
+use topo_route::face_graph::FaceGraph;
 use topo_route::plan::{Plan, PlanFault};
 use topo_route::search::search;
-use topo_route::walked::Walked;
 
 /// Whether both are vertices, and different ones.
 pub(crate) fn are_ends(frozen: &Frozen, u: u32, v: u32) -> bool
@@ -33,15 +33,15 @@ pub(crate) fn are_ends(frozen: &Frozen, u: u32, v: u32) -> bool
 }
 
 /// The plan of a search with the prices of a closure, if there is a route.
-fn planned<F: Asks + Drop>(
+fn planned<F: PriceFn + Drop>(
     rt: &impl Abort,
     alloc: Global,
     frozen: &Frozen,
     ask: F,
     ends: (u32, u32),
 ) -> Result<Option<Plan>, AllocError>
-    requires callable { F.can_ask ask }
-    requires promise { IsPromise (F.answers ask) }
+    requires callable { F.is_callable ask }
+    requires promise { IsPromise (F.may_return ask) }
 {
     let (u, v) = ends;
     assert!(rt; are_ends(frozen, u, v));
@@ -49,15 +49,15 @@ fn planned<F: Asks + Drop>(
 }
 
 /// What the check says of a plan.
-fn judged<F: Asks + Drop>(
+fn judged<F: PriceFn + Drop>(
     rt: &impl Abort,
     frozen: &Frozen,
     ask: F,
     ends: (u32, u32),
     plan: &Plan,
 ) -> Result<(), PlanFault>
-    requires callable { F.can_ask ask }
-    requires promise { IsPromise (F.answers ask) }
+    requires callable { F.is_callable ask }
+    requires promise { IsPromise (F.may_return ask) }
 {
     let (u, v) = ends;
     assert!(rt; are_ends(frozen, u, v));
@@ -100,9 +100,9 @@ pub(crate) fn judged_at(
 }
 
 /// The prices of two edges of the triangle between the apexes.
-fn prices_of<F: Asks + Drop>(rt: &impl Abort, frozen: &Frozen, ask: F) -> [Option<u32>; 2]
-    requires callable { F.can_ask ask }
-    requires promise { IsPromise (F.answers ask) }
+fn prices_of<F: PriceFn + Drop>(rt: &impl Abort, frozen: &Frozen, ask: F) -> [Option<u32>; 2]
+    requires callable { F.is_callable ask }
+    requires promise { IsPromise (F.may_return ask) }
 {
     let tariff = Tariff::new(ask);
     assert!(rt; has_number(frozen, 0));

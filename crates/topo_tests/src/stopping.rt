@@ -14,7 +14,7 @@ use topo_core::limits::Limits;
 use topo_core::listed::Listed;
 use topo_core::rows::{EdgeRow, Facts, Rows};
 use topo_picture::Picture;
-use topo_price::tariff::{Asks, Tariff};
+use topo_price::tariff::{PriceFn, Tariff};
 
 /// So many vertices has a row of the grid, and so many rows it has.
 const WIDTH: u8 = 24;
@@ -159,7 +159,7 @@ fn crossed_by(reply: &Reply) -> Option<usize> {
 }
 
 /// Puts an edge in. It crosses as many edges as it is to, and asks for no more prices.
-fn asks_at_most<F: Asks>(
+fn asks_at_most<F: PriceFn>(
     rt: &impl Abort,
     alloc: Global,
     book: &mut Book<F>,
@@ -181,7 +181,7 @@ fn asks_at_most<F: Asks>(
 }
 
 /// The insertions one after the other.
-fn ask_at_most<F: Asks>(
+fn ask_at_most<F: PriceFn>(
     rt: &impl Abort,
     alloc: Global,
     book: &mut Book<F>,
@@ -194,14 +194,14 @@ fn ask_at_most<F: Asks>(
 }
 
 /// The same of a book that begins with the grid.
-fn ask_at_most_at<F: Asks + Drop>(
+fn ask_at_most_at<F: PriceFn + Drop>(
     rt: &impl Abort,
     alloc: Global,
     asked: &AtomicU32,
     ask: F,
 ) -> Result<(), Fail>
-    requires callable { F.can_ask ask }
-    requires promise { IsPromise (F.answers ask) }
+    requires callable { F.is_callable ask }
+    requires promise { IsPromise (F.may_return ask) }
 {
     let tariff = Arc::new(alloc, Tariff::new(ask))?;
     let mut book = Book::new(alloc, picture(rt, alloc)?, tariff)?;

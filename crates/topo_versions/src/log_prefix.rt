@@ -10,7 +10,7 @@ use crate::brand::{LogBrand, ServiceBrand};
 use logbook::{Gain, Plain, Play, Rule, Seen, Start, Word};
 use std::marker::{Model, PhantomData};
 use topo_core::calls::Entry;
-use topo_price::tariff::Asks;
+use topo_price::tariff::PriceFn;
 
 /// The rule of the log: its entries are kept, and its length is in one word.
 pub struct AppendOnly;
@@ -77,7 +77,7 @@ impl FreshLog {
     }
 
     /// The log's length and its empty prefix, bound to the service that K names.
-    pub fn named<F: Asks, K: ServiceBrand<F>>(self) -> (LogLength<K>, LogPrefix<F, K>)
+    pub fn named<F: PriceFn, K: ServiceBrand<F>>(self) -> (LogLength<K>, LogPrefix<F, K>)
         requires { self.seen.book ≡ K.book }
         ensures { result.1 ≡ [] }
     {
@@ -106,14 +106,14 @@ pub struct LogLength<K: LogBrand> {
 
 /// A prefix of the log that was seen: accepted entries that lead by steps from the start, at the prices that
 /// K names. Contracts see it as its entries.
-pub struct LogPrefix<F: Asks, K: ServiceBrand<F>> {
+pub struct LogPrefix<F: PriceFn, K: ServiceBrand<F>> {
     len: u64,
     seen: Seen<Entry, u64, AppendOnly>,
     of: PhantomData<(F, K)>,
 }
 
 // Written out, so that it is proved once: a derived one is proved anew in each function that lets such a value go.
-impl<F: Asks, K: ServiceBrand<F>> Drop for LogPrefix<F, K> {
+impl<F: PriceFn, K: ServiceBrand<F>> Drop for LogPrefix<F, K> {
     fn drop(self) {
         let LogPrefix {
             len: _,
@@ -124,7 +124,7 @@ impl<F: Asks, K: ServiceBrand<F>> Drop for LogPrefix<F, K> {
     }
 }
 
-impl<F: Asks, K: ServiceBrand<F>> Model for LogPrefix<F, K> {
+impl<F: PriceFn, K: ServiceBrand<F>> Model for LogPrefix<F, K> {
     ghost use Rattle.std.specs.Prelude.{◌≡◌, List, length};
     ghost use Rattle.topo_core.specs.declared.calls.Entry.{Entry};
     ghost use Rattle.topo_versions.specs.Names.{prices_named};
@@ -134,14 +134,14 @@ impl<F: Asks, K: ServiceBrand<F>> Model for LogPrefix<F, K> {
 
     ghost view = { λ f. f.seen.log };
 
-    ghost invariant = { λ f. (f.len ≡ length f.seen.log) × (f.seen.book ≡ K.book) × AreLegal (prices_named F.answers K.closure) K.start f.seen.log };
+    ghost invariant = { λ f. (f.len ≡ length f.seen.log) × (f.seen.book ≡ K.book) × AreLegal (prices_named F.may_return K.closure) K.start f.seen.log };
 }
 
-impl<F: Asks, K: ServiceBrand<F>> LogPrefix<F, K> {
+impl<F: PriceFn, K: ServiceBrand<F>> LogPrefix<F, K> {
     /// How many entries it has.
     pub fn len(&self) -> u64
         ensures len { result ≡ length self.now }
-        ensures legal { AreLegal (prices_named F.answers K.closure) K.start self.now }
+        ensures legal { AreLegal (prices_named F.may_return K.closure) K.start self.now }
     {
         self.len
     }
@@ -149,7 +149,7 @@ impl<F: Asks, K: ServiceBrand<F>> LogPrefix<F, K> {
     /// The same prefix once more.
     pub fn share(&self) -> LogPrefix<F, K>
         ensures same { result ≡ self.now }
-        ensures legal { AreLegal (prices_named F.answers K.closure) K.start result }
+        ensures legal { AreLegal (prices_named F.may_return K.closure) K.start result }
     {
         LogPrefix {
             len: self.len,
@@ -182,7 +182,7 @@ impl<F: Asks, K: ServiceBrand<F>> LogPrefix<F, K> {
     /// log is longer than what was seen, nothing changes.
     pub fn add(&mut self, head: &LogLength<K>, entry: &Entry) -> bool
         requires room { length self.old + 1 < 2 ^ 64 }
-        requires follows { AreLegal (prices_named F.answers K.closure) K.start (self.old ++ entry.now ∷ []) }
+        requires follows { AreLegal (prices_named F.may_return K.closure) K.start (self.old ++ entry.now ∷ []) }
         ensures { self.new ≡ (if result then self.old ++ entry.now ∷ [] else self.old) }
     {
         let len = self.len;

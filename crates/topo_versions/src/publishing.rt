@@ -12,17 +12,17 @@ use crate::version::Version;
 use std::alloc::AllocError;
 use std::sync::{Arc, Wait};
 use topo_picture::Picture;
-use topo_price::tariff::Asks;
+use topo_price::tariff::PriceFn;
 
 /// What publishes versions.
-pub trait VersionWriter<F: Asks, K: ServiceBrand<F>> {
+pub trait VersionWriter<F: PriceFn, K: ServiceBrand<F>> {
     /// The entries of the version that readers take now, if there is one.
     ghost published: { Self → Option (List Entry) };
 
     /// Publishes the version after these entries, with the picture that they lead to. It keeps no version
     /// before it.
     fn publish<R: Wait>(&mut self, rt: &R, prefix: &LogPrefix<F, K>, picture: Arc<Picture>)
-        requires follows { IsVersionFrom (prices_named F.answers K.closure) K.start prefix.now (arc_value picture) }
+        requires follows { IsVersionFrom (prices_named F.may_return K.closure) K.start prefix.now (arc_value picture) }
         ensures { published self.new ≡ Some prefix.now };
 
     /// Ends it.
@@ -30,13 +30,16 @@ pub trait VersionWriter<F: Asks, K: ServiceBrand<F>> {
 }
 
 /// What takes versions.
-pub trait VersionReader<F: Asks, K: ServiceBrand<F>>: Drop {
+pub trait VersionReader<F: PriceFn, K: ServiceBrand<F>>: Drop {
     /// The current version; none where the store has ended or no further share of it is left.
     fn current(&mut self) -> Option<Version<F, K>>;
 }
 
 /// What makes readers.
-pub trait ReaderFactory<F: Asks, K: ServiceBrand<F>, G: VersionReader<F, K>>: VersionWriter<F, K> {
+pub trait ReaderFactory<F: PriceFn, K: ServiceBrand<F>, G: VersionReader<F, K>>: VersionWriter<
+    F,
+    K,
+> {
     /// A reader; want of memory also where no place for one is left.
     fn reader(&self) -> Result<G, AllocError>;
 }

@@ -7,16 +7,16 @@ use crate::version::Version;
 use left_right::Absorb;
 use std::alloc::AllocError;
 use std::marker::Model;
-use topo_price::tariff::Asks;
+use topo_price::tariff::PriceFn;
 
 /// A side of the store: the version that readers take, and nothing on the side that they have left, so that
 /// the store keeps no version before the one of now.
 #[derive(Drop)]
-pub struct Slot<F: Asks, K: ServiceBrand<F>> {
+pub struct Slot<F: PriceFn, K: ServiceBrand<F>> {
     version: Option<Version<F, K>>,
 }
 
-impl<F: Asks, K: ServiceBrand<F>> Model for Slot<F, K> {
+impl<F: PriceFn, K: ServiceBrand<F>> Model for Slot<F, K> {
     ghost use Rattle.std.specs.Prelude.{Option};
     ghost use Rattle.topo_versions.specs.Versions.{VersionState};
 
@@ -26,7 +26,7 @@ impl<F: Asks, K: ServiceBrand<F>> Model for Slot<F, K> {
 }
 
 // A side is written whole, and takes in no operations.
-impl<F: Asks + Drop, K: ServiceBrand<F>> Absorb<()> for Slot<F, K> {
+impl<F: PriceFn + Drop, K: ServiceBrand<F>> Absorb<()> for Slot<F, K> {
     type State = ();
 
     ghost state = { λ s. tt };
@@ -38,7 +38,7 @@ impl<F: Asks + Drop, K: ServiceBrand<F>> Absorb<()> for Slot<F, K> {
     }
 }
 
-impl<F: Asks, K: ServiceBrand<F>> Slot<F, K> {
+impl<F: PriceFn, K: ServiceBrand<F>> Slot<F, K> {
     /// The side that shows a version.
     pub(crate) fn of(version: Version<F, K>) -> Slot<F, K>
         ensures { result ≡ Some version }

@@ -17,7 +17,7 @@ use left_right::writer::Writer;
 use std::alloc::{AllocError, Global};
 use std::sync::{Arc, Wait};
 use topo_picture::Picture;
-use topo_price::tariff::Asks;
+use topo_price::tariff::PriceFn;
 
 /// A reader of versions.
 pub type StoreReader<F, K> = Reader<Slot<F, K>, (), Unruled>;
@@ -26,7 +26,7 @@ pub type StoreReader<F, K> = Reader<Slot<F, K>, (), Unruled>;
 pub type StoreWriter<F, K> = Writer<Slot<F, K>, (), (), Unruled>;
 
 /// A store that shows a version to so many readers at most.
-pub fn new_store<F: Asks + Drop, K: ServiceBrand<F>>(
+pub fn new_store<F: PriceFn + Drop, K: ServiceBrand<F>>(
     alloc: Global,
     first: Version<F, K>,
     readers: usize,
@@ -38,7 +38,7 @@ pub fn new_store<F: Asks + Drop, K: ServiceBrand<F>>(
 }
 
 // Takes the version of now, where the store is still there and a further share of it is left.
-fn current_version<F: Asks + Drop, K: ServiceBrand<F>>(
+fn current_version<F: PriceFn + Drop, K: ServiceBrand<F>>(
     reader: StoreReader<F, K>,
 ) -> (StoreReader<F, K>, Option<Version<F, K>>) {
     match reader.enter_as::<Unruled>() {
@@ -50,13 +50,13 @@ fn current_version<F: Asks + Drop, K: ServiceBrand<F>>(
     }
 }
 
-impl<F: Asks + Drop, K: ServiceBrand<F>> VersionWriter<F, K> for StoreWriter<F, K> {
+impl<F: PriceFn + Drop, K: ServiceBrand<F>> VersionWriter<F, K> for StoreWriter<F, K> {
     ghost published = { λ w. entries_shown w.desk.shown.value };
 
     // The next version is shown on the side that is blank. Once the readers have left the other side, that one
     // becomes blank.
     fn publish<R: Wait>(&mut self, rt: &R, prefix: &LogPrefix<F, K>, picture: Arc<Picture>)
-        requires follows { IsVersionFrom (prices_named F.answers K.closure) K.start prefix.now (arc_value picture) }
+        requires follows { IsVersionFrom (prices_named F.may_return K.closure) K.start prefix.now (arc_value picture) }
         ensures { entries_shown self.new.desk.shown.value ≡ Some prefix.now }
     {
         let next = Slot::of(Version::new(prefix.share(), picture));
@@ -80,13 +80,13 @@ impl<F: Asks + Drop, K: ServiceBrand<F>> VersionWriter<F, K> for StoreWriter<F, 
     }
 }
 
-impl<F: Asks + Drop, K: ServiceBrand<F>> VersionReader<F, K> for StoreReader<F, K> {
+impl<F: PriceFn + Drop, K: ServiceBrand<F>> VersionReader<F, K> for StoreReader<F, K> {
     fn current(&mut self) -> Option<Version<F, K>> {
         replace_with(self, (), |reader, ()| current_version(reader))
     }
 }
 
-impl<F: Asks + Drop, K: ServiceBrand<F>> ReaderFactory<F, K, StoreReader<F, K>>
+impl<F: PriceFn + Drop, K: ServiceBrand<F>> ReaderFactory<F, K, StoreReader<F, K>>
     for StoreWriter<F, K> {
     fn reader(&self) -> Result<StoreReader<F, K>, AllocError> {
         self.factory().reader()

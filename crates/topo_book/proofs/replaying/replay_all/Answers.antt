@@ -9,7 +9,7 @@ use Rattle.topo_book.proofs.replaying.replay_all.Goals as goal
 
 pub returns-in-Ok-false-clause-first_wrong : goal.returns-in-Ok-false-clause-first_wrong
 returns-in-Ok-false-clause-first_wrong g c =
-    let price = prices_of (g.F.Asks.answers c.args.tariff.now) in
+    let price = prices_of (g.F.PriceFn.may_return c.args.tariff.now) in
     let entry = c.index-entries-index.result in
     wrong_reply price c.args.picture.now.limits c.args.picture.now.rows c.args.entries.now c.loop-index.index c.loop-index.picture.rows entry c.loop-index.invariant.before
     (slice_get_read c.args.entries.now (length c.args.entries.now) c.loop-index.index entry refl c.loop-index-test.true c.index-entries-index.is)
@@ -17,12 +17,12 @@ returns-in-Ok-false-clause-first_wrong g c =
 
 pub returns-in-Ok-false-clause-illegal : goal.returns-in-Ok-false-clause-illegal
 returns-in-Ok-false-clause-illegal g c =
-    not_legal (prices_of (g.F.Asks.answers c.args.tariff.now)) c.args.picture.now.limits c.args.picture.now.rows c.args.entries.now c.loop-index.index
+    not_legal (prices_of (g.F.PriceFn.may_return c.args.tariff.now)) c.args.picture.now.limits c.args.picture.now.rows c.args.entries.now c.loop-index.index
     (returns-in-Ok-false-clause-first_wrong g c)
 
 pub loop-index-preserved : goal.loop-index-preserved
 loop-index-preserved g c =
-    let price = prices_of (g.F.Asks.answers c.args.tariff.now) in
+    let price = prices_of (g.F.PriceFn.may_return c.args.tariff.now) in
     let start = c.args.picture.now in
     let entry = c.index-entries-index.result in
     let step = subst (λ (l : Limits). Step price l c.loop-index.picture.rows entry.call entry.reply c.replay_entry.new.picture.rows) c.loop-index.invariant.same_limits (rw c.in-Ok-true.field-0-test at c.in-Ok-true.ensures.due) in

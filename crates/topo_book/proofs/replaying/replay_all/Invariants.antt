@@ -8,5 +8,5 @@ abbrev pub invariant-loop-index : goal.invariant-loop-index
 invariant-loop-index g l = record {
   same_limits : l.picture.limits ≡ l.initial.picture.limits;
   lawful : IsPicture l.picture.limits l.picture.rows;
-  before : Replays (prices_of (g.F.Asks.answers l.tariff)) l.initial.picture.limits l.initial.picture.rows (take l.index l.entries) l.picture.rows;
+  before : Replays (prices_of (g.F.PriceFn.may_return l.tariff)) l.initial.picture.limits l.initial.picture.rows (take l.index l.entries) l.picture.rows;
 }

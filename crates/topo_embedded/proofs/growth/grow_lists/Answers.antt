@@ -1,7 +1,7 @@
 use Rattle.std.proofs.Common.{ap, subst, ◌∙◌, ◌++◌, ◌∷◌, [], Bool, List, ℕ}
 use Rattle.std.specs.Prelude.{if◌then◌else◌, is_ok}
 use Rattle.topo_map.specs.Rotation.{AddsLabel, edge_of, is_live}
-use Rattle.topo_embedded.proofs.Grown.{corner_alive, grown_drawn}
+use Rattle.topo_embedded.proofs.Grown.{corner_alive, grown_parts}
 use Rattle.topo_embedded.proofs.growth.grow_lists.Goals as goal
 
 pub hang-half-requires-clause-live : goal.hang-half-requires-clause-live
@@ -10,7 +10,7 @@ hang-half-requires-clause-live c =
 
 pub returns-clause-shows : goal.returns-clause-shows
 returns-clause-shows c =
-    grown_drawn c.args.rows.now c.requires.formed c.args.u c.args.position c.args.kind c.requires.vertex c.requires.position c.requires.known c.args.paths.now.items c.args.segments.now c.reserve.new.self c.hang-half.new.self c.requires.shows c.in_ok-reserve.ensures.same
+    grown_parts c.args.rows.now c.requires.formed c.args.u c.args.position c.args.kind c.requires.vertex c.requires.position c.requires.known c.args.paths.now.items c.args.segments.now c.reserve.new.self c.hang-half.new.self c.requires.shows c.in_ok-reserve.ensures.same
     c.laws.ensures c.args.named c.hang-half.result c.requires.named c.hang-half.ensures.edit c.hang-half.ensures.grows
     (subst (λ (edge : ℕ). AddsLabel (is_live c.reserve.new.self) (edge_of c.reserve.new.self) (edge_of c.hang-half.new.self) c.hang-half.result edge) c.next_edge-edge.ensures c.hang-half.ensures.label)
     c.grow_rows.new.rows c.of.result c.push.new.self.items c.in_ok-grow_rows.ensures.ok

@@ -1,6 +1,6 @@
 use Rattle.std.proofs.Common.{arith}
-use Rattle.topo_forms.proofs.SpelledSessions.{request_spelled}
+use Rattle.topo_forms.proofs.TokenSessions.{request_tokens}
 use Rattle.topo_forms.proofs.sessions.read_request.Goals as goal
 
 pub returns-in-Some : goal.returns-in-Some
-returns-in-Some c = request_spelled c.args.line.now c.in-Some.command (c.in-Some.ensures (omega arith))
+returns-in-Some c = request_tokens c.args.line.now c.in-Some.command (c.in-Some.ensures (omega arith))

@@ -12,30 +12,30 @@ use Rattle.topo_route.proofs.both_ends.finish.Goals as goal
 pub spread-requires-clause-spreads : goal.spread-requires-clause-spreads
 spread-requires-clause-spreads g c =
     let reach = reach_of c.args.least in
-    narrowed (prices_of (g.F.Asks.answers c.args.graph.now.tariff.now)) (g.W.Walked.named c.args.graph.now.walked.now) c.args.u (λ k. reach) (top_of (c.saturating_add-reach.result - c.clamp-level.result) (min 0 c.args.least) c.args.work.now.to_end.heights) reach reach
-    c.args.work.now.to_start.heights c.args.work.now.to_start.waiting (g.W.Walked.named c.args.graph.now.walked.now).size c.requires.both.back (λ k. omega (arith, c.saturating_add-reach.ensures)) (omega arith)
+    narrowed (prices_of (g.F.PriceFn.may_return c.args.priced.now.tariff.now)) (g.W.FaceGraph.named c.args.priced.now.graph.now) c.args.u (λ k. reach) (top_of (c.saturating_add-reach.result - c.clamp-level.result) (min 0 c.args.least) c.args.work.now.to_end.heights) reach reach
+    c.args.work.now.to_start.heights c.args.work.now.to_start.waiting (g.W.FaceGraph.named c.args.priced.now.graph.now).size c.requires.both.back (λ k. omega (arith, c.saturating_add-reach.ensures)) (omega arith)
 
 pub spread-requires-clause-sums : goal.spread-requires-clause-sums
 spread-requires-clause-sums g c =
-    back_sums (prices_of (g.F.Asks.answers c.args.graph.now.tariff.now)) (g.W.Walked.named c.args.graph.now.walked.now) (g.met.W.Walked.lawful c.args.graph.now.walked.now) (g.met.W.Walked.has_names c.args.graph.now.walked.now) c.args.u c.args.v
+    back_sums (prices_of (g.F.PriceFn.may_return c.args.priced.now.tariff.now)) (g.W.FaceGraph.named c.args.priced.now.graph.now) (g.met.W.FaceGraph.lawful c.args.priced.now.graph.now) (g.met.W.FaceGraph.has_names c.args.priced.now.graph.now) c.args.u c.args.v
     c.requires.both
 
 pub spread-requires-2-clause-spreads : goal.spread-requires-2-clause-spreads
 spread-requires-2-clause-spreads g c =
-    narrowed (prices_of (g.F.Asks.answers c.args.graph.now.tariff.now)) (g.W.Walked.named c.args.graph.now.walked.now) c.args.v (λ k. reach_of c.args.least) (top_of c.min-level.result (min 18446744073709551614 c.spread.new.least) c.spread.new.self.heights) (reach_of c.args.least) (reach_of c.spread.new.least)
-    c.args.work.now.to_end.heights c.args.work.now.to_end.waiting (g.W.Walked.named c.args.graph.now.walked.now).size c.requires.both.on (λ k. omega (arith, c.max.ensures, c.min-level.ensures, c.in_ok-spread.ensures.less)) (omega (arith, c.in_ok-spread.ensures.less))
+    narrowed (prices_of (g.F.PriceFn.may_return c.args.priced.now.tariff.now)) (g.W.FaceGraph.named c.args.priced.now.graph.now) c.args.v (λ k. reach_of c.args.least) (top_of c.min-level.result (min 18446744073709551614 c.spread.new.least) c.spread.new.self.heights) (reach_of c.args.least) (reach_of c.spread.new.least)
+    c.args.work.now.to_end.heights c.args.work.now.to_end.waiting (g.W.FaceGraph.named c.args.priced.now.graph.now).size c.requires.both.on (λ k. omega (arith, c.max.ensures, c.min-level.ensures, c.in_ok-spread.ensures.less)) (omega (arith, c.in_ok-spread.ensures.less))
 
 pub spread-requires-2-clause-sums : goal.spread-requires-2-clause-sums
 spread-requires-2-clause-sums g c =
-    sums_swapped (g.W.Walked.named c.args.graph.now.walked.now) (g.met.W.Walked.has_names c.args.graph.now.walked.now) c.spread.new.self.heights c.args.work.now.to_end.heights c.spread.new.least
+    sums_swapped (g.W.FaceGraph.named c.args.priced.now.graph.now) (g.met.W.FaceGraph.has_names c.args.priced.now.graph.now) c.spread.new.self.heights c.args.work.now.to_end.heights c.spread.new.least
     c.in_ok-spread.ensures.costs.one_each c.requires.both.on.costs.one_each c.in_ok-spread.ensures.sums
 
 pub returns : goal.returns
 returns g c =
-    let price = prices_of (g.F.Asks.answers c.args.graph.now.tariff.now) in
-    let named = g.W.Walked.named c.args.graph.now.walked.now in
-    let lawful = g.met.W.Walked.lawful c.args.graph.now.walked.now in
-    let has = g.met.W.Walked.has_names c.args.graph.now.walked.now in
+    let price = prices_of (g.F.PriceFn.may_return c.args.priced.now.tariff.now) in
+    let named = g.W.FaceGraph.named c.args.priced.now.graph.now in
+    let lawful = g.met.W.FaceGraph.lawful c.args.priced.now.graph.now in
+    let has = g.met.W.FaceGraph.has_names c.args.priced.now.graph.now in
     let promise = c.requires.right.promise c.requires.some in
     let small : named.size < 2 ^ 32 = omega (arith, c.size-darts.ensures, c.size-darts.type_inv) in
     let back = c.in_ok-spread.ensures in

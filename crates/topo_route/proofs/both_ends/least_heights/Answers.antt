@@ -11,21 +11,21 @@ use Rattle.topo_route.proofs.both_ends.least_heights.Goals as goal
 
 pub spread-requires-clause-spreads : goal.spread-requires-clause-spreads
 spread-requires-clause-spreads g c =
-    let price = prices_of (g.F.Asks.answers c.args.graph.now.tariff.now) in
-    let named = g.W.Walked.named c.args.graph.now.walked.now in
+    let price = prices_of (g.F.PriceFn.may_return c.args.priced.now.tariff.now) in
+    let named = g.W.FaceGraph.named c.args.priced.now.graph.now in
     let whole : replicate c.size-size.result unreached ≡ replicate named.size unreached = ap (λ (n : ℕ). replicate n unreached) c.size-size.ensures in
     let reach = reach_of c.start_at.new.least in
     narrowed price named c.args.v (λ k. unreached) (top_of 18446744073709551615 (min 0 c.start_at.new.least) c.args.work.now.to_start.heights) reach reach c.start_at.new.self.heights c.start_at.new.self.waiting named.size
     (c.in_ok-start_at.ensures.relaxes.spreads (λ k. unreached)
-    (blank_spreads price named (g.met.W.Walked.lawful c.args.graph.now.walked.now) (g.met.W.Walked.has_names c.args.graph.now.walked.now) c.args.v c.args.v c.args.v (reach_of 18446744073709551615) c.clear.new.self.heights c.clear.new.self.waiting
+    (blank_spreads price named (g.met.W.FaceGraph.lawful c.args.priced.now.graph.now) (g.met.W.FaceGraph.has_names c.args.priced.now.graph.now) c.args.v c.args.v c.args.v (reach_of 18446744073709551615) c.clear.new.self.heights c.clear.new.self.waiting
     (c.in_ok-clear.ensures.heights ∙ whole) c.in_ok-clear.ensures.waiting)) (λ k. omega arith) (omega arith)
 
 pub returns-clause-are_heights : goal.returns-clause-are_heights
 returns-clause-are_heights g c =
-    let price = prices_of (g.F.Asks.answers c.args.graph.now.tariff.now) in
-    let named = g.W.Walked.named c.args.graph.now.walked.now in
-    let lawful = g.met.W.Walked.lawful c.args.graph.now.walked.now in
-    let has = g.met.W.Walked.has_names c.args.graph.now.walked.now in
+    let price = prices_of (g.F.PriceFn.may_return c.args.priced.now.tariff.now) in
+    let named = g.W.FaceGraph.named c.args.priced.now.graph.now in
+    let lawful = g.met.W.FaceGraph.lawful c.args.priced.now.graph.now in
+    let has = g.met.W.FaceGraph.has_names c.args.priced.now.graph.now in
     let heights = c.spread.new.self.heights in
     let small : named.size < 2 ^ 32 = omega (arith, c.size-size.ensures, c.size-size.type_inv) in
     let done = c.in_ok-spread.ensures in

@@ -7,7 +7,7 @@ use Rattle.topo_route.proofs.check.verdict.Goals as goal
 pub returns-then-not-is_gentle-clause-verdict : goal.returns-then-not-is_gentle-clause-verdict
 returns-then-not-is_gentle-clause-verdict g c =
     let rows = g.D.Dual.shows c.args.dual.now in
-    let price = prices_of (g.F.Asks.answers c.args.tariff.now) in
+    let price = prices_of (g.F.PriceFn.may_return c.args.tariff.now) in
     let same = c.as_slice-heights.ensures in (
       subst (HasOneEach rows) same (omega arith),
       subst (IsEven rows) same (c.is_even.ensures.0 c.if-not-is_even.false),
@@ -17,7 +17,7 @@ returns-then-not-is_gentle-clause-verdict g c =
 pub returns-then-not-meets_target-clause-verdict : goal.returns-then-not-meets_target-clause-verdict
 returns-then-not-meets_target-clause-verdict g c =
     let rows = g.D.Dual.shows c.args.dual.now in
-    let price = prices_of (g.F.Asks.answers c.args.tariff.now) in
+    let price = prices_of (g.F.PriceFn.may_return c.args.tariff.now) in
     let same = c.as_slice-heights.ensures in (
       subst (HasOneEach rows) same (omega arith),
       subst (IsEven rows) same (c.is_even.ensures.0 c.if-not-is_even.false),
@@ -28,7 +28,7 @@ returns-then-not-meets_target-clause-verdict g c =
 pub returns-then-not-is_least_height-clause-verdict : goal.returns-then-not-is_least_height-clause-verdict
 returns-then-not-is_least_height-clause-verdict g c =
     let rows = g.D.Dual.shows c.args.dual.now in
-    let price = prices_of (g.F.Asks.answers c.args.tariff.now) in
+    let price = prices_of (g.F.PriceFn.may_return c.args.tariff.now) in
     let same = c.as_slice-heights.ensures in
     let Least = λ (hs : List ℕ). IsLeastHeight rows c.args.u hs c.args.plan.now.price in (
       subst (HasOneEach rows) same (omega arith),
@@ -44,7 +44,7 @@ returns-then-not-is_least_height-clause-verdict g c =
 pub returns-then-not-comes_first-clause-verdict : goal.returns-then-not-comes_first-clause-verdict
 returns-then-not-comes_first-clause-verdict g c =
     let rows = g.D.Dual.shows c.args.dual.now in
-    let price = prices_of (g.F.Asks.answers c.args.tariff.now) in
+    let price = prices_of (g.F.PriceFn.may_return c.args.tariff.now) in
     let same = c.as_slice-heights.ensures in
     let Least = λ (hs : List ℕ). IsLeastHeight rows c.args.u hs c.args.plan.now.price in (
       subst (HasOneEach rows) same (omega arith),
@@ -61,7 +61,7 @@ returns-then-not-comes_first-clause-verdict g c =
 pub returns-else-not-comes_first-clause-verdict : goal.returns-else-not-comes_first-clause-verdict
 returns-else-not-comes_first-clause-verdict g c =
     let rows = g.D.Dual.shows c.args.dual.now in
-    let price = prices_of (g.F.Asks.answers c.args.tariff.now) in
+    let price = prices_of (g.F.PriceFn.may_return c.args.tariff.now) in
     let same = c.as_slice-heights.ensures in
     let Least = λ (hs : List ℕ). IsLeastHeight rows c.args.u hs c.args.plan.now.price in
     record {
@@ -79,7 +79,7 @@ returns-else-not-comes_first-clause-verdict g c =
 pub returns-in-None-clause-verdict : goal.returns-in-None-clause-verdict
 returns-in-None-clause-verdict g c =
     let rows = g.D.Dual.shows c.args.dual.now in
-    let price = prices_of (g.F.Asks.answers c.args.tariff.now) in
+    let price = prices_of (g.F.PriceFn.may_return c.args.tariff.now) in
     let same = c.as_slice-heights.ensures in (
       subst (HasOneEach rows) same (omega arith),
       record {

@@ -13,6 +13,6 @@ loop-position-preserved g c = grind (arith, in-Some+else-get-height, height_name
 
 pub returns : goal.returns
 returns g c =
-    let named = g.W.Walked.named c.args.walked.now in
+    let named = g.W.FaceGraph.named c.args.graph.now in
     let whole : c.loop-position.position ≡ c.degree-position-end.result = omega arith in
     before_all named.rows c.args.u (λ p d. height_of named c.args.heights.now d ≢ c.args.height) c.loop-position.position (whole ∙ c.degree-position-end.ensures) c.loop-position.invariant

@@ -7,8 +7,8 @@ use Rattle.topo_route.proofs.descent.descend.Goals as goal
 
 pub loop-dart-init : goal.loop-dart-init
 loop-dart-init g c =
-    let named = g.W.Walked.named c.args.graph.now.walked.now in
-    let price = prices_of (g.F.Asks.answers c.args.graph.now.tariff.now) in
+    let named = g.W.FaceGraph.named c.args.priced.now.graph.now in
+    let price = prices_of (g.F.PriceFn.may_return c.args.priced.now.tariff.now) in
     record {
       descends = subst (λ xs. Descends price named c.args.heights.now c.args.from xs c.args.from) (sym c.new-crossed.ensures.items) (at_start price named c.args.heights.now c.args.from c.requires.name);
       known = c.requires.known;
@@ -19,10 +19,10 @@ first_tight-requires-clause-above g c = grind (arith, height_named)
 
 pub loop-dart-smaller : goal.loop-dart-smaller
 loop-dart-smaller g c =
-    let named = g.W.Walked.named c.args.graph.now.walked.now in
-    let lawful = g.met.W.Walked.lawful c.args.graph.now.walked.now in
-    let has = g.met.W.Walked.has_names c.args.graph.now.walked.now in
-    let price = prices_of (g.F.Asks.answers c.args.graph.now.tariff.now) in
+    let named = g.W.FaceGraph.named c.args.priced.now.graph.now in
+    let lawful = g.met.W.FaceGraph.lawful c.args.priced.now.graph.now in
+    let has = g.met.W.FaceGraph.has_names c.args.priced.now.graph.now in
+    let price = prices_of (g.F.PriceFn.may_return c.args.priced.now.tariff.now) in
     let heights = c.args.heights.now in
     let promise = c.requires.right.promise (name_some named c.args.from c.requires.name) in
     let known = c.loop-dart.invariant.known in
@@ -32,10 +32,10 @@ loop-dart-smaller g c =
 
 pub loop-dart-preserved : goal.loop-dart-preserved
 loop-dart-preserved g c =
-    let named = g.W.Walked.named c.args.graph.now.walked.now in
-    let lawful = g.met.W.Walked.lawful c.args.graph.now.walked.now in
-    let has = g.met.W.Walked.has_names c.args.graph.now.walked.now in
-    let price = prices_of (g.F.Asks.answers c.args.graph.now.tariff.now) in
+    let named = g.W.FaceGraph.named c.args.priced.now.graph.now in
+    let lawful = g.met.W.FaceGraph.lawful c.args.priced.now.graph.now in
+    let has = g.met.W.FaceGraph.has_names c.args.priced.now.graph.now in
+    let price = prices_of (g.F.PriceFn.may_return c.args.priced.now.tariff.now) in
     let heights = c.args.heights.now in
     let promise = c.requires.right.promise (name_some named c.args.from c.requires.name) in
     let known = c.loop-dart.invariant.known in
@@ -53,7 +53,7 @@ loop-dart-preserved g c =
 
 pub returns : goal.returns
 returns g c =
-    let named = g.W.Walked.named c.args.graph.now.walked.now in
+    let named = g.W.FaceGraph.named c.args.priced.now.graph.now in
     let descends = c.loop-dart.invariant.descends in
-    let height = height_named named (g.met.W.Walked.has_names c.args.graph.now.walked.now) c.args.heights.now c.loop-dart.at descends.name in
-    at_target (prices_of (g.F.Asks.answers c.args.graph.now.tariff.now)) named c.args.heights.now c.args.from c.loop-dart.at c.loop-dart.crossed.items descends (omega arith)
+    let height = height_named named (g.met.W.FaceGraph.has_names c.args.priced.now.graph.now) c.args.heights.now c.loop-dart.at descends.name in
+    at_target (prices_of (g.F.PriceFn.may_return c.args.priced.now.tariff.now)) named c.args.heights.now c.args.from c.loop-dart.at c.loop-dart.crossed.items descends (omega arith)

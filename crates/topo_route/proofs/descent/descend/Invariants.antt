@@ -6,8 +6,8 @@ use Rattle.topo_route.proofs.descent.descend.Given as goal
 -- a walk down so far, and heights that are known as far up as where it is
 abbrev pub invariant-loop-dart : goal.invariant-loop-dart
 invariant-loop-dart g l =
-    let named = g.W.Walked.named l.graph.walked.now in
-    let price = prices_of (g.F.Asks.answers l.graph.tariff.now) in
+    let named = g.W.FaceGraph.named l.priced.graph.now in
+    let price = prices_of (g.F.PriceFn.may_return l.priced.tariff.now) in
     record {
       descends : Descends price named l.heights l.from l.crossed.items l.at;
       known : AreHeightsUpTo price named l.v l.heights l.at;

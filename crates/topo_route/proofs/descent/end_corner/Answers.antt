@@ -12,7 +12,7 @@ returns-then-same_face g c = grind arith
 
 pub loop-position-preserved : goal.loop-position-preserved
 loop-position-preserved g c =
-    let named = g.W.Walked.named c.args.walked.now in
+    let named = g.W.FaceGraph.named c.args.graph.now in
     elim c.match-corner_at.branch [
       | in-Some+else-same_face w ↦
           before_some named.rows c.args.v (λ p d. SameFace (system named.rows) (dart_named named c.args.last) d → ⊥) c.loop-position.position (dart_named named w.in-Some.corner) w.in-Some.ensures.1
@@ -23,5 +23,5 @@ loop-position-preserved g c =
 
 pub returns : goal.returns
 returns g c =
-    let named = g.W.Walked.named c.args.walked.now in
+    let named = g.W.FaceGraph.named c.args.graph.now in
     before_all named.rows c.args.v (λ p d. SameFace (system named.rows) (dart_named named c.args.last) d → ⊥) c.loop-position.position (omega (arith, c.degree-position-end.ensures)) c.loop-position.invariant

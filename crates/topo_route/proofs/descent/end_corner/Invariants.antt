@@ -7,5 +7,5 @@ use Rattle.topo_route.proofs.descent.end_corner.Given as goal
 
 abbrev pub invariant-loop-position : goal.invariant-loop-position
 invariant-loop-position g l =
-    let named = g.W.Walked.named l.walked in
+    let named = g.W.FaceGraph.named l.graph in
     (p : ℕ) (c : Dart) → p < l.position → corner named.rows l.v p ≡ Some c → SameFace (system named.rows) (dart_named named l.last) c → ⊥

@@ -11,14 +11,14 @@ loop-steps-init g c = grind (arith, none_so_far)
 
 pub first_of-first-requires-clause-first_there : goal.first_of-first-requires-clause-first_there
 first_of-first-requires-clause-first_there g c =
-    known_so_far (prices_of (g.F.Asks.answers c.args.graph.now.tariff.now)) (g.W.Walked.named c.args.graph.now.walked.now) c.args.heights.now c.args.at c.loop-steps._steps c.loop-steps.first c.loop-steps.invariant.so_far
+    known_so_far (prices_of (g.F.PriceFn.may_return c.args.priced.now.tariff.now)) (g.W.FaceGraph.named c.args.priced.now.graph.now) c.args.heights.now c.args.at c.loop-steps._steps c.loop-steps.first c.loop-steps.invariant.so_far
 
 pub returns-then-dart-at : goal.returns-then-dart-at
 returns-then-dart-at g c =
-    let named = g.W.Walked.named c.args.graph.now.walked.now in
-    let lawful = g.met.W.Walked.lawful c.args.graph.now.walked.now in
-    let has = g.met.W.Walked.has_names c.args.graph.now.walked.now in
-    let price = prices_of (g.F.Asks.answers c.args.graph.now.tariff.now) in
+    let named = g.W.FaceGraph.named c.args.priced.now.graph.now in
+    let lawful = g.met.W.FaceGraph.lawful c.args.priced.now.graph.now in
+    let has = g.met.W.FaceGraph.has_names c.args.priced.now.graph.now in
+    let price = prices_of (g.F.PriceFn.may_return c.args.priced.now.tariff.now) in
     let i = c.loop-steps._steps in
     let place = c.loop-steps.invariant.place in
     let home : next_name named (after (next_name named) i c.args.at) ≡ c.args.at = ap (next_name named) (sym place) ∙ sym c.next_along-dart.ensures.next ∙ c.if-dart-at.true in
@@ -28,10 +28,10 @@ returns-then-dart-at g c =
 
 pub loop-steps-preserved : goal.loop-steps-preserved
 loop-steps-preserved g c =
-    let named = g.W.Walked.named c.args.graph.now.walked.now in
-    let lawful = g.met.W.Walked.lawful c.args.graph.now.walked.now in
-    let has = g.met.W.Walked.has_names c.args.graph.now.walked.now in
-    let price = prices_of (g.F.Asks.answers c.args.graph.now.tariff.now) in
+    let named = g.W.FaceGraph.named c.args.priced.now.graph.now in
+    let lawful = g.met.W.FaceGraph.lawful c.args.priced.now.graph.now in
+    let has = g.met.W.FaceGraph.has_names c.args.priced.now.graph.now in
+    let price = prices_of (g.F.PriceFn.may_return c.args.priced.now.tariff.now) in
     let i = c.loop-steps._steps in
     let place = c.loop-steps.invariant.place in
     record {
@@ -42,9 +42,9 @@ loop-steps-preserved g c =
 
 pub returns : goal.returns
 returns g c =
-    let named = g.W.Walked.named c.args.graph.now.walked.now in
-    let lawful = g.met.W.Walked.lawful c.args.graph.now.walked.now in
-    let has = g.met.W.Walked.has_names c.args.graph.now.walked.now in
-    let price = prices_of (g.F.Asks.answers c.args.graph.now.tariff.now) in
+    let named = g.W.FaceGraph.named c.args.priced.now.graph.now in
+    let lawful = g.met.W.FaceGraph.lawful c.args.priced.now.graph.now in
+    let has = g.met.W.FaceGraph.has_names c.args.priced.now.graph.now in
+    let price = prices_of (g.F.PriceFn.may_return c.args.priced.now.tariff.now) in
     first_all price named c.args.heights.now c.args.at lawful has c.requires.name c.loop-steps._steps c.loop-steps.first (omega arith) c.loop-steps.invariant.so_far
     (has_tight price named lawful has c.args.v c.requires.known.top c.args.heights.now c.requires.known.known c.args.at c.requires.name c.requires.known.below c.requires.above)

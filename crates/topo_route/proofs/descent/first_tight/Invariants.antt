@@ -8,9 +8,9 @@ use Rattle.topo_route.proofs.descent.first_tight.Given as goal
 -- where the walk is, and the first tight dart that it has met
 abbrev pub invariant-loop-steps : goal.invariant-loop-steps
 invariant-loop-steps g l =
-    let named = g.W.Walked.named l.graph.walked.now in
+    let named = g.W.FaceGraph.named l.priced.graph.now in
     record {
       place : l.dart ≡ after (next_name named) l._steps l.at;
       name : IsName named l.dart;
-      so_far : FirstSoFar (prices_of (g.F.Asks.answers l.graph.tariff.now)) named l.heights l.at l._steps l.first;
+      so_far : FirstSoFar (prices_of (g.F.PriceFn.may_return l.priced.tariff.now)) named l.heights l.at l._steps l.first;
     }

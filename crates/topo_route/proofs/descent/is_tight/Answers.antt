@@ -9,9 +9,9 @@ use Rattle.topo_route.proofs.descent.is_tight.Goals as goal
 
 pub returns-in-Some : goal.returns-in-Some
 returns-in-Some g c =
-    let named = g.W.Walked.named c.args.graph.now.walked.now in
-    let has = g.met.W.Walked.has_names c.args.graph.now.walked.now in
-    let price = prices_of (g.F.Asks.answers c.args.graph.now.tariff.now) in
+    let named = g.W.FaceGraph.named c.args.priced.now.graph.now in
+    let has = g.met.W.FaceGraph.has_names c.args.priced.now.graph.now in
+    let price = prices_of (g.F.PriceFn.may_return c.args.priced.now.tariff.now) in
     let other : get_or c.args.heights.now c.across.result 0 ≡ get_or c.args.heights.now (twin_name named c.args.dart) 0 = ap (λ k. get_or c.args.heights.now k 0) c.across.ensures.twin in (
       λ w. let same = eqb-true _ _ w in tight_is price named has c.args.heights.now c.args.dart c.in-Some.price c.requires.name c.in-Some.ensures.price (omega arith),
       λ tight. eq-eqb _ _ (let drop = tight_drop price named has c.args.heights.now c.args.dart c.in-Some.price c.requires.name
@@ -20,8 +20,8 @@ returns-in-Some g c =
 
 pub returns-then-height-other : goal.returns-then-height-other
 returns-then-height-other g c =
-    let named = g.W.Walked.named c.args.graph.now.walked.now in
-    let has = g.met.W.Walked.has_names c.args.graph.now.walked.now in
+    let named = g.W.FaceGraph.named c.args.priced.now.graph.now in
+    let has = g.met.W.FaceGraph.has_names c.args.priced.now.graph.now in
     let heights = c.args.heights.now in
     let promise = c.requires.right.promise (name_some named c.args.dart c.requires.name) in
     grind (arith, false≢true, height_named)

@@ -4,5 +4,5 @@ use Rattle.topo_route.proofs.descent.least_corner.Given as goal
 
 abbrev pub invariant-loop-position : goal.invariant-loop-position
 invariant-loop-position g l =
-    let named = g.W.Walked.named l.walked in
+    let named = g.W.FaceGraph.named l.graph in
     LowestBefore named.rows l.u (height_of named l.heights) l.least l.position

@@ -6,7 +6,7 @@ use Rattle.topo_route.proofs.direct.direct_route.Goals.{in-Some+in_default-end_c
 
 pub loop-start-preserved : goal.loop-start-preserved
 loop-start-preserved g c =
-    let named = g.W.Walked.named c.args.walked.now in
+    let named = g.W.FaceGraph.named c.args.graph.now in
     elim c.match-corner_at.branch [
       | in-Some+in_default-end_corner w ↦
           before_some named.rows c.args.u (λ p d. HasNoEnd named.rows c.args.v d) c.loop-start.start (dart_named named w.in-Some.corner) w.in-Some.ensures.1 w.in_default-end_corner.ensures c.loop-start.invariant

@@ -6,5 +6,5 @@ use Rattle.topo_route.proofs.direct.direct_route.Given as goal
 
 abbrev pub invariant-loop-start : goal.invariant-loop-start
 invariant-loop-start g l =
-    let named = g.W.Walked.named l.walked in
+    let named = g.W.FaceGraph.named l.graph in
     (p : ℕ) (c : Dart) → p < l.start → corner named.rows l.u p ≡ Some c → HasNoEnd named.rows l.v c

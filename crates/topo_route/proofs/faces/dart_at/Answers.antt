@@ -5,7 +5,7 @@ use Rattle.topo_route.proofs.faces.dart_at.Goals as goal
 pub dart-requires : goal.dart-requires
 dart-requires g c =
     let dual = c.args.dual.now in
-    number_is (g.D.Walked.named dual) (g.D.Dual.shows dual) (g.met.D.Dual.numbered dual) (g.met.D.Walked.lawful dual) c.args.dart c.requires
+    number_is (g.D.FaceGraph.named dual) (g.D.Dual.shows dual) (g.met.D.Dual.numbered dual) (g.met.D.FaceGraph.lawful dual) c.args.dart c.requires
 
 pub returns : goal.returns
 returns g c = grind (arith, dart_is_number)

@@ -17,14 +17,14 @@ returns-then-saturating_sub-price-clause-gentle g c =
     let other : get_or c.args.heights.now c.across.result 0 ≡ get_or c.args.heights.now (twin c.loop-dart.dart) 0 = ap (λ k. get_or c.args.heights.now k 0) c.across.ensures.twin in (
       λ w. absurd (false≢true w),
       λ gentle.
-          let climb = gentle_numbers rows (lawful_shown (g.met.D.Dual.numbered c.args.dual.now) (g.met.D.Walked.lawful c.args.dual.now)) c.args.heights.now (prices_of (g.F.Asks.answers c.args.tariff.now)) gentle c.loop-dart.dart c.in-Some.price within c.in-Some.ensures.price in
+          let climb = gentle_numbers rows (lawful_shown (g.met.D.Dual.numbered c.args.dual.now) (g.met.D.FaceGraph.lawful c.args.dual.now)) c.args.heights.now (prices_of (g.F.PriceFn.may_return c.args.tariff.now)) gentle c.loop-dart.dart c.in-Some.price within c.in-Some.ensures.price in
           absurd (omega arith),
     )
 
 pub loop-dart-preserved : goal.loop-dart-preserved
 loop-dart-preserved g c =
     let rows = g.D.Dual.shows c.args.dual.now in
-    let price = prices_of (g.F.Asks.answers c.args.tariff.now) in
+    let price = prices_of (g.F.PriceFn.may_return c.args.tariff.now) in
     elim c.match-price_at.branch [
       | in-Some+else-saturating_sub-price w ↦
           let other : get_or c.args.heights.now w.across.result 0 ≡ get_or c.args.heights.now (twin c.loop-dart.dart) 0 = ap (λ k. get_or c.args.heights.now k 0) w.across.ensures.twin in
@@ -42,4 +42,4 @@ loop-dart-preserved g c =
 pub returns-clause-gentle : goal.returns-clause-gentle
 returns-clause-gentle g c =
     let rows = g.D.Dual.shows c.args.dual.now in
-    (λ w. gentle_darts rows (lawful_shown (g.met.D.Dual.numbered c.args.dual.now) (g.met.D.Walked.lawful c.args.dual.now)) c.args.heights.now (prices_of (g.F.Asks.answers c.args.tariff.now)) (λ k p l. c.loop-dart.invariant.gentle k p (omega arith)), λ gentle. refl)
+    (λ w. gentle_darts rows (lawful_shown (g.met.D.Dual.numbered c.args.dual.now) (g.met.D.FaceGraph.lawful c.args.dual.now)) c.args.heights.now (prices_of (g.F.PriceFn.may_return c.args.tariff.now)) (λ k p l. c.loop-dart.invariant.gentle k p (omega arith)), λ gentle. refl)

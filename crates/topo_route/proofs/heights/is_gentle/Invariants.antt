@@ -8,7 +8,7 @@ use Rattle.topo_route.proofs.heights.is_gentle.Given as goal
 
 abbrev pub invariant-loop-dart : goal.invariant-loop-dart
 invariant-loop-dart g l = record {
-  gentle : (k p : ℕ) → k < l.dart → Price (prices_of (g.F.Asks.answers l.tariff)) (g.D.Dual.shows l.dual) (dart_of (g.D.Dual.shows l.dual) k) p
+  gentle : (k p : ℕ) → k < l.dart → Price (prices_of (g.F.PriceFn.may_return l.tariff)) (g.D.Dual.shows l.dual) (dart_of (g.D.Dual.shows l.dual) k) p
       → slice_index l.heights k ≤ p + slice_index l.heights (twin k);
-  promise : 0 < l.dart → KeepsPromise (prices_of (g.F.Asks.answers l.tariff));
+  promise : 0 < l.dart → KeepsPromise (prices_of (g.F.PriceFn.may_return l.tariff));
 }

@@ -7,10 +7,10 @@ use Rattle.topo_route.proofs.search.first_route_seen.Goals as goal
 
 pub returns-in_ok-region-in-Some-clause-region : goal.returns-in_ok-region-in-Some-clause-region
 returns-in_ok-region-in-Some-clause-region g c =
-    let price = prices_of (g.F.Asks.answers c.args.tariff.now) in
-    let named = g.W.Walked.named c.args.walked.now in
+    let price = prices_of (g.F.PriceFn.may_return c.args.tariff.now) in
+    let named = g.W.FaceGraph.named c.args.graph.now in
     let heights = c.find_route.new.work.to_end.heights in
     let distances = c.find_route.new.work.to_start.heights in
     let rests = subst (λ o. IfSome o (λ r. IfSome r.stop (λ stop. RestsOn price named c.args.u c.args.v heights distances stop.level stop.least r.first.route r.first.price))) c.in-Some.is c.in_ok-found.ensures.stop in
-    first_seen price named (g.met.W.Walked.lawful c.args.walked.now) (g.met.W.Walked.has_names c.args.walked.now) c.args.u c.args.v heights distances c.in-Some.field-0.stop c.in-Some.field-0.first.route c.in-Some.field-0.first.price
+    first_seen price named (g.met.W.FaceGraph.lawful c.args.graph.now) (g.met.W.FaceGraph.has_names c.args.graph.now) c.args.u c.args.v heights distances c.in-Some.field-0.stop c.in-Some.field-0.first.route c.in-Some.field-0.first.price
     c.in_ok-region-in-Some.region c.in_ok-found.ensures.promise rests c.in_ok-region-in-Some.ensures

@@ -7,25 +7,25 @@ use Rattle.topo_route.proofs.search.route_by_heights.Goals as goal
 
 pub get-price-requires : goal.get-price-requires
 get-price-requires g c =
-    omega (arith, c.requires.known.known.one_each, name_below (g.W.Walked.named c.args.graph.now.walked.now) (g.met.W.Walked.has_names c.args.graph.now.walked.now) c.in-Some.from c.in-Some.ensures.name)
+    omega (arith, c.requires.known.known.one_each, name_below (g.W.FaceGraph.named c.args.priced.now.graph.now) (g.met.W.FaceGraph.has_names c.args.priced.now.graph.now) c.in-Some.from c.in-Some.ensures.name)
 
 pub descend-requires-clause-known : goal.descend-requires-clause-known
 descend-requires-clause-known g c =
-    let named = g.W.Walked.named c.args.graph.now.walked.now in
+    let named = g.W.FaceGraph.named c.args.priced.now.graph.now in
     let known = c.requires.known in
     let start = c.in-Some.ensures in
     record {
       top = known.top;
       known = known.known;
-      below = start_below (prices_of (g.F.Asks.answers c.args.graph.now.tariff.now)) named (g.met.W.Walked.lawful c.args.graph.now.walked.now) (g.met.W.Walked.has_names c.args.graph.now.walked.now) c.args.v known.top c.args.heights.now known.known c.args.u c.in-Some.start c.in-Some.from start (known.start c.in-Some.start c.in-Some.from start);
+      below = start_below (prices_of (g.F.PriceFn.may_return c.args.priced.now.tariff.now)) named (g.met.W.FaceGraph.lawful c.args.priced.now.graph.now) (g.met.W.FaceGraph.has_names c.args.priced.now.graph.now) c.args.v known.top c.args.heights.now known.known c.args.u c.in-Some.start c.in-Some.from start (known.start c.in-Some.start c.in-Some.from start);
     }
 
 pub unreachable-requires : goal.unreachable-requires
 unreachable-requires g c =
-    let named = g.W.Walked.named c.args.graph.now.walked.now in
-    let lawful = g.met.W.Walked.lawful c.args.graph.now.walked.now in
-    let has = g.met.W.Walked.has_names c.args.graph.now.walked.now in
-    let price = prices_of (g.F.Asks.answers c.args.graph.now.tariff.now) in
+    let named = g.W.FaceGraph.named c.args.priced.now.graph.now in
+    let lawful = g.met.W.FaceGraph.lawful c.args.priced.now.graph.now in
+    let has = g.met.W.FaceGraph.has_names c.args.priced.now.graph.now in
+    let price = prices_of (g.F.PriceFn.may_return c.args.priced.now.tariff.now) in
     let heights = c.args.heights.now in
     let known = c.requires.known in
     let start = c.in-Some.ensures in
@@ -35,10 +35,10 @@ unreachable-requires g c =
 
 pub returns-in-Some-end_corner : goal.returns-in-Some-end_corner
 returns-in-Some-end_corner g c =
-    let named = g.W.Walked.named c.args.graph.now.walked.now in
-    let lawful = g.met.W.Walked.lawful c.args.graph.now.walked.now in
-    let has = g.met.W.Walked.has_names c.args.graph.now.walked.now in
-    let price = prices_of (g.F.Asks.answers c.args.graph.now.tariff.now) in
+    let named = g.W.FaceGraph.named c.args.priced.now.graph.now in
+    let lawful = g.met.W.FaceGraph.lawful c.args.priced.now.graph.now in
+    let has = g.met.W.FaceGraph.has_names c.args.priced.now.graph.now in
+    let price = prices_of (g.F.PriceFn.may_return c.args.priced.now.tariff.now) in
     let heights = c.args.heights.now in
     let known = c.requires.known in
     let start = c.in-Some.ensures in

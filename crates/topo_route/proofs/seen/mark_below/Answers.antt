@@ -20,7 +20,7 @@ mark_edge-requires-clause-name g c =
 
 pub loop-i-preserved : goal.loop-i-preserved
 loop-i-preserved g c =
-    let named = g.W.Walked.named c.args.walked.now in
+    let named = g.W.FaceGraph.named c.args.graph.now in
     let heights = c.args.heights.now in
     let places = c.written-places.result.now in
     let i = c.loop-i.i in
@@ -48,12 +48,12 @@ loop-i-preserved g c =
 
 pub returns : goal.returns
 returns g c =
-    let named = g.W.Walked.named c.args.walked.now in
+    let named = g.W.FaceGraph.named c.args.graph.now in
     let places = c.written-places.result.now in
     let whole : c.loop-i.i ≡ length places = omega arith in
     record {
       of_rows = c.loop-i.invariant.of_rows;
       more = c.loop-i.invariant.more;
-      below = holds_below named (g.met.W.Walked.has_names c.args.walked.now) c.args.heights.now c.args.bound places c.loop-i.region c.requires.named (omega (arith, c.ranges.bound.fits)) c.written-places.ensures.all
+      below = holds_below named (g.met.W.FaceGraph.has_names c.args.graph.now) c.args.heights.now c.args.bound places c.loop-i.region c.requires.named (omega (arith, c.ranges.bound.fits)) c.written-places.ensures.all
           (subst (λ n. HoldsFirst named c.args.heights.now c.args.bound places n c.loop-i.region) whole c.loop-i.invariant.first);
     }

@@ -5,7 +5,7 @@ use Rattle.topo_route.proofs.seen.mark_below.Given as goal
 
 abbrev pub invariant-loop-i : goal.invariant-loop-i
 invariant-loop-i g l =
-    let named = g.W.Walked.named l.walked in
+    let named = g.W.FaceGraph.named l.graph in
     record {
       of_rows : IsRegionOf named.rows l.region;
       more : HoldsMore l.initial.region l.region;

@@ -15,8 +15,8 @@ use Rattle.topo_route.proofs.walks.first_walk.Goals as goal
 pub returns-then-has_tight_before : goal.returns-then-has_tight_before
 returns-then-has_tight_before g c takes =
     let rows = g.D.Dual.shows c.args.dual.now in
-    let price = prices_of (g.F.Asks.answers c.args.tariff.now) in
-    let lawful = lawful_shown (g.met.D.Dual.numbered c.args.dual.now) (g.met.D.Walked.lawful c.args.dual.now) in
+    let price = prices_of (g.F.PriceFn.may_return c.args.tariff.now) in
+    let lawful = lawful_shown (g.met.D.Dual.numbered c.args.dual.now) (g.met.D.FaceGraph.lawful c.args.dual.now) in
     grind (arith, from_item, dart_in, first_fails)
 
 pub returns-in-None : goal.returns-in-None
@@ -25,8 +25,8 @@ returns-in-None g c takes = grind (arith, lawful_shown, from_item, false≢true,
 pub loop-dart-preserved : goal.loop-dart-preserved
 loop-dart-preserved g c =
     let rows = g.D.Dual.shows c.args.dual.now in
-    let price = prices_of (g.F.Asks.answers c.args.tariff.now) in
-    let lawful = lawful_shown (g.met.D.Dual.numbered c.args.dual.now) (g.met.D.Walked.lawful c.args.dual.now) in
+    let price = prices_of (g.F.PriceFn.may_return c.args.tariff.now) in
+    let lawful = lawful_shown (g.met.D.Dual.numbered c.args.dual.now) (g.met.D.FaceGraph.lawful c.args.dual.now) in
     let i = c.loop-dart.dart-index in
     let heights = c.args.heights.now in
     let xs = drop (i + 1) c.args.crossed.now in

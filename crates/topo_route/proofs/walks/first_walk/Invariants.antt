@@ -12,7 +12,7 @@ use Rattle.topo_route.proofs.walks.first_walk.Given as goal
 abbrev pub invariant-loop-dart : goal.invariant-loop-dart
 invariant-loop-dart g l =
     let rows = g.D.Dual.shows l.dual in
-    let Takes = TakesFirstDarts (prices_of (g.F.Asks.answers l.tariff)) rows (height_in rows l.heights) in
+    let Takes = TakesFirstDarts (prices_of (g.F.PriceFn.may_return l.tariff)) rows (height_in rows l.heights) in
     record {
       within : l.at < length (darts rows);
       walk : (to : Dart) × Crosses (system rows) (dart_of rows l.at) (drop l.dart-index l.crossed) to;

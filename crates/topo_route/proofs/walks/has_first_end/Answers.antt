@@ -16,7 +16,7 @@ returns-then-same_face g c = grind (arith, false≢true, face_of_numbers, lawful
 pub loop-position-preserved : goal.loop-position-preserved
 loop-position-preserved g c =
     let rows = g.D.Dual.shows c.args.dual.now in
-    let lawful = lawful_shown (g.met.D.Dual.numbered c.args.dual.now) (g.met.D.Walked.lawful c.args.dual.now) in
+    let lawful = lawful_shown (g.met.D.Dual.numbered c.args.dual.now) (g.met.D.FaceGraph.lawful c.args.dual.now) in
     elim c.match-corner_at.branch [
       | in-Some+else-same_face w ↦
           before_some rows c.args.v (λ p d. SameFace (system rows) (dart_of rows c.args.last) d → ⊥) c.loop-position.position (dart_of rows w.in-Some.corner) w.in-Some.ensures.1

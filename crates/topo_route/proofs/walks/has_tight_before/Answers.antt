@@ -16,7 +16,7 @@ use Rattle.topo_route.proofs.walks.has_tight_before.Goals.{else-dart-number-via-
 pub returns-then-dart-at : goal.returns-then-dart-at
 returns-then-dart-at g c =
     let rows = g.D.Dual.shows c.args.dual.now in
-    let price = prices_of (g.F.Asks.answers c.args.tariff.now) in
+    let price = prices_of (g.F.PriceFn.may_return c.args.tariff.now) in
     let i = c.loop-steps._steps in
     let place = c.loop-steps.invariant.place in
     let home : next_of rows (after (next_of rows) i c.args.at) ≡ c.args.at = ap (next_of rows) (sym place) ∙ sym c.next_along-dart.ensures.next ∙ c.if-dart-at.true in
@@ -27,10 +27,10 @@ returns-then-dart-at g c =
 pub returns : goal.returns
 returns g c =
     let rows = g.D.Dual.shows c.args.dual.now in
-    let price = prices_of (g.F.Asks.answers c.args.tariff.now) in
+    let price = prices_of (g.F.PriceFn.may_return c.args.tariff.now) in
     let Free = λ (x : ℕ). x < c.args.number → IsTight price rows (height_in rows c.args.heights.now) (dart_of rows x) → ⊥ in (
       λ w. absurd (false≢true w),
       λ before.
-          absurd (round_all (next_of rows) Free c.args.at (length (darts rows)) (next_permutes rows (lawful_shown (g.met.D.Dual.numbered c.args.dual.now) (g.met.D.Walked.lawful c.args.dual.now))) c.requires.within
+          absurd (round_all (next_of rows) Free c.args.at (length (darts rows)) (next_permutes rows (lawful_shown (g.met.D.Dual.numbered c.args.dual.now) (g.met.D.FaceGraph.lawful c.args.dual.now))) c.requires.within
           (λ j l. c.loop-steps.invariant.none j (omega arith)) before.dart before.face before.before before.tight),
     )

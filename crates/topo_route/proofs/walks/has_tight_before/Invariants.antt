@@ -15,5 +15,5 @@ invariant-loop-steps g l =
       place : l.dart ≡ after (next_of rows) l._steps l.at;
       within : l.dart < length (darts rows);
       none : (j : ℕ) → j < l._steps → after (next_of rows) j l.at < l.number
-          → IsTight (prices_of (g.F.Asks.answers l.tariff)) rows (height_in rows l.heights) (dart_of rows (after (next_of rows) j l.at)) → ⊥;
+          → IsTight (prices_of (g.F.PriceFn.may_return l.tariff)) rows (height_in rows l.heights) (dart_of rows (after (next_of rows) j l.at)) → ⊥;
     }

@@ -7,7 +7,7 @@ use Rattle.topo_route.proofs.walks.pay.Goals as goal
 pub returns-then-price-left : goal.returns-then-price-left
 returns-then-price-left g c =
     let rows = g.D.Dual.shows c.args.dual.now in
-    let price = prices_of (g.F.Asks.answers c.args.tariff.now) in
+    let price = prices_of (g.F.PriceFn.may_return c.args.tariff.now) in
     record {
       cost = c.in-Some.price;
       asked = c.in-Some.ensures.price;
@@ -18,7 +18,7 @@ returns-then-price-left g c =
 pub returns-else-price-left : goal.returns-else-price-left
 returns-else-price-left g c p asked low =
     let rows = g.D.Dual.shows c.args.dual.now in
-    let same = single_price (prices_of (g.F.Asks.answers c.args.tariff.now)) rows c.in-Some.ensures.promise (dart_of rows c.args.number) p c.in-Some.price asked c.in-Some.ensures.price in
+    let same = single_price (prices_of (g.F.PriceFn.may_return c.args.tariff.now)) rows c.in-Some.ensures.promise (dart_of rows c.args.number) p c.in-Some.price asked c.in-Some.ensures.price in
     omega arith
 
 pub returns-in-None : goal.returns-in-None

@@ -8,7 +8,7 @@ use Rattle.topo_route.proofs.walks.walks.Given as goal
 abbrev pub invariant-loop-dart : goal.invariant-loop-dart
 invariant-loop-dart g l =
     let rows = g.D.Dual.shows l.dual in
-    let price = prices_of (g.F.Asks.answers l.tariff) in
+    let price = prices_of (g.F.PriceFn.may_return l.tariff) in
     record {
       within : l.at < length (darts rows);
       forth : Walks price rows (dart_of rows l.from) l.crossed (dart_of rows l.to) l.price → Walks price rows (dart_of rows l.at) (drop l.dart-index l.crossed) (dart_of rows l.to) l.left;

@@ -7,13 +7,13 @@ use Rattle.topo_run.proofs.scripts.run_from.Goals as goal
 pub returns-clause-report : goal.returns-clause-report
 returns-clause-report g c =
     let script = c.args.script.now in
-    let course = c.in_ok-course.course in
+    let outcome = c.in_ok-outcome.outcome in
     let heading = c.in-Ok.ensures in
     let same : map commands c.as_slice-2.result.now ≡ script.workers = ap (map commands) c.as_slice-2.ensures.value ∙ c.in-Ok-lists_of.ensures ∙ c.as_slice.ensures in
     record {
       same_limits = heading.limits;
       same_prices = heading.prices;
       same_start = heading.start;
-      run = own_run (g.F.Asks.answers (arc_value c.args.tariff)) script.prices c.args.start.limits c.args.start.rows course.picture script.workers (map commands c.as_slice-2.result.now) course.history
-          c.requires same c.in_ok-course.ensures.run;
+      run = own_run (g.F.PriceFn.may_return (arc_value c.args.tariff)) script.prices c.args.start.limits c.args.start.rows outcome.picture script.workers (map commands c.as_slice-2.result.now) outcome.history
+          c.requires same c.in_ok-outcome.ensures.run;
     }

@@ -8,4 +8,4 @@ pub returns-clause-legal : goal.returns-clause-legal
 returns-clause-legal g c i p lt =
     let here : i < length c.args.passes.now = omega (arith, lt, c.requires) in
     let at = (c.for_each_mut.ensures i p here).1 in
-    subst (λ (s : PassState). AreLegal (prices_named g.F.Asks.answers g.K.ServiceBrand.closure) g.K.ServiceBrand.start s.seen) at.left at.call.1
+    subst (λ (s : PassState). AreLegal (prices_named g.F.PriceFn.may_return g.K.ServiceBrand.closure) g.K.ServiceBrand.start s.seen) at.left at.call.1

@@ -9,9 +9,9 @@ use Rattle.topo_book.proofs.book.Book.history.Goals as goal
 pub returns-clause-legal : goal.returns-clause-legal
 returns-clause-legal g c =
     let f = c.self.inside in
-    subst (λ (b : BookState _). Replays (prices_of (g.F.Asks.answers b.tariff)) b.start.limits b.start.rows b.history b.picture.rows) c.self.view_is
+    subst (λ (b : BookState _). Replays (prices_of (g.F.PriceFn.may_return b.tariff)) b.start.limits b.start.rows b.history b.picture.rows) c.self.view_is
     (book_replays _ f.start (arc_value f.picture) f.history.items c.self.invariant.book)
 
 pub returns-clause-lawful : goal.returns-clause-lawful
 returns-clause-lawful g c =
-    subst (λ (b : BookState _). ReplaysLawfully (prices_of (g.F.Asks.answers b.tariff)) b.start.limits b.start.rows b.history b.picture.rows) c.self.view_is c.self.invariant.book.replayed
+    subst (λ (b : BookState _). ReplaysLawfully (prices_of (g.F.PriceFn.may_return b.tariff)) b.start.limits b.start.rows b.history b.picture.rows) c.self.view_is c.self.invariant.book.replayed

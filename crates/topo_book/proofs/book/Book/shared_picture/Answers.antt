@@ -10,7 +10,7 @@ use Rattle.topo_book.proofs.book.Book.shared_picture.Goals as goal
 pub returns-clause-replay : goal.returns-clause-replay
 returns-clause-replay g c =
     let f = c.self.inside in
-    subst (λ (b : BookState _). Replays (prices_of (g.F.Asks.answers b.tariff)) b.start.limits b.start.rows b.history b.picture.rows) c.self.view_is
+    subst (λ (b : BookState _). Replays (prices_of (g.F.PriceFn.may_return b.tariff)) b.start.limits b.start.rows b.history b.picture.rows) c.self.view_is
     (book_replays _ f.start (arc_value f.picture) f.history.items c.self.invariant.book)
 
 pub returns-clause-lawful : goal.returns-clause-lawful

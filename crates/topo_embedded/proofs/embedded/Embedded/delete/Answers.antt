@@ -3,6 +3,6 @@ use Rattle.topo_embedded.proofs.embedded.Embedded.delete.Goals as goal
 
 pub invariant_of-self : goal.invariant_of-self
 invariant_of-self c = (
-  without_formed c.args.self.now c.self.inside.rows c.delete_drawn.new.rows c.self.inside.paths c.args.edge c.self.view_is c.self.invariant.0 c.requires.there c.delete_drawn.ensures.rows,
-  c.delete_drawn.ensures.shows,
+  without_formed c.args.self.now c.self.inside.rows c.delete_parts.new.rows c.self.inside.paths c.args.edge c.self.view_is c.self.invariant.0 c.requires.there c.delete_parts.ensures.rows,
+  c.delete_parts.ensures.shows,
 )

@@ -6,15 +6,15 @@ use Rattle.topo_core.specs.declared.rows.EdgeRow.{EdgeRow}
 use Rattle.topo_core.specs.Picture.{darts, edge_row, points_of, start, start_place}
 use Rattle.topo_core.specs.Systems.{has_dart}
 use Rattle.topo_core.proofs.WithoutPlaces.{edge_of_dart}
-use Rattle.topo_embedded.specs.Halves.{Drawn}
+use Rattle.topo_embedded.specs.Halves.{RowsWithPaths}
 use Rattle.topo_embedded.proofs.FoundHalves.{start_inside, start_told}
 use Rattle.topo_embedded.proofs.Reading.{edge_read, row_read}
 use Rattle.topo_embedded.proofs.embedded.Embedded.start_of.Goals as goal
 
 pub place_of_edge-place-requires-clause-there : goal.place_of_edge-place-requires-clause-there
 place_of_edge-place-requires-clause-there c =
-    let p : Drawn = record { rows = c.self.inside.rows; paths = c.self.inside.paths } in
-    let there : has_dart (darts p.rows) c.requires.dart ≡ true = ap (λ (q : Drawn). has_dart (darts q.rows) c.requires.dart) c.self.view_is ∙ c.requires.there in
+    let p : RowsWithPaths = record { rows = c.self.inside.rows; paths = c.self.inside.paths } in
+    let there : has_dart (darts p.rows) c.requires.dart ≡ true = ap (λ (q : RowsWithPaths). has_dart (darts q.rows) c.requires.dart) c.self.view_is ∙ c.requires.there in
     let is : c.dart_of-dart.result ≡ c.requires.dart = c.dart_of-dart.ensures c.requires.dart c.requires.there c.requires.is in
     ap (λ (es : List EdgeRow). is_some (find (λ row. row.id == c.number.result) es)) c.edges-edges.ensures
     ∙ ap (λ (e : ℕ). is_some (edge_row p.rows e)) (c.number.ensures ∙ ap (λ (d : Dart). d.edge) is)
@@ -22,8 +22,8 @@ place_of_edge-place-requires-clause-there c =
 
 pub point_on-requires : goal.point_on-requires
 point_on-requires c =
-    let p : Drawn = record { rows = c.self.inside.rows; paths = c.self.inside.paths } in
-    let there : has_dart (darts p.rows) c.requires.dart ≡ true = ap (λ (q : Drawn). has_dart (darts q.rows) c.requires.dart) c.self.view_is ∙ c.requires.there in
+    let p : RowsWithPaths = record { rows = c.self.inside.rows; paths = c.self.inside.paths } in
+    let there : has_dart (darts p.rows) c.requires.dart ≡ true = ap (λ (q : RowsWithPaths). has_dart (darts q.rows) c.requires.dart) c.self.view_is ∙ c.requires.there in
     let is : c.dart_of-dart.result ≡ c.requires.dart = c.dart_of-dart.ensures c.requires.dart c.requires.there c.requires.is in
     let at = edge_read p.rows c.number.result c.place_of_edge-place.result c.edges-edges.result.now c.edges-edges.ensures c.place_of_edge-place.ensures in
     let row = row_read p.rows c.number.result c.place_of_edge-place.result c.edges-edges.result.now c.place_of_edge-place.ensures.row c.index-edges-place.result c.edges-edges.ensures at c.index-edges-place.is in
@@ -32,7 +32,7 @@ point_on-requires c =
 
 pub returns : goal.returns
 returns c =
-    let p : Drawn = record { rows = c.self.inside.rows; paths = c.self.inside.paths } in
+    let p : RowsWithPaths = record { rows = c.self.inside.rows; paths = c.self.inside.paths } in
     let at = edge_read p.rows c.number.result c.place_of_edge-place.result c.edges-edges.result.now c.edges-edges.ensures c.place_of_edge-place.ensures in
     let row = row_read p.rows c.number.result c.place_of_edge-place.result c.edges-edges.result.now c.place_of_edge-place.ensures.row c.index-edges-place.result c.edges-edges.ensures at c.index-edges-place.is in
     λ d h is.
@@ -40,4 +40,4 @@ returns c =
     let place = ap (λ (n : ℕ). slice_index_or (points_of c.index-edges-place.result) n (Vertex 0)) c.place_of_start.ensures in
     start_told p.rows c.number.result c.place_of_edge-place.result c.place_of_edge-place.ensures.row c.index-edges-place.result at row d (c.number.ensures ∙ ap (λ (x : Dart). x.edge) same) c.point_on.result
     (c.point_on.ensures ∙ place ∙ ap (λ (x : Dart). slice_index_or (points_of c.index-edges-place.result) (start_place x.seg x.way) (Vertex 0)) same)
-    ∙ ap (λ (q : Drawn). start q.rows d) c.self.view_is
+    ∙ ap (λ (q : RowsWithPaths). start q.rows d) c.self.view_is

@@ -12,16 +12,16 @@ use Rattle.topo_route.proofs.spread.Labels.relax_face.Goals as goal
 
 pub lower-requires-clause-fits : goal.lower-requires-clause-fits
 lower-requires-clause-fits g c =
-    let small : (g.W.Walked.named c.args.graph.now.walked.now).size < 2 ^ 32 = omega (arith, c.size-darts.ensures, c.size-darts.type_inv) in
-    let fits = height_fits (prices_of (g.F.Asks.answers c.args.graph.now.tariff.now)) (g.W.Walked.named c.args.graph.now.walked.now) c.args.v c.args.self.now.heights c.args.dart c.requires.costs c.requires.in_hand small in
+    let small : (g.W.FaceGraph.named c.args.priced.now.graph.now).size < 2 ^ 32 = omega (arith, c.size-darts.ensures, c.size-darts.type_inv) in
+    let fits = height_fits (prices_of (g.F.PriceFn.may_return c.args.priced.now.tariff.now)) (g.W.FaceGraph.named c.args.priced.now.graph.now) c.args.v c.args.self.now.heights c.args.dart c.requires.costs c.requires.in_hand small in
     omega (arith, fits, c.get-height.ensures)
 
 pub returns-then-get-height : goal.returns-then-get-height
 returns-then-get-height g c =
-    let price = prices_of (g.F.Asks.answers c.args.graph.now.tariff.now) in
-    let named = g.W.Walked.named c.args.graph.now.walked.now in
-    let lawful = g.met.W.Walked.lawful c.args.graph.now.walked.now in
-    let has = g.met.W.Walked.has_names c.args.graph.now.walked.now in
+    let price = prices_of (g.F.PriceFn.may_return c.args.priced.now.tariff.now) in
+    let named = g.W.FaceGraph.named c.args.priced.now.graph.now in
+    let lawful = g.met.W.FaceGraph.lawful c.args.priced.now.graph.now in
+    let has = g.met.W.FaceGraph.has_names c.args.priced.now.graph.now in
     let hs = c.relax_twin.new.self.heights in
     let at = c.loop-self.at in
     let crossed = c.in_ok-relax_twin.ensures.relaxes in
@@ -35,10 +35,10 @@ returns-then-get-height g c =
 
 pub loop-self-preserved : goal.loop-self-preserved
 loop-self-preserved g c =
-    let price = prices_of (g.F.Asks.answers c.args.graph.now.tariff.now) in
-    let named = g.W.Walked.named c.args.graph.now.walked.now in
-    let lawful = g.met.W.Walked.lawful c.args.graph.now.walked.now in
-    let has = g.met.W.Walked.has_names c.args.graph.now.walked.now in
+    let price = prices_of (g.F.PriceFn.may_return c.args.priced.now.tariff.now) in
+    let named = g.W.FaceGraph.named c.args.priced.now.graph.now in
+    let lawful = g.met.W.FaceGraph.lawful c.args.priced.now.graph.now in
+    let has = g.met.W.FaceGraph.has_names c.args.priced.now.graph.now in
     let v = c.args.v in
     let others = c.args.other.now in
     let hs = c.relax_twin.new.self.heights in

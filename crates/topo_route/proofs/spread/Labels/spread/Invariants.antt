@@ -6,9 +6,9 @@ use Rattle.topo_route.proofs.spread.Labels.spread.Given as goal
 
 abbrev pub invariant-loop-dart : goal.invariant-loop-dart
 invariant-loop-dart g l =
-    let named = g.W.Walked.named l.graph.walked.now in
+    let named = g.W.FaceGraph.named l.priced.graph.now in
     record {
-      spreads : Spreads (prices_of (g.F.Asks.answers l.graph.tariff.now)) named l.v (top_of l.level (min l.most l.least) l.other) (reach_of l.least) l.self.heights l.self.waiting named.size;
+      spreads : Spreads (prices_of (g.F.PriceFn.may_return l.priced.tariff.now)) named l.v (top_of l.level (min l.most l.least) l.other) (reach_of l.least) l.self.heights l.self.waiting named.size;
       sums : AreSums named l.self.heights l.other l.least;
       less : l.least ≤ l.initial.least;
       lower : AreLowered l.initial.self.heights l.self.heights;

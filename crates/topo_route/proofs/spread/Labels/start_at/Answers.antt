@@ -15,10 +15,10 @@ use Rattle.topo_route.proofs.spread.Labels.start_at.Goals.{in-Some+then-get-gt0+
 
 pub loop-position-preserved : goal.loop-position-preserved
 loop-position-preserved g c =
-    let named = g.W.Walked.named c.args.graph.now.walked.now in
-    let lawful = g.met.W.Walked.lawful c.args.graph.now.walked.now in
-    let has = g.met.W.Walked.has_names c.args.graph.now.walked.now in
-    let price = prices_of (g.F.Asks.answers c.args.graph.now.tariff.now) in
+    let named = g.W.FaceGraph.named c.args.priced.now.graph.now in
+    let lawful = g.met.W.FaceGraph.lawful c.args.priced.now.graph.now in
+    let has = g.met.W.FaceGraph.has_names c.args.priced.now.graph.now in
+    let price = prices_of (g.F.PriceFn.may_return c.args.priced.now.tariff.now) in
     let v = c.args.v in
     let others = c.args.other.now in
     let i = c.loop-position.position in
@@ -60,6 +60,6 @@ loop-position-preserved g c =
 
 pub returns-clause-ends : goal.returns-clause-ends
 returns-clause-ends g c =
-    let named = g.W.Walked.named c.args.graph.now.walked.now in
+    let named = g.W.FaceGraph.named c.args.priced.now.graph.now in
     let whole : c.loop-position.position ≡ c.degree-position-end.result = omega arith in
     before_all named.rows c.args.v (λ p d. height_of named c.loop-position.self.heights d ≡ 0) c.loop-position.position (whole ∙ c.degree-position-end.ensures) c.loop-position.invariant.ends

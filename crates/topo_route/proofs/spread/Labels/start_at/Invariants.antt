@@ -8,8 +8,8 @@ use Rattle.topo_route.proofs.spread.Labels.start_at.Given as goal
 
 abbrev pub invariant-loop-position : goal.invariant-loop-position
 invariant-loop-position g l =
-    let named = g.W.Walked.named l.graph.walked.now in
+    let named = g.W.FaceGraph.named l.priced.graph.now in
     record {
-      relaxes : Relaxes (prices_of (g.F.Asks.answers l.graph.tariff.now)) named l.v l.other l.initial.self.heights l.initial.self.waiting l.initial.least named.size l.self.heights l.self.waiting l.least named.size;
+      relaxes : Relaxes (prices_of (g.F.PriceFn.may_return l.priced.tariff.now)) named l.v l.other l.initial.self.heights l.initial.self.waiting l.initial.least named.size l.self.heights l.self.waiting l.least named.size;
       ends : (p : ℕ) (c : Dart) → p < l.position → corner named.rows l.v p ≡ Some c → height_of named l.self.heights c ≡ 0;
     }

@@ -15,7 +15,7 @@ use Rattle.topo_service.proofs.found.FoundRoute.outlives.Goals as goal
 
 pub returns-then-is_prefix_of : goal.returns-then-is_prefix_of
 returns-then-is_prefix_of g c good =
-    let answers = g.F.Asks.answers in
+    let answers = g.F.PriceFn.may_return in
     let closure = g.K.ServiceBrand.closure in
     let start = g.K.ServiceBrand.start in
     let book = c.args.book.now in

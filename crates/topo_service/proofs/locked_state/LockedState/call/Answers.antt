@@ -6,18 +6,18 @@ use Rattle.topo_service.proofs.Versions.{if_some, named_step, version_ready, ver
 use Rattle.topo_service.proofs.locked_state.LockedState.call.Goals as goal
 
 pub answer_ready-requires-clause-room : goal.answer_ready-requires-clause-room
-answer_ready-requires-clause-room g c = omega (arith, ap length c.self.invariant.3, versions_length c.self.inside.book.history, c.make_ready.ensures.room)
+answer_ready-requires-clause-room g c = omega (arith, ap length c.self.invariant.3, versions_length c.self.inside.book.history, c.prepare_call.ensures.room)
 
 pub answer_ready-requires-clause-follows : goal.answer_ready-requires-clause-follows
 answer_ready-requires-clause-follows g c =
     let n = c.in_ok-next.next in
     let i = c.self.invariant in
-    let m = c.make_ready.ensures in
+    let m = c.prepare_call.ensures in
     let is_next = subst (λ (s : NextState). IsNext s.entry s.picture) c.next.view_is c.next.invariant in
     if_some _ n.picture (λ p is.
     let good = subst (λ (o : Option Shown). IfSome o (λ q. IsPicture q.limits q.rows)) is is_next.lawful in
     let on : is_accepted n.entry.reply ≡ true = sym is_next.accepted ∙ ap is_some is in
-    let there = version_ready g.F.Asks.answers g.K.ServiceBrand.closure g.K.ServiceBrand.start c.self.inside.book c.make_ready.new.book n i.1 i.0 m.unchanged m.same_book m.same_limits c.in_ok-next.ensures.ready m.legal p is on good in
+    let there = version_ready g.F.PriceFn.may_return g.K.ServiceBrand.closure g.K.ServiceBrand.start c.self.inside.book c.prepare_call.new.book n i.1 i.0 m.unchanged m.same_book m.same_limits c.in_ok-next.ensures.ready m.legal p is on good in
     rw i.3 there)
 
 pub returns-clause-step : goal.returns-clause-step
@@ -25,8 +25,8 @@ returns-clause-step g c =
     let n = c.in_ok-next.next in
     let b = c.self.inside.book in
     let i = c.self.invariant in
-    let m = c.make_ready.ensures in
-    let told : c.in_ok-answer.answer.told ≡ n.entry.reply = c.in_ok-answer.ensures.told in
+    let m = c.prepare_call.ensures in
+    let told : c.in_ok-pair.pair.reply ≡ n.entry.reply = c.in_ok-pair.ensures.reply in
     let after : c.commit.new.self.picture ≡ picture_after n.picture b.picture = c.commit.ensures.picture ∙ ap (picture_after n.picture) m.unchanged.1 in
-    let step = named_step g.F.Asks.answers g.K.ServiceBrand.closure g.K.ServiceBrand.start b c.make_ready.new.book n i.1 i.0 m.unchanged m.same_book m.same_limits c.in_ok-next.ensures.ready in
+    let step = named_step g.F.PriceFn.may_return g.K.ServiceBrand.closure g.K.ServiceBrand.start b c.prepare_call.new.book n i.1 i.0 m.unchanged m.same_book m.same_limits c.in_ok-next.ensures.ready in
     rw (← c.in_ok-next.ensures.call, told, after, ← ap (λ s. s.picture) c.self.view_is) step

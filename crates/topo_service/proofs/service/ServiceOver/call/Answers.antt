@@ -8,7 +8,7 @@ use Rattle.topo_service.proofs.service.ServiceOver.call.Goals as goal
 pub returns-clause-later : goal.returns-clause-later
 returns-clause-later g c =
     let old = c.deref_mut-state.result.now.history in
-    let e = entry_of c.pass.inside.number c.args.call c.in_ok-told.field-0.told in
+    let e = entry_of c.pass.inside.number c.args.call c.in_ok-reply.field-0.reply in
     let seen = c.args.pass.now.seen in
     let before : IsPrefix seen (versions old) = rw (← c.prefix.ensures.now, ← ap (λ p. p.seen) c.pass.view_is) (c.is_prefix_of.ensures.prefix c.if-not-is_prefix_of.false) in
     let after : c.share.result ≡ versions (old ++ e ∷ []) = c.share.ensures.same ∙ c.prefix-2.ensures.now ∙ ap versions c.in_ok-told.ensures.entered in
@@ -16,7 +16,7 @@ returns-clause-later g c =
 
 pub returns-clause-accepted : goal.returns-clause-accepted
 returns-clause-accepted g c on =
-    let told = c.in_ok-told.field-0.told in
+    let told = c.in_ok-reply.field-0.reply in
     let old = c.deref_mut-state.result.now.history in
     let n = c.pass.inside.number in
     let own : entry_of n c.args.call told ≡ entry_of c.args.pass.now.number c.args.call told = ap (λ p. entry_of p.number c.args.call told) c.pass.view_is in

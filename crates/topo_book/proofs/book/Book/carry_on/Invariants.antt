@@ -1,6 +1,0 @@
-use Rattle.topo_price.specs.Prices.{prices_of}
-use Rattle.topo_book.specs.Books.{IsReplica}
-use Rattle.topo_book.proofs.book.Book.carry_on.Given as goal
-
-abbrev pub invariant-loop-index : goal.invariant-loop-index
-invariant-loop-index g l = IsReplica (prices_of (g.F.Asks.answers l.self.tariff)) l.self.start l.self.history l.index l.picture

@@ -1,0 +1,14 @@
+use Rattle.std.proofs.Common.{◌≡◌}
+use Rattle.topo_core.specs.declared.darts.Dart.{Dart}
+use Rattle.topo_core.specs.declared.rows.Rows.{Rows}
+use Rattle.topo_dual.proofs.HalfNumbers.{is_half, known, number_within, told}
+use Rattle.topo_dual.proofs.numbered.NumberedFaceGraph.edge.Goals as goal
+
+pub half-requires : goal.half-requires
+half-requires c = number_within (known c.self.view_is c.self.invariant) c.args.dart c.requires
+
+pub edge-requires : goal.edge-requires
+edge-requires c = is_half (known c.self.view_is c.self.invariant) c.args.dart c.requires c.half.result c.half.ensures
+
+pub returns : goal.returns
+returns c = told (known c.self.view_is c.self.invariant) c.args.dart c.requires c.half.result c.half.ensures (λ (rows : Rows) (d : Dart). c.edge.result ≡ d.edge) c.edge.ensures

@@ -1,0 +1,206 @@
+-- Tokens that spell limits, prices and reports.
+use Rattle.std.proofs.Common.{◌≡◌, ℕ, suc, ◌+◌, ◌<◌, ◌≤◌, ◌^◌, ◌||◌, Bool, true, false, List, [], ◌∷◌, length, codes, Option, Some, None, IfSome, Ok, Err, refl, sym, ap, subst, ◌∙◌, arith, le-leb}
+use Rattle.std.specs.Option.{is_none, option_and, option_zip}
+use Rattle.std.specs.List.{list_any}
+use Rattle.json.specs.Token.{Token, begin_object}
+use Rattle.json.specs.Json.{read_key}
+use Rattle.json.specs.Json as json
+use Rattle.json.proofs.Grammar.{value_is}
+use Rattle.serde_json.specs.Data.{Data, null, boolean, number, string, array, object, unsigned, Items, no_items, item, Members, member, no_members}
+use Rattle.serde_json.specs.Events.{items_len}
+use Rattle.topo_core.specs.declared.calls.Entry.{Entry}
+use Rattle.topo_core.specs.declared.rows.Rows.{Rows}
+use Rattle.topo_forms.specs.declared.path.Key.TheVariants.{Crossings, Edges, History, Limits, Picture, Prices, Start, Version, Vertices}
+use Rattle.topo_forms.specs.declared.path.Path.{Path}
+use Rattle.topo_forms.specs.declared.reports.Report.{Report}
+use Rattle.topo_forms.specs.declared.scripts.LimitRows.{LimitRows}
+use Rattle.topo_forms.specs.Paths.{key_name, element_of, whole}
+use Rattle.topo_forms.specs.Prices.{without_ones}
+use Rattle.topo_forms.specs.Reads.{Read, and_then, number_form, list_form, items_from, has_keys}
+use Rattle.topo_forms.specs.ReplyForms.{entry_form}
+use Rattle.topo_forms.specs.RowForms.{rows_form}
+use Rattle.topo_forms.specs.Scripts.{limits_form, nulls_of, nulls_in, some_price, price_form, prices_form, report_form}
+use Rattle.topo_forms.specs.Tokens.{Spells, SpellsMember, SpellsNumber, SpellsThree}
+use Rattle.topo_forms.specs.TokenParts.{ArePricesOf, SpellsEnding}
+use Rattle.topo_forms.proofs.Lookups.{member_read}
+use Rattle.topo_forms.proofs.Spellings.{number_read, members_done, member_then, object_tokens}
+use Rattle.topo_forms.proofs.Steps.{went}
+
+-- ---- Limits
+
+abbrev limits_members : Data → Data → Data → Members
+limits_members crossings edges vertices = member (codes "crossings") crossings (member (codes "edges") edges (member (codes "vertices") vertices no_members))
+
+limits_keys : (path : Path) (crossings edges vertices : Data) → has_keys path (Crossings ∷ Edges ∷ Vertices ∷ []) [] (object (limits_members crossings edges vertices)) ≡ Ok tt
+unfolding has_keys and_then
+limits_keys path crossings edges vertices = refl
+
+pub limits_tokens : (x : LimitRows) (ts r0 r1 r2 r3 rest : List Token) → ts ≡ begin_object ∷ r0 → SpellsMember 0 number_form (key_name Crossings) r0 x.crossings r1
+    → SpellsMember 0 number_form (key_name Edges) r1 x.edges r2 → SpellsMember 0 number_form (key_name Vertices) r2 x.vertices r3 → read_key r3 ≡ Some (None, rest) → Spells 1 limits_form ts x rest
+unfolding limits_form
+limits_tokens x ts r0 r1 r2 r3 rest e crossings edges vertices close =
+    let ms = limits_members crossings.2.spelled edges.2.spelled vertices.2.spelled in
+    object_tokens 0 limits_form ts r0 rest x ms e
+    (member_then 0 0 number_form _ r0 x.crossings r1 rest _ ms crossings (omega arith)
+    (member_then 0 0 number_form _ r1 x.edges r2 rest _ ms edges (omega arith)
+    (member_then 0 0 number_form _ r2 x.vertices r3 rest _ ms vertices (omega arith) (members_done 0 r3 rest ms close))))
+    (λ path.
+    went _ _ tt (limits_keys path crossings.2.spelled edges.2.spelled vertices.2.spelled)
+    ∙ went _ _ x.crossings (member_read number_form path Crossings (object ms) _ x.crossings refl crossings.2.reads)
+    ∙ went _ _ x.edges (member_read number_form path Edges (object ms) _ x.edges refl edges.2.reads)
+    ∙ went _ _ x.vertices (member_read number_form path Vertices (object ms) _ x.vertices refl vertices.2.reads))
+
+-- ---- Prices
+
+pub null_tokens : (ts rest : List Token) → ts ≡ Token.null ∷ rest → Spells 0 (price_form true) ts None rest
+unfolding price_form
+null_tokens ts rest e = record {
+  written = json.null;
+  spelled = null;
+  begins = λ depth le. ap (json.value depth) e ∙ value_is depth (Token.null ∷ rest);
+  means = refl;
+  reads = λ path. refl;
+}
+
+pub price_tokens : (n : ℕ) (ts rest : List Token) → SpellsNumber ts n rest → n < 2 ^ 32 → Spells 0 (price_form true) ts (Some n) rest
+unfolding price_form some_price
+price_tokens n ts rest s h = record {
+  written = json.number s.0;
+  spelled = number (unsigned n);
+  begins = λ depth le. ap (json.value depth) s.1 ∙ value_is depth (Token.number s.0 ∷ rest);
+  means = rw s.2;
+  reads = λ path. went (number_form path (number (unsigned n))) (λ (k : ℕ). Ok (Some k)) n (number_read (2 ^ 32) n path h);
+}
+
+gone : {A B : Type 0} (r : Read A) (next : A → Read B) (b : B) → and_then r next ≡ Ok b → (a : A) × (r ≡ Ok a) × (next a ≡ Ok b)
+unfolding and_then
+gone (Ok a) next b e = (a, refl, e)
+gone (Err fault) next b e = absurd cc
+
+abbrev found : {A : Type 0} → Read (List A) → List A
+found (Ok xs) = xs
+found (Err fault) = []
+
+-- what an array with a first element was read as
+first_read : {A : Type 0} (form : Path → Data → Read A) (path : Path) (i : ℕ) (d : Data) (ds : Items) (xs : List A) → items_from form path i (item d ds) ≡ Ok xs
+    → (y : A) × (ys : List A) × (form (element_of path i) d ≡ Ok y) × (items_from form path (i + 1) ds ≡ Ok ys) × (y ∷ ys ≡ xs)
+first_read {A = A} form path i d ds xs e =
+    let one = gone (form (element_of path i) d) (λ (y : A). and_then (items_from form path (i + 1) ds) (λ ys. Ok (y ∷ ys))) xs e in
+    let more = gone (items_from form path (i + 1) ds) (λ (ys : List A). Ok (one.0 ∷ ys)) xs one.2 in
+    (one.0, more.0, one.1, more.1, ap found more.2)
+
+pub counted : {A : Type 0} (form : Path → Data → Read A) (path : Path) (i : ℕ) (ds : Items) (xs : List A) → items_from form path i ds ≡ Ok xs → items_len ds ≡ length xs
+counted form path i no_items xs e = ap (λ r. length (found r)) e
+counted form path i (item d ds) xs e = let s = first_read form path i d ds xs e in ap suc (counted form path (i + 1) ds s.1 s.3) ∙ ap length s.4
+
+no_null : (path : Path) (d : Data) (p : Option ℕ) → price_form true path d ≡ Ok p → is_none p ≡ false → price_form false path d ≡ Ok p
+unfolding price_form
+no_null path null (Some p) e some = absurd cc
+no_null path null None e some = absurd cc
+no_null path (boolean b) p e some = e
+no_null path (number n) p e some = e
+no_null path (string s) p e some = e
+no_null path (array ds) p e some = e
+no_null path (object ms) p e some = e
+
+neither : (a b : Bool) → (a || b) ≡ false → (a ≡ false) × (b ≡ false)
+neither true b e = absurd cc
+neither false b e = (refl, e)
+
+no_nulls : (path : Path) (i : ℕ) (ds : Items) (ps : List (Option ℕ)) → items_from (price_form true) path i ds ≡ Ok ps → list_any is_none ps ≡ false → items_from (price_form false) path i ds ≡ Ok ps
+no_nulls path i no_items ps e none = e
+no_nulls path i (item d ds) ps e none =
+    let s = first_read (price_form true) path i d ds ps e in
+    let both = neither (is_none s.0) (list_any is_none s.1) (ap (list_any is_none) s.4 ∙ none) in
+    went (price_form false (element_of path i) d) (λ (p : Option ℕ). and_then (items_from (price_form false) path (i + 1) ds) (λ qs. Ok (p ∷ qs))) s.0 (no_null (element_of path i) d s.0 s.2 both.0)
+    ∙ went _ (λ (qs : List (Option ℕ)). Ok (s.0 ∷ qs)) s.1 (no_nulls path (i + 1) ds s.1 s.3 both.1) ∙ ap (λ qs. Ok qs) s.4
+
+either_way : (nulls : Bool) (path : Path) (ds : Items) (ps : List (Option ℕ)) → items_from (price_form true) path 0 ds ≡ Ok ps → (nulls ≡ false → list_any is_none ps ≡ false)
+    → items_from (price_form nulls) path 0 ds ≡ Ok ps
+either_way true path ds ps e none = e
+either_way false path ds ps e none = no_nulls path 0 ds ps e (none refl)
+
+pub prices_read : (nulls : Bool) (path : Path) (d : Data) (ps kept : List (Option ℕ)) → list_form (price_form true) path d ≡ Ok ps → length ps ≤ 64 → (nulls ≡ false → list_any is_none ps ≡ false)
+    → kept ≡ without_ones ps → prices_form nulls path d ≡ Ok kept
+unfolding list_form prices_form and_then
+prices_read nulls path null ps kept e short none is = absurd cc
+prices_read nulls path (boolean b) ps kept e short none is = absurd cc
+prices_read nulls path (number n) ps kept e short none is = absurd cc
+prices_read nulls path (string s) ps kept e short none is = absurd cc
+prices_read nulls path (array ds) ps kept e short none is =
+    let few : items_len ds ≤ 64 = omega (arith, counted (price_form true) path 0 ds ps e) in
+    rw (le-leb (items_len ds) 64 few, either_way nulls path ds ps e none) (ap (λ qs. Ok qs) (sym is))
+prices_read nulls path (object ms) ps kept e short none is = absurd cc
+
+-- ---- Reports
+
+abbrev report_members : Data → Data → Data → Data → Data → Data → Members
+report_members history limits picture prices start version =
+    member (codes "history") history (member (codes "limits") limits (member (codes "picture") picture
+    (member (codes "prices") prices (member (codes "start") start (member (codes "version") version no_members)))))
+
+report_keys : (history limits picture prices start version : Data)
+    → has_keys whole (History ∷ Limits ∷ Picture ∷ Prices ∷ Start ∷ Version ∷ []) [] (object (report_members history limits picture prices start version)) ≡ Ok tt
+unfolding has_keys and_then
+report_keys history limits picture prices start version = refl
+
+version_read : (n : ℕ) (nulls : Bool) (history limits picture prices start version : Data) → ((path : Path) → number_form path version ≡ Ok n) → nulls_of n ≡ Ok nulls
+    → nulls_in (object (report_members history limits picture prices start version)) ≡ Ok nulls
+unfolding nulls_in
+version_read n nulls history limits picture prices start version read of =
+    went _ _ tt refl ∙ went _ _ n (member_read number_form whole Version (object (report_members history limits picture prices start version)) version n refl read) ∙ of
+
+-- the prices, the start and the version of a report, closed and kept
+pub ending_tokens : {U : Type 0} (ps : List (Option ℕ)) (start : Rows) (n : ℕ) (ts end rest : List Token) (closed : Option U) (kept : Option (List (Option ℕ))) (both_there : Option (List (Option ℕ)))
+    (r : Option (List (Option ℕ) × Rows)) → SpellsThree 1 4 0 (list_form (price_form true)) rows_form number_form (key_name Prices) (key_name Start) (key_name Version) ts ps start n end
+    → IfSome closed (λ _. read_key end ≡ Some (None, rest)) → IfSome kept (ArePricesOf n ps) → both_there ≡ option_and closed kept → r ≡ option_zip both_there (Some start)
+    → IfSome r (λ found. SpellsEnding ts found.0 found.1 rest)
+ending_tokens ps start n ts end rest None kept both_there r members close are there is = let none : r ≡ None = is ∙ ap (λ o. option_zip o (Some start)) there in rw none tt
+ending_tokens ps start n ts end rest (Some u) None both_there r members close are there is = let none : r ≡ None = is ∙ ap (λ o. option_zip o (Some start)) there in rw none tt
+ending_tokens ps start n ts end rest (Some u) (Some kept) both_there r members close are there is =
+    let found : r ≡ Some (kept, start) = is ∙ ap (λ o. option_zip o (Some start)) there in
+    rw found (record { prices = ps; version = n; end = end; members = members; closed = close; are_kept = are })
+
+pub report_tokens : (x : Report) (ps : List (Option ℕ)) (n : ℕ) (ts r0 r1 r2 r3 r4 r5 r6 rest : List Token) → ts ≡ begin_object ∷ r0
+    → SpellsMember 5 (list_form entry_form) (key_name History) r0 x.history r1 → SpellsMember 1 limits_form (key_name Limits) r1 x.limits r2 → SpellsMember 4 rows_form (key_name Picture) r2 x.picture r3
+    → SpellsMember 1 (list_form (price_form true)) (key_name Prices) r3 ps r4 → SpellsMember 4 rows_form (key_name Start) r4 x.start r5 → SpellsMember 0 number_form (key_name Version) r5 n r6
+    → read_key r6 ≡ Some (None, rest) → ArePricesOf n ps x.prices → Spells 6 (λ path. report_form) ts x rest
+unfolding report_form
+report_tokens x ps n ts r0 r1 r2 r3 r4 r5 r6 rest e history limits picture prices start version close kept =
+    let ms = report_members history.2.spelled limits.2.spelled picture.2.spelled prices.2.spelled start.2.spelled version.2.spelled in
+    let form = prices_form kept.0 in
+    object_tokens 5 (λ path. report_form) ts r0 rest x ms e
+    (member_then 5 5 (list_form entry_form) _ r0 x.history r1 rest _ ms history (omega arith)
+    (member_then 1 5 limits_form _ r1 x.limits r2 rest _ ms limits (omega arith)
+    (member_then 4 5 rows_form _ r2 x.picture r3 rest _ ms picture (omega arith)
+    (member_then 1 5 (list_form (price_form true)) _ r3 ps r4 rest _ ms prices (omega arith)
+    (member_then 4 5 rows_form _ r4 x.start r5 rest _ ms start (omega arith)
+    (member_then 0 5 number_form _ r5 n r6 rest _ ms version (omega arith) (members_done 5 r6 rest ms close)))))))
+    (λ path.
+    went _ _ kept.0 (version_read n kept.0 _ _ _ _ _ _ version.2.reads kept.1)
+    ∙ went _ _ tt (report_keys history.2.spelled limits.2.spelled picture.2.spelled prices.2.spelled start.2.spelled version.2.spelled)
+    ∙ went _ _ x.history (member_read (list_form entry_form) whole History (object ms) _ x.history refl history.2.reads)
+    ∙ went _ _ x.limits (member_read limits_form whole Limits (object ms) _ x.limits refl limits.2.reads)
+    ∙ went _ _ x.picture (member_read rows_form whole Picture (object ms) _ x.picture refl picture.2.reads)
+    ∙ went _ _ x.prices (member_read form whole Prices (object ms) _ x.prices refl (λ p. prices_read kept.0 p prices.2.spelled ps x.prices (prices.2.reads p) kept.2 kept.3 kept.4))
+    ∙ went _ _ x.start (member_read rows_form whole Start (object ms) _ x.start refl start.2.reads))
+
+-- a head, and the ending that is zipped to it
+pub zip_ends : {A B : Type 0} (a : A) (o : Option B) (p : A × B) (P : B → Type 0) → Some p ≡ option_zip (Some a) o → IfSome o P → (a ≡ p.0) × P p.1
+zip_ends a None p P e h = absurd cc
+zip_ends a (Some b) p P e h = let same : (a, b) ≡ p = cc in (ap (λ q. q.0) same, subst (λ q. P q.1) same h)
+
+pub zip_starts : {A B : Type 0} (o : Option A) (b : B) (p : A × B) (P : A → Type 0) → Some p ≡ option_zip o (Some b) → IfSome o P → P p.0 × (b ≡ p.1)
+zip_starts None b p P e h = absurd cc
+zip_starts (Some a) b p P e h = let same : (a, b) ≡ p = cc in (subst (λ q. P q.0) same h, ap (λ q. q.1) same)
+
+pub report_zipped : (head : List Entry × LimitRows × Rows) (ending : Option (List (Option ℕ) × Rows)) (p : (List Entry × LimitRows × Rows) × (List (Option ℕ) × Rows)) (ts r0 r1 rest : List Token) → ts ≡ begin_object ∷ r0
+    → SpellsThree 5 1 4 (list_form entry_form) limits_form rows_form (key_name History) (key_name Limits) (key_name Picture) r0 head.0 head.1 head.2 r1
+    → IfSome ending (λ found. SpellsEnding r1 found.0 found.1 rest) → Some p ≡ option_zip (Some head) ending
+    → Spells 6 (λ path. report_form) ts (record { limits = p.0.1; prices = p.1.0; start = p.1.1; history = p.0.0; picture = p.0.2 }) rest
+report_zipped head ending p ts r0 r1 rest e members ends zipped =
+    let z = zip_ends head ending p (λ found. SpellsEnding r1 found.0 found.1 rest) zipped ends in
+    let end = z.1 in
+    let first = subst (λ h. SpellsThree 5 1 4 (list_form entry_form) limits_form rows_form (key_name History) (key_name Limits) (key_name Picture) r0 h.0 h.1 h.2 r1) z.0 members in
+    report_tokens (record { limits = p.0.1; prices = p.1.0; start = p.1.1; history = p.0.0; picture = p.0.2 }) end.prices end.version ts _ _ _ _ _ _ _ rest e first.two.first first.two.second first.third
+    end.members.two.first end.members.two.second end.members.third end.closed end.are_kept

@@ -1,0 +1,75 @@
+-- Tokens that spell starts and lists of commands.
+use Rattle.std.proofs.Common.{◌≡◌, ℕ, ◌<◌, ◌≤◌, false, List, ◌∷◌, length, codes, Some, None, Ok, refl, arith, lt-ltb, le-leb}
+use Rattle.json.specs.Token.{Token, string as text_token}
+use Rattle.serde_json.specs.Data.{Data, null, boolean, number, string, array, object}
+use Rattle.serde_json.specs.Events.{items_len}
+use Rattle.topo_core.specs.declared.calls.Command.{Command}
+use Rattle.topo_core.specs.declared.rows.Rows.{Rows}
+use Rattle.topo_forms.specs.declared.path.Key.TheVariants.{Workers}
+use Rattle.topo_forms.specs.declared.path.Path.{Path}
+use Rattle.topo_forms.specs.CallForms.{command_form}
+use Rattle.topo_forms.specs.Paths.{key_name}
+use Rattle.topo_forms.specs.Reads.{and_then, is_text, list_form, has_keys}
+use Rattle.topo_forms.specs.RowForms.{rows_form}
+use Rattle.topo_forms.specs.Scripts.{picture_form, start_form, workers_form}
+use Rattle.topo_forms.specs.Tokens.{Spells, SpellsMember}
+use Rattle.topo_forms.proofs.TokenReports.{counted}
+use Rattle.topo_forms.proofs.Spellings.{word_tokens, deeper}
+use Rattle.topo_forms.proofs.Steps.{went}
+
+-- ---- Starts
+
+no_seed : (path : Path) (d : Data) (rows : Rows) → rows_form path d ≡ Ok rows → is_text (codes "seed") d ≡ false
+unfolding rows_form has_keys and_then
+no_seed path null rows e = refl
+no_seed path (boolean b) rows e = refl
+no_seed path (number n) rows e = refl
+no_seed path (string s) rows e = absurd cc
+no_seed path (array ds) rows e = refl
+no_seed path (object ms) rows e = refl
+
+start_read : (path : Path) (d : Data) (rows : Rows) → rows_form path d ≡ Ok rows → start_form path d ≡ Ok (Some rows)
+unfolding start_form picture_form
+start_read path d rows e = rw (no_seed path d rows e) (went (rows_form path d) (λ (found : Rows). Ok (Some found)) rows e)
+
+pub start_tokens : (rows : Rows) (ts rest : List Token) → Spells 4 rows_form ts rows rest → Spells 4 start_form ts (Some rows) rest
+start_tokens rows ts rest s = record {
+  written = s.written;
+  spelled = s.spelled;
+  begins = s.begins;
+  means = s.means;
+  reads = λ path. start_read path s.spelled rows (s.reads path);
+}
+
+pub seed_tokens : (text : List ℕ) (ts rest : List Token) → ts ≡ text_token text ∷ rest → text ≡ codes "seed" → Spells 4 start_form ts None rest
+unfolding start_form
+seed_tokens text ts rest e is = deeper 0 4 start_form ts None rest (omega arith) (word_tokens start_form (codes "seed") text None ts rest e is (λ path. refl))
+
+-- ---- Lists of commands
+
+workers_read : (path : Path) (d : Data) (ws : List (List Command)) → list_form (list_form command_form) path d ≡ Ok ws → 0 < length ws → length ws ≤ 16 → workers_form path d ≡ Ok ws
+unfolding list_form workers_form and_then
+workers_read path null ws e some few = absurd cc
+workers_read path (boolean b) ws e some few = absurd cc
+workers_read path (number n) ws e some few = absurd cc
+workers_read path (string s) ws e some few = absurd cc
+workers_read path (array ds) ws e some few =
+    let count = counted (list_form command_form) path 0 ds ws e in
+    let more : 0 < items_len ds = omega arith in
+    let less : items_len ds ≤ 16 = omega arith in
+    rw (lt-ltb 0 (items_len ds) more, le-leb (items_len ds) 16 less) e
+workers_read path (object ms) ws e some few = absurd cc
+
+pub workers_tokens : (ws : List (List Command)) (ts rest : List Token) → SpellsMember 3 (list_form (list_form command_form)) (key_name Workers) ts ws rest → 0 < length ws → length ws ≤ 16
+    → SpellsMember 3 workers_form (key_name Workers) ts ws rest
+workers_tokens ws ts rest m some few = (
+  m.0,
+  m.1,
+  record {
+    written = m.2.written;
+    spelled = m.2.spelled;
+    begins = m.2.begins;
+    means = m.2.means;
+    reads = λ path. workers_read path m.2.spelled ws (m.2.reads path) some few;
+  },
+)

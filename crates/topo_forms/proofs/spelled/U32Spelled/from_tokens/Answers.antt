@@ -1,9 +1,0 @@
-use Rattle.std.proofs.Common.{◌^◌, ℕ, sym, subst, arith}
-use Rattle.topo_forms.specs.Spelled.{SpellsNumber}
-use Rattle.topo_forms.proofs.Spellings.{number_spelled}
-use Rattle.topo_forms.proofs.spelled.U32Spelled.from_tokens.Goals as goal
-
-pub returns : goal.returns
-returns c =
-    number_spelled (2 ^ 32) c.in_ok-number-2.number c.args.reader.now c.next_number.new.reader
-    (subst (λ (n : ℕ). SpellsNumber c.args.reader.now n c.next_number.new.reader) (sym c.in_ok-number-2.ensures) c.in_ok-number.ensures) (omega arith)

@@ -1,5 +1,0 @@
-use Rattle.topo_forms.proofs.SpelledCalls.{grow_spelled}
-use Rattle.topo_forms.proofs.spelled_calls.spelled_grow.Goals as goal
-
-pub returns : goal.returns
-returns c = grow_spelled c.in_ok-u.u c.in_ok-u.position c.in_ok-u.kind c.args.reader.now _ _ _ _ c.in_ok-u.ensures.first c.in_ok-u.ensures.second c.in_ok-u.ensures.third c.in_ok-u.ensures.closed

@@ -1,5 +1,0 @@
-use Rattle.topo_forms.proofs.SpelledReplies.{grown_spelled}
-use Rattle.topo_forms.proofs.spelled_replies.spelled_grown.Goals as goal
-
-pub returns : goal.returns
-returns c = grown_spelled c.in_ok-vertex.vertex c.in_ok-edge.edge c.args.reader.now _ _ _ c.in_ok-edge.ensures c.in_ok-vertex.ensures c.in_ok-end_object.ensures

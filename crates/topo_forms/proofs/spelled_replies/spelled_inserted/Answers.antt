@@ -1,5 +1,0 @@
-use Rattle.topo_forms.proofs.SpelledReplies.{inserted_spelled}
-use Rattle.topo_forms.proofs.spelled_replies.spelled_inserted.Goals as goal
-
-pub returns : goal.returns
-returns c = inserted_spelled _ c.args.reader.now _ _ _ _ _ _ c.in_ok-crossed.ensures c.in_ok-id.ensures.first c.in_ok-id.ensures.second c.in_ok-price.ensures.first c.in_ok-price.ensures.second c.in_ok-end_object.ensures

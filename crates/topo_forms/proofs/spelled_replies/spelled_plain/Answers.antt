@@ -1,8 +1,0 @@
-use Rattle.std.proofs.Common.{◌≡◌, rules}
-use Rattle.topo_forms.proofs.SpelledReplies.{plain_spelled}
-use Rattle.topo_forms.proofs.spelled_replies.spelled_plain.Goals as goal
-
-pub returns : goal.returns
-returns c =
-    let same : c.args.name.now ≡ c.in_ok-text.text.now = search rules in
-    plain_spelled c.args.number c.args.name.now c.in_ok-text.text.now c.in_ok-text.why c.args.reader.now c.end_array.new.reader c.in_ok-text.ensures same c.in_ok-end_array.ensures

@@ -1,5 +1,0 @@
-use Rattle.topo_forms.proofs.SpelledReports.{report_zipped}
-use Rattle.topo_forms.proofs.spelled_reports.ReportSpelled.from_tokens.Goals as goal
-
-pub returns : goal.returns
-returns c = report_zipped c.in_ok-head.head c.spelled_ending-ending.result _ c.args.reader.now _ _ _ c.in_ok-begin_object.ensures c.in_ok-head.ensures c.spelled_ending-ending.ensures c.in_ok-history.ensures

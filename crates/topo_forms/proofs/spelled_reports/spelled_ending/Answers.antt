@@ -1,5 +1,0 @@
-use Rattle.topo_forms.proofs.SpelledReports.{ending_spelled}
-use Rattle.topo_forms.proofs.spelled_reports.spelled_ending.Goals as goal
-
-pub returns : goal.returns
-returns c = ending_spelled c.in_ok-prices.prices c.in_ok-prices.start c.in_ok-prices.version c.args.reader.now _ _ c.end_object-closed.result c.kept_prices.result c.and-kept.result c.zip.result c.in_ok-prices.ensures c.end_object-closed.ensures c.kept_prices.ensures c.and-kept.ensures c.zip.ensures

@@ -1,5 +1,0 @@
-use Rattle.topo_forms.proofs.SpelledRows.{crossing_spelled}
-use Rattle.topo_forms.proofs.spelled_rows.CrossRowSpelled.from_tokens.Goals as goal
-
-pub returns : goal.returns
-returns c = crossing_spelled _ c.args.reader.now _ _ _ _ _ _ c.in_ok-begin_object.ensures c.in_ok-crossed.ensures.first c.in_ok-crossed.ensures.second c.in_ok-newcomer.ensures.first c.in_ok-newcomer.ensures.second c.in_ok-end_object.ensures

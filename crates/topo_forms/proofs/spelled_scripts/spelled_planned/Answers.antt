@@ -1,5 +1,0 @@
-use Rattle.topo_forms.proofs.SpelledCalls.{planned_spelled}
-use Rattle.topo_forms.proofs.spelled_scripts.spelled_planned.Goals as goal
-
-pub returns : goal.returns
-returns c = planned_spelled c.in_ok-u.u c.in_ok-u.v c.in_ok-u.kind c.args.reader.now _ _ _ _ c.in_ok-u.ensures.first c.in_ok-u.ensures.second c.in_ok-u.ensures.third c.in_ok-u.ensures.closed

@@ -1,0 +1,17 @@
+use Rattle.std.proofs.Common.{◌≡◌, codes, refl, rules}
+use Rattle.topo_core.specs.declared.darts.Sign.TheVariants.{LeftToRight, RightToLeft}
+use Rattle.topo_forms.specs.RowForms.{sign_form}
+use Rattle.topo_forms.proofs.Spellings.{word_tokens}
+use Rattle.topo_forms.proofs.token_rows.SignFromTokens.from_tokens.Goals as goal
+
+pub returns-then-eq : goal.returns-then-eq
+unfolding sign_form
+returns-then-eq c =
+    let is : c.in_ok-text.text.now ≡ codes "ltr" = search rules in
+    word_tokens sign_form (codes "ltr") c.in_ok-text.text.now LeftToRight c.args.reader.now c.next_text.new.reader c.in_ok-text.ensures is (λ path. refl)
+
+pub returns-then-eq-2 : goal.returns-then-eq-2
+unfolding sign_form
+returns-then-eq-2 c =
+    let is : c.in_ok-text.text.now ≡ codes "rtl" = search rules in
+    word_tokens sign_form (codes "rtl") c.in_ok-text.text.now RightToLeft c.args.reader.now c.next_text.new.reader c.in_ok-text.ensures is (λ path. refl)

@@ -1,0 +1,62 @@
+//! Calls, read from the tokens of a text.
+
+ghost use Rattle.std.specs.Prelude.{◌≡◌, IfSome, codes};
+ghost use Rattle.topo_forms.specs.CallForms.{call_form};
+ghost use Rattle.topo_forms.specs.TokenParts.{SpellsCall};
+
+use crate::tokens::{FromTokens, begin_array, end_array, last_numbers, next_text};
+use json::Reader;
+use std::alloc::Global;
+use topo_core::calls::Call;
+
+/// What follows the word of a call that grows.
+fn token_grow(alloc: Global, reader: &mut Reader<'_>) -> Option<Call>
+    ensures { IfSome result (λ call. SpellsCall (codes "grow") reader.old call reader.new) }
+{
+    let (u, position, kind) = last_numbers(alloc, reader)?;
+    Some(Call::Grow { u, position, kind })
+}
+
+/// What follows the word of a call that inserts.
+fn token_insert(alloc: Global, reader: &mut Reader<'_>) -> Option<Call>
+    ensures { IfSome result (λ call. SpellsCall (codes "insert") reader.old call reader.new) }
+{
+    let (u, v, kind) = last_numbers(alloc, reader)?;
+    Some(Call::Insert { u, v, kind })
+}
+
+/// What follows the word of a call that deletes.
+fn token_delete(alloc: Global, reader: &mut Reader<'_>) -> Option<Call>
+    ensures { IfSome result (λ call. SpellsCall (codes "delete") reader.old call reader.new) }
+{
+    let edge = u32::from_tokens(alloc, reader)?;
+    end_array(reader)?;
+    Some(Call::Delete { edge })
+}
+
+/// What follows the word of a call.
+pub fn call_after(alloc: Global, word: &str, reader: &mut Reader<'_>) -> Option<Call>
+    ensures { IfSome result (λ call. SpellsCall word.now reader.old call reader.new) }
+{
+    if word == "grow" {
+        token_grow(alloc, reader)
+    } else if word == "insert" {
+        token_insert(alloc, reader)
+    } else if word == "delete" {
+        token_delete(alloc, reader)
+    } else {
+        None
+    }
+}
+
+impl FromTokens for Call {
+    ghost form = { call_form };
+
+    ghost nesting = { 1 };
+
+    fn from_tokens(alloc: Global, reader: &mut Reader<'_>) -> Option<Self> {
+        begin_array(reader)?;
+        let word = next_text(reader)?;
+        call_after(alloc, word, reader)
+    }
+}

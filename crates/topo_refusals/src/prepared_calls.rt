@@ -1,0 +1,98 @@
+//! Calls of a book that are made ready first, and then entered.
+
+ghost use Rattle.std.specs.Prelude.{IfOk};
+ghost use Rattle.topo_price.specs.Prices.{prices_of};
+ghost use Rattle.topo_book.specs.Books.{CanFollow};
+
+use crate::book_calls::{CALLER, compare_book};
+use crate::printed::{book_state, compare, picture_state};
+use anyhow::Result;
+use std::alloc::{AllocError, Global};
+use topo_book::{Book, Next};
+use topo_core::calls::Call;
+use topo_price::tariff::PriceFn;
+use topo_route::plan::Plan;
+
+/// Makes a call ready, an insertion with the plan if there is one.
+fn prepared<F: PriceFn>(
+    alloc: Global,
+    book: &mut Book<F>,
+    call: Call,
+    plan: Option<&Plan>,
+) -> Result<Next, AllocError>
+    ensures ready { IfOk result (CanFollow (prices_of (F.may_return book.new.tariff)) book.new) }
+{
+    match (call, plan) {
+        (Call::Insert { u, v, kind }, Some(plan)) => {
+            book.prepare_planned(alloc, CALLER, u, v, kind, plan)
+        }
+        _ => book.prepare(alloc, CALLER, call),
+    }
+}
+
+/// What the call that makes ready is named.
+fn name_of(plan: Option<&Plan>) -> &'static str {
+    match plan {
+        Some(_) => "Book::prepare_planned",
+        None => "Book::prepare",
+    }
+}
+
+/// Makes a call ready, again where that wants memory.
+fn ready<R: Print + Eprint + AllocGlobal, F: PriceFn>(
+    rt: &R,
+    book: &mut Book<F>,
+    call: Call,
+    plan: Option<&Plan>,
+    before: &str,
+) -> Result<Next>
+    ensures ready { IfOk result (CanFollow (prices_of (F.may_return book.new.tariff)) book.new) }
+{
+    match prepared(rt.alloc(), book, call, plan) {
+        Ok(next) => Ok(next),
+        Err(_) => {
+            compare_book(rt, name_of(plan), before, book)?;
+            Ok(prepared(rt.alloc(), book, call, plan)?)
+        }
+    }
+}
+
+/// Prints a call that is ready, with the picture after it.
+fn print_ready<R: Print + Eprint + AllocGlobal>(rt: &R, next: &Next) -> Result<()> {
+    let entry = next.entry();
+    println!(rt; "ready: {entry:?}")?;
+    if let Some(picture) = next.picture() {
+        let state = picture_state(rt, picture)?;
+        println!(rt; "to come:{state}")?;
+    }
+    Ok(())
+}
+
+/// Prints a call that is ready, and compares the book with its state before.
+fn show_ready<R: Print + Eprint + AllocGlobal, F: PriceFn>(
+    rt: &R,
+    book: &Book<F>,
+    next: &Next,
+    name: &str,
+    before: &str,
+) -> Result<()> {
+    print_ready(rt, next)?;
+    let after = book_state(rt, book)?;
+    compare(rt, name, before, after.as_str())?;
+    Ok(())
+}
+
+/// Makes a call ready, again where it wants memory, and enters it. Until it is entered nothing has
+/// changed.
+pub(crate) fn enter_ready<R: Print + Eprint + AllocGlobal, F: PriceFn>(
+    rt: &R,
+    book: &mut Book<F>,
+    call: Call,
+    plan: Option<&Plan>,
+    before: &str,
+) -> Result<()> {
+    let next = ready(rt, book, call, plan, before)?;
+    let shown = show_ready(rt, book, &next, name_of(plan), before);
+    book.commit(next);
+    shown
+}

@@ -1,0 +1,75 @@
+//! The darts of a picture by names.
+
+ghost use Rattle.std.specs.Prelude.{◌≡◌, ◌↔◌, IsTrue, length, option_map};
+ghost use Rattle.std.specs.declared.cmp.Ordering.TheVariants.{Less};
+ghost use Rattle.topo_core.specs.Darts.{dart_cmp};
+ghost use Rattle.topo_core.specs.Lawful.{Lawful};
+ghost use Rattle.topo_core.specs.Picture.{corner, edge_at, rotation, system};
+ghost use Rattle.topo_core.specs.Routes.{AreFactsOf};
+ghost use Rattle.topo_core.specs.Systems.{SameFace};
+ghost use Rattle.topo_route.specs.Names.{IsName, IsNamed, Named, dart_named, next_name, twin_name};
+
+use topo_core::darts::Dart;
+use topo_core::rows::Facts;
+
+/// A lawful picture whose darts have names: each a number of its own, in no particular order. It is
+/// what a search asks that hands out no heights. A name that is handed in is that of a dart.
+pub trait FaceGraph {
+    /// The rows that it shows, and the names of their darts.
+    ghost named: { Self → Named };
+
+    /// A number that all names are below.
+    fn size(&self) -> u32
+        ensures { result ≡ (named self.now).size };
+
+    /// The next dart along the face on the left.
+    fn next(&self, dart: u32) -> u32
+        requires { IsName (named self.now) dart }
+        ensures { result ≡ next_name (named self.now) dart };
+
+    /// The same segment, the other way.
+    fn twin(&self, dart: u32) -> u32
+        requires { IsName (named self.now) dart }
+        ensures { result ≡ twin_name (named self.now) dart };
+
+    /// The id of the edge that it lies on.
+    fn edge(&self, dart: u32) -> u32
+        requires { IsName (named self.now) dart }
+        ensures { result ≡ (dart_named (named self.now) dart).edge };
+
+    /// The facts of the edge that it lies on.
+    fn facts(&self, dart: u32) -> Facts
+        requires { IsName (named self.now) dart }
+        ensures { AreFactsOf (edge_at (named self.now).rows (dart_named (named self.now) dart).edge) result };
+
+    /// The dart that names the corner at a position of a vertex; none where there is no such corner.
+    fn corner(&self, v: u32, position: u32) -> Option<u32>
+        ensures { result ≡ option_map (named self.now).name (corner (named self.now).rows v position) };
+
+    /// How many corners a vertex has, and 0 where it is no vertex.
+    fn degree(&self, v: u32) -> u32
+        ensures { result ≡ length (rotation (named self.now).rows v) };
+
+    /// The dart of a name.
+    fn dart(&self, dart: u32) -> Dart
+        requires { IsName (named self.now) dart }
+        ensures { result ≡ dart_named (named self.now) dart };
+
+    /// Whether one dart comes before another in canonical order.
+    fn precedes(&self, dart: u32, other: u32) -> bool
+        requires dart_there { IsName (named self.now) dart }
+        requires other_there { IsName (named self.now) other }
+        ensures { IsTrue result ↔ dart_cmp (dart_named (named self.now) dart) (dart_named (named self.now) other) ≡ Less };
+
+    /// Whether two darts have one face on their left. It takes no longer where the face is large.
+    fn same_face(&self, dart: u32, other: u32) -> bool
+        requires dart_there { IsName (named self.now) dart }
+        requires other_there { IsName (named self.now) other }
+        ensures { IsTrue result ↔ SameFace (system (named self.now).rows) (dart_named (named self.now) dart) (dart_named (named self.now) other) };
+
+    /// What it shows is lawful.
+    ghost lawful: { (picture : Self) → Lawful (named picture).rows };
+
+    /// Each dart has a name of its own.
+    ghost has_names: { (picture : Self) → IsNamed (named picture) };
+}

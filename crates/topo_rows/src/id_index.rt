@@ -1,0 +1,132 @@
+//! Tables of the places of edges and crossings, by their ids.
+
+use crate::by_id::Identified;
+use std::alloc::{AllocError, Global};
+use topo_core::rows::{EdgeRow, Rows};
+
+/// No places are noted for ids when more than this many ids were given for each row that is there.
+const MAX_IDS_PER_ROW: usize = 16;
+
+/// Places that are tried before anything is searched for: for the ids of edges and of crossings the
+/// places of their rows. They are speed alone. A place is taken only once what is there is seen to
+/// be what was looked for, so no answer depends on them, and nothing is claimed of them.
+#[derive(Drop)]
+pub struct IdIndex {
+    edges: Vec<u32>,
+    crossings: Vec<u32>,
+}
+
+impl IdIndex {
+    /// The places in these rows.
+    pub fn of(alloc: Global, rows: &Rows) -> Result<Self, AllocError> {
+        let edges = places_by_id(alloc, rows.edges.as_slice(), rows.next_edge)?;
+        let crossings = places_by_id(alloc, rows.crossings.as_slice(), rows.next_crossing)?;
+        Ok(IdIndex { edges, crossings })
+    }
+
+    /// The same.
+    pub fn copy(&self, alloc: Global) -> Result<Self, AllocError> {
+        let edges = Vec::from_slice(alloc, self.edges.as_slice())?;
+        let crossings = Vec::from_slice(alloc, self.crossings.as_slice())?;
+        Ok(IdIndex { edges, crossings })
+    }
+
+    /// Where the edge with an id is expected.
+    pub(crate) fn edge(&self, id: u32) -> usize {
+        expected(self.edges.as_slice(), id)
+    }
+
+    /// Where the crossing with an id is expected.
+    pub(crate) fn crossing(&self, id: u32) -> usize {
+        expected(self.crossings.as_slice(), id)
+    }
+
+    /// Lets go of the places of crossings, and of their memory.
+    pub fn forget_crossings(&mut self) {
+        self.crossings.clear();
+        self.crossings.shrink_to_fit();
+    }
+
+    /// Room for one edge more.
+    pub fn reserve(&mut self) -> Result<(), AllocError> {
+        self.edges.reserve(1)
+    }
+
+    /// Follows an edge put at the end.
+    pub fn join(&mut self, edges: &[EdgeRow]) {
+        note_last(&mut self.edges, edges, edges.len().saturating_sub(1));
+    }
+
+    /// Follows an edge that goes.
+    pub fn leave(&mut self, edge: u32) {
+        lower_from(&mut self.edges, (edge as usize).saturating_add(1));
+    }
+
+    /// Forgets the ids of edges where few of them are left, once an edge is gone.
+    pub fn settle(&mut self, edges: &[EdgeRow]) {
+        forget_sparse(&mut self.edges, edges.len());
+    }
+}
+
+/// Where something with a number is expected: at the place that is noted, and else where nothing
+/// smaller is gone.
+pub fn expected(places: &[u32], number: u32) -> usize {
+    match places.get(number as usize) {
+        Some(place) => *place as usize,
+        None => number as usize,
+    }
+}
+
+/// A place as it is noted. No rows are so many that one does not fit.
+fn noted(place: usize) -> u32 {
+    if place < u32::MAX as usize {
+        place as u32
+    } else {
+        u32::MAX
+    }
+}
+
+/// The places of rows by their ids, of which so many were given.
+fn places_by_id<T: Identified>(
+    alloc: Global,
+    rows: &[T],
+    given: u32,
+) -> Result<Vec<u32>, AllocError> {
+    if given as usize / MAX_IDS_PER_ROW > rows.len() {
+        return Ok(Vec::new(alloc));
+    }
+    let mut places = vec![in alloc; 0; given as usize]?;
+    note_places(&mut places, rows);
+    Ok(places)
+}
+
+/// Notes the place of each row at its id, as far as there is room.
+fn note_places<T: Identified>(places: &mut [u32], rows: &[T]) {
+    for place in 0..rows.len() {
+        let id = rows[place].id() as usize;
+        if id < places.len() {
+            places[id] = noted(place);
+        }
+    }
+}
+
+/// Notes the place of a row with the next id.
+fn note_last<T: Identified>(places: &mut Vec<u32>, rows: &[T], place: usize) {
+    if place < rows.len() && rows[place].id() as usize == places.len() {
+        let _short = places.push(noted(place)).is_err();
+    }
+}
+
+/// Moves all that is noted from an index on one place down.
+fn lower_from(places: &mut [u32], first: usize) {
+    for i in first..places.len() {
+        places[i] = places[i].wrapping_sub(1);
+    }
+}
+
+/// Lets go of the places of ids where most of the ids are gone.
+fn forget_sparse(places: &mut Vec<u32>, rows: usize) {
+    if places.len() / MAX_IDS_PER_ROW > rows {
+        places.clear();
+    }
+}
