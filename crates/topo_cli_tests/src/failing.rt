@@ -6,8 +6,8 @@ use crate::streams::{
 use std::alloc::Global;
 use std::test::Fail;
 use topo_check::{check_io, replay_io};
+use topo_forms::ScriptFault;
 use topo_run::{OpenGate, run_io};
-use topo_script::ScriptFault;
 use topo_settings::RunFault;
 
 /// The greatest number of bytes that a script may have.

@@ -4,8 +4,8 @@ use std::sync::atomic::{AtomicBool, Ordering};
 use std::test::Fail;
 use std::thread;
 use topo_core::calls::{Entry, Reply};
+use topo_forms::read_report;
 use topo_run::run_io;
-use topo_script::read_report;
 use topo_service::Gate;
 
 /// How often a call of the gate looks for a flag at most.

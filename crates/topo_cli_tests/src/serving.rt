@@ -6,7 +6,7 @@ use crate::streams::{BreakingReader, FailingWriter, FullWriter, SlowReader, Slow
 use std::alloc::Global;
 use std::process::Abort;
 use std::test::Fail;
-use topo_script::ScriptFault;
+use topo_forms::ScriptFault;
 use topo_serve::serve_io;
 use topo_settings::RunFault;
 

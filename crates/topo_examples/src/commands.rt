@@ -6,9 +6,9 @@ use std::sync::Wait;
 use std::thread::Threads;
 use topo_check::{check_io, replay_io};
 use topo_core::rows::Rows;
-use topo_forms::Report;
+use topo_forms::{Report, ScriptFault, read_report, read_rows, read_script};
 use topo_run::{OpenGate, run_io};
-use topo_script::{ScriptFault, picture_text, read_report, read_rows, read_script, report};
+use topo_script::{picture_text, report};
 use topo_serve::serve_io;
 
 /// What is done with the bytes of a row.

@@ -10,6 +10,9 @@ use thiserror::Error;
 /// The kinds of edges are below this number.
 pub const KINDS: usize = 64;
 
+/// The greatest price of crossing an edge. The least is 1.
+pub const MAX_PRICE: u32 = 1000;
+
 #[derive(Clone, Copy, Debug, Drop, PartialEq, Eq, Error)]
 pub enum PriceFault {
     /// The least kind whose price is 0 or above 1000.
@@ -57,7 +60,7 @@ fn is_good_price(entry: Option<u32>) -> bool
     ensures { result ≡ is_good entry }
 {
     match entry {
-        Some(n) => 1 <= n && n <= 1000,
+        Some(n) => 1 <= n && n <= MAX_PRICE,
         None => true,
     }
 }
@@ -72,7 +75,7 @@ fn first_bad_kind(prices: &[Option<u32>]) -> Option<usize>
 /// A price from 1 to 1000 for each kind, or none.
 #[derive(Drop)]
 pub struct PriceTable {
-    prices: [Option<u32>; 64],
+    prices: [Option<u32>; KINDS],
 }
 
 impl Model for PriceTable {
@@ -88,7 +91,7 @@ impl Model for PriceTable {
 
 impl PriceTable {
     /// The table with these entries, by kind; else the least kind whose entry is no price.
-    pub fn new(prices: [Option<u32>; 64]) -> Result<Self, PriceFault>
+    pub fn new(prices: [Option<u32>; KINDS]) -> Result<Self, PriceFault>
         ensures { MatchResult result (λ t. (t ≡ prices) × (first_bad prices ≡ None)) (λ e. IsSomeAnd (first_bad prices) (λ kind. e ≡ PriceFault.BadPrice kind)) }
     {
         match first_bad_kind(&prices) {

@@ -17,7 +17,9 @@ use topo_core::calls::Command;
 use topo_core::listed::Listed;
 use topo_picture::Picture;
 use topo_price::tariff::{PriceFn, Tariff};
-use topo_service::{EndFault, FreshService, Gate, Pass, Service, WorkerEnd, run_workers};
+use topo_service::{
+    EndFault, FreshService, Gate, MAX_PASSES, Pass, Service, WorkerEnd, run_workers,
+};
 use topo_settings::RunFault;
 use topo_versions::{ServiceBrand, StoreReader};
 
@@ -141,7 +143,7 @@ fn serve<
     ensures run { IfOk result (λ outcome. IsRun (prices_of (F.may_return (arc_value tariff))) start.limits start.rows (map commands lists.now) outcome.history outcome.picture) }
     ensures fault { IfErr result IsOfService }
 {
-    let places = lists.len().max(1).min(16) as u32;
+    let places = lists.len().max(1).min(MAX_PASSES as usize) as u32;
     let Ok(mut service) = Service::<F, K>::with_places(alloc, fresh, start, tariff, places) else {
         return Err(RunFault::Memory);
     };

@@ -18,7 +18,6 @@ use crate::written::Written;
 pub use report_text::report;
 use std::alloc::{AllocError, Global};
 use topo_core::rows::Rows;
-pub use topo_forms::{LimitRows, Report, Script, ScriptFault, read_report, read_rows, read_script};
 
 /// The text of a picture's rows, on one line and without a line feed.
 pub fn picture_text(alloc: Global, rows: &Rows) -> Result<String, AllocError>

@@ -14,7 +14,7 @@ use crate::faults::EndFault;
 use crate::locked_state::LockedState;
 use crate::pass::PassOver;
 use crate::service::ServiceOver;
-use crate::share_pool::SharePool;
+use crate::share_pool::{MAX_PASSES, SharePool};
 use std::alloc::{AllocError, Global};
 use std::sync::ledger::{Blank, Book as Tally};
 use std::sync::{Arc, Mutex, Wait};
@@ -45,7 +45,7 @@ impl FreshService {
         ensures { result.blank.parts ≡ 16 }
     {
         FreshService {
-            blank: Blank::new(16),
+            blank: Blank::new(MAX_PASSES),
             log: FreshLog::new(),
         }
     }
@@ -144,7 +144,7 @@ impl<F: PriceFn + Drop, K: ServiceBrand<F>> Service<F, K> {
         ensures places { IfOk result (λ s. s.places ≡ 16) }
         ensures no_pass { IfOk result (λ s. s.given ≡ 0) }
     {
-        Self::with_places(alloc, fresh, start, tariff, 16)
+        Self::with_places(alloc, fresh, start, tariff, MAX_PASSES)
     }
 
     /// As `new`, for so many passes at most. An accepted call visits the place of each of them twice, so a

@@ -6,6 +6,9 @@ use std::sync::Mutex;
 use std::sync::ledger::Share;
 use topo_versions::LogBrand;
 
+/// A service has at most so many passes.
+pub const MAX_PASSES: u32 = 16;
+
 /// What is left, and how many parts were given out.
 #[derive(Drop)]
 struct Rest<K: LogBrand> {
@@ -36,7 +39,7 @@ impl<K: LogBrand> Rest<K> {
     fn take(&mut self) -> Option<Share<K>>
         ensures { IfSome result (λ share. (share.parts ≡ 1) × (share.amount ≡ 0)) }
     {
-        if self.given >= 16 {
+        if self.given >= MAX_PASSES {
             return None;
         }
         self.given += 1;

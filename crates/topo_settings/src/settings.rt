@@ -10,7 +10,7 @@ use topo_core::limits::Limits;
 use topo_core::rows::Rows;
 use topo_forms::LimitRows;
 use topo_picture::Picture;
-use topo_price::table::{PriceFault, PriceTable};
+use topo_price::table::{KINDS, PriceFault, PriceTable};
 
 /// The prices of all kinds and the picture that is started with, or the first fault of the limits, the
 /// prices and the start.
@@ -55,11 +55,11 @@ fn table_of(prices: &[Option<u32>]) -> Result<PriceTable, PriceFault>
 }
 
 /// The prices of all kinds.
-fn price_table(prices: &[Option<u32>]) -> [Option<u32>; 64]
+fn price_table(prices: &[Option<u32>]) -> [Option<u32>; KINDS]
     ensures { result ≡ price_table prices.now }
 {
-    let mut table = [Some(1); 64];
-    for kind in 0..64 {
+    let mut table = [Some(1); KINDS];
+    for kind in 0..KINDS {
         table[kind] = price_of_kind(prices, kind);
     }
     table

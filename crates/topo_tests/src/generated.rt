@@ -14,9 +14,10 @@ use topo_check::replay_io;
 use topo_core::calls::{Call, Entry, Refusal, Reply};
 use topo_core::listed::Listed;
 use topo_core::rows::{Facts, Rows};
+use topo_forms::{LimitRows, Report};
 use topo_picture::Picture;
 use topo_price::tariff::PriceFn;
-use topo_script::{LimitRows, Report, report};
+use topo_script::report;
 
 /// The prices of kinds 0 to 3, which are those that the calls have.
 const PRICES: [Option<u32>; 4] = [Some(1), Some(5), Some(2), None];

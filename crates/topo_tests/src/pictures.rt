@@ -3,8 +3,8 @@
 use std::alloc::Global;
 use std::test::Fail;
 use topo_core::limits::Limits;
+use topo_forms::read_rows;
 use topo_picture::Picture;
-use topo_script::read_rows;
 
 /// Two vertices and the edge between them.
 pub(crate) const SEED: &str =

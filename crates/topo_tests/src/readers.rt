@@ -3,7 +3,8 @@
 use crate::pictures::JOINED;
 use std::alloc::Global;
 use std::test::Fail;
-use topo_script::{picture_text, read_report, read_rows, report};
+use topo_forms::{read_report, read_rows};
+use topo_script::{picture_text, report};
 
 /// `JOINED` with the keys in other orders, blanks between its tokens, an escape in a key and a key that
 /// comes twice.
