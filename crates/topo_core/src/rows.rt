@@ -35,6 +35,9 @@ pub struct Rows {
     pub next_crossing: u32,
 }
 
+/// The kinds of edges are below this number.
+pub const KINDS: usize = 64;
+
 /// What a price may depend on: an edge without its crossings.
 #[derive(Clone, Copy, Debug, PartialEq, Eq)]
 pub struct Facts {
@@ -58,7 +61,7 @@ impl Facts {
         ensures unknown { IsNone result ↔ (64 ≤ row.now.kind) }
     {
         let (id, a, b, kind) = (row.id, row.a, row.b, row.kind);
-        if kind < 64 {
+        if (kind as usize) < KINDS {
             Some(Facts {
                 id,
                 a,

@@ -13,9 +13,10 @@ use crate::path::Path;
 use serde_json::Value;
 use std::alloc::Global;
 use topo_core::listed::Listed;
+use topo_core::rows::KINDS;
 
 /// The greatest number of prices in a list: one for each kind.
-pub(crate) const MAX_PRICES: usize = 64;
+pub(crate) const MAX_PRICES: usize = KINDS;
 
 fn read_some_price(alloc: Global, path: Path, value: &Value) -> Result<Option<u32>, ScriptFault>
     ensures { Gives result (some_price path (view value.now)) }

@@ -12,7 +12,7 @@ use topo_core::ids::{EdgeId, VertexId};
 use topo_core::limits::Limits;
 use topo_core::listed::Listed;
 use topo_core::routes::Route;
-use topo_core::rows::{EdgeRow, Rows};
+use topo_core::rows::{EdgeRow, KINDS, Rows};
 use topo_dual::{Frozen, NumberLists, Numbered};
 use topo_embedded::{Embedded, EmbeddedRows};
 use topo_route::plan::Plan;
@@ -443,7 +443,7 @@ fn growth_numbers(
         Err(Refusal::NoVertex)
     } else if position as usize >= rows.degree(u) {
         Err(Refusal::NoPosition)
-    } else if kind >= 64 {
+    } else if kind as usize >= KINDS {
         Err(Refusal::BadKind)
     } else if vertices >= limits.vertices as usize || rows.next_edge() >= limits.edges {
         Err(Refusal::Full)
@@ -479,7 +479,7 @@ fn insert_fault(limits: &Limits, rows: &KeptRows, u: u32, v: u32, kind: u32) -> 
         Some(Refusal::NoVertex)
     } else if u == v {
         Some(Refusal::SameEnds)
-    } else if kind >= 64 {
+    } else if kind as usize >= KINDS {
         Some(Refusal::BadKind)
     } else if rows.next_edge() >= limits.edges {
         Some(Refusal::Full)

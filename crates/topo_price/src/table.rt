@@ -6,9 +6,7 @@ ghost use Rattle.topo_price.specs.Prices.{first_bad, is_good};
 use std::fmt;
 use std::marker::Model;
 use thiserror::Error;
-
-/// The kinds of edges are below this number.
-pub const KINDS: usize = 64;
+use topo_core::rows::KINDS;
 
 /// The greatest price of crossing an edge. The least is 1.
 pub const MAX_PRICE: u32 = 1000;

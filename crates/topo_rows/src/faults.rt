@@ -13,7 +13,7 @@ use crate::pairs::{Member, agree, crossing_pairs, end_pairs, path_pairs, rotatio
 use std::alloc::{AllocError, Global};
 use topo_core::limits::Limits;
 use topo_core::listed::Listed;
-use topo_core::rows::{CrossRow, EdgeRow, Rows};
+use topo_core::rows::{CrossRow, EdgeRow, KINDS, Rows};
 
 /// Whether the vertices and the counters are within the limits.
 pub(crate) fn within_limits(limits: &Limits, rows: &Rows) -> bool
@@ -62,7 +62,7 @@ fn is_path_over(vertices: usize, ids: &[u32], row: &EdgeRow) -> bool
     (row.a as usize) < vertices
         && (row.b as usize) < vertices
         && row.a != row.b
-        && row.kind < 64
+        && (row.kind as usize) < KINDS
         && has_numbers(ids, row.crossings.as_slice())
 }
 

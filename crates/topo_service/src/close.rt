@@ -45,7 +45,7 @@ impl FreshService {
         ensures { result.blank.parts ≡ 16 }
     {
         FreshService {
-            blank: Blank::new(MAX_PASSES),
+            blank: Blank::new(MAX_PASSES as u64),
             log: FreshLog::new(),
         }
     }

@@ -7,10 +7,10 @@ ghost use Rattle.topo_price.specs.Prices.{first_bad};
 use crate::fault::RunFault;
 use std::alloc::Global;
 use topo_core::limits::Limits;
-use topo_core::rows::Rows;
+use topo_core::rows::{KINDS, Rows};
 use topo_forms::LimitRows;
 use topo_picture::Picture;
-use topo_price::table::{KINDS, PriceFault, PriceTable};
+use topo_price::table::{PriceFault, PriceTable};
 
 /// The prices of all kinds and the picture that is started with, or the first fault of the limits, the
 /// prices and the start.
