@@ -6,7 +6,7 @@
  *
  *     FEZDROK_DONE       the input is a lawful picture, or a true report
  *     FEZDROK_FAULT      it is not: the text is the line of the first fault
- *     FEZDROK_NO_MEMORY  memory was wanted
+ *     FEZDROK_NO_MEMORY  out of memory
  *
  * Else the output stays as it was, and the result is FEZDROK_TOO_SMALL; a call with `*size` bytes of room has the text.
  * 128 bytes are enough for any text that is not a fault at a deep path of a large input.

@@ -5,7 +5,7 @@
 
 #include "fezdrok.h"
 
-/* Reads standard input to its end; NULL where memory is wanted. */
+/* Reads standard input to its end; NULL if out of memory. */
 static uint8_t *read_all(size_t *length) {
     size_t room = 1 << 16, had = 0, got;
     uint8_t *bytes = malloc(room);

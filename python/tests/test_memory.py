@@ -33,7 +33,7 @@ class RefusedAllocations(unittest.TestCase):
         return done.returncode, done.stdout, done.stderr
 
     def refuse_each(self, verb: str, text: bytes) -> int:
-        """Refuses each allocation of a command in turn, and returns after how many of them it wanted memory."""
+        """Refuses each allocation of a command in turn, and returns after how many of them it was out of memory."""
         status, answer, told = self.ended(verb, text, 0)
         self.assertEqual((status, told), (0, b""))
         wanted = 0

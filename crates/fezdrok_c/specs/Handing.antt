@@ -11,7 +11,7 @@ pub record HandsOut (status : ℕ) (text : List ℕ) (result : ℕ) (old new : L
   pub fits : length text ≤ length old → (result ≡ status) × (new ≡ text ++ drop (length text) old)
   pub lacks : length old < length text → (result ≡ 4) × (new ≡ old)
 
--- the text is the line of the fault, or where there is no memory for it, of want of memory
+-- the text is the line of the fault, or where there is no memory for it, of out of memory
 abbrev pub EndsBy : RunFault → ℕ → List ℕ → List ℕ → ℕ → Type 0
 EndsBy fault result old new size = HandsOut (status_of fault) (fault_line fault) result old new size ⊎ HandsOut (status_of Memory) (fault_line Memory) result old new size
 

@@ -12,7 +12,7 @@ const DONE: u8 = 0;
 /// The status where the text does not fit into the buffer.
 const TOO_SMALL: u8 = 4;
 
-/// The status of want of memory, and what is said of it.
+/// The status of out of memory, and what is said of it.
 const WANT_OF_MEMORY: u8 = 3;
 
 const NO_MEMORY: &[u8] = b"planar: 8 Memory\n";
@@ -33,7 +33,7 @@ pub(crate) fn hand_out(
     }
 }
 
-/// Hands out the line of a fault, or that of want of memory where there is none to write it.
+/// Hands out the line of a fault, or that of out of memory where there is none to write it.
 fn put_fault(alloc: Global, fault: &RunFault, output: &mut [u8], size: &mut usize) -> u8
     ensures { EndsBy fault.now result output.old output.new size.new }
 {

@@ -65,7 +65,7 @@ pub record CanFollow {F : Type 0} (price : Pricing) (book : BookState F) (next :
   pub same_limits : (picture_after next.picture book.picture).limits ≡ book.picture.limits
   pub room : 0 < book.spare
 
--- there is a picture just where the reply is accepted, and it is lawful. The reply is never want of memory
+-- there is a picture just where the reply is accepted, and it is lawful. The reply is never out of memory
 pub record IsNext (entry : Entry) (picture : Option Shown) : Type 0 where
   pub accepted : is_some picture ≡ is_accepted entry.reply
   pub lawful : IfSome picture (λ p. IsPicture p.limits p.rows)

@@ -17,7 +17,7 @@ pub record IsFirstWrong (price : Pricing) (limits : Limits) (start : Rows) (entr
   pub there : slice_get entries i ≡ Some entry
   pub wrong : (next : Rows) → Step price limits picture entry.call entry.reply next → ⊥
 
--- what a replay answers where it gives no picture; nothing is said of want of memory
+-- what a replay answers where it gives no picture; nothing is said of out of memory
 abbrev pub IsFaultOf : Pricing → Limits → Rows → List Entry → ReplayFault → Type 0
 IsFaultOf price limits start entries (WrongReply i) = IsFirstWrong price limits start entries i
 IsFaultOf price limits start entries Memory = Unit {0}

@@ -362,7 +362,7 @@ impl<F: PriceFn> Book<F> {
     }
 
     /// Carries the entries out on a picture that stands after the first `from` of them, and answers after
-    /// how many it stands then: after all of them, but where memory is wanted.
+    /// how many it stands then: after all of them, unless it is out of memory.
     fn replay_missed(&self, alloc: Global, picture: &mut Picture, from: usize) -> usize
         requires { IsReplica (prices_of (F.may_return self.now.tariff)) self.now.start self.now.history from picture.old }
         ensures { IsReplica (prices_of (F.may_return self.now.tariff)) self.now.start self.now.history result picture.new }
@@ -376,7 +376,7 @@ impl<F: PriceFn> Book<F> {
         history.len()
     }
 
-    /// Brings a replica up to date, if nobody else holds it. Where memory is wanted it stands after some
+    /// Brings a replica up to date, if nobody else holds it. Out of memory, it stands after some
     /// later entry.
     fn bring_up_to_date(&self, alloc: Global, replica: &mut Replica) -> Result<(), AllocError>
         requires { IsReplica (prices_of (F.may_return self.now.tariff)) self.now.start self.now.history replica.old.entries (arc_value replica.old.picture) }

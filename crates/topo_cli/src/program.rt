@@ -30,7 +30,7 @@ const NOT_TEXT: &str = "planar: the words of the command line are not UTF-8\n";
 #[derive(Clone, Copy, Debug, PartialEq, Eq)]
 pub struct Outcome {
     /// The exit status: 0 done, 1 a fault other than 8, 2 where the words are refused or ask for help,
-    /// 3 for want of memory.
+    /// 3 for out of memory.
     pub status: u8,
     /// Whether standard error took all that it was given; so too where it was given nothing.
     pub is_told: bool,

@@ -169,7 +169,7 @@ fn verb_named(name: &str) -> Option<Verb>
 
 /// The command that the words ask for; the first word is the program's name. Where `clap` refuses the
 /// words, or they ask for help, its answer is the error, whose text is for the user: it has one of the
-/// kinds that clap's own definition gives for the words, or that of want of memory.
+/// kinds that clap's own definition gives for the words, or that of out of memory.
 pub fn verb<'a, S: AsStr>(alloc: Global, words: &'a [S]) -> Result<Verb, Error>
     ensures ok { IfOk result (λ v. asked_verb (map S.text words.entry.now) ≡ Some v) }
     ensures kinds { FailsBy (word_faults (map S.text words.entry.now)) result }

@@ -56,7 +56,7 @@ pub record NoStepEvidence (wide : Limits) : Type 0 where
   pub other_segment : Step uneven wide barrier (Delete 3) (Refused (Cut 0)) barrier → ⊥
   pub kept : Step uneven wide (joined_apexes RightToLeft) (Delete 9) (Refused (Cut 0)) (joined_apexes RightToLeft) → ⊥
   pub not_taken_out : Step uneven wide (joined_apexes RightToLeft) (Delete 9) (Deleted 9) (joined_apexes RightToLeft) → ⊥
-  -- the reply of another call, and want of memory
+  -- the reply of another call, and out of memory
   pub other_reply : Step uneven wide seed (Delete 0) (Grown 2 1) seed → ⊥
   pub out_of_memory : Step uneven wide seed (Grow 1 0 0) (Refused Memory) seed → ⊥
 

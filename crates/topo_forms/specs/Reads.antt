@@ -47,7 +47,7 @@ passes fault b = if b then Ok tt else Err fault
 
 -- ---- What a reader gives
 
--- a fault that may be told: the first one, or want of memory
+-- a fault that may be told: the first one, or out of memory
 abbrev pub IsFirstFault : {A : Type 0} → Read A → ScriptFault → Type 0
 IsFirstFault due Memory = ⊤
 IsFirstFault due NotJson = due ≡ Err NotJson
@@ -56,7 +56,7 @@ IsFirstFault due (BadShape path) = due ≡ Err (BadShape path)
 IsFirstFault due BadVersion = due ≡ Err BadVersion
 IsFirstFault due (BadNumber path) = due ≡ Err (BadNumber path)
 
--- the result is what is due, and only want of memory may take its place
+-- the result is what is due, and only out of memory may take its place
 abbrev pub Gives : {A : Type 0} → Read A → Read A → Type 0
 Gives (Ok a) due = due ≡ Ok a
 Gives (Err fault) due = IsFirstFault due fault

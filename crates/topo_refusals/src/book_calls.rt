@@ -1,4 +1,4 @@
-//! Calls of a book: each is made once more where it wants memory, and the book is printed.
+//! Calls of a book: each is made once more if it is out of memory, and the book is printed.
 
 ghost use Rattle.topo_price.specs.Prices.{IsPromise};
 
@@ -86,7 +86,7 @@ pub(crate) fn print_new<R: Print + Eprint + AllocGlobal, F: PriceFn>(
     Ok(())
 }
 
-/// Compares a book with its state before a call that wants memory.
+/// Compares a book with its state before a call that is out of memory.
 pub(crate) fn compare_book<R: Print + Eprint + AllocGlobal, F: PriceFn>(
     rt: &R,
     call: &str,

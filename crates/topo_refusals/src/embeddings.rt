@@ -1,4 +1,4 @@
-//! An embedding in its store: each call that takes memory is made once more where it wants it, and what the
+//! An embedding in its store: each call that takes memory is made once more if it is out of memory, and what the
 //! embedding shows is printed.
 
 use crate::printed::compare;

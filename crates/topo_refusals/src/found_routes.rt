@@ -47,7 +47,7 @@ fn route_of<F: PriceFn + Drop, K: ServiceBrand<F>>(
     }
 }
 
-/// A route, which is looked for once more where the search wants memory.
+/// A route, which is looked for once more if the search is out of memory.
 fn found<F: PriceFn + Drop, K: ServiceBrand<F>, R: Print + Eprint + AllocGlobal>(
     rt: &R,
     service: &Service<F, K>,
@@ -82,7 +82,7 @@ fn print_answer<R: Print>(rt: &R, answer: &Result<Reply, AllocError>) -> Result<
     Ok(())
 }
 
-/// What an insertion by the route is answered, which is made once more where it wants memory.
+/// What an insertion by the route is answered, which is made once more if it is out of memory.
 fn inserted<F: PriceFn + Drop, K: ServiceBrand<F>, R: Wait + Print + Eprint + AllocGlobal>(
     rt: &R,
     service: &Service<F, K>,

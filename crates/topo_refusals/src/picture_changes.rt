@@ -1,4 +1,4 @@
-//! Changes of a picture: each is made once more where it wants memory, and the picture is printed.
+//! Changes of a picture: each is made once more if it is out of memory, and the picture is printed.
 
 ghost use Rattle.std.specs.Prelude.{◌≡◌, None, OnOk};
 ghost use Rattle.topo_core.specs.Routes.{IsSimpleRoute};

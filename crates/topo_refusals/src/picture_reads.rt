@@ -27,7 +27,7 @@ fn greatest_limits() -> Limits {
     }
 }
 
-/// Compares rows with what they were before a call that wants memory.
+/// Compares rows with what they were before a call that is out of memory.
 fn compare_rows<R: Print + Eprint + AllocGlobal>(
     rt: &R,
     call: &str,
@@ -215,7 +215,7 @@ fn frozen_state<R: Eprint + AllocGlobal>(
     state
 }
 
-/// Compares a frozen picture with its state before a search that wants memory.
+/// Compares a frozen picture with its state before a search that is out of memory.
 fn compare_frozen<R: Print + Eprint + AllocGlobal>(
     rt: &R,
     before: &str,
@@ -228,7 +228,7 @@ fn compare_frozen<R: Print + Eprint + AllocGlobal>(
     Ok(())
 }
 
-/// What a search between two vertices of a frozen picture finds, which is made once more where it wants memory.
+/// What a search between two vertices of a frozen picture finds, which is made once more if it is out of memory.
 fn searched<R: Print + Eprint + AllocGlobal, F: PriceFn>(
     rt: &R,
     frozen: &Frozen,

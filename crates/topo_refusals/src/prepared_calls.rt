@@ -38,7 +38,7 @@ fn name_of(plan: Option<&Plan>) -> &'static str {
     }
 }
 
-/// Makes a call ready, again where that wants memory.
+/// Makes a call ready, again if that is out of memory.
 fn ready<R: Print + Eprint + AllocGlobal, F: PriceFn>(
     rt: &R,
     book: &mut Book<F>,
@@ -82,7 +82,7 @@ fn show_ready<R: Print + Eprint + AllocGlobal, F: PriceFn>(
     Ok(())
 }
 
-/// Makes a call ready, again where it wants memory, and enters it. Until it is entered nothing has
+/// Makes a call ready, again if it is out of memory, and enters it. Until it is entered nothing has
 /// changed.
 pub(crate) fn enter_ready<R: Print + Eprint + AllocGlobal, F: PriceFn>(
     rt: &R,

@@ -1,4 +1,4 @@
-//! Calls that are made once more where they want memory. In a run where only one allocation fails, the
+//! Calls that are made once more if they are out of memory. In a run where only one allocation fails, the
 //! second time has what it wants.
 
 use crate::printed::{compare, picture_state};
@@ -6,12 +6,12 @@ use anyhow::Result;
 use std::alloc::AllocError;
 use topo_picture::Picture;
 
-/// Says on standard error which call wanted memory.
+/// Says on standard error which call was out of memory.
 pub(crate) fn tell<R: Eprint>(rt: &R, call: &str) {
     let _ = eprintln!(rt; "wants memory: {call}");
 }
 
-/// What a call of the program's own bookkeeping answers, which is made once more where it wants memory.
+/// What a call of the program's own bookkeeping answers, which is made once more if it is out of memory.
 pub(crate) fn again<R: Eprint, T, F: Fn() -> Result<T, AllocError>>(
     rt: &R,
     call: F,
@@ -27,7 +27,7 @@ pub(crate) fn again<R: Eprint, T, F: Fn() -> Result<T, AllocError>>(
     }
 }
 
-/// Compares a picture with its state before a call that wants memory.
+/// Compares a picture with its state before a call that is out of memory.
 pub(crate) fn compare_picture<R: Print + Eprint + AllocGlobal>(
     rt: &R,
     call: &str,
@@ -40,7 +40,7 @@ pub(crate) fn compare_picture<R: Print + Eprint + AllocGlobal>(
     Ok(())
 }
 
-/// What a call answers that only reads a picture. Where it wants memory, the picture is compared with its
+/// What a call answers that only reads a picture. If it is out of memory, the picture is compared with its
 /// state before, and the call is made once more.
 pub(crate) fn reading<R: Print + Eprint + AllocGlobal, T, F: Fn() -> Result<T, AllocError>>(
     rt: &R,

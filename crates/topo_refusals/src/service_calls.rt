@@ -1,4 +1,4 @@
-//! Calls of a service: each is made once more where it wants memory, and the service is printed.
+//! Calls of a service: each is made once more if it is out of memory, and the service is printed.
 
 use crate::found_routes::insert_by_search;
 use crate::printed::picture_state;
@@ -91,7 +91,7 @@ fn print_reply<R: Print>(rt: &R, name: &str, call: Call, reply: &Reply) -> Resul
     Ok(())
 }
 
-/// What a call is answered, which is made once more where it wants memory.
+/// What a call is answered, which is made once more if it is out of memory.
 fn answered<F: PriceFn + Drop, K: ServiceBrand<F>, R: Wait + Print + Eprint + AllocGlobal>(
     rt: &R,
     service: &Service<F, K>,
@@ -169,7 +169,7 @@ fn plan_of<R: Print>(rt: &R, answer: Result<Plan, PassFault>) -> Result<Plan> {
     }
 }
 
-/// A plan, which is made once more where it wants memory.
+/// A plan, which is made once more if it is out of memory.
 fn planned<F: PriceFn + Drop, K: ServiceBrand<F>, R: Print + Eprint + AllocGlobal>(
     rt: &R,
     service: &Service<F, K>,

@@ -60,7 +60,7 @@ fn version_text<F: PriceFn + Drop, K: ServiceBrand<F>, R: Eprint + AllocGlobal>(
     Ok(text?)
 }
 
-/// What is compared before and after a call that wants memory.
+/// What is compared before and after a call that is out of memory.
 #[derive(Drop)]
 pub(crate) struct ServiceView {
     /// The receipts of all passes but the first, and the newest version, at which the first looks.
@@ -134,7 +134,7 @@ fn compare_seen<R: Print>(rt: &R, call: &str, before: (u64, u64), after: (u64, u
     Ok(())
 }
 
-/// Compares a service with what it was before a call that wants memory.
+/// Compares a service with what it was before a call that is out of memory.
 pub(crate) fn compare_service<
     F: PriceFn + Drop,
     K: ServiceBrand<F>,
@@ -146,7 +146,7 @@ pub(crate) fn compare_service<
     compare_seen(rt, call, before.seen, after.seen)
 }
 
-/// The same of a plan or a search that wants memory: the pass that plans may have seen the newest version by it.
+/// The same of a plan or a search that is out of memory: the pass that plans may have seen the newest version by it.
 pub(crate) fn compare_planning<
     F: PriceFn + Drop,
     K: ServiceBrand<F>,

@@ -54,7 +54,7 @@ fn serve_with<
     serve_at(rt, start, &tariff, watch)
 }
 
-/// A service with the prices of a tariff. Where its beginning wants memory, it is begun once more.
+/// A service with the prices of a tariff. If it is out of memory, it is begun once more.
 fn serve_at<
     F: PriceFn + Drop + Send + Sync,
     R: Threads + Wait + Print + Eprint + AllocGlobal + Sync,
@@ -147,7 +147,7 @@ fn use_passes<
     make_service_calls(rt, &*service, passes.as_mut_slice(), watch)
 }
 
-/// The next pass, which is asked for again where it wants memory.
+/// The next pass, which is asked for again if it is out of memory.
 fn give_out<F: PriceFn + Drop, K: ServiceBrand<F>, R: Print + Eprint>(
     rt: &R,
     service: &mut Service<F, K>,

@@ -1,4 +1,4 @@
-//! A list that a worker carries out. Where a command wants memory, the rest of the list is run after it.
+//! A list that a worker carries out. If a command is out of memory, the rest of the list is run after it.
 
 use crate::retry::{again, tell};
 use crate::service_calls::JOIN;
@@ -110,7 +110,7 @@ fn list_of(alloc: Global, commands: &[Command]) -> Result<Vec<Vec<Command>>, All
     Ok(lists)
 }
 
-/// The same, which is made once more where it wants memory.
+/// The same, which is made once more if it is out of memory.
 fn listed<R: Eprint + AllocGlobal>(
     rt: &R,
     commands: &[Command],
@@ -173,7 +173,7 @@ fn compare_gate<R: Print>(rt: &R, watch: &Watch, commands: usize) -> Result<()> 
     Ok(())
 }
 
-/// Prints such a line where the list ended with a search outside the lock that wanted memory: the route is then
+/// Prints such a line where the list ended with a search outside the lock that was out of memory: the route is then
 /// looked for once more, under the lock. So a list that ends at this command has asked for all its prices.
 fn compare_search<R: Print>(rt: &R, watch: &Watch, command: Option<&Command>) -> Result<()> {
     let asked = watch.asked.load(Ordering::SeqCst);
@@ -193,7 +193,7 @@ fn rest_of(at: usize) -> Result<&'static [Command]> {
     }
 }
 
-/// Runs the rest of the list after a command that wanted memory, of which there is a receipt of each one
+/// Runs the rest of the list after a command that was out of memory, of which there is a receipt of each one
 /// before it.
 fn run_rest<
     F: PriceFn + Drop + Send + Sync,

@@ -20,5 +20,5 @@ FailsFirst limits rows BadCrossing = (fits limits rows ≡ true) × (has_good_pa
 FailsFirst limits rows BadRotation = (fits limits rows ≡ true) × (has_good_paths rows ≡ true) × (has_good_crossings rows ≡ true) × (has_good_rotations rows ≡ false)
 FailsFirst limits rows NotConnected = (fits limits rows ≡ true) × IsWellFormed rows × (Connected (system rows) → ⊥)
 FailsFirst limits rows NotPlanar = (fits limits rows ≡ true) × IsEmbedding rows × (HasGenusZero rows → ⊥)
--- want of memory may come in place of any answer
+-- out of memory may come in place of any answer
 FailsFirst limits rows Memory = Unit {0}

@@ -26,7 +26,7 @@ pub record HasEntered (list : List Command) (history : List Entry) : Type 0 wher
   pub calls : map (λ entry. entry.call) history ≡ map call_of list
   pub callers : All (λ entry. entry.caller ≡ 0) history
 
--- a fault of the service: want of memory, no place for a list, or a receipt that differs
+-- a fault of the service: out of memory, no place for a list, or a receipt that differs
 abbrev pub IsOfService : RunFault → Type 0
 IsOfService Memory = ⊤
 IsOfService NoSeat = ⊤

@@ -63,7 +63,7 @@ pub record InsertedFits (made : Made) : Type 0 where
   pub end : made.route.end < 2 ^ 32
   pub price : made.price < 2 ^ 64
 
--- want of memory is no refusal that a history has
+-- out of memory is no refusal that a history has
 abbrev pub RefusalFits : Refusal → Type 0
 RefusalFits NoVertex = ⊤
 RefusalFits SameEnds = ⊤

@@ -24,7 +24,7 @@ pub record HasMade (old new : PassState) (list : List Command) : Type 0 where
   pub within : count ≤ length list
   pub made : HasDone old new list count
 
--- the pass has one receipt for each command; or for those before the one that memory was wanted for
+-- the pass has one receipt for each command; or for those before the one that was out of memory
 abbrev pub HasEnded : PassState → PassState → List Command → WorkerEnd → Type 0
 HasEnded old new list Done = HasDone old new list (length list)
 HasEnded old new list (OutOfMemory index) = (index < length list) × HasDone old new list index

@@ -202,7 +202,7 @@ pub enum Brought<'a, F: PriceFn, K: ServiceBrand<F>> {
 impl<F: PriceFn, K: ServiceBrand<F>, G: VersionReader<F, K>> PassOver<F, K, G> {
     /// The first of the cheapest routes from `u` to `v` at the service's prices on the version of now. It
     /// copies nothing of the picture, and waits for nobody. NoView comes first, then NoVertex, then
-    /// SameEnds, by the picture of that version, then NoRoute; Memory where the search wants it.
+    /// SameEnds, by the picture of that version, then NoRoute; Memory if the search is out of memory.
     pub fn find(
         &mut self,
         alloc: Global,

@@ -87,7 +87,7 @@ fn prepare_call<F: PriceFn>(
 }
 
 /// Adds a call that was made ready to the accepted entries, and publishes the version after it, where it is
-/// accepted. After want of memory nothing has changed.
+/// accepted. Out of memory, nothing has changed.
 fn show<F: PriceFn, K: ServiceBrand<F>, W: VersionWriter<F, K>, R: Wait>(
     rt: &R,
     log_length: &LogLength<K>,
@@ -114,7 +114,7 @@ fn show<F: PriceFn, K: ServiceBrand<F>, W: VersionWriter<F, K>, R: Wait>(
 }
 
 /// The answer to a call that was made ready, once the version after it is published where it is accepted.
-/// After want of memory nothing has changed.
+/// Out of memory, nothing has changed.
 fn answer_ready<F: PriceFn, K: ServiceBrand<F>, W: VersionWriter<F, K>, R: Wait>(
     rt: &R,
     alloc: Global,

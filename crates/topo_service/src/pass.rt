@@ -116,7 +116,7 @@ impl<F: PriceFn, K: ServiceBrand<F>, G: VersionReader<F, K>> PassOver<F, K, G> {
         self.number
     }
 
-    /// Its calls that were answered otherwise than by want of memory, with the replies, the oldest first.
+    /// Its calls that were answered otherwise than by out of memory, with the replies, the oldest first.
     pub fn receipts(&self) -> &[Receipt]
         ensures { result.now ≡ self.now.receipts }
     {
@@ -162,7 +162,7 @@ impl<F: PriceFn, K: ServiceBrand<F>, G: VersionReader<F, K>> PassOver<F, K, G> {
 
     /// The first cheapest route from `u` to `v` at these prices on the version of now, with its price and
     /// the least heights. It waits for nobody. NoView comes first, then NoVertex, then SameEnds, by the
-    /// picture of that version, then NoRoute; Memory where the search wants it.
+    /// picture of that version, then NoRoute; Memory if the search is out of memory.
     pub fn plan<A: PriceFn>(
         &mut self,
         alloc: Global,

@@ -94,7 +94,7 @@ fn carry_out<
     }
 }
 
-/// Carries a list out, until memory is wanted.
+/// Carries a list out, until it is out of memory.
 fn work<
     F: PriceFn,
     K: ServiceBrand<F>,
@@ -211,7 +211,7 @@ fn tell_ends<F: PriceFn, K: ServiceBrand<F>, G: VersionReader<F, K>>(
 
 /// Runs each list with the pass at its place, in a thread of its own, or in its turn where no thread can
 /// be made. A command is carried out between the gate's calls for it. The answer says of each list
-/// whether it was carried out, or where memory was wanted; its room is taken first, and where that is
+/// whether it was carried out, or where it was out of memory; its room is taken first, and where that is
 /// refused, no pass has changed.
 pub fn run_workers<
     F: PriceFn + Drop + Send + Sync,

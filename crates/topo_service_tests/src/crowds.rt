@@ -148,7 +148,7 @@ pub(crate) struct Watch {
     unlawful: AtomicU32,
     /// How many had a lower number than the view before by the same pass.
     fallen: AtomicU32,
-    /// How many calls wanted memory.
+    /// How many calls were out of memory.
     failed: AtomicU32,
 }
 

@@ -18,7 +18,7 @@ pub record ReadsMore (old new : Option (List ℕ)) (before after : List ℕ) : T
   pub consumed : Consumes old new more
   pub appended : after ≡ before ++ more
 
--- the faults of reading: want of memory, and those of the reader
+-- the faults of reading: out of memory, and those of the reader
 abbrev pub IsOfReading : RunFault → Type 0
 IsOfReading Memory = ⊤
 IsOfReading ReadFault = ⊤

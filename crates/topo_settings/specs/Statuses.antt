@@ -53,6 +53,6 @@ fault_text WriteFault = numbered WriteFault
 abbrev pub fault_line : RunFault → List ℕ
 fault_line fault = codes "planar: " ++ (fault_text fault ++ 10 ∷ [])
 
--- want of memory, in each of its forms, is 3, and every other fault is 1
+-- out of memory, in each of its forms, is 3, and every other fault is 1
 abbrev pub status_of : RunFault → ℕ
 status_of fault = if fault_number fault == 8 then 3 else 1

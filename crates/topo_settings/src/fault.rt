@@ -78,7 +78,7 @@ impl RunFault {
         }
     }
 
-    /// The status that the program ends with: 3 for want of memory, in each of its forms, and else 1.
+    /// The status that the program ends with: 3 for out of memory, in each of its forms, and else 1.
     pub fn status(&self) -> u8
         ensures { result ≡ status_of self.now }
     {

@@ -40,6 +40,6 @@ pub trait ReaderFactory<F: PriceFn, K: ServiceBrand<F>, G: VersionReader<F, K>>:
     F,
     K,
 > {
-    /// A reader; want of memory also where no place for one is left.
+    /// A reader; out of memory also if no place for one is left.
     fn reader(&self) -> Result<G, AllocError>;
 }
