@@ -5,6 +5,7 @@ Nothing here imports networkx: a graph is asked by its own methods.
 
 from __future__ import annotations
 
+import math
 from dataclasses import dataclass
 from numbers import Real
 from operator import index
@@ -20,6 +21,8 @@ Pricing = Union[None, str, Mapping[GraphEdge, Price], Callable[[Any, Any, Dict[s
 
 KINDS = 64
 GREATEST_PRICE = 1000
+#: How often the factor by which prices are rounded is halved, till it is known.
+_HALVINGS = 40
 
 
 @dataclass(frozen=True)
@@ -38,8 +41,9 @@ class PricedGraph:
         return self.prices[self.kinds[place]]
 
 
-def read_graph(graph: Any, price: Pricing = None, forbidden: Optional[Iterable[GraphEdge]] = None) -> PricedGraph:
-    """The graph with its kinds, or a ValueError that says why it cannot be planarized. It need not be connected."""
+def read_graph(graph: Any, price: Pricing = None, forbidden: Optional[Iterable[GraphEdge]] = None, round_prices: bool = False) -> PricedGraph:
+    """The graph with its kinds, or a ValueError that says why it cannot be planarized. It need not be connected. Where there
+    are more prices than kinds, `round_prices` has those that are near each other share one."""
     nodes = tuple(graph.nodes)
     multi = graph.is_multigraph()
     rows = list(graph.edges(keys=True, data=True)) if multi else list(graph.edges(data=True))
@@ -51,6 +55,9 @@ def read_graph(graph: Any, price: Pricing = None, forbidden: Optional[Iterable[G
     prices = [_judge_price(edge, price_of(edge, row[-1])) for edge, row in zip(edges, rows)]
     for place in _places(edges, forbidden or (), graph.is_directed()):
         prices[place] = None
+    if round_prices:
+        near = _rounded(prices)
+        prices = [near[price] for price in prices]
     table = _price_table(prices)
     kind_of = {price: kind for kind, price in enumerate(table)}
     return PricedGraph(graph, nodes, edges, tuple(kind_of[price] for price in prices), table)
@@ -223,8 +230,42 @@ def _price_table(prices: Iterable[Price]) -> Tuple[Price, ...]:
     """The different prices, the dearest first, or a ValueError where there are more than kinds."""
     different = sorted(set(prices), key=lambda price: -rank(price))
     if len(different) > KINDS:
-        raise ValueError(f"there are {len(different)} different prices: the program knows {KINDS} kinds of edges, one for each price")
+        raise ValueError(f"there are {len(different)} different prices: the program knows {KINDS} kinds of edges, one for each price; round_prices=True has near ones share a kind")
     return tuple(different)
+
+
+def _rounded(prices: Iterable[Price]) -> Dict[Price, Price]:
+    """For each price the one that is taken for it, so that there are no more than kinds.
+
+    Neighbours share one where that is needed, such that the greatest factor by which a price is changed is as small as
+    can be, but for the rounding to whole numbers. A price of None stays.
+    """
+    near: Dict[Price, Price] = {price: price for price in prices}
+    numbers = sorted(price for price in near if price is not None)
+    most = KINDS - (None in near)
+    factor, too_little = float(GREATEST_PRICE), 1.0
+    if len(numbers) <= most:
+        return near
+    for _ in range(_HALVINGS):
+        middle = (factor + too_little) / 2
+        if len(_runs(numbers, middle)) <= most:
+            factor = middle
+        else:
+            too_little = middle
+    for run in _runs(numbers, factor):
+        near.update(dict.fromkeys(run, round(math.sqrt(run[0] * run[-1]))))
+    return near
+
+
+def _runs(numbers: Sequence[int], factor: float) -> List[List[int]]:
+    """Rising numbers cut into as few runs as can be, in each of which the last is at most the first times the factor."""
+    runs: List[List[int]] = []
+    for number in numbers:
+        if runs and number <= factor * runs[-1][0]:
+            runs[-1].append(number)
+        else:
+            runs.append([number])
+    return runs
 
 
 def rank(price: Price) -> int:

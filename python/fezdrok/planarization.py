@@ -80,6 +80,7 @@ def planarize(
     seed: int = 0,
     seconds: Optional[float] = None,
     progress: Telling = None,
+    round_prices: bool = False,
     limits: Optional[Limits] = None,
     program: Optional[PathLike] = None,
 ) -> Planarization:
@@ -93,8 +94,8 @@ def planarize(
     `seed`. After each there are up to `rounds` rounds in which every crossed edge is taken out and inserted again; unless
     given, until one saves nothing. Then the best picture is shaken: some edges that are near each other are taken out
     together and inserted again, and those about them one by one. It ends when `shakes` shakes in a row have saved nothing;
-    unless given, a tenth of the crossings, but 40 at least and 200 at most. `quick=True` stands for `begin="tree", tries=1, rounds=0, shakes=0`, of which each may be given
-    otherwise.
+    unless given, a tenth of the crossings, but 40 at least and 200 at most. `quick=True` stands for `begin="tree", tries=1,
+    rounds=0, shakes=0`, of which each may be given otherwise.
 
     The picture with the fewest crossings is the result, of equal ones the one that costs least, then the first. It is the
     same for the same graph and the same words, unless time ends the search.
@@ -102,7 +103,9 @@ def planarize(
     `price` says what crossing an edge costs, from 1 to 1000: the name of an edge attribute, a mapping from edges, or a
     function of both nodes and the data; without it, and for edges that it does not name, 1. A price of None, and an
     edge of `forbidden`, has no crossing. Such edges are in the start (ValueError where they cannot be drawn without
-    crossings). At most 64 prices may differ (else ValueError).
+    crossings). At most 64 prices may differ (else ValueError); where there are more, `round_prices=True` has prices that
+    are near each other share one, which then counts as theirs, also in `cost`: so that the greatest factor by which one is
+    changed is as small as can be.
 
     `order` is the order of the edges: `given`, `random`, or a list of edges that come first and in this order,
     whatever they cost.
@@ -124,7 +127,7 @@ def planarize(
         0 if quick and shakes is None else _most("shakes", shakes),
     )
     clock, tell = Clock(_judged(seconds)), teller(progress)
-    source = read_graph(graph, price, forbidden)
+    source = read_graph(graph, price, forbidden, round_prices)
     if not isinstance(order, (str, set, frozenset)):
         order = [source.edges[place] for place in places_of(source.edges, order, graph.is_directed())]
     results: List[Planarization] = []
@@ -206,12 +209,13 @@ def prepare(
     begin: str = "tree",
     order: Order = "given",
     seed: int = 0,
+    round_prices: bool = False,
     limits: Optional[Limits] = None,
     program: Optional[PathLike] = None,
 ) -> Prepared:
     """The one run that `planarize` with the same words and `quick=True` makes, to write its script and to read its report
     elsewhere. ValueError where the graph is not connected: then prepare each part."""
-    source = read_graph(graph, price, forbidden)
+    source = read_graph(graph, price, forbidden, round_prices)
     judge_connected(source)
     start = beginning(source, begin, order, f"{seed}/0")
     planarizer = Planarizer(start.picture, limits, source.prices, program)

@@ -42,6 +42,7 @@ def run(command: Sequence[str], text: bytes) -> Tuple[int, bytes, bytes]:
                 output, errors = process.communicate(text)
             except BaseException:
                 process.kill()
+                process.wait()
                 raise
     finally:
         os.close(reading)

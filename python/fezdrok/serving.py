@@ -8,6 +8,7 @@ import tempfile
 from typing import List, NoReturn, Optional, Sequence, Tuple
 
 from .faults import ProgramNotStarted
+from .processes import kill_when_closed
 from .program import failure
 
 #: How many seconds a process has to end when its input was closed, before it is killed.
@@ -27,24 +28,40 @@ class Lines:
     """A process of `planar serve`, which answers each line by a line.
 
     Its standard error is a file, so that it never waits for somebody who reads it. It is in a session of its own, so that
-    Ctrl-C does not reach it. Where the process that began it ends, however that comes, its input ends, and so does it.
+    Ctrl-C does not reach it. Where the process that began it ends, however that comes, it is killed, or where the system
+    has no such thing, it ends with its input.
     """
 
     def __init__(self, path: str):
         self.path = path
         self._ahead = bytearray()
         self._is_asking = False
-        self._errors = tempfile.TemporaryFile()
         self._ended: Optional[Tuple[int, str]] = None
         try:
-            self._process = subprocess.Popen(
-                [path, "serve"], stdin=subprocess.PIPE, stdout=subprocess.PIPE, stderr=self._errors, bufsize=0, start_new_session=True
-            )
+            self._errors = tempfile.TemporaryFile()
+            self._process = self._begun(path)
         except OSError as refused:
-            self._errors.close()
             raise ProgramNotStarted(f"{path} cannot be run: {refused.strerror or refused}") from refused
         assert self._process.stdin is not None and self._process.stdout is not None
         self._input, self._output = self._process.stdin, self._process.stdout
+
+    def _begun(self, path: str) -> "subprocess.Popen[bytes]":
+        """The process. It is killed when the writing end of a pipe is closed, which is open as long as this is there."""
+        reading, writing = os.pipe()
+        self._life = open(writing, "wb", buffering=0)
+        try:
+            pipe = subprocess.PIPE
+            process = subprocess.Popen(
+                [path, "serve"], stdin=pipe, stdout=pipe, stderr=self._errors, bufsize=0, start_new_session=True, pass_fds=[reading]
+            )
+            kill_when_closed(reading, process.pid)
+        except OSError:
+            self._life.close()
+            self._errors.close()
+            raise
+        finally:
+            os.close(reading)
+        return process
 
     @property
     def process_id(self) -> int:
@@ -136,6 +153,7 @@ class Lines:
                 self._process.kill()
                 self._process.wait()
         if self._ended is None:
+            self._life.close()
             self._errors.seek(0)
             self._ended = (self._process.returncode, self._errors.read().decode(errors="replace"))
             self._errors.close()

@@ -115,6 +115,25 @@ class Refusals(unittest.TestCase):
         with self.assertRaisesRegex(ValueError, "65 different prices"):
             planarize(graph, price=lambda u, v, data: 1 + u % 64, forbidden=[(0, 1)])
 
+    def test_more_prices_than_kinds_may_be_rounded(self):
+        graph = nx.path_graph(1001)
+        source = read_graph(graph, lambda u, v, data: 1 + u, round_prices=True)
+        self.assertEqual(len(source.prices), 64)
+        taken = [source.price(place) for place in range(1000)]
+        self.assertEqual(taken, sorted(taken))
+        self.assertEqual(taken[:11], list(range(1, 12)))
+        self.assertLess(max(max(price / true, true / price) for true, price in enumerate(taken, 1)), 1.08)
+        source = read_graph(graph, lambda u, v, data: 1 + u, forbidden=[(0, 1), (999, 1000)], round_prices=True)
+        self.assertEqual((len(source.prices), source.price(0), source.price(999)), (64, None, None))
+
+    def test_prices_are_rounded_only_where_there_are_too_many(self):
+        graph = nx.path_graph(66)
+        for prices in (lambda u, v, data: 1 + u % 64, lambda u, v, data: None if u == 0 else 900 + u % 63):
+            kept, rounded = (read_graph(graph, prices, round_prices=way) for way in (False, True))
+            self.assertEqual((kept.prices, kept.kinds), (rounded.prices, rounded.kinds))
+        source = read_graph(graph, lambda u, v, data: 1 + u, round_prices=True)
+        self.assertEqual([place + 1 for place in range(65) if source.price(place) != place + 1], [65])
+
     def test_edges_that_are_not_there(self):
         with self.assertRaisesRegex(ValueError, "no edge of the graph"):
             planarize(nx.path_graph(3), forbidden=[(0, 2)])
