@@ -10,7 +10,6 @@ ghost use Rattle.topo_route.specs.Numbers.{IsPriceAt, dart_of, next_of};
 
 use crate::dual::Dual;
 use crate::steps;
-use topo_core::darts::Dart;
 use topo_price::tariff::{PriceFn, Tariff};
 
 /// How many darts there are.
@@ -27,12 +26,12 @@ pub(crate) fn degree<D: Dual>(dual: &D, v: u32) -> u32
     dual.degree(v)
 }
 
-/// The dart of a number.
-pub(crate) fn dart_at<D: Dual>(dual: &D, dart: u32) -> Dart
+/// The id of the edge of the dart of a number.
+pub(crate) fn edge_at<D: Dual>(dual: &D, dart: u32) -> u32
     requires { dart < length (darts (D.shows dual.now)) }
-    ensures { result ≡ dart_of (D.shows dual.now) dart }
+    ensures { result ≡ (dart_of (D.shows dual.now) dart).edge }
 {
-    dual.dart(dart)
+    dual.edge(dart)
 }
 
 /// The next dart along the face on the left.

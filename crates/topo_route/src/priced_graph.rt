@@ -55,8 +55,8 @@ fn segment_price<D: Dual, F: PriceFn>(
     ensures promise { KeepsPromise (prices_of (F.may_return tariff.now)) }
 {
     if dart > 0 {
-        let edge = faces::dart_at(dual, dart).edge.number();
-        let before = faces::dart_at(dual, dart - 2).edge.number();
+        let edge = faces::edge_at(dual, dart);
+        let before = faces::edge_at(dual, dart - 2);
         if before == edge {
             return prices[(dart / 2 - 1) as usize];
         }
