@@ -5,6 +5,23 @@
 //! its entry is the last of the history, or it is out of memory and nothing has changed. So the history
 //! is legal from the start, each picture on the way is lawful, and the picture now is the replay.
 //! `replay` carries a list of entries out again, and names the first whose reply is not the one due.
+//!
+//! A caller:
+//!
+//! ```rust
+//! /// Inserts an edge of kind 0, and answers what its route costs; none if it is refused.
+//! pub fn insert_at<F: PriceFn>(
+//!     alloc: Global,
+//!     book: &mut Book<F>,
+//!     u: u32,
+//!     v: u32,
+//! ) -> Result<Option<u64>, AllocError> {
+//!     match book.insert(alloc, 0, u, v, 0)? {
+//!         Reply::Inserted(made) => Ok(Some(made.price)),
+//!         _ => Ok(None),
+//!     }
+//! }
+//! ```
 #![tactic(auto)]
 
 mod book;

@@ -1,4 +1,4 @@
-//! One step of a picture, in two parts: what the reply is, and the change that an accepted reply says.
+//! One step of a picture, in two parts: `decide` gives the reply, `apply_entry` then makes its change.
 
 ghost use Rattle.std.specs.Prelude.{◌≡◌, ◌≢◌, ◌<◌, IfOk, MatchOption, OnErr, OnOk, None, length, true};
 ghost use Rattle.std.specs.Arc.{arc_value};

@@ -72,8 +72,8 @@ pub fn deletion_keeps_form()
     ensures { DeletionKeepsForm }
 {}
 
-/// A deletion keeps how the darts turn but along the edge: each dart that is left is followed as before, straight or after the edge,
-/// and at each crossing of the edge the segments of the other edge that meet there are one.
+/// A deletion changes the rotation along the edge only: a dart before the edge is followed by the one
+/// after it. At each crossing of the edge the two segments of the other edge become one.
 pub fn deletion_shows_turns()
     ensures { DeletionShowsTurns }
 {}

@@ -22,6 +22,19 @@
 //!   is joined.
 //! - `laws::cuts`: a segment with two faces on its sides leaves its ends joined, one with a single
 //!   face in genus zero parts them, whether it is not crossed or its darts are taken out of the turn.
+//!
+//! A caller:
+//!
+//! ```rust
+//! /// Whether a permutation is one cycle.
+//! pub fn is_one_cycle(alloc: Global, images: &[u32]) -> Result<bool, AllocError>
+//!     requires { IsPermutationList images.now }
+//!     ensures { IfOk result (λ one. IsTrue one ↔ cycles_of images.now ≡ 1) }
+//! {
+//!     let count = cycles(alloc, images)?;
+//!     Ok(count == 1)
+//! }
+//! ```
 #![tactic(auto)]
 
 ghost use Rattle.std.specs.Prelude.{◌≡◌, ◌↔◌, ℕ, ◌<◌, ◌||◌, false, length, slice_index_or, IsTrue, IfOk};

@@ -6,6 +6,19 @@
 //! nothing. `Picture::load` takes rows that are handed in: it answers the picture with these rows and
 //! limits exactly where the rows are lawful and within the limits, and else names the first test that
 //! they fail.
+//!
+//! A caller:
+//!
+//! ```rust
+//! /// Three vertices in a row, or the first reason why not.
+//! pub fn three_in_a_row(alloc: Global, limits: Limits) -> Result<Picture, Refusal> {
+//!     let Ok(mut picture) = Picture::seed(alloc, limits) else {
+//!         return Err(Refusal::Memory);
+//!     };
+//!     picture.grow(alloc, 1, 0, 0)?;
+//!     Ok(picture)
+//! }
+//! ```
 #![tactic(auto)]
 
 mod apart;

@@ -364,7 +364,7 @@ ghost use Rattle.topo_rows.specs.Flats.{AreTurnsOf};
 ghost use Rattle.topo_rows.specs.Loading.{FailsFirst};
 ghost use Rattle.topo_rows.specs.Shown.{IsPicture};
 
-/// How the darts turn of rows that are a picture within the limits. Else the first test that they fail,
+/// The rotation system of rows that are a picture within the limits. Else the first test that they fail,
 /// or Memory.
 fn judged(alloc: Global, limits: &Limits, rows: &Rows) -> Result<Turns, LoadFault>
     ensures picture { IfOk result (λ _. IsPicture limits.now rows.now) }

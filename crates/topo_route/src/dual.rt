@@ -10,8 +10,7 @@ use crate::face_graph::FaceGraph;
 use topo_core::darts::{Dart, Point};
 
 /// A lawful picture whose darts are numbered in canonical order: 2i and 2i + 1 are the two of one
-/// segment. Their numbers are their names, from 0 up to the size, and a number that is handed in is
-/// below it.
+/// segment. The name of a dart is its canonical number, which is below `size()`.
 pub trait Dual: FaceGraph {
     /// The rows that it shows.
     ghost shows: { Self → Rows };

@@ -13,6 +13,29 @@
 //! `laws` says when a route survives a change of the picture: where each face that its search has seen is
 //! still there, it is the first of the least routes of the later picture too. `evidence` computes such
 //! a change.
+//!
+//! A caller, over any picture (`Picture::embedded` of `topo_picture` gives one):
+//!
+//! ```rust
+//! /// The price of a cheapest route between two vertices, if there is a route.
+//! pub fn least_price<W: FaceGraph, F: PriceFn>(
+//!     alloc: Global,
+//!     graph: &W,
+//!     tariff: &Tariff<F>,
+//!     u: u32,
+//!     v: u32,
+//! ) -> Result<Option<u64>, AllocError>
+//!     requires u_there { u < length (W.named graph.now).rows.rotations }
+//!     requires v_there { v < length (W.named graph.now).rows.rotations }
+//!     requires apart { u ≢ v }
+//! {
+//!     let mut work = Workspace::new(alloc)?;
+//!     match first_route(alloc, graph, tariff, u, v, &mut work)? {
+//!         Some(found) => Ok(Some(found.price)),
+//!         None => Ok(None),
+//!     }
+//! }
+//! ```
 #![tactic(auto)]
 
 mod both_ends;

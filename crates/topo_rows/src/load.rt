@@ -141,8 +141,8 @@ fn has_genus_zero(alloc: Global, rows: &Rows, images: &[u32]) -> Result<bool, Al
     Ok(faces(alloc, images)? + points as u64 == segments as u64 + 2)
 }
 
-/// How the darts turn of rows that are a picture within the limits, or else the first test that the rows
-/// fail. Want of memory is an error, and no such test.
+/// Tests rows. Answers their rotation system if they are a picture within the limits, and else the first
+/// test that they fail. Out of memory is an error, and no such test.
 pub fn judge(
     alloc: Global,
     limits: &Limits,

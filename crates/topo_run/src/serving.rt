@@ -120,7 +120,7 @@ fn run_all<
     }
 }
 
-/// What the lists lead to from the start that K names, by a service of its own.
+/// Runs the lists on a new service from the start that K names: the history, and the picture at the end.
 fn serve<
     F: PriceFn + Drop + Send + Sync,
     K: ServiceBrand<F> + Send + Sync,

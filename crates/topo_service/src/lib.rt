@@ -6,6 +6,25 @@
 //! it, all without waiting. `Service::close` takes all passes back, compares every receipt with the history, and
 //! hands the book out: its Ok says that the history is one thread's, and has as many calls as the passes
 //! have receipts. `run_workers` runs lists of commands, each with a pass in a thread of its own.
+//!
+//! A caller, in a thread with a pass of its own (`planar_editors` is a whole program):
+//!
+//! ```rust
+//! /// Inserts an edge whose route is looked for while others make their calls.
+//! pub fn join<F: PriceFn + Drop, K: ServiceBrand<F>, R: Wait>(
+//!     rt: &R,
+//!     alloc: Global,
+//!     service: &Service<F, K>,
+//!     pass: &mut Pass<F, K>,
+//!     u: u32,
+//!     v: u32,
+//! ) -> Result<Reply, AllocError> {
+//!     match pass.find(alloc, service.tariff(), u, v) {
+//!         Ok(found) => service.insert_found(rt, pass, 0, &found),
+//!         Err(_) => service.insert(rt, pass, u, v, 0),
+//!     }
+//! }
+//! ```
 #![tactic(auto)]
 
 mod checks;
