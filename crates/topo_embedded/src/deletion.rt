@@ -1,5 +1,5 @@
-//! Deletion from rows with their embedding. It takes no memory: the path of the edge, which goes in any
-//! case, holds the midpoints that are left at its crossings until they are smoothed.
+//! Deletion from rows with their embedding. It takes no memory: the path of the edge is used again, for
+//! the points of degree two at its crossings until they are smoothed.
 
 ghost use Rattle.std.specs.Prelude.{◌≡◌, ◌≢◌, ℕ, true, is_some, length, slice_index_or};
 ghost use Rattle.topo_core.specs.Changes.{without};

@@ -123,14 +123,6 @@ impl Embedded {
         &self.hints
     }
 
-    /// The half of a dart.
-    pub fn half_of(&self, dart: Dart) -> Half
-        requires { has_dart (darts self.now.rows) dart ≡ true }
-        ensures { result ≡ half_in self.now dart }
-    {
-        self.half_on(self.place_of(&dart), dart)
-    }
-
     // The half of a dart whose edge has this place among the edges.
     fn half_on(&self, place: usize, dart: Dart) -> Half
         requires there { has_dart (darts self.now.rows) dart ≡ true }
@@ -254,7 +246,7 @@ impl Embedded {
     ghost use Rattle.topo_core.specs.Picture.{rotation};
 
     /// Puts a new vertex on a new edge of the given kind into the corner at a position of `u`. An error
-    /// is want of memory, and then all is as before.
+    /// is out of memory, and then all is as before.
     pub fn grow(
         &mut self,
         alloc: Global,
@@ -320,7 +312,7 @@ impl Embedded {
     }
 
     /// Draws a new edge of the given kind along a route that meets no face twice, from the first of the ends
-    /// to the second. An error is want of memory, and then all is as before.
+    /// to the second. An error is out of memory, and then all is as before.
     pub fn insert(
         &mut self,
         alloc: Global,

@@ -163,7 +163,7 @@ fn tell_with<R: Print + Eprint + AllocGlobal, F: PriceFn + Drop>(
 }
 
 /// A story on a picture.
-pub(crate) fn run_script<R: Print + Eprint + AllocGlobal>(
+pub(crate) fn run_book_script<R: Print + Eprint + AllocGlobal>(
     rt: &R,
     story: &BookScript,
     start: &Picture,

@@ -29,7 +29,7 @@ mod service_views;
 mod services;
 mod worker_lists;
 
-use book_scripts::{APEXES, BASE, BookScript, CHORDS, run_script};
+use book_scripts::{APEXES, BASE, BookScript, CHORDS, run_book_script};
 use embeddings::embed;
 use named_pictures::{BARRIER, BIPYRAMID, HEXAGON, Named};
 use picture_changes::{Changes, change};
@@ -48,7 +48,7 @@ fn call<R: Print + Eprint + AllocGlobal>(
     if let Some(changes) = changes {
         change(rt, changes, picture)?;
     }
-    run_script(rt, story, picture)
+    run_book_script(rt, story, picture)
 }
 
 /// Loads a named picture, and makes the calls on it.
