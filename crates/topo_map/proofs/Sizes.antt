@@ -19,7 +19,8 @@ slot_is : List (Option Segment) → ℕ → Bool
 slot_is slots i = is_some (slice_index_or slots i None)
 
 -- one slot more
-taken_more : (slots : List (Option Segment)) (k : ℕ) → count_by is_some (take k slots) ≡ count_below (slot_is slots) k → count_by is_some (take (k + 1) slots) ≡ count_below (slot_is slots) (k + 1)
+taken_more : (slots : List (Option Segment)) (k : ℕ) → count_by is_some (take k slots) ≡ count_below (slot_is slots) k
+    → count_by is_some (take (k + 1) slots) ≡ count_below (slot_is slots) (k + 1)
 unfolding slot_is
 taken_more slots k before = elim (cases_lt k (length slots)) [
   | inl l ↦ grind (arith, count_by_more_yes, count_by_more_no, count_below_more, cases_Bool)
@@ -38,7 +39,8 @@ counted s few =
     let at : (a : ℕ) → holds s (2 * a) ≡ slot_is s.slots a = λ a. live_at nexts s (2 * a) ∙ ap (slot_is s.slots) (let e : 2 * a / 2 ≡ a = omega arith in e) in
     ap (count_by is_some) (sym (take_all n s.slots few)) ∙ taken s.slots n ∙ count_below-same (slot_is s.slots) (λ i. holds s (2 * i)) n (λ a l. sym (at a))
 
-place : (cap len limit : ℕ) → len ≤ cap → limit ≡ 4294967294 → 2 * min cap 2147483647 < limit → 2 * min cap 2147483647 ≡ 2 * (len + cond (nat_le cap 2147483647) (cap - len) 0)
+place : (cap len limit : ℕ) → len ≤ cap → limit ≡ 4294967294 → 2 * min cap 2147483647 < limit
+    → 2 * min cap 2147483647 ≡ 2 * (len + cond (nat_le cap 2147483647) (cap - len) 0)
 place cap len limit l e below = grind (arith, cases_Bool, len, cond-true, leb-true, cond-false)
 
 -- below the greatest limit of all, the limit is that of what is held and of the room
