@@ -28,7 +28,8 @@ step : (f : ℕ → ℕ) (i p : ℕ) → f i ≡ p → SameCycle f i p
 step f i p e = record { steps = 1; leads = e }
 
 -- labels of a slab, by equations of what it holds
-pub labelled_by : (s : Slab Segment) (live : ℕ → Bool) (f l : ℕ → ℕ) → holds s ≡ live → next_in s ≡ f → face_in s ≡ l → LabelsFaces live f l → LabelsFaces (holds s) (next_in s) (face_in s)
+pub labelled_by : (s : Slab Segment) (live : ℕ → Bool) (f l : ℕ → ℕ) → holds s ≡ live → next_in s ≡ f → face_in s ≡ l → LabelsFaces live f l
+    → LabelsFaces (holds s) (next_in s) (face_in s)
 labelled_by s live f l eh ef el w = grind (arith, live, f)
 
 -- ---- A step in one face
@@ -102,7 +103,8 @@ join_labels s s1 s2 i j y z unused k w was hy hz side apart p =
 lone : (s : Slab Segment) (x c : ℕ) → IsKept s → next_in s x ≡ x → c ≢ x → IsLone (next_in s) (before_in s) x c
 lone s x c k alone ne = record { inverse = k.inverse; alone = alone; different = ne }
 
-put_step : (s s1 : Slab Segment) (x c : ℕ) → IsKept s → holds s x ≡ true → holds s c ≡ true → next_in s x ≡ x → c ≢ x → IsTurned s s1 (put (next_in s) x c) → face_in s1 ≡ face_in s → IsStep s s1 (twin (before_in s c)) (twin x)
+put_step : (s s1 : Slab Segment) (x c : ℕ) → IsKept s → holds s x ≡ true → holds s c ≡ true → next_in s x ≡ x → c ≢ x → IsTurned s s1 (put (next_in s) x c)
+    → face_in s1 ≡ face_in s → IsStep s s1 (twin (before_in s c)) (twin x)
 put_step s s1 x c k hx hc alone ne t e = record {
   kept = k;
   kept_after = t.kept;
@@ -120,8 +122,9 @@ onto s c k = ap (next_in s) (twin-twin (before_in s c)) ∙ k.inverse.onward c
 self : (s : Slab Segment) (x : ℕ) → face_next (next_in s) (twin x) ≡ next_in s x
 self s x = ap (next_in s) (twin-twin x)
 
-pub put_parts : (s s1 s2 : Slab Segment) (x c label : ℕ) → IsKept s → holds s x ≡ true → holds s c ≡ true → next_in s x ≡ x → c ≢ x → IsLabelled s label → face_in s x ≡ face_in s c
-    → IsTurned s s1 (put (next_in s) x c) → face_in s1 ≡ face_in s → IsPainted s1 s2 x label ⊎ IsPainted s1 s2 c label → IsLabelled s2 (label + 1)
+pub put_parts : (s s1 s2 : Slab Segment) (x c label : ℕ) → IsKept s → holds s x ≡ true → holds s c ≡ true → next_in s x ≡ x → c ≢ x → IsLabelled s label
+    → face_in s x ≡ face_in s c → IsTurned s s1 (put (next_in s) x c) → face_in s1 ≡ face_in s → IsPainted s1 s2 x label ⊎ IsPainted s1 s2 c label
+    → IsLabelled s2 (label + 1)
 put_parts s s1 s2 x c label k hx hc alone ne was same t e p =
     let i : ℕ = twin (before_in s c) in
     let j : ℕ = twin x in
@@ -134,8 +137,9 @@ put_parts s s1 s2 x c label k hx hc alone ne was same t e p =
       | inr v ↦ part_labels s s1 s2 i j c label w was equal hc (inr (step g j c (w.exchange.at_second ∙ onto s c k))) v
     ]
 
-pub put_joins : (s s1 s2 : Slab Segment) (x c unused : ℕ) → IsKept s → holds s x ≡ true → holds s c ≡ true → next_in s x ≡ x → c ≢ x → IsLabelled s unused → face_in s x ≢ face_in s c
-    → IsPainted s s1 x (face_in s c) ⊎ IsPainted s s1 c (face_in s x) → IsTurned s1 s2 (put (next_in s1) x c) → face_in s2 ≡ face_in s1 → IsLabelled s2 unused
+pub put_joins : (s s1 s2 : Slab Segment) (x c unused : ℕ) → IsKept s → holds s x ≡ true → holds s c ≡ true → next_in s x ≡ x → c ≢ x → IsLabelled s unused
+    → face_in s x ≢ face_in s c → IsPainted s s1 x (face_in s c) ⊎ IsPainted s s1 c (face_in s x) → IsTurned s1 s2 (put (next_in s1) x c)
+    → face_in s2 ≡ face_in s1 → IsLabelled s2 unused
 put_joins s s1 s2 x c unused k hx hc alone ne a apart p t e = elim p [
   | inl v ↦
       let w : IsStep s1 s2 (twin (before_in s1 c)) j = put_step s1 s2 x c (painted_kept s s1 _ k v) (ap (λ (h : ℕ → Bool). h x) v.live ∙ hx) (ap (λ (h : ℕ → Bool). h c) v.live ∙ hc) (ap (λ (h : ℕ → ℕ). h x) v.next ∙ alone) ne t e in
@@ -164,7 +168,8 @@ put_joins s s1 s2 x c unused k hx hc alone ne a apart p t e = elim p [
 
 -- ---- A half that is taken out
 
-pub without_step : (s s1 : Slab Segment) (x : ℕ) → IsKept s → holds s x ≡ true → IsTurned s s1 (without (next_in s) x) → face_in s1 ≡ face_in s → IsStep s s1 (twin (before_in s x)) (twin x)
+pub without_step : (s s1 : Slab Segment) (x : ℕ) → IsKept s → holds s x ≡ true → IsTurned s s1 (without (next_in s) x) → face_in s1 ≡ face_in s
+    → IsStep s s1 (twin (before_in s x)) (twin x)
 without_step s s1 x k hx t e = record {
   kept = k;
   kept_after = t.kept;
@@ -175,8 +180,9 @@ without_step s s1 x k hx t e = record {
   exchange = subst (λ (g : ℕ → ℕ). IsExchange (face_next (next_in s)) (face_next g) (twin (before_in s x)) (twin x)) (sym t.next) (without_exchange (next_in s) (before_in s) x k.inverse);
 }
 
-pub without_parts : (s s1 s2 : Slab Segment) (x y on label : ℕ) → IsKept s → holds s x ≡ true → y ≡ twin x → on ≡ next_in s x → holds s on ≡ true → IsLabelled s label → face_in s x ≡ face_in s y
-    → IsTurned s s1 (without (next_in s) x) → face_in s1 ≡ face_in s → IsPainted s1 s2 x label ⊎ IsPainted s1 s2 on label → IsLabelled s2 (label + 1)
+pub without_parts : (s s1 s2 : Slab Segment) (x y on label : ℕ) → IsKept s → holds s x ≡ true → y ≡ twin x → on ≡ next_in s x → holds s on ≡ true
+    → IsLabelled s label → face_in s x ≡ face_in s y → IsTurned s s1 (without (next_in s) x) → face_in s1 ≡ face_in s
+    → IsPainted s1 s2 x label ⊎ IsPainted s1 s2 on label → IsLabelled s2 (label + 1)
 without_parts s s1 s2 x y on label k hx ey eo ho was same t e p =
     let i : ℕ = twin (before_in s x) in
     let j : ℕ = twin x in

@@ -53,13 +53,16 @@ adds_below : (s s' : Slab Segment) (x : ℕ) → IsKept s → IsKept s' → Adds
 adds_below s s' x k k' a = record { below = k.within; below_after = k'.within; adds = a }
 
 -- a new segment is given no label that is not in use
-new_below : (s s' : Slab Segment) (l : ℕ → ℕ) (x left right unused : ℕ) → IsKept s' → AddsSegment (holds s) (holds s') half_limit x → ((a : ℕ) → holds s a ≡ true → face_in s a < unused) → AddsFaces (holds s) (face_in s) l x left right → left < unused → right < unused → (a : ℕ) → holds s' a ≡ true → l a < unused
+new_below : (s s' : Slab Segment) (l : ℕ → ℕ) (x left right unused : ℕ) → IsKept s' → AddsSegment (holds s) (holds s') half_limit x
+    → ((a : ℕ) → holds s a ≡ true → face_in s a < unused) → AddsFaces (holds s) (face_in s) l x left right → left < unused → right < unused → (a : ℕ)
+    → holds s' a ≡ true → l a < unused
 new_below s s' l x left right unused k' t below f ll lr a h = grind (arith, cases_eq)
 
 faces_added : (live : ℕ → Bool) (old l m : ℕ → ℕ) (x left right : ℕ) → m ≡ l → AddsFaces live old l x left right → AddsFaces live old m x left right
 faces_added live old l m x left right e f = subst (λ (k : ℕ → ℕ). AddsFaces live old k x left right) (sym e) f
 
-pub hung_labels : (s s1 s2 : Slab Segment) (c x label unused : ℕ) → IsStart s s1 x → holds s c ≡ true → IsTurned s1 s2 (put (next_in s1) x c) → AddsFaces (holds s) (face_in s) (face_in s1) x label label → label ≡ face_in s c → face_in s2 ≡ face_in s1 → IsLabelled s unused → IsLabelled s2 unused
+pub hung_labels : (s s1 s2 : Slab Segment) (c x label unused : ℕ) → IsStart s s1 x → holds s c ≡ true → IsTurned s1 s2 (put (next_in s1) x c)
+    → AddsFaces (holds s) (face_in s) (face_in s1) x label label → label ≡ face_in s c → face_in s2 ≡ face_in s1 → IsLabelled s unused → IsLabelled s2 unused
 hung_labels s s1 s2 c x label unused st hc t f el e w =
     let done : IsHung s s2 c x = hung s s1 s2 c x st hc t in
     let new : AddsFaces (holds s) (face_in s) (face_in s2) x label label = faces_added (holds s) (face_in s) (face_in s1) (face_in s2) x label label e f in
@@ -70,7 +73,8 @@ hung_labels s s1 s2 c x label unused st hc t f el e w =
       below = new_below s s2 (face_in s2) x label label unused k done.added.grows.live w.below new ll ll;
     }
 
-pub split_labelled : (s s' : Slab Segment) (l : ℕ → ℕ) (h x t left right unused : ℕ) → IsKept s → holds s h ≡ true → t ≡ twin h → IsSplitUp s s' h x → AddsFaces (holds s) (face_in s) l x left right → left ≡ face_in s h → right ≡ face_in s t → face_in s' ≡ l → IsLabelled s unused → IsLabelled s' unused
+pub split_labelled : (s s' : Slab Segment) (l : ℕ → ℕ) (h x t left right unused : ℕ) → IsKept s → holds s h ≡ true → t ≡ twin h → IsSplitUp s s' h x
+    → AddsFaces (holds s) (face_in s) l x left right → left ≡ face_in s h → right ≡ face_in s t → face_in s' ≡ l → IsLabelled s unused → IsLabelled s' unused
 split_labelled s s' l h x t left right unused k hh et done f el er e w =
     let new : AddsFaces (holds s) (face_in s) (face_in s') x left right = faces_added (holds s) (face_in s) l (face_in s') x left right e f in
     let k' : IsKept s' = done.added.sound in
@@ -81,7 +85,8 @@ split_labelled s s' l h x t left right unused k hh et done f el er e w =
       below = new_below s s' (face_in s') x left right unused k' done.added.grows.live w.below new (subst (λ (v : ℕ). v < unused) (sym el) (w.below h hh)) (subst (λ (v : ℕ). v < unused) (sym er') (w.below (twin h) ht));
     }
 
-pub smooth_labelled : (s s' : Slab Segment) (l : ℕ → ℕ) (x unused : ℕ) → IsKept s → IsSmoothed s s' x → l ≡ face_in s → KeepsLabels (holds s') l (face_in s') → IsLabelled s unused → IsLabelled s' unused
+pub smooth_labelled : (s s' : Slab Segment) (l : ℕ → ℕ) (x unused : ℕ) → IsKept s → IsSmoothed s s' x → l ≡ face_in s → KeepsLabels (holds s') l (face_in s')
+    → IsLabelled s unused → IsLabelled s' unused
 smooth_labelled s s' l x unused k done e kept w =
     let k' : IsKept s' = done.taken.sound in
     let t : AddsSegment (holds s') (holds s) half_limit x = done.taken.shrinks.live in
@@ -95,7 +100,9 @@ smooth_labelled s s' l x unused k done e kept w =
 
 -- ---- The second end of a segment that goes
 
-pub unhung_labels : (s s1 s2 s3 : Slab Segment) (h t unused : ℕ) → holds s h ≡ true → t ≡ twin h → IsTurned s s1 (without (next_in s) h) → IsTurned s1 s2 (without (next_in s1) t) → face_in s2 ≡ face_in s1 → IsRemoved s2 s3 h → KeepsLabels (holds s3) (face_in s2) (face_in s3) → IsLabelled s1 unused → IsLabelled s3 unused
+pub unhung_labels : (s s1 s2 s3 : Slab Segment) (h t unused : ℕ) → holds s h ≡ true → t ≡ twin h → IsTurned s s1 (without (next_in s) h)
+    → IsTurned s1 s2 (without (next_in s1) t) → face_in s2 ≡ face_in s1 → IsRemoved s2 s3 h → KeepsLabels (holds s3) (face_in s2) (face_in s3)
+    → IsLabelled s1 unused → IsLabelled s3 unused
 unhung_labels s s1 s2 s3 h t unused hh et u v e r kept w =
     let h1 : holds s1 h ≡ true = ap (λ (p : ℕ → Bool). p h) u.live ∙ hh in
     let ht : holds s1 t ≡ true = live_twin s1 h t et h1 in
@@ -151,7 +158,8 @@ joined_painted s s' hs ts l j r = record {
 }
 
 -- one segment, whose halves lie in one face
-pub seed_labels : (s s' : Slab Segment) (x : ℕ) → ((a : ℕ) → holds s a ≡ true → ⊥) → IsStart s s' x → AddsFaces (holds s) (face_in s) (face_in s') x 0 0 → IsLabelled s' 1
+pub seed_labels : (s s' : Slab Segment) (x : ℕ) → ((a : ℕ) → holds s a ≡ true → ⊥) → IsStart s s' x → AddsFaces (holds s) (face_in s) (face_in s') x 0 0
+    → IsLabelled s' 1
 seed_labels s s' x none st f = grind (arith, blank_more, blank_none, twin_alone, twin-twin, alone)
   where
     which : (a : ℕ) → holds s' a ≡ true → (a ≡ x) ⊎ (a ≡ twin x)

@@ -25,7 +25,8 @@ pub record IsPartly (live : ℕ → Bool) (f l : ℕ → ℕ) (k unused : ℕ) :
   pub given : (a : ℕ) → a < k → live a ≡ true → l a ≢ 0
 
 -- one that has a label already
-given_already : (live : ℕ → Bool) (f l : ℕ → ℕ) (k y unused : ℕ) → IsPartly live f l k unused → y ≡ k → (live y ≡ true → l y ≢ 0) → IsPartly live f l (k + 1) unused
+given_already : (live : ℕ → Bool) (f l : ℕ → ℕ) (k y unused : ℕ) → IsPartly live f l k unused → y ≡ k → (live y ≡ true → l y ≢ 0)
+    → IsPartly live f l (k + 1) unused
 given_already live f l k y unused w ey ne = record {
   some = w.some;
   few = (let e : unused ≤ k + 1 = w.few in omega arith);
@@ -36,7 +37,8 @@ given_already live f l k y unused w ey ne = record {
 }
 
 -- one whose face is painted
-given_now : (s : Slab Segment) (l : ℕ → ℕ) (k y label : ℕ) → IsKept s → IsPartly (holds s) (face_next (next_in s)) l k label → y ≡ k → holds s y ≡ true → l y ≡ 0 → IsPartly (holds s) (face_next (next_in s)) (painted (face_next (next_in s)) half_limit y label l) (k + 1) (label + 1)
+given_now : (s : Slab Segment) (l : ℕ → ℕ) (k y label : ℕ) → IsKept s → IsPartly (holds s) (face_next (next_in s)) l k label → y ≡ k → holds s y ≡ true
+    → l y ≡ 0 → IsPartly (holds s) (face_next (next_in s)) (painted (face_next (next_in s)) half_limit y label l) (k + 1) (label + 1)
 given_now s l k y label kept w ey hy zero =
     let f : ℕ → ℕ = face_next (next_in s) in
     let n : ℕ = half_limit in
@@ -73,13 +75,15 @@ pub record IsPartlyLabelled (s s1 : Slab Segment) (k unused : ℕ) : Type 0 wher
   pub same : Repaints s s1 (face_in s1)
   pub partly : IsPartly (holds s) (face_next (next_in s)) (face_in s1) k unused
 
-pub step_over : (s s1 : Slab Segment) (k y unused : ℕ) → IsPartlyLabelled s s1 k unused → y ≡ k → (holds s1 y ≡ true → face_in s1 y ≢ 0) → IsPartlyLabelled s s1 (k + 1) unused
+pub step_over : (s s1 : Slab Segment) (k y unused : ℕ) → IsPartlyLabelled s s1 k unused → y ≡ k → (holds s1 y ≡ true → face_in s1 y ≢ 0)
+    → IsPartlyLabelled s s1 (k + 1) unused
 step_over s s1 k y unused w ey ne = record {
   same = w.same;
   partly = given_already (holds s) (face_next (next_in s)) (face_in s1) k y unused w.partly ey (λ h. ne (painted_live s s1 (face_in s1) y w.same h));
 }
 
-pub step_painted : (s s1 s2 : Slab Segment) (k y label : ℕ) → IsKept s → IsPartlyLabelled s s1 k label → y ≡ k → holds s1 y ≡ true → face_in s1 y ≡ 0 → IsPainted s1 s2 y label → IsPartlyLabelled s s2 (k + 1) (label + 1)
+pub step_painted : (s s1 s2 : Slab Segment) (k y label : ℕ) → IsKept s → IsPartlyLabelled s s1 k label → y ≡ k → holds s1 y ≡ true → face_in s1 y ≡ 0
+    → IsPainted s1 s2 y label → IsPartlyLabelled s s2 (k + 1) (label + 1)
 step_painted s s1 s2 k y label kept w ey hy zero p =
     let l : ℕ → ℕ = face_in s1 in
     let f : ℕ → ℕ = face_next (next_in s) in

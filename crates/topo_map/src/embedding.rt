@@ -4,8 +4,7 @@ ghost use Rattle.std.specs.Prelude.{◌≡◌, ◌≢◌, ◌↔◌, ◌+◌, �
 ghost use Rattle.topo_core.specs.Cycles.{IsPermutationList, SameCycle};
 ghost use Rattle.topo_core.specs.Edits.{IsChord, IsHang, IsSmooth, IsSplit, IsUnchord};
 ghost use Rattle.topo_core.specs.Rotations.{face_next, twin};
-ghost use Rattle.topo_perm.specs.Live.{live_segments};
-ghost use Rattle.topo_map.specs.Rotation.{AddsLabel, AreLabelled, CountsFewer, CountsMore, Grows, IsDegree, IsEmbedding, IsMadeFrom, IsOneFace, KeepsLabels, PartsFaces, Shrinks, edge_of, half_limit, is_live, turn};
+ghost use Rattle.topo_map.specs.Rotation.{AddsLabel, AreLabelled, CountsFewer, CountsMore, Grows, IsDegree, IsEmbedding, IsMadeFrom, IsOneFace, KeepsLabels, PartsFaces, Shrinks, edge_of, half_limit, is_live, segments as segments_of, turn};
 
 use crate::build::{isolated_halves, join_turns};
 use crate::faces::{HALF_LIMIT, attach, detach, label_faces};
@@ -82,11 +81,12 @@ impl Embedding {
     }
 
     /// A length for lists by half: above the numbers of all halves, now and while there is room.
+    /// Below the greatest that there is, it is as many halves as there are and have room.
     pub fn limit(&self) -> usize
         ensures limit { result ≡ self.now.limit }
         ensures above { (a : ℕ) → is_live self.now a ≡ true → a < result }
         ensures fits { result < 2 ^ 32 }
-        ensures size { result < half_limit → result ≡ 2 * (live_segments (is_live self.now) half_limit + self.now.room) }
+        ensures size { result < half_limit → result ≡ 2 * (segments_of self.now + self.now.room) }
     {
         segments::limit(&self.segments)
     }

@@ -11,4 +11,4 @@ returns-clause-above c a h = subst (λ (n : ℕ). a < n) (sym c.limit.ensures.va
 
 pub returns-clause-size : goal.returns-clause-size
 returns-clause-size c small = subst (λ (r : Rotation). c.limit.result ≡ 2 * (live_segments (is_live r) half_limit + r.room)) c.self.view_is
-    (c.limit.ensures.value ∙ limit_whole c.self.inside.segments c.self.invariant.kept c.limit.ensures.slots (subst (λ (n : ℕ). n < half_limit) c.limit.ensures.value small))
+    (c.limit.ensures.value ∙ limit_whole c.self.inside.segments c.limit.ensures.slots (subst (λ (n : ℕ). n < half_limit) c.limit.ensures.value small))
