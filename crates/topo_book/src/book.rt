@@ -523,8 +523,9 @@ impl<F: PriceFn> Book<F> {
         Ok(Next::accepted(entry, unshared))
     }
 
-    /// Makes the call ready. A refused call takes no other picture.
-    fn prepare_from(
+    /// As `prepare`, with what is known of the route of an insertion. A refused call takes no other
+    /// picture.
+    pub fn prepare_from(
         &mut self,
         alloc: Global,
         caller: u32,

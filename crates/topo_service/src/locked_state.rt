@@ -54,8 +54,8 @@ impl<F: PriceFn, K: ServiceBrand<F>, W: VersionWriter<F, K>> Model for LockedSta
         × (d.prefix ≡ versions d.book.history) × (W.published d.writer ≡ Some (versions d.book.history)) };
 }
 
-/// Makes a call ready, with what is known of its route. The rest is what is true of every book.
-#[tactic(auto, using(topo_book::proofs::Hinting::nothing_is_owed))]
+/// Makes a call ready, with what is known of its route. The two calls before are for the proof: they give
+/// what is true of every book.
 fn prepare_call<F: PriceFn>(
     book: &mut Book<F>,
     alloc: Global,
@@ -75,15 +75,7 @@ fn prepare_call<F: PriceFn>(
 {
     let _more = book.history().len() + 1;
     book.picture();
-    match (call, hint) {
-        (Call::Insert { u, v, kind }, Hint::Plan(plan)) => {
-            book.prepare_planned(alloc, caller, u, v, kind, plan)
-        }
-        (Call::Insert { u, v, kind }, Hint::First(first)) => {
-            book.prepare_first(alloc, caller, u, v, kind, first)
-        }
-        _ => book.prepare(alloc, caller, call),
-    }
+    book.prepare_from(alloc, caller, call, hint)
 }
 
 /// Adds a call that was made ready to the accepted entries, and publishes the version after it, where it is
