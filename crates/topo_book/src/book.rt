@@ -142,7 +142,7 @@ impl<F: PriceFn> Book<F> {
         &self.start
     }
 
-    /// The entries so far, the oldest first. Want of memory is never entered.
+    /// The entries so far, the oldest first. Out of memory is never entered.
     pub fn history(&self) -> &[Entry]
         ensures entries { result.now ≡ self.now.history }
         ensures legal { Replays (prices_of (F.may_return self.now.tariff)) self.now.start.limits self.now.start.rows self.now.history self.now.picture.rows }
@@ -206,7 +206,7 @@ impl<F: PriceFn> Book<F> {
     }
 
     /// Inserts an edge of this kind from `u` to `v` along the first of the cheapest routes, or answers
-    /// the first reason why not. Both are entered. Want of memory may stand in place of any answer,
+    /// the first reason why not. Both are entered. Out of memory may stand in place of any answer,
     /// and leaves history and picture as they were.
     pub fn insert(
         &mut self,
@@ -245,7 +245,7 @@ impl<F: PriceFn> Book<F> {
         self.call_in_place(alloc, caller, Call::Insert { u, v, kind }, Hint::Plan(plan))
     }
 
-    /// Takes an edge out, or answers why not. Both are entered. Want of memory may stand in place of
+    /// Takes an edge out, or answers why not. Both are entered. Out of memory may stand in place of
     /// any answer, and leaves history and picture as they were.
     pub fn delete(&mut self, alloc: Global, caller: u32, edge: u32) -> Result<Reply, AllocError>
         ensures step { IfOk result (λ reply. Step (prices_of (F.may_return self.old.tariff)) self.old.picture.limits self.old.picture.rows (Delete edge) reply self.new.picture.rows) }
@@ -258,7 +258,7 @@ impl<F: PriceFn> Book<F> {
     }
 
     /// Puts a new vertex on a new edge of this kind into the corner at `position` of `u`, or answers
-    /// the first reason why not. Both are entered. Want of memory may stand in place of any answer,
+    /// the first reason why not. Both are entered. Out of memory may stand in place of any answer,
     /// and leaves history and picture as they were.
     pub fn grow(
         &mut self,

@@ -100,7 +100,7 @@ impl<F: PriceFn, K: ServiceBrand<F>, W: VersionWriter<F, K>> ServiceOver<F, K, W
 
     /// Inserts an edge of this kind from `u` to `v` along the first of the cheapest routes, or answers
     /// the first reason why not, under the lock. The pass gains a receipt, and has then seen the version
-    /// of its call. Want of memory may stand in place of any answer; nothing was published then, and the
+    /// of its call. Out of memory may stand in place of any answer; nothing was published then, and the
     /// pass is as it was.
     pub fn insert<G: VersionReader<F, K>, R: Wait>(
         &self,
