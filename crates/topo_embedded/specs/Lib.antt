@@ -1,5 +1,6 @@
 pub mod Along
 pub mod Halves
+pub mod Parts
 pub mod Making
 pub mod Walking
 pub mod Inserting

@@ -10,12 +10,13 @@ ghost use Rattle.topo_map.specs.Rotation.{edge_of, is_live, turn};
 ghost use Rattle.topo_changes.proofs.DeletedMids.{across};
 ghost use Rattle.topo_embedded.specs.Halves.{ShowsRows, path_of};
 ghost use Rattle.topo_embedded.specs.Opening.{IsOpenTo, IsOpened, IsSetOut, IsSmoothedTo, leads_in, mids_of, without_half};
+ghost use Rattle.topo_embedded.specs.Parts.{Agree};
 
+use crate::parts::Parts;
 use crate::path::Path;
 use std::mem;
 use topo_changes::KeptRows;
 use topo_changes::deletion::delete_rows;
-use topo_core::listed::Listed;
 use topo_map::{Embedding, Half};
 use topo_rows::IdIndex;
 use topo_rows::by_id::place_of_edge;
@@ -144,21 +145,18 @@ fn delete_lists(
     paths.remove(place);
 }
 
-/// As `delete_rows`, and keeps the halves and the hints in step with the rows.
-pub(crate) fn delete_parts(
-    rows: &mut KeptRows,
-    paths: &mut Listed<Path>,
-    segments: &mut Embedding,
-    hints: &mut IdIndex,
-    edge: u32,
-)
-    requires lawful { Lawful rows.old }
-    requires there { is_some (edge_row rows.old edge) ≡ true }
-    requires shows { ShowsRows (record { rows = rows.old; paths = paths.old }) segments.old }
-    ensures rows { rows.new ≡ without rows.old edge }
-    ensures shows { ShowsRows (record { rows = rows.new; paths = paths.new }) segments.new }
-{
-    delete_lists(rows, paths.as_vec_mut(), segments, hints, edge);
-    delete_rows(rows, hints, edge);
-    hints.settle(rows.edges());
+impl Parts {
+    /// Takes an edge out, with its crossings.
+    pub(crate) fn delete(&mut self, edge: u32)
+        requires lawful { Lawful self.old.rows }
+        requires there { is_some (edge_row self.old.rows edge) ≡ true }
+        requires shows { Agree self.old }
+        ensures rows { self.new.rows ≡ without self.old.rows edge }
+        ensures shows { Agree self.new }
+    {
+        let paths = self.paths.as_vec_mut();
+        delete_lists(&self.rows, paths, &mut self.segments, &self.index, edge);
+        delete_rows(&mut self.rows, &mut self.index, edge);
+        self.index.settle(self.rows.edges());
+    }
 }

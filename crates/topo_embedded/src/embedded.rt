@@ -16,12 +16,9 @@ mod canonical;
 
 use crate::copies::copy_paths;
 use crate::cuts::first_cut;
-use crate::deletion::delete_parts;
-use crate::growth::grow_parts;
-use crate::insertion::insert_parts;
 use crate::making::{labels_of, paths_of};
 use crate::padding::Crossed;
-use crate::path::Path;
+use crate::parts::Parts;
 use crate::walking::{end_of, led, place_on_path};
 use std::alloc::{AllocError, Global};
 use std::marker::Model;
@@ -38,37 +35,27 @@ use topo_rows::{IdIndex, Turns};
 /// Well-formed rows with their embedding. Contracts see the rows, and for each edge, by its place among
 /// the edges, the half that leads along it on each of its segments.
 pub struct Embedded {
-    rows: KeptRows,
-    paths: Listed<Path>,
-    segments: Embedding,
-    hints: IdIndex,
+    parts: Parts,
 }
 
 // Written out, so that it is proved once: a derived one is proved anew in each function that lets such a value go.
 impl Drop for Embedded {
     fn drop(self) {
-        let Embedded {
-            rows,
-            paths,
-            segments,
-            hints,
-        } = self;
-        drop(rows);
-        drop(paths);
-        drop(segments);
-        drop(hints);
+        let Embedded { parts } = self;
+        drop(parts);
     }
 }
 
 impl Model for Embedded {
     ghost use Rattle.topo_core.specs.Lawful.{IsWellFormed};
-    ghost use Rattle.topo_embedded.specs.Halves.{RowsWithPaths, ShowsRows};
+    ghost use Rattle.topo_embedded.specs.Halves.{RowsWithPaths};
+    ghost use Rattle.topo_embedded.specs.Parts.{Agree, with_paths};
 
     ghost Value = { RowsWithPaths };
 
-    ghost view = { λ e. record { rows = e.rows; paths = e.paths } };
+    ghost view = { λ e. with_paths e.parts };
 
-    ghost invariant = { λ e. IsWellFormed e.rows × ShowsRows (record { rows = e.rows; paths = e.paths }) e.segments };
+    ghost invariant = { λ e. IsWellFormed e.parts.rows × Agree e.parts };
 }
 
 impl Embedded {
@@ -85,42 +72,44 @@ impl Embedded {
         let (segments, halves) = Embedding::from_turns(alloc, images, labels.as_slice())?;
         let paths = paths_of(alloc, edges, turns.begins.as_slice(), halves.as_slice())?;
         let rows = KeptRows::of(alloc, rows)?;
-        let mut hints = turns.hints;
-        hints.forget_crossings();
-        Ok(Embedded {
+        let mut index = turns.hints;
+        index.forget_crossings();
+        let parts = Parts {
             rows,
             paths,
             segments,
-            hints,
-        })
+            index,
+        };
+        Ok(Embedded { parts })
     }
 
     /// An equal one, in memory of its own.
     pub fn copy(&self, alloc: Global) -> Result<Self, AllocError>
         ensures { IfOk result (λ e. e ≡ self.now) }
     {
-        let rows = self.rows.copy(alloc)?;
-        let paths = copy_paths(alloc, self.paths.as_slice())?;
-        let segments = self.segments.copy()?;
-        let hints = self.hints.copy(alloc)?;
-        Ok(Embedded {
+        let rows = self.parts.rows.copy(alloc)?;
+        let paths = copy_paths(alloc, self.parts.paths.as_slice())?;
+        let segments = self.parts.segments.copy()?;
+        let index = self.parts.index.copy(alloc)?;
+        let parts = Parts {
             rows,
             paths,
             segments,
-            hints,
-        })
+            index,
+        };
+        Ok(Embedded { parts })
     }
 
     /// The rows.
     pub fn rows(&self) -> &KeptRows
         ensures { result.now ≡ self.now.rows }
     {
-        &self.rows
+        &self.parts.rows
     }
 
     /// Places of rows by their ids, to be tried before a search.
     pub fn hints(&self) -> &IdIndex {
-        &self.hints
+        &self.parts.index
     }
 
     // The half of a dart whose edge has this place among the edges.
@@ -129,7 +118,10 @@ impl Embedded {
         requires place { place ≡ position_or_len (λ row. row.id == dart.edge) self.now.rows.edges }
         ensures { result ≡ half_in self.now dart }
     {
-        led(self.paths.as_slice()[place].at(dart.seg as usize), dart.way)
+        led(
+            self.parts.paths.as_slice()[place].at(dart.seg as usize),
+            dart.way,
+        )
     }
 
     // The place of a dart's edge among the edges.
@@ -137,8 +129,8 @@ impl Embedded {
         requires { has_dart (darts self.now.rows) dart.now ≡ true }
         ensures { result ≡ position_or_len (λ row. row.id == dart.now.edge) self.now.rows.edges }
     {
-        let edges = self.rows.edges();
-        place_of_edge(edges, &self.hints, dart.edge.number())
+        let edges = self.parts.rows.edges();
+        place_of_edge(edges, &self.parts.index, dart.edge.number())
     }
 
     /// The half of the next dart along the face on the left.
@@ -146,7 +138,7 @@ impl Embedded {
         requires { IsHalf self.now half }
         ensures { (d : Dart) → has_dart (darts self.now.rows) d ≡ true → half_in self.now d ≡ half → result ≡ half_in self.now (face_step (system self.now.rows) d) }
     {
-        self.segments.face_next(half)
+        self.parts.segments.face_next(half)
     }
 
     /// Whether two halves have one face on their left.
@@ -156,7 +148,7 @@ impl Embedded {
         ensures { (c d : Dart) → has_dart (darts self.now.rows) c ≡ true → has_dart (darts self.now.rows) d ≡ true → half_in self.now c ≡ half → half_in self.now d ≡ other
             → IsTrue result ↔ SameFace (system self.now.rows) c d }
     {
-        self.segments.same_face(half, other)
+        self.parts.segments.same_face(half, other)
     }
 
     /// A number that those of all halves are below.
@@ -164,7 +156,7 @@ impl Embedded {
         ensures named { IsNamed (named_in self.now result) }
         ensures many { length (darts self.now.rows) ≤ result }
     {
-        self.segments.limit() as u32
+        self.parts.segments.limit() as u32
     }
 
     /// The id of the edge of a half.
@@ -172,7 +164,7 @@ impl Embedded {
         requires { IsHalf self.now half }
         ensures { (d : Dart) → has_dart (darts self.now.rows) d ≡ true → half_in self.now d ≡ half → result ≡ d.edge }
     {
-        self.segments.edge(half)
+        self.parts.segments.edge(half)
     }
 
     /// The facts of the edge of a half.
@@ -180,8 +172,8 @@ impl Embedded {
         requires { IsHalf self.now half }
         ensures { (d : Dart) → has_dart (darts self.now.rows) d ≡ true → half_in self.now d ≡ half → AreFactsOf (edge_at self.now.rows d.edge) result }
     {
-        let edges = self.rows.edges();
-        let place = place_of_edge(edges, &self.hints, self.segments.edge(half));
+        let edges = self.parts.rows.edges();
+        let place = place_of_edge(edges, &self.parts.index, self.parts.segments.edge(half));
         match Facts::from_row(&edges[place]) {
             Some(facts) => facts,
             None => unreachable!(),
@@ -193,9 +185,9 @@ impl Embedded {
         requires { IsHalf self.now half }
         ensures { (d : Dart) → has_dart (darts self.now.rows) d ≡ true → half_in self.now d ≡ half → result ≡ d }
     {
-        let label = self.segments.edge(half);
-        let place = place_of_edge(self.rows.edges(), &self.hints, label);
-        let path = &self.paths.as_slice()[place];
+        let label = self.parts.segments.edge(half);
+        let place = place_of_edge(self.parts.rows.edges(), &self.parts.index, label);
+        let path = &self.parts.paths.as_slice()[place];
         let (seg, way) = place_on_path(path, half);
         let edge = EdgeId::new(label);
         Dart { edge, seg, way }
@@ -206,18 +198,18 @@ impl Embedded {
         requires { is_some (edge_row self.now.rows e) ≡ true }
         ensures { result ≡ half_in self.now (end_dart self.now.rows v e) }
     {
-        let edges = self.rows.edges();
-        let place = place_of_edge(edges, &self.hints, e);
+        let edges = self.parts.rows.edges();
+        let place = place_of_edge(edges, &self.parts.index, e);
         let (seg, way) = end_of(&edges[place], v);
-        led(self.paths.as_slice()[place].at(seg), way)
+        led(self.parts.paths.as_slice()[place].at(seg), way)
     }
 
     /// The half that names the corner at a position of a vertex; none where there is no such corner.
     pub fn corner(&self, v: u32, position: u32) -> Option<Half>
         ensures { result ≡ option_map (half_in self.now) (corner self.now.rows v position) }
     {
-        if (position as usize) < self.rows.degree(v) {
-            let around = self.rows.rotations()[v as usize].as_slice();
+        if (position as usize) < self.parts.rows.degree(v) {
+            let around = self.parts.rows.rotations()[v as usize].as_slice();
             Some(self.end_half(v, around[position as usize]))
         } else {
             None
@@ -235,8 +227,12 @@ impl Embedded {
         requires { is_some (edge_row self.now.rows edge) ≡ true }
         ensures { IsFirstCut self.now.rows edge result }
     {
-        let place = place_of_edge(self.rows.edges(), &self.hints, edge);
-        first_cut(&self.segments, edge, &self.paths.as_slice()[place])
+        let place = place_of_edge(self.parts.rows.edges(), &self.parts.index, edge);
+        first_cut(
+            &self.parts.segments,
+            edge,
+            &self.parts.paths.as_slice()[place],
+        )
     }
 }
 
@@ -265,17 +261,7 @@ impl Embedded {
         let Some(named) = self.corner(u, position) else {
             unreachable!()
         };
-        grow_parts(
-            alloc,
-            &mut self.rows,
-            &mut self.paths,
-            &mut self.segments,
-            &mut self.hints,
-            named,
-            u,
-            position,
-            kind,
-        )
+        self.parts.grow(alloc, named, u, position, kind)
     }
 }
 
@@ -334,18 +320,9 @@ impl Embedded {
             unreachable!()
         };
         let mut crossed = self.crossed_of(alloc, route.crossed.as_slice())?;
-        insert_parts(
-            alloc,
-            &mut self.rows,
-            &mut self.paths,
-            &mut self.segments,
-            &mut self.hints,
-            &mut crossed,
-            (start, end),
-            ends,
-            kind,
-            route,
-        )
+        let corners = (start, end);
+        self.parts
+            .insert(alloc, &mut crossed, corners, ends, kind, route)
     }
 }
 
@@ -359,12 +336,6 @@ impl Embedded {
         requires there { is_some (edge_row self.old.rows edge) ≡ true }
         ensures { self.new.rows ≡ without self.old.rows edge }
     {
-        delete_parts(
-            &mut self.rows,
-            &mut self.paths,
-            &mut self.segments,
-            &mut self.hints,
-            edge,
-        );
+        self.parts.delete(edge);
     }
 }

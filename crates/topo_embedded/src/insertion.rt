@@ -8,19 +8,18 @@ ghost use Rattle.topo_core.specs.Changes.{shown};
 ghost use Rattle.topo_core.specs.Rotations.{twin};
 ghost use Rattle.topo_map.specs.Rotation.{is_live};
 ghost use Rattle.topo_embedded.specs.Crossing.{AreChordsAdded, AreSplit, IsMarked, IsReady, IsReadyFor, IsRouted, bends_of, bent_half, crossed_darts};
-ghost use Rattle.topo_embedded.specs.Halves.{RowsWithPaths, ShowsRows};
+ghost use Rattle.topo_embedded.specs.Halves.{RowsWithPaths};
 ghost use Rattle.topo_embedded.specs.Inserting.{put_halves};
 ghost use Rattle.topo_embedded.specs.Padding.{ArePadded, ArePlaced};
+ghost use Rattle.topo_embedded.specs.Parts.{Agree, with_paths};
 
 use crate::padding::{Crossed, pad, put_beside, unpad};
+use crate::parts::Parts;
 use crate::path::Path;
 use std::alloc::{AllocError, Global};
-use topo_changes::KeptRows;
 use topo_changes::insertion::apply_rows;
-use topo_core::listed::Listed;
 use topo_core::routes::Route;
 use topo_map::{Embedding, Half};
-use topo_rows::IdIndex;
 
 /// Splits the segments of the crossed darts, the last one first.
 fn split_crossed(paths: &mut [Path], segments: &mut Embedding, crossed: &mut [Crossed])
@@ -138,67 +137,72 @@ fn add_route(
     add_chords(segments, crossed, start, end, edge, line);
 }
 
-/// Puts a new edge along a route into the rows and the embedding, or leaves all as it was.
-fn insert_lists(
-    alloc: Global,
-    rows: &mut KeptRows,
-    paths: &mut Vec<Path>,
-    segments: &mut Embedding,
-    hints: &IdIndex,
-    crossed: &mut [Crossed],
-    corners: (Half, Half),
-    ends: (u32, u32),
-    kind: u32,
-    route: &Route,
-) -> Result<(), AllocError>
-    ghost p: { RowsWithPaths }
-    requires was { p ≡ record { rows = rows.old; paths = paths.old.items } }
-    requires ready { IsReadyFor p segments.old crossed.old ends.0 ends.1 kind route.now corners.0 corners.1 }
-    requires edges { rows.old.next_edge + 1 < 2 ^ 32 }
-    requires crossing_ids { rows.old.next_crossing + length route.now.crossed < 2 ^ 32 }
-    ensures ok { OnOk result (rows.new ≡ shown rows.old ends.0 ends.1 kind route.now) }
-    ensures err { OnErr result (rows.new ≡ rows.old) }
-    ensures err_paths { OnErr result (paths.new.items ≡ paths.old.items) }
-    ensures shows { ShowsRows (record { rows = rows.new; paths = paths.new.items }) segments.new }
-{
-    let edge = rows.next_edge();
-    let mut line = make_room(alloc, paths, segments, crossed)?;
-    if apply_rows(alloc, rows, hints, ends.0, ends.1, kind, route).is_err() {
-        unpad(paths, crossed);
-        return Err(AllocError);
+impl Parts {
+    /// Puts a new edge along a route, between the corners that the halves name, into the rows and the
+    /// embedding, or leaves all as it was.
+    pub(crate) fn insert(
+        &mut self,
+        alloc: Global,
+        crossed: &mut [Crossed],
+        corners: (Half, Half),
+        ends: (u32, u32),
+        kind: u32,
+        route: &Route,
+    ) -> Result<(), AllocError>
+        requires ready { IsReadyFor (with_paths self.old) self.old.segments crossed.old ends.0 ends.1 kind route.now corners.0 corners.1 }
+        requires edges { self.old.rows.next_edge + 1 < 2 ^ 32 }
+        requires crossing_ids { self.old.rows.next_crossing + length route.now.crossed < 2 ^ 32 }
+        ensures ok { OnOk result (self.new.rows ≡ shown self.old.rows ends.0 ends.1 kind route.now) }
+        ensures err { OnErr result (self.new.rows ≡ self.old.rows) }
+        ensures err_paths { OnErr result (self.new.paths ≡ self.old.paths) }
+        ensures shows { Agree self.new }
+    {
+        self.index.reserve()?;
+        self.add_edge(alloc, crossed, corners, ends, kind, route)?;
+        self.index.join(self.rows.edges());
+        Ok(())
     }
-    segments.laws();
-    add_route(paths, segments, crossed, corners, edge, &mut line);
-    paths.push(line).unwrap();
-    Ok(())
-}
 
-/// As `apply_rows`, and keeps the halves and the hints in step with the rows. The halves name the corners.
-pub(crate) fn insert_parts(
-    alloc: Global,
-    rows: &mut KeptRows,
-    paths: &mut Listed<Path>,
-    segments: &mut Embedding,
-    hints: &mut IdIndex,
-    crossed: &mut [Crossed],
-    corners: (Half, Half),
-    ends: (u32, u32),
-    kind: u32,
-    route: &Route,
-) -> Result<(), AllocError>
-    requires ready { IsReadyFor (record { rows = rows.old; paths = paths.old }) segments.old crossed.old ends.0 ends.1 kind route.now corners.0 corners.1 }
-    requires edges { rows.old.next_edge + 1 < 2 ^ 32 }
-    requires crossing_ids { rows.old.next_crossing + length route.now.crossed < 2 ^ 32 }
-    ensures ok { OnOk result (rows.new ≡ shown rows.old ends.0 ends.1 kind route.now) }
-    ensures err { OnErr result (rows.new ≡ rows.old) }
-    ensures err_paths { OnErr result (paths.new ≡ paths.old) }
-    ensures shows { ShowsRows (record { rows = rows.new; paths = paths.new }) segments.new }
-{
-    hints.reserve()?;
-    let lists = paths.as_vec_mut();
-    insert_lists(
-        alloc, rows, lists, segments, hints, crossed, corners, ends, kind, route,
-    )?;
-    hints.join(rows.edges());
-    Ok(())
+    // As `insert`, without the index of the edges.
+    fn add_edge(
+        &mut self,
+        alloc: Global,
+        crossed: &mut [Crossed],
+        corners: (Half, Half),
+        ends: (u32, u32),
+        kind: u32,
+        route: &Route,
+    ) -> Result<(), AllocError>
+        ghost p: { RowsWithPaths }
+        requires was { p ≡ with_paths self.old }
+        requires ready { IsReadyFor p self.old.segments crossed.old ends.0 ends.1 kind route.now corners.0 corners.1 }
+        requires edges { self.old.rows.next_edge + 1 < 2 ^ 32 }
+        requires crossing_ids { self.old.rows.next_crossing + length route.now.crossed < 2 ^ 32 }
+        ensures ok { OnOk result (self.new.rows ≡ shown self.old.rows ends.0 ends.1 kind route.now) }
+        ensures err { OnErr result (self.new.rows ≡ self.old.rows) }
+        ensures err_paths { OnErr result (self.new.paths ≡ self.old.paths) }
+        ensures shows { Agree self.new }
+    {
+        let paths = self.paths.as_vec_mut();
+        let edge = self.rows.next_edge();
+        let mut line = make_room(alloc, paths, &mut self.segments, crossed)?;
+        if apply_rows(
+            alloc,
+            &mut self.rows,
+            &self.index,
+            ends.0,
+            ends.1,
+            kind,
+            route,
+        )
+        .is_err()
+        {
+            unpad(paths, crossed);
+            return Err(AllocError);
+        }
+        self.segments.laws();
+        add_route(paths, &mut self.segments, crossed, corners, edge, &mut line);
+        paths.push(line).unwrap();
+        Ok(())
+    }
 }

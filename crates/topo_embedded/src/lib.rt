@@ -15,6 +15,7 @@ mod growth;
 mod insertion;
 mod making;
 mod padding;
+mod parts;
 mod path;
 pub mod walking;
 

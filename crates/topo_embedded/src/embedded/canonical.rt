@@ -69,21 +69,21 @@ impl Embedded {
     pub fn copy_of_rows(&self, alloc: Global) -> Result<Rows, AllocError>
         ensures { IfOk result (λ rows. rows ≡ self.now.rows) }
     {
-        self.rows.show(alloc)
+        self.parts.rows.show(alloc)
     }
 
     /// How many vertices there are.
     pub fn vertex_count(&self) -> usize
         ensures { result ≡ length self.now.rows.rotations }
     {
-        self.rows.rotations().len()
+        self.parts.rows.rotations().len()
     }
 
     /// How many corners a vertex has, and 0 where it is no vertex.
     pub fn degree(&self, v: u32) -> usize
         ensures { result ≡ length (rotation self.now.rows v) }
     {
-        self.rows.degree(v)
+        self.parts.rows.degree(v)
     }
 
     /// Writes the half of each dart, in canonical order, over what the list held.
@@ -91,8 +91,8 @@ impl Embedded {
         ensures { OnOk result (halves.new.items ≡ map (half_in self.now) (darts self.now.rows)) }
     {
         halves.clear();
-        halves.reserve(self.segments.limit())?;
-        write_paths(halves, self.paths.as_slice())?;
+        halves.reserve(self.parts.segments.limit())?;
+        write_paths(halves, self.parts.paths.as_slice())?;
         Ok(())
     }
 
@@ -100,9 +100,9 @@ impl Embedded {
     pub fn find_half(&self, dart: Dart) -> Option<Half>
         ensures { result ≡ (if has_dart (darts self.now.rows) dart then Some (half_in self.now dart) else None) }
     {
-        let edges = self.rows.edges();
-        let place = edge_place(edges, &self.hints, dart.edge.number())?;
-        let path = &self.paths.as_slice()[place];
+        let edges = self.parts.rows.edges();
+        let place = edge_place(edges, &self.parts.index, dart.edge.number())?;
+        let path = &self.parts.paths.as_slice()[place];
         let seg = dart.seg as usize;
         if seg < path.len() {
             Some(led(path.at(seg), dart.way))
@@ -117,8 +117,8 @@ impl Embedded {
         ensures { (d : Dart) → has_dart (darts self.now.rows) d ≡ true → half_in self.now d ≡ half → result ≡ start self.now.rows d }
     {
         let dart = self.dart_of(half);
-        let edges = self.rows.edges();
-        let place = place_of_edge(edges, &self.hints, dart.edge.number());
+        let edges = self.parts.rows.edges();
+        let place = place_of_edge(edges, &self.parts.index, dart.edge.number());
         point_on(&edges[place], place_of_start(&dart))
     }
 }

@@ -3,7 +3,7 @@ use Rattle.topo_embedded.proofs.embedded.Embedded.insert.Goals as goal
 
 pub invariant_of-self : goal.invariant_of-self
 invariant_of-self c = (
-  inserted_formed c.insert_parts.result c.args.self.now c.self.inside.rows c.insert_parts.new.rows c.self.inside.paths c.self.view_is c.self.invariant.0 c.args.ends.0 c.args.ends.1 c.args.kind c.args.route.now c.requires.insertable
-      c.insert_parts.ensures.ok c.insert_parts.ensures.err,
-  c.insert_parts.ensures.shows,
+  inserted_formed c.insert.result c.args.self.now c.self.inside.parts.rows c.insert.new.self.rows c.self.inside.parts.paths c.self.view_is c.self.invariant.0 c.args.ends.0 c.args.ends.1 c.args.kind c.args.route.now c.requires.insertable
+      c.insert.ensures.ok c.insert.ensures.err,
+  c.insert.ensures.shows,
 )

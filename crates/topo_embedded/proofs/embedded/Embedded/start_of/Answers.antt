@@ -13,7 +13,7 @@ use Rattle.topo_embedded.proofs.embedded.Embedded.start_of.Goals as goal
 
 pub place_of_edge-place-requires-clause-there : goal.place_of_edge-place-requires-clause-there
 place_of_edge-place-requires-clause-there c =
-    let p : RowsWithPaths = record { rows = c.self.inside.rows; paths = c.self.inside.paths } in
+    let p : RowsWithPaths = record { rows = c.self.inside.parts.rows; paths = c.self.inside.parts.paths } in
     let there : has_dart (darts p.rows) c.requires.dart ≡ true = ap (λ (q : RowsWithPaths). has_dart (darts q.rows) c.requires.dart) c.self.view_is ∙ c.requires.there in
     let is : c.dart_of-dart.result ≡ c.requires.dart = c.dart_of-dart.ensures c.requires.dart c.requires.there c.requires.is in
     ap (λ (es : List EdgeRow). is_some (find (λ row. row.id == c.number.result) es)) c.edges-edges.ensures
@@ -22,7 +22,7 @@ place_of_edge-place-requires-clause-there c =
 
 pub point_on-requires : goal.point_on-requires
 point_on-requires c =
-    let p : RowsWithPaths = record { rows = c.self.inside.rows; paths = c.self.inside.paths } in
+    let p : RowsWithPaths = record { rows = c.self.inside.parts.rows; paths = c.self.inside.parts.paths } in
     let there : has_dart (darts p.rows) c.requires.dart ≡ true = ap (λ (q : RowsWithPaths). has_dart (darts q.rows) c.requires.dart) c.self.view_is ∙ c.requires.there in
     let is : c.dart_of-dart.result ≡ c.requires.dart = c.dart_of-dart.ensures c.requires.dart c.requires.there c.requires.is in
     let at = edge_read p.rows c.number.result c.place_of_edge-place.result c.edges-edges.result.now c.edges-edges.ensures c.place_of_edge-place.ensures in
@@ -32,7 +32,7 @@ point_on-requires c =
 
 pub returns : goal.returns
 returns c =
-    let p : RowsWithPaths = record { rows = c.self.inside.rows; paths = c.self.inside.paths } in
+    let p : RowsWithPaths = record { rows = c.self.inside.parts.rows; paths = c.self.inside.parts.paths } in
     let at = edge_read p.rows c.number.result c.place_of_edge-place.result c.edges-edges.result.now c.edges-edges.ensures c.place_of_edge-place.ensures in
     let row = row_read p.rows c.number.result c.place_of_edge-place.result c.edges-edges.result.now c.place_of_edge-place.ensures.row c.index-edges-place.result c.edges-edges.ensures at c.index-edges-place.is in
     λ d h is.
