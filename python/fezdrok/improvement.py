@@ -26,9 +26,9 @@ ENDS = (KeyboardInterrupt, PlanarError, OSError, MemoryError)
 
 #: How many shakes in a row may save nothing, at least and at most, where it is not said.
 _SHAKES = (40, 200)
-#: How many edges a shake takes out at most: one for so many crossings, but at least and at most as many as this. With few
-#: of them a picture with very many crossings hardly changes; many cost time, and undo what is good.
-_CROSSINGS_EACH, _SHAKEN = 16, (32, 64)
+#: How many edges a shake takes out at most: one for so many crossings, but not fewer and not more than these. Where there
+#: are very many crossings, few edges save little.
+_CROSSINGS_EACH, _SHAKEN = 8, (32, 128)
 #: By which part of the crossings a picture may be worse than the best, so that the shakes go on from it.
 _SLACK = 0.03
 #: How many edges are inserted again between two looks at what was saved, and how often it is gone over them.
