@@ -2,8 +2,9 @@
 
 from __future__ import annotations
 
+import json
 from importlib import import_module
-from typing import Any, Optional, Union
+from typing import Any, Callable, Optional, Union
 
 Value = Union[int, str, None]
 
@@ -46,6 +47,17 @@ class ProgramNotStarted(PlanarError, OSError):
 
 class NoReport(PlanarError, ValueError):
     """A text was to be read as a report or as a picture, and is none."""
+
+
+def read_as(name: str, text: str, read: Callable[[Any], Any]) -> Any:
+    """What a text says that is to be a thing of this name, as this function reads it. NoReport where the text is no JSON, or
+    is of another form."""
+    try:
+        return read(json.loads(text))
+    except json.JSONDecodeError as fault:
+        raise NoReport(f"the text is no {name}: it is no JSON: {fault}") from fault
+    except (KeyError, TypeError, ValueError, IndexError, AttributeError, RecursionError) as fault:
+        raise NoReport(f"the text is no {name}: {type(fault).__name__} {fault}") from fault
 
 
 class Fault(PlanarError):

@@ -44,6 +44,8 @@ class PricedGraph:
 def read_graph(graph: Any, price: Pricing = None, forbidden: Optional[Iterable[GraphEdge]] = None, round_prices: bool = False) -> PricedGraph:
     """The graph with its kinds, or a ValueError that says why it cannot be planarized. It need not be connected. Where there
     are more prices than kinds, `round_prices` has those that are near each other share one."""
+    if not hasattr(graph, "is_multigraph"):
+        raise ValueError(f"{graph!r:.80} is no graph of networkx")
     nodes = tuple(graph.nodes)
     multi = graph.is_multigraph()
     rows = list(graph.edges(keys=True, data=True)) if multi else list(graph.edges(data=True))

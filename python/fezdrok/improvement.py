@@ -26,8 +26,9 @@ ENDS = (KeyboardInterrupt, PlanarError, OSError, MemoryError)
 
 #: How many shakes in a row may save nothing, at least and at most, where it is not said.
 _SHAKES = (40, 200)
-#: How many edges a shake takes out at most.
-_SHAKEN = 32
+#: How many edges a shake takes out at most: one for so many crossings, but not fewer and not more than these. Where there
+#: are very many crossings, few edges save little.
+_CROSSINGS_EACH, _SHAKEN = 8, (32, 128)
 #: By which part of the crossings a picture may be worse than the best, so that the shakes go on from it.
 _SLACK = 0.03
 #: How many edges are inserted again between two looks at what was saved, and how often it is gone over them.
@@ -254,7 +255,9 @@ class Search:
         crossed = [place for place in self._movable if sheet.load(place)]
         if not crossed:
             return []
-        count = chance.randint(2, max(3, min(_SHAKEN, len(self.source.edges) // 4)))
+        least, most = _SHAKEN
+        limit = min(most, max(least, sheet.crossings // _CROSSINGS_EACH))
+        count = chance.randint(2, max(3, min(limit, len(self.source.edges) // 4)))
         movable = set(self._movable)
         chosen = [chance.choice(crossed)]
         seen: Set[int] = set(chosen)

@@ -11,6 +11,8 @@ from dataclasses import dataclass
 from functools import cached_property
 from typing import Any, Dict, Iterator, List, NamedTuple, Set, Tuple
 
+from .faults import read_as
+
 
 def compact(value: Any) -> str:
     """A value as JSON text in the form of the program: no space, keys in order."""
@@ -139,8 +141,8 @@ class Picture:
 
     @staticmethod
     def from_text(text: str) -> "Picture":
-        """The picture of a text that the program wrote."""
-        return Picture.from_json(json.loads(text))
+        """The picture of a text that the program wrote. NoReport where the text is no JSON, or is of another form."""
+        return read_as("picture", text, Picture.from_json)
 
     def to_json(self) -> Dict[str, Any]:
         """The picture as a JSON object in the form of docs/FORMATS.md."""

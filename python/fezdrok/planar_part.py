@@ -43,18 +43,24 @@ class _Part:
         self._clock = clock
         self._work = 0
 
-    def add(self, places: Sequence[int]) -> None:
-        """Takes these edges, or of each half of them what can be taken."""
+    def add(self, places: Sequence[int], is_known: bool = False) -> None:
+        """Takes these edges, or of each half of them what can be taken. `is_known` says that they do not go together with
+        what was taken, as of a second half after a first that was taken wholly."""
         if self._clock.is_over:
             return
-        both = [self._ends[place] for place in (*self.taken, *places)]
-        self._work += len(both)
-        if is_planar(self._count, both):
+        if not is_known and self._go_together(places):
             self.taken.extend(places)
         elif len(places) > max(1, len(self._ends) // _TOGETHER, self._work // _WORK * len(self._ends) // 100):
             half = len(places) // 2
+            whole = len(self.taken) + half
             self.add(places[:half])
-            self.add(places[half:])
+            self.add(places[half:], len(self.taken) == whole)
+
+    def _go_together(self, places: Sequence[int]) -> bool:
+        """Whether these edges can be drawn with those that were taken."""
+        both = [self._ends[place] for place in (*self.taken, *places)]
+        self._work += len(both)
+        return is_planar(self._count, both)
 
 
 def _connecting(count: int, ends: Sequence[Tuple[int, int]], taken: Sequence[int], places: Sequence[int]) -> List[int]:

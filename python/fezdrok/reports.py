@@ -2,11 +2,10 @@
 
 from __future__ import annotations
 
-import json
 from dataclasses import dataclass
 from typing import Any, Callable, Dict, Iterable, List, Optional, Sequence, Tuple, Union
 
-from .faults import NoReport
+from .faults import read_as
 from .pictures import Dart, Picture, compact
 
 Prices = Tuple[Optional[int], ...]
@@ -194,12 +193,7 @@ class Report:
     @staticmethod
     def from_text(text: str) -> "Report":
         """The report of the line that `planar run` prints. NoReport where the text is no JSON, or is of another form."""
-        try:
-            return Report.from_json(json.loads(text))
-        except json.JSONDecodeError as fault:
-            raise NoReport(f"the text is no report: it is no JSON: {fault}") from fault
-        except (KeyError, TypeError, ValueError, IndexError, AttributeError) as fault:
-            raise NoReport(f"the text is no report: {type(fault).__name__} {fault}") from fault
+        return read_as("report", text, Report.from_json)
 
     @staticmethod
     def from_json(value: Dict[str, Any]) -> "Report":

@@ -3,7 +3,7 @@
 import unittest
 from unittest import mock
 
-from fezdrok import Dummy, NoReport, PlanarError, Planarizer, ProgramFailed, ProgramNotStarted, Report, from_networkx_embedding, orthogonal_drawing, planarize, reinsert, to_networkx_embedding, to_svg
+from fezdrok import Dummy, NoReport, Picture, PlanarError, Planarizer, ProgramFailed, ProgramNotStarted, Report, from_networkx_embedding, orthogonal_drawing, planarize, reinsert, to_networkx_embedding, to_svg
 from fezdrok.drawing import positions
 
 from .support import crossings_of, fake, graph_pairs, needs_networkx, needs_program, pairs_of, traced
@@ -101,6 +101,9 @@ class Failures(unittest.TestCase):
         for text, words in (("", "no JSON"), ("{", "no JSON"), ("[]", "no report"), ("{}", "no report: KeyError 'history'"), ('{"history":3}', "no report")):
             with self.assertRaisesRegex(NoReport, words):
                 Report.from_text(text)
+        for text, words in (("x", "no picture: it is no JSON"), ("{}", "no picture: KeyError"), ("[" * 100000, "no picture: RecursionError")):
+            with self.assertRaisesRegex(NoReport, words):
+                Picture.from_text(text)
         self.assertTrue(issubclass(NoReport, ValueError) and issubclass(NoReport, PlanarError))
 
     def test_a_program_that_prints_no_report(self):

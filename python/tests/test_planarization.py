@@ -87,6 +87,8 @@ class Refusals(unittest.TestCase):
                 planarize(graph)
         with self.assertRaisesRegex(ValueError, "not connected: 2 cannot be reached from 0"):
             prepare(nx.Graph([(0, 1), (2, 3)]))
+        with self.assertRaisesRegex(ValueError, r"\[\(0, 1\)\] is no graph of networkx"):
+            planarize([(0, 1)])
 
     def test_prices(self):
         graph = nx.path_graph(3)
