@@ -11,8 +11,9 @@ from .faults import ProgramNotStarted
 from .processes import kill_when_closed
 from .program import failure
 
-#: How many seconds a process has to end when its input was closed, before it is killed.
-PATIENCE = 3.0
+#: How many seconds a process has to end when its input was closed, before it is killed: one that ends by itself, whose status
+#: is wanted, and one that is to end.
+PATIENCE, HASTE = 3.0, 0.5
 #: How many bytes are read in one call, and how many every pipe takes wholly or not at all.
 _ROOM = 65536
 _AT_ONCE = 512
@@ -137,15 +138,15 @@ class Lines:
         status, told = self.end()
         raise failure(status, told)
 
-    def end(self) -> Tuple[int, str]:
+    def end(self, patience: float = PATIENCE) -> Tuple[int, str]:
         """Ends the process, if it has not ended, and gives its status and what it wrote on standard error.
 
-        Its input is closed. If it has not ended some seconds later, it is killed.
+        Its input is closed. If it has not ended so many seconds later, it is killed.
         """
         self._input.close()
         self._output.close()
         try:
-            self._process.wait(PATIENCE)
+            self._process.wait(patience)
         except subprocess.TimeoutExpired:
             pass
         finally:

@@ -13,7 +13,7 @@ from .pictures import compact as json_text
 from .planarizer import Planarizer
 from .program import PathLike, Program
 from .reports import Call, Delete, Deleted, Grow, Grown, Insert, Inserted, Limits, Prices, Refused, Report, reply_from_json
-from .serving import TOGETHER, Lines
+from .serving import HASTE, TOGETHER, Lines
 
 Value = TypeVar("Value")
 Own = TypeVar("Own", bound="Session")
@@ -180,11 +180,11 @@ class Session:
         self.close()
 
     def close(self) -> None:
-        """Ends the process: its input is closed, and if it has not ended some seconds later, it is killed. What is closed
+        """Ends the process: its input is closed, and if it has not ended half a second later, it is killed. What is closed
         already stays so."""
         lines, self._lines = self._lines, None
         if lines is not None:
-            lines.end()
+            lines.end(HASTE)
 
 
 def _understood(lines: Lines, answer: bytes, read: Callable[[Any], Value]) -> Value:

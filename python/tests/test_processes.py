@@ -92,7 +92,7 @@ class Signals(unittest.TestCase):
         self.noted = self.folder / "noted"
 
     def sleeping(self, calls: int = 0) -> str:
-        """A program that hands on so many calls, and then notes its number and sleeps; or reads, where it is a session. It
+        """A program that hands on so many calls, and then notes its number and sleeps: it never looks at its input again. It
         accepts every picture."""
         count = self.folder / "count"
         count.write_text("0")
@@ -102,7 +102,6 @@ class Signals(unittest.TestCase):
             f"n=$(($(cat {count}) + 1)); echo $n > {count}",
             f"[ $n -gt {calls} ] || {hand_on}",
             f"echo $$ >> {self.noted}",
-            '[ "$1" != serve ] || exec cat 3>&1 > /dev/null',  # its output stays open, and nothing comes
             "exec sleep 600",
         )
         return fake(self, "\n".join(lines))
