@@ -1,5 +1,7 @@
 -- The accepted entries of a history are a version.
-use Rattle.std.proofs.Common.{◌≡◌, ◌≤◌, Bool, true, false, List, [], ◌∷◌, ◌++◌, Option, Some, None, IfSome, length, refl, ap, sym, subst, ◌∙◌, arith, append_assoc, length-append, if◌then◌else◌}
+use Rattle.std.proofs.Common.{◌≡◌, ◌≤◌, Bool, true, false, List, [], ◌∷◌, ◌++◌, Option, Some, None, IfSome, length, refl, ap, sym, subst, ◌∙◌, arith, append_assoc, length-append, if◌then◌else◌, Bor}
+use Rattle.std.specs.Prelude.{is_some}
+use Rattle.std.specs.Option.{option_copied}
 use Rattle.std.proofs.lemmas.List.{append-nil}
 use Rattle.std.proofs.lemmas.List.Elements.{filter-append}
 use Rattle.topo_core.specs.declared.rows.Rows.{Rows}
@@ -55,6 +57,15 @@ versions_length (e ∷ es) = by_reply (is_accepted e.reply) refl (versions_lengt
   by_reply : (b : Bool) → is_accepted e.reply ≡ b → length (versions es) ≤ length es → length (versions (e ∷ es)) ≤ length (e ∷ es)
   by_reply true on rest = rw on (omega (arith, rest))
   by_reply false off rest = rw off (omega (arith, rest))
+
+-- a picture that is lent is lawful where what was lent is
+pub copied_lawful : (lent : Option (Bor Shown)) → IfSome lent (λ p. IsPicture p.now.limits p.now.rows) → IfSome (option_copied lent) (λ p. IsPicture p.limits p.rows)
+copied_lawful None _ = tt
+copied_lawful (Some p) lawful = lawful
+
+pub copied_there : (lent : Option (Bor Shown)) → is_some lent ≡ is_some (option_copied lent)
+copied_there None = refl
+copied_there (Some p) = refl
 
 -- a replay with one accepted entry more is a version, one step on
 version_on : (price : Pricing) (start : Shown) (history : List Entry) (picture next : Shown) (entry : Entry) → Replays price start.limits start.rows history picture.rows

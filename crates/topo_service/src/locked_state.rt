@@ -203,6 +203,7 @@ impl<F: PriceFn, K: ServiceBrand<F>, W: VersionWriter<F, K>> LockedState<F, K, W
         let hint = self.hint(call, brought);
         self.was_known = matches!(hint, Hint::First(_));
         let next = prepare_call(&mut self.book, alloc, caller, call, hint)?;
+        next.picture();
         let pair = answer_ready::<F, K, W, R>(
             rt,
             alloc,

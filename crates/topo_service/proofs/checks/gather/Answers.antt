@@ -13,7 +13,7 @@ loop-pass-preserved g c =
     let ys = c.loop-pass.yielded in
     let p = c.in-Some.pass in
     let one = length-append ys (p ∷ []) in
-    let here : IsPrefix p.seen (versions c.args.state.now.history) = rw (← c.prefix-in-loop-pass.ensures.now, ← ap (λ s. s.seen) c.pass.view_is) (c.is_prefix_of.ensures.prefix c.if-not-is_prefix_of.false) in
+    let here : IsPrefix p.seen (versions c.args.state.now.history) = rw (← c.prefix.ensures.now, ← ap (λ s. s.seen) c.pass.view_is) (c.is_prefix_of.ensures.prefix c.if-not-is_prefix_of.false) in
     let amount : c.pass.inside.share.amount ≡ length p.receipts = c.pass.invariant.1 ∙ ap (λ s. length s.receipts) c.pass.view_is in (
       omega (arith, i.0, c.merge.ensures.parts, c.pass.invariant.0, one),
       omega (arith, i.1, c.merge.ensures.amount, amount, sum_by-append (λ (s : PassState). length s.receipts) ys (p ∷ [])),

@@ -1,8 +1,8 @@
 use Rattle.std.proofs.Common.{◌≡◌, length, Option, IfSome, sym, ap, ◌∙◌, subst, arith, true, is_some}
 use Rattle.topo_core.specs.History.{is_accepted}
 use Rattle.topo_rows.specs.Shown.{IsPicture, Shown}
-use Rattle.topo_book.specs.Books.{IsNext, NextState, picture_after}
-use Rattle.topo_service.proofs.Versions.{if_some, named_step, version_ready, versions_length}
+use Rattle.topo_book.specs.Books.{picture_after}
+use Rattle.topo_service.proofs.Versions.{copied_lawful, copied_there, if_some, named_step, version_ready, versions_length}
 use Rattle.topo_service.proofs.locked_state.LockedState.call.Goals as goal
 
 pub answer_ready-requires-clause-room : goal.answer_ready-requires-clause-room
@@ -13,10 +13,10 @@ answer_ready-requires-clause-follows g c =
     let n = c.in_ok-next.next in
     let i = c.self.invariant in
     let m = c.prepare_call.ensures in
-    let is_next = subst (λ (s : NextState). IsNext s.entry s.picture) c.next.view_is c.next.invariant in
     if_some _ n.picture (λ p is.
-    let good = subst (λ (o : Option Shown). IfSome o (λ q. IsPicture q.limits q.rows)) is is_next.lawful in
-    let on : is_accepted n.entry.reply ≡ true = sym is_next.accepted ∙ ap is_some is in
+    let shown = c.picture.ensures in
+    let good = subst (λ (o : Option Shown). IfSome o (λ q. IsPicture q.limits q.rows)) (shown.picture ∙ is) (copied_lawful c.picture.result shown.lawful) in
+    let on : is_accepted n.entry.reply ≡ true = sym shown.accepted ∙ copied_there c.picture.result ∙ ap is_some (shown.picture ∙ is) in
     let there = version_ready g.F.PriceFn.may_return g.K.ServiceBrand.closure g.K.ServiceBrand.start c.self.inside.book c.prepare_call.new.book n i.1 i.0 m.unchanged m.same_book m.same_limits c.in_ok-next.ensures.ready m.legal p is on good in
     rw i.3 there)
 
