@@ -267,7 +267,9 @@ class Ends(unittest.TestCase):
     def other(self, body: str) -> "subprocess.Popen[str]":
         """Another Python in a group of its own, which has a session, prints the number of its process, and goes on so. At
         Ctrl-C it prints what it is answered then."""
-        lines = ("from fezdrok import Session", "with Session() as session:", "  try:", "    print(session.process_id, flush=True)", f"    {body}")
+        # A process that is begun in the background of a shell has Ctrl-C turned off.
+        heeded = "__import__('signal').signal(2, __import__('signal').default_int_handler)"
+        lines = ("from fezdrok import Session", heeded, "with Session() as session:", "  try:", "    print(session.process_id, flush=True)", f"    {body}")
         caught = ("  except KeyboardInterrupt:", "    print(session.grow(0), session.report().replies[-1])")
         words = {**os.environ, "PYTHONPATH": os.pathsep.join(sys.path)}
         python = subprocess.Popen([sys.executable, "-c", "\n".join(lines + caught)], env=words, stdout=subprocess.PIPE, text=True, start_new_session=True)

@@ -147,15 +147,16 @@ class Examples(unittest.TestCase):
 
     def test_shown_code(self):
         """The code that is shown is that of the program or the tests it is from, which the gate proves and runs."""
-        folders = [ROOT / "crates" / name / "src" for name in ("planar_editors", "topo_tests")]
+        folders = [ROOT / "crates" / name / "src" for name in ("planar_book", "planar_editors", "topo_tests")]
         sources = "".join(file.read_text() for folder in folders for file in sorted(folder.glob("*.rt")))
         for page in PAGES:
             shown = re.findall(r"```rust\n(.*?)```", (ROOT / page).read_text(), re.DOTALL)
             self.assertTrue(shown, page)
             for text in shown:
                 self.assertIn(text, sources)
-        stdout = (ROOT / "crates" / "planar_editors" / "stdout").read_text()
-        self.assertIn("".join(f"    {line}\n" for line in stdout.splitlines()), (ROOT / "docs" / "USING.md").read_text())
+        for name in ("planar_book", "planar_editors"):
+            stdout = (ROOT / "crates" / name / "stdout").read_text()
+            self.assertIn("".join(f"    {line}\n" for line in stdout.splitlines()), (ROOT / "docs" / "USING.md").read_text())
 
     def test_readme_script(self):
         """The script that is shown with words beside it is the example file that the commands below it name."""
