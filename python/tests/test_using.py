@@ -146,16 +146,31 @@ class Examples(unittest.TestCase):
         self.check_commands("docs/USING.md")
 
     def test_shown_code(self):
-        """The code that is shown is that of the program or the tests it is from, which the gate proves and runs."""
+        """The code that is shown is that of the program or the tests it is from, which the gate proves and runs. A program
+        that is shown whole is in no crate: what it takes from the crates is declared there."""
         folders = [ROOT / "crates" / name / "src" for name in ("planar_editors", "topo_tests")]
         sources = "".join(file.read_text() for folder in folders for file in sorted(folder.glob("*.rt")))
+        whole = 0
         for page in PAGES:
             shown = re.findall(r"```rust\n(.*?)```", (ROOT / page).read_text(), re.DOTALL)
             self.assertTrue(shown, page)
             for text in shown:
-                self.assertIn(text, sources)
+                if text.startswith("//! "):
+                    whole += 1
+                    self.check_names(text)
+                else:
+                    self.assertTrue(text in sources, text)
+        self.assertEqual(whole, 1)
         stdout = (ROOT / "crates" / "planar_editors" / "stdout").read_text()
         self.assertIn("".join(f"    {line}\n" for line in stdout.splitlines()), (ROOT / "docs" / "USING.md").read_text())
+
+    def check_names(self, program: str):
+        """What a program uses of the crates is declared there."""
+        used = re.findall(r"^use (topo_\w+)::(?:\w+::)*(\w+);$", program, re.MULTILINE)
+        self.assertTrue(used)
+        for crate, name in used:
+            sources = "".join(file.read_text() for file in (ROOT / "crates" / crate / "src").glob("*.rt"))
+            self.assertRegex(sources, rf"pub (fn|struct|enum|trait|type) {name}\b", crate)
 
     def test_readme_script(self):
         """The script that is shown with words beside it is the example file that the commands below it name."""
