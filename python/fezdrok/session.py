@@ -51,7 +51,8 @@ class Session:
     PlanarError. The session is then closed, and every further call is SessionClosed.
 
     A call that was interrupted, as by Ctrl-C, may have been carried out; `report` says whether it was. The session goes on,
-    but where the next call is interrupted while it waits for the end of that one. A session is for one thread.
+    but where the next call is interrupted while it waits for the end of that one; and it may be over where `compact` is
+    interrupted, or `answers` to more than 512 bytes. A session is for one thread.
     """
 
     def __init__(
@@ -150,9 +151,12 @@ class Session:
         """The answers to several lines of docs/FORMATS.md in order, as the program writes them, also where they are faults.
 
         All lines are written before the first answer is read, which saves turns through the pipes. Together they may have
-        32,768 bytes, their line feeds among them (else ValueError).
+        32,768 bytes, their line feeds among them (else ValueError). A line that has a line feed in it is a ValueError: it would
+        have more than one answer.
         """
-        if sum(map(len, requests)) + len(requests) > TOGETHER:
+        if any("\n" in request for request in requests):
+            raise ValueError("a line has a line feed in it")
+        if sum(len(request.encode()) for request in requests) + len(requests) > TOGETHER:
             raise ValueError(f"the lines have more than {TOGETHER} bytes together")
         return self._asked(requests, lambda lines, answers: [answer.decode() for answer in answers])
 

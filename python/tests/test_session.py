@@ -124,6 +124,10 @@ class Calls(unittest.TestCase):
             self.assertEqual(len(session.answers(['"counts"'] * 3640)), 3640)
             with self.assertRaisesRegex(ValueError, "more than 32768 bytes"):
                 session.answers(['"counts"'] * 3641)
+            with self.assertRaisesRegex(ValueError, "more than 32768 bytes"):
+                session.answers(['"é"'] * 6554)
+            with self.assertRaisesRegex(ValueError, "a line feed"):
+                session.answers(['"counts"\n"picture"'])
             self.assertEqual(Picture.from_text(session.picture_text()), session.picture())
 
     def test_faults_of_the_start(self):

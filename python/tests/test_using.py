@@ -153,7 +153,7 @@ class Examples(unittest.TestCase):
             shown = re.findall(r"```rust\n(.*?)```", (ROOT / page).read_text(), re.DOTALL)
             self.assertTrue(shown, page)
             for text in shown:
-                self.assertIn(text, sources)
+                self.assertTrue(text in sources, text)
         for name in ("planar_book", "planar_editors"):
             stdout = (ROOT / "crates" / name / "stdout").read_text()
             self.assertIn("".join(f"    {line}\n" for line in stdout.splitlines()), (ROOT / "docs" / "USING.md").read_text())
