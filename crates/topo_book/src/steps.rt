@@ -190,7 +190,7 @@ pub(crate) fn apply_entry<F: PriceFn>(
             }
         }
         (Call::Delete { edge }, Reply::Deleted(_)) => {
-            picture.take_out(edge);
+            picture.delete_known(edge);
             Ok(())
         }
         _ => Ok(()),

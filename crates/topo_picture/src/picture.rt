@@ -170,7 +170,7 @@ impl Picture {
         ensures admitted { IfOk result (λ _. insert_refusal self.now.limits self.now.rows u v kind ≡ None) }
         ensures refused { IfErr result (λ why. insert_refusal self.now.limits self.now.rows u v kind ≡ Some why) }
     {
-        match insert_fault(&self.limits, self.embedded.rows(), u, v, kind) {
+        match check_insertion(&self.limits, self.embedded.rows(), u, v, kind) {
             Some(why) => Err(why),
             None => Ok(()),
         }
@@ -187,7 +187,7 @@ impl Picture {
         ensures numbers { IfOk result (λ made. (made.0 ≡ length self.now.rows.rotations) × (made.1 ≡ self.now.rows.next_edge)) }
         ensures refused { IfErr result (λ why. grow_refusal self.now.limits self.now.rows u position kind ≡ Some why) }
     {
-        growth_numbers(&self.limits, self.embedded.rows(), u, position, kind)
+        check_growth(&self.limits, self.embedded.rows(), u, position, kind)
     }
 
     /// The number that an edge along this route would get. It would be refused as Full where the crossing
@@ -197,7 +197,7 @@ impl Picture {
         ensures number { IfOk result (λ made. made ≡ self.now.rows.next_edge) }
         ensures refused { IfErr result (λ why. (why ≡ Refusal.Full) × (self.now.limits.crossings < self.now.rows.next_crossing + length route.now.crossed)) }
     {
-        edge_number(&self.limits, self.embedded.rows(), route)
+        check_room(&self.limits, self.embedded.rows(), route)
     }
 
     /// Whether an edge may be taken out, or the first reason why not, as `delete` says.
@@ -255,7 +255,7 @@ impl Picture {
         ensures same_limits { self.new.limits ≡ self.old.limits }
         ensures lawful { IsPicture self.new.limits self.new.rows }
     {
-        let made = growth_numbers(&self.limits, self.embedded.rows(), u, position, kind)?;
+        let made = check_growth(&self.limits, self.embedded.rows(), u, position, kind)?;
         match self.embedded.grow(alloc, u, position, kind) {
             Ok(()) => Ok(made),
             Err(_) => Err(Refusal::Memory),
@@ -286,7 +286,7 @@ impl Picture {
         ensures same_limits { self.new.limits ≡ self.old.limits }
         ensures lawful { IsPicture self.new.limits self.new.rows }
     {
-        let made = edge_number(&self.limits, self.embedded.rows(), route)?;
+        let made = check_room(&self.limits, self.embedded.rows(), route)?;
         match self.embedded.insert(alloc, (u, v), kind, route) {
             Ok(()) => Ok(made),
             Err(_) => Err(Refusal::Memory),
@@ -338,13 +338,13 @@ impl Picture {
         ensures lawful { IsPicture self.new.limits self.new.rows }
     {
         self.admit_deletion(edge)?;
-        self.take_out(edge);
+        self.delete_known(edge);
         Ok(())
     }
 
     /// Takes out an edge without which the picture stays connected, with its crossings. It takes no
     /// memory.
-    pub fn take_out(&mut self, edge: u32)
+    pub fn delete_known(&mut self, edge: u32)
         requires there { is_some (edge_row self.old.rows edge) ≡ true }
         requires whole { (i : ℕ) → IsCut self.old.rows edge i → ⊥ }
         ensures without { self.new.rows ≡ without self.old.rows edge }
@@ -427,7 +427,7 @@ fn has_edge(rows: &KeptRows, hints: &IdIndex, e: u32) -> bool
 }
 
 /// The numbers of a new vertex and its edge, or the first reason to refuse the growth.
-fn growth_numbers(
+fn check_growth(
     limits: &Limits,
     rows: &KeptRows,
     u: u32,
@@ -456,7 +456,7 @@ fn growth_numbers(
 }
 
 /// The number of a new edge along a route, or Full where too few crossing ids are left for it.
-fn edge_number(limits: &Limits, rows: &KeptRows, route: &Route) -> Result<EdgeId, Refusal>
+fn check_room(limits: &Limits, rows: &KeptRows, route: &Route) -> Result<EdgeId, Refusal>
     requires { rows.now.next_crossing ≤ limits.now.crossings }
     ensures room { IfOk result (λ _. HasRoomFor limits.now rows.now route.now) }
     ensures number { IfOk result (λ made. made ≡ rows.now.next_edge) }
@@ -471,7 +471,7 @@ fn edge_number(limits: &Limits, rows: &KeptRows, route: &Route) -> Result<EdgeId
 }
 
 /// The first reason to refuse an insertion before a route is looked for.
-fn insert_fault(limits: &Limits, rows: &KeptRows, u: u32, v: u32, kind: u32) -> Option<Refusal>
+fn check_insertion(limits: &Limits, rows: &KeptRows, u: u32, v: u32, kind: u32) -> Option<Refusal>
     ensures { result ≡ insert_refusal limits.now rows.now u v kind }
 {
     let vertices = rows.rotations().len();

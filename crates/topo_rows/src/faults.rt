@@ -6,10 +6,12 @@ ghost use Rattle.std.specs.List.Sorted.{IsNonDecreasing, IsPermutation};
 ghost use Rattle.topo_core.specs.Items.{occurrences, rises_below};
 ghost use Rattle.topo_core.specs.Lawful.{has_good_paths, has_good_crossings, has_good_rotations};
 ghost use Rattle.topo_rows.specs.Loading.{fits};
-ghost use Rattle.topo_rows.specs.Pairs.{begins_with_least, crossing_pairs, end_pairs, is_path_over, path_pairs, rotation_pairs};
+ghost use Rattle.topo_rows.specs.Pairs.{begins_with_least, crossing_pairs, end_pairs, is_valid_edge, path_pairs, rotation_pairs};
 
 use crate::id_index::IdIndex;
-use crate::pairs::{Member, agree, crossing_pairs, end_pairs, path_pairs, rotation_pairs};
+use crate::pairs::{
+    PairKey, crossing_pairs, end_pairs, is_same_multiset, path_pairs, rotation_pairs,
+};
 use std::alloc::{AllocError, Global};
 use topo_core::limits::Limits;
 use topo_core::listed::Listed;
@@ -55,9 +57,9 @@ fn has_numbers(numbers: &[u32], xs: &[u32]) -> bool
 
 /// Whether an edge has two vertices for its ends, a kind that is known, and a path of crossings that
 /// are there.
-fn is_path_over(vertices: usize, ids: &[u32], row: &EdgeRow) -> bool
+fn is_valid_edge(vertices: usize, ids: &[u32], row: &EdgeRow) -> bool
     requires { IsNonDecreasing ids.now }
-    ensures { result ≡ is_path_over vertices ids.now row.now }
+    ensures { result ≡ is_valid_edge vertices ids.now row.now }
 {
     (row.a as usize) < vertices
         && (row.b as usize) < vertices
@@ -67,11 +69,11 @@ fn is_path_over(vertices: usize, ids: &[u32], row: &EdgeRow) -> bool
 }
 
 /// Whether that holds of each edge.
-fn are_paths_over(vertices: usize, ids: &[u32], edges: &[EdgeRow]) -> bool
+fn are_valid_edges(vertices: usize, ids: &[u32], edges: &[EdgeRow]) -> bool
     requires { IsNonDecreasing ids.now }
-    ensures { result ≡ list_all (is_path_over vertices ids.now) edges.now }
+    ensures { result ≡ list_all (is_valid_edge vertices ids.now) edges.now }
 {
-    edges.iter().all(|row| is_path_over(vertices, ids, row))
+    edges.iter().all(|row| is_valid_edge(vertices, ids, row))
 }
 
 /// The ids of edges.
@@ -115,7 +117,7 @@ pub(crate) fn are_paths_good(alloc: Global, rows: &Rows) -> Result<bool, AllocEr
     }
     let ids = sorted_ids(alloc, rows.crossings.as_slice())?;
     let vertices = rows.rotations.as_slice().len();
-    Ok(are_paths_over(vertices, ids.as_slice(), rows.edges.as_slice()))
+    Ok(are_valid_edges(vertices, ids.as_slice(), rows.edges.as_slice()))
 }
 
 /// Whether each crossing is of two different edges.
@@ -145,9 +147,9 @@ fn paths_agree(
     ensures same { IfOk result (λ yes. IsTrue yes ↔ ((k : ℕ) → occurrences k (path_pairs edges.now) ≡ occurrences k (crossing_pairs crossings.now))) }
     ensures as_many { IfOk result (λ yes. IsTrue yes → length (path_pairs edges.now) ≡ length (crossing_pairs crossings.now)) }
 {
-    let mut due = crossing_pairs(alloc, crossings)?;
-    let mut stand = path_pairs(alloc, edges, due.len())?;
-    Ok(agree(&mut stand, &mut due, hints, Member::Crossing))
+    let mut expected = crossing_pairs(alloc, crossings)?;
+    let mut found = path_pairs(alloc, edges, expected.len())?;
+    Ok(is_same_multiset(&mut found, &mut expected, hints, PairKey::Crossing))
 }
 
 /// Whether the crossings are good, where the paths are. If they are, there is a path entry for each
@@ -166,8 +168,8 @@ pub(crate) fn are_crossings_good(
         return Ok(false);
     }
     let crossings = rows.crossings.as_slice();
-    let agree = paths_agree(alloc, rows.edges.as_slice(), crossings, hints)?;
-    Ok(agree)
+    let is_same = paths_agree(alloc, rows.edges.as_slice(), crossings, hints)?;
+    Ok(is_same)
 }
 
 /// Whether a list begins with its least number.
@@ -200,9 +202,9 @@ fn rotations_agree(
     requires { length rotations.now < 2 ^ 32 }
     ensures { IfOk result (λ yes. IsTrue yes ↔ ((k : ℕ) → occurrences k (rotation_pairs 0 rotations.now) ≡ occurrences k (end_pairs edges.now))) }
 {
-    let mut due = end_pairs(alloc, edges)?;
-    let mut stand = rotation_pairs(alloc, rotations, due.len())?;
-    Ok(agree(&mut stand, &mut due, hints, Member::Edge))
+    let mut expected = end_pairs(alloc, edges)?;
+    let mut found = rotation_pairs(alloc, rotations, expected.len())?;
+    Ok(is_same_multiset(&mut found, &mut expected, hints, PairKey::Edge))
 }
 
 /// Whether the rotations are good, where the paths are.
@@ -219,6 +221,6 @@ pub(crate) fn are_rotations_good(
     if !begin_with_least(rotations) {
         return Ok(false);
     }
-    let agree = rotations_agree(alloc, rotations, rows.edges.as_slice(), hints)?;
-    Ok(agree)
+    let is_same = rotations_agree(alloc, rotations, rows.edges.as_slice(), hints)?;
+    Ok(is_same)
 }

@@ -6,4 +6,4 @@ use Rattle.topo_rows.proofs.faults.paths_agree.Goals as goal
 pub returns-clause-same : goal.returns-clause-same
 returns-clause-same c =
     told_of c.deref_mut.result.now c.deref_mut-2.result.now (path_pairs c.args.edges.now) (crossing_pairs c.args.crossings.now) c.agree.result
-    (c.deref_mut.ensures.value ∙ c.in_ok-stand.ensures) (c.deref_mut-2.ensures.value ∙ c.in_ok-due.ensures) c.agree.ensures.same
+    (c.deref_mut.ensures.value ∙ c.in_ok-found.ensures) (c.deref_mut-2.ensures.value ∙ c.in_ok-expected.ensures) c.agree.ensures.same

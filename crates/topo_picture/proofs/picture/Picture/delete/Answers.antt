@@ -23,4 +23,4 @@ returns-in_err-admit_deletion-clause-can_undo c =
     on_err ((p : Rows) → IsShownOn p c.args.self.now.rows c.args.edge → ⊥) c.from_residual.result (λ p last. may_go p c.args.self.now.rows c.args.edge _ last c.in_err-admit_deletion.ensures.refused)
 
 pub returns-clause-undoes : goal.returns-clause-undoes
-returns-clause-undoes c p last = undone_rows p c.args.self.now.rows c.take_out.new.self.rows c.args.edge last c.take_out.ensures.without
+returns-clause-undoes c p last = undone_rows p c.args.self.now.rows c.delete_known.new.self.rows c.args.edge last c.delete_known.ensures.without

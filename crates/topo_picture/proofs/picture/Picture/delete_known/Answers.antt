@@ -5,7 +5,7 @@ use Rattle.topo_core.specs.Changes.{HasOneFace, IsCut, without}
 use Rattle.topo_core.specs.Picture.{edge_at, edge_row}
 use Rattle.topo_rows.specs.Shown.{IsPicture, Shown}
 use Rattle.topo_picture.proofs.DeletedPicture.{deletion_of_picture, faces_of_picture}
-use Rattle.topo_picture.proofs.picture.Picture.take_out.Goals as goal
+use Rattle.topo_picture.proofs.picture.Picture.delete_known.Goals as goal
 
 -- what the caller sees of the picture, s, is what it is inside
 module _ (limits : Limits) (rows : Rows) (s : Shown) (e : ℕ) (was : IsPicture limits rows) (seen : record { limits = limits; rows = rows } ≡ s)
