@@ -417,14 +417,14 @@ straighten b n f m name (k ∷ ks) named h straight =
       back = λ a e u v w. rest.back a e u.1 v.1 (smooth_keeps_faces b c n k.beyond a e first.smooth u.0 v.0 w);
       sides = (
         split_sides c b n k.near k.beyond s.split,
-        all_sides b c n f m name k ks s h.1 others (all_nears b n m name ks h.2) rest.sides,
+        all_sides ks s h.1 others (all_nears b n m name ks h.2) rest.sides,
       );
     } where
-      all_sides : (b c : ℕ → ℕ) (n : ℕ) (f : ℕ → ℕ) (m : ℕ) (name : ℕ → ℕ) (k : Bend) (ls : List Bend) → IsStep b c n f m name k → AllByRecursion (AreOnOthers m k) ls → AllByRecursion (IsBend b n m name) ls → AllByRecursion (λ l. l.near ≡ name l.dart) ls
+      all_sides : {b c : ℕ → ℕ} {n : ℕ} {f : ℕ → ℕ} {m : ℕ} {name : ℕ → ℕ} {k : Bend} (ls : List Bend) → IsStep b c n f m name k → AllByRecursion (AreOnOthers m k) ls → AllByRecursion (IsBend b n m name) ls → AllByRecursion (λ l. l.near ≡ name l.dart) ls
           → AllByRecursion (λ l. SameCycle (face_next c) l.near l.beyond × SameCycle (face_next c) (twin l.beyond) (twin l.near)) ls
           → AllByRecursion (λ l. SameCycle (face_next b) l.near l.beyond × SameCycle (face_next b) (twin l.beyond) (twin l.near)) ls
-      all_sides b c n f m name k [] s o i e h = h
-      all_sides b c n f m name k (l ∷ ls) s o i e h =
+      all_sides [] s o i e h = h
+      all_sides {b} {c} {n} {m = m} {k = k} (l ∷ ls) s o i e h =
           let near : IsApart n l.near k.beyond = record {
             within = i.0.near_there;
             not_self = λ w. s.bend.new l.dart i.0.there (sym e.0 ∙ w);
@@ -436,5 +436,5 @@ straighten b n f m name (k ∷ ks) named h straight =
             not_twin = λ w. o.0.beyond (twin-apart l.beyond k.beyond w);
           } in (
             (split_keeps_faces c b n k.near k.beyond l.near l.beyond s.split near h.0.0, split_keeps_faces c b n k.near k.beyond (twin l.beyond) (twin l.near) s.split far h.0.1),
-            all_sides b c n f m name k ls s o.1 i.1 e.1 h.1,
+            all_sides ls s o.1 i.1 e.1 h.1,
           )

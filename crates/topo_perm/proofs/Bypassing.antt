@@ -3,7 +3,8 @@ use Rattle.std.proofs.Common.{◌≡◌, ◌≢◌, ℕ, zero, suc, ◌+◌, ◌
 use Rattle.std.proofs.lemmas.Bool.{cases_eq, cond-true, cond-false, eq-eqb, ne_eqb, not_from_true, not_from_false}
 use Rattle.topo_core.specs.Cycles.{IsPermutation, SameCycle, IsBypass, count_below}
 use Rattle.topo_core.specs.Rotations.{twin, face_next, partly, Joined}
-use Rattle.topo_perm.specs.Cuts.{all_but, JoinedWithout, IsSegmentOf, TwoFacesJoined, TwoFacesKeep, OneFaceParts, TakenOutJoined, TakenOutKeeps, TakenOutParts}
+use Rattle.topo_core.specs.Edits.{IsIsolated}
+use Rattle.topo_perm.specs.Cuts.{all_but, IsElsewhere, JoinedWithout, IsSegmentOf, TwoFacesJoined, TwoFacesKeep, OneFaceParts, TakenOutJoined, TakenOutKeeps, TakenOutParts}
 use Rattle.topo_core.proofs.Orbits.{SameCycle-sym}
 use Rattle.topo_perm.proofs.Walks.{Joined-refl, Joined-trans, Joined-turned, Joined-crossed, Joined-SameCycle, kept_joined, twin-within, twin-cases, face_next-permutation}
 use Rattle.topo_perm.proofs.Cuts.{IsWithout, two_faces_joined, one_face_cuts, around, Joined-sym, partly-within}
@@ -83,18 +84,18 @@ aside_self n h i even e = grind (arith, partly-within, crossed_not, cases_eq, cr
 Outside : (ℕ → ℕ) → (ℕ → ℕ) → ℕ → ℕ → ℕ → ℕ → Type 0
 Outside g o n h a v = (v < n) × (v ≢ h) × (v ≢ twin h) × Joined g o a v
 
-isolated_joined : {g : ℕ → ℕ} {n : ℕ} (h a b : ℕ) → IsPermutation g n → n % 2 ≡ 0 → h < n → g h ≡ h → g (twin h) ≡ twin h → a < n → a ≢ h → a ≢ twin h → Joined g (partly (all_but h)) a b ↔ Joined g twin a b
+isolated_joined : {g : ℕ → ℕ} {n h a : ℕ} (b : ℕ) → IsPermutation g n → n % 2 ≡ 0 → h < n → IsIsolated g h → IsElsewhere n h a → Joined g (partly (all_but h)) a b ↔ Joined g twin a b
 unfolding Outside
-isolated_joined {g} {n} h a b hg even lh at_h at_t la nh nt = (
-  λ j. (kept_joined g (partly (all_but h)) (Outside g twin n h a) turned1 crossed1 a b j (la, nh, nt, Joined-refl g twin a)).3,
-  λ j. (kept_joined g twin (Outside g (partly (all_but h)) n h a) turned2 crossed2 a b j (la, nh, nt, Joined-refl g (partly (all_but h)) a)).3,
+isolated_joined {g} {n} {h} {a} b hg even lh alone off = (
+  λ j. (kept_joined g (partly (all_but h)) (Outside g twin n h a) turned1 crossed1 a b j (off.within, off.not_self, off.not_twin, Joined-refl g twin a)).3,
+  λ j. (kept_joined g twin (Outside g (partly (all_but h)) n h a) turned2 crossed2 a b j (off.within, off.not_self, off.not_twin, Joined-refl g (partly (all_but h)) a)).3,
 )
   where
     lt : twin h < n
     lt = twin-within n h even lh
 
     away : (v : ℕ) → v < n → v ≢ h → v ≢ twin h → (g v ≢ h) × (g v ≢ twin h)
-    away v lv nv nw = (λ e. nv (hg.apart v h lv lh (e ∙ sym at_h)), λ e. nw (hg.apart v (twin h) lv lt (e ∙ sym at_t)))
+    away v lv nv nw = (λ e. nv (hg.apart v h lv lh (e ∙ sym alone.this)), λ e. nw (hg.apart v (twin h) lv lt (e ∙ sym alone.other)))
 
     twins : (v : ℕ) → v ≢ h → v ≢ twin h → (twin v ≢ h) × (twin v ≢ twin h)
     twins v nv nw = (λ e. nw (sym (twin-twin v) ∙ ap twin e), λ e. nv (twin-apart v h e))
@@ -179,7 +180,7 @@ taken_out_joined f g n h a b k u ea eb =
     let hg : IsPermutation g n = bypassed-permutation u.half g n t hh lt u.second in
     let at_h : g h ≡ h = u.second.elsewhere h k.within (λ e. th (sym e)) (λ e. th (sym e ∙ u.first.alone)) ∙ u.first.alone in
     let inside : (v : ℕ) → v < n → o v < n = λ v lv. partly-within (all_but h) n v k.even lv in
-    let last : Joined g o a b ↔ Joined g twin a b = isolated_joined h a b hg k.even k.within at_h u.second.alone ea.within ea.not_self ea.not_twin in (
+    let last : Joined g o a b ↔ Joined g twin a b = isolated_joined b hg k.even k.within (record { this = at_h; other = u.second.alone }) ea in (
       λ j. last.0
           (bypassed_joined hh lt u.second (aside_self n h t k.even (twin-half h)) ea.within ea.not_twin eb.not_twin
           (bypassed_joined k.permutation k.within u.first (aside_self n h h k.even refl) ea.within ea.not_self eb.not_self j)),
