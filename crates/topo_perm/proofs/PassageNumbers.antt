@@ -87,23 +87,24 @@ chords_alike h n s t (l ∷ ls) (i ∷ is) r o = (
 abbrev AreAliveAt : (ℕ → Bool) → ℕ → List Bend → Type 0
 AreAliveAt live n ks = AllByRecursion (λ k. IsAlive live n k.beyond × IsAlive live n (twin k.near)) ks
 
-corners_under : (h name name' : ℕ → ℕ) {live : ℕ → Bool} {n : ℕ} (z z' : ℕ) (ks js : List Bend) (e : ℕ) (ls is : List Link) → AreAlong name z ks e ls → AreAlong name' z' js e is → h z ≡ z' → h (name e) ≡ name' e
-    → IsAlive live n z → IsAlive live n (name e) → AreBendsAt h ks js → AreAliveAt live n ks → AreCornersUnder h live n ls is
-corners_under h name name' z z' [] [] e [] is a b at_z at_e zt et at alive = absurd a
-corners_under h name name' z z' [] [] e (l ∷ []) [] a b at_z at_e zt et at alive = absurd b
-corners_under h name name' {live} {n} z z' [] [] e (l ∷ []) (i ∷ []) a b at_z at_e zt et at alive =
-    ((subst (IsAlive live n) (sym a.0) zt, subst (IsAlive live n) (sym a.1) et), (b.0 ∙ sym at_z ∙ ap h (sym a.0), b.1 ∙ sym at_e ∙ ap h (sym a.1)), tt)
-corners_under h name name' z z' [] [] e (l ∷ []) (i ∷ (v ∷ is)) a b at_z at_e zt et at alive = absurd b
-corners_under h name name' z z' [] [] e (l ∷ (u ∷ ls)) is a b at_z at_e zt et at alive = absurd a
-corners_under h name name' z z' [] (j ∷ js) e ls is a b at_z at_e zt et at alive = absurd at
-corners_under h name name' z z' (k ∷ ks) [] e ls is a b at_z at_e zt et at alive = absurd at
-corners_under h name name' z z' (k ∷ ks) (j ∷ js) e [] is a b at_z at_e zt et at alive = absurd a
-corners_under h name name' z z' (k ∷ ks) (j ∷ js) e (l ∷ ls) [] a b at_z at_e zt et at alive = absurd b
-corners_under h name name' {live} {n} z z' (k ∷ ks) (j ∷ js) e (l ∷ ls) (i ∷ is) a b at_z at_e zt et at alive = (
-  (subst (IsAlive live n) (sym a.0) zt, subst (IsAlive live n) (sym a.1) alive.0.0),
-  (b.0 ∙ sym at_z ∙ ap h (sym a.0), b.1 ∙ sym at.0 ∙ ap h (sym a.1)),
-  corners_under h name name' (twin k.near) (twin j.near) ks js e ls is a.2 b.2 at.2 at_e alive.0.1 et at.3 alive.1,
-)
+module _ (h name name' : ℕ → ℕ) {live : ℕ → Bool} {n : ℕ} (e : ℕ) (at_e : h (name e) ≡ name' e) (et : IsAlive live n (name e)) where
+  corners_under : (z z' : ℕ) (ks js : List Bend) (ls is : List Link) → AreAlong name z ks e ls → AreAlong name' z' js e is → h z ≡ z'
+      → IsAlive live n z → AreBendsAt h ks js → AreAliveAt live n ks → AreCornersUnder h live n ls is
+  corners_under z z' [] [] [] is a b at_z zt at alive = absurd a
+  corners_under z z' [] [] (l ∷ []) [] a b at_z zt at alive = absurd b
+  corners_under z z' [] [] (l ∷ []) (i ∷ []) a b at_z zt at alive =
+      ((subst (IsAlive live n) (sym a.0) zt, subst (IsAlive live n) (sym a.1) et), (b.0 ∙ sym at_z ∙ ap h (sym a.0), b.1 ∙ sym at_e ∙ ap h (sym a.1)), tt)
+  corners_under z z' [] [] (l ∷ []) (i ∷ (v ∷ is)) a b at_z zt at alive = absurd b
+  corners_under z z' [] [] (l ∷ (u ∷ ls)) is a b at_z zt at alive = absurd a
+  corners_under z z' [] (j ∷ js) ls is a b at_z zt at alive = absurd at
+  corners_under z z' (k ∷ ks) [] ls is a b at_z zt at alive = absurd at
+  corners_under z z' (k ∷ ks) (j ∷ js) [] is a b at_z zt at alive = absurd a
+  corners_under z z' (k ∷ ks) (j ∷ js) (l ∷ ls) [] a b at_z zt at alive = absurd b
+  corners_under z z' (k ∷ ks) (j ∷ js) (l ∷ ls) (i ∷ is) a b at_z zt at alive = (
+    (subst (IsAlive live n) (sym a.0) zt, subst (IsAlive live n) (sym a.1) alive.0.0),
+    (b.0 ∙ sym at_z ∙ ap h (sym a.0), b.1 ∙ sym at.0 ∙ ap h (sym a.1)),
+    corners_under (twin k.near) (twin j.near) ks js ls is a.2 b.2 at.2 alive.0.1 at.3 alive.1,
+  )
 
 -- ---- The numbers of the darts of the system below
 
@@ -271,8 +272,8 @@ module _ {g : ℕ → ℕ} {n : ℕ} {f : ℕ → ℕ} {m : ℕ} {name : ℕ →
 
   chords_are_alike : AreAlike second (chords_of ls) (chords_of is)
   chords_are_alike = chords_alike second n middle top ls is links_are
-      (corners_under second name (bent_number nu js) (name c) (bent_number nu js c) ks js e ls is p.along along (second_names c p.from_there) (second_names e p.to_there)
-      (alive_here c p.from_there) (alive_here e p.to_there) second_bends (every (λ k. IsAlive bent n k.beyond × IsAlive bent n (twin k.near)) ks (λ k h. ((alive_beyond k h).0, alive_back k h))))
+      (corners_under second name (bent_number nu js) e (second_names e p.to_there) (alive_here e p.to_there) (name c) (bent_number nu js c) ks js ls is
+      p.along along (second_names c p.from_there) (alive_here c p.from_there) second_bends (every (λ k. IsAlive bent n k.beyond × IsAlive bent n (twin k.near)) ks (λ k h. ((alive_beyond k h).0, alive_back k h))))
 
   abbrev third : ℕ → ℕ
   third = numbers_after second (chords_of ls) (chords_of is)
