@@ -81,8 +81,8 @@ pub record Searched (f : ℕ → ℕ) (n : ℕ) (old : List Bool) (start begin :
 found_none : (f : ℕ → ℕ) (n : ℕ) (old : List Bool) (start begin : ℕ) (order : List ℕ) → length old ≡ n → length order ≡ n → begin ≡ marked_count old n → Found f n old start begin old order begin
 found_none f n old start begin order ls lo e = grind arith
 
-pub search_start : (f : ℕ → ℕ) (n : ℕ) (old s1 : List Bool) (start begin : ℕ) (order o1 : List ℕ) (f1 : ℕ) → start < n → length old ≡ n → length order ≡ n → begin ≡ marked_count old n → IsVisit old s1 order o1 begin f1 start → Searched f n old start begin s1 o1 f1 begin
-search_start f n old s1 start begin order o1 f1 l ls lo e v =
+pub search_start : (f : ℕ → ℕ) (n : ℕ) {old s1 : List Bool} {start begin : ℕ} (order : List ℕ) {o1 : List ℕ} {f1 : ℕ} → start < n → length old ≡ n → length order ≡ n → begin ≡ marked_count old n → IsVisit old s1 order o1 begin f1 start → Searched f n old start begin s1 o1 f1 begin
+search_start f n {old} {s1} {start} {begin} order {o1} {f1} l ls lo e v =
     let a : Visited f n old start begin old s1 order o1 begin f1 start = visited s1 o1 f1 (found_none f n old start begin order ls lo e) l (Joined-refl f twin start) v in
     record { state = a.state; started = a.here; behind = a.more; each = λ j low lj. absurd (omega arith) }
 
@@ -92,8 +92,8 @@ first_visit {f} {n} {old} {start} {begin} {seen} seen' {order} order' {found} fo
     visited seen' order' found' s.state (h.within d (s.state.within done lo l))
     (Joined-turned f twin start d (s.state.reached done lo l)) v
 
-pub two_visits : {f : ℕ → ℕ} {n : ℕ} {old : List Bool} {start begin : ℕ} {seen : List Bool} (s1 s2 : List Bool) {order : List ℕ} (o1 o2 : List ℕ) {found : ℕ} (f1 f2 : ℕ) {done : ℕ} → IsPermutation f n → n % 2 ≡ 0 → start < n → Searched f n old start begin seen order found done → begin ≤ done → done < found → IsVisit seen s1 order o1 found f1 (f (slice_index order done)) → IsVisit s1 s2 o1 o2 f1 f2 (twin (slice_index order done)) → Searched f n old start begin s2 o2 f2 (done + 1)
-two_visits {f} {n} {old} {start} {begin} {seen} s1 s2 {order} o1 o2 {found} f1 f2 {done} h even ls s lo l v w =
+pub two_visits : {f : ℕ → ℕ} {n : ℕ} {old : List Bool} {start begin : ℕ} {seen : List Bool} (s1 : List Bool) {s2 : List Bool} {order : List ℕ} (o1 : List ℕ) {o2 : List ℕ} {found : ℕ} (f1 : ℕ) {f2 : ℕ} {done : ℕ} → IsPermutation f n → n % 2 ≡ 0 → start < n → Searched f n old start begin seen order found done → begin ≤ done → done < found → IsVisit seen s1 order o1 found f1 (f (slice_index order done)) → IsVisit s1 s2 o1 o2 f1 f2 (twin (slice_index order done)) → Searched f n old start begin s2 o2 f2 (done + 1)
+two_visits {f} {n} {old} {start} {begin} {seen} s1 {s2} {order} o1 {o2} {found} f1 {f2} {done} h even ls s lo l v w =
     let d : ℕ = slice_index order done in
     let ld : d < n = s.state.within done lo l in
     let a : Visited f n old start begin seen s1 order o1 found f1 (f d) = first_visit s1 o1 f1 h s lo l v in

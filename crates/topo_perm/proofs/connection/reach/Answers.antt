@@ -10,7 +10,7 @@ visit-found-requires-clause-room c fresh =
 
 pub loop-done-init : goal.loop-done-init
 loop-done-init c =
-    search_start (map_of c.args.images.now) (length c.args.images.now) _ _ c.args.start c.args.before _ _ _ c.requires.within c.requires.seen_length c.requires.order_length c.requires.counted c.visit-found.ensures
+    search_start (map_of c.args.images.now) (length c.args.images.now) _ c.requires.within c.requires.seen_length c.requires.order_length c.requires.counted c.visit-found.ensures
 
 pub returns-then-done-found-clause-reached : goal.returns-then-done-found-clause-reached
 returns-then-done-found-clause-reached c =
@@ -46,9 +46,9 @@ loop-done-preserved c =
     let n = length c.args.images.now in
     let s : Searched f n c.args.seen.now c.args.start c.args.before c.loop-done.seen c.loop-done.order c.loop-done.found c.loop-done.done = c.loop-done.invariant in
     let l : c.loop-done.done < c.loop-done.found = omega (arith, s.behind, c.if-done-found.false) in
-    two_visits c.visit-found-in-loop-done.new.seen c.visit-found-in-loop-done-2.new.seen
-    c.visit-found-in-loop-done.new.order c.visit-found-in-loop-done-2.new.order
-    c.visit-found-in-loop-done.result c.visit-found-in-loop-done-2.result
+    two_visits c.visit-found-in-loop-done.new.seen
+    c.visit-found-in-loop-done.new.order
+    c.visit-found-in-loop-done.result
     c.requires.permutation c.requires.even c.requires.within s (omega arith) l c.visit-found-in-loop-done.ensures
     (subst (λ d. IsVisit c.visit-found-in-loop-done.new.seen c.visit-found-in-loop-done-2.new.seen c.visit-found-in-loop-done.new.order c.visit-found-in-loop-done-2.new.order c.visit-found-in-loop-done.result c.visit-found-in-loop-done-2.result d)
     c.other_dart-other.ensures.other c.visit-found-in-loop-done-2.ensures)
