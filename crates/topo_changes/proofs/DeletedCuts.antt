@@ -130,9 +130,9 @@ module _ (q : Rows) (e : ℕ) (row : EdgeRow) (good : IsWellFormed q) (known : e
       record {
         connected_without = record {
           no_bare_point = bare_points p ∙ ends.full_without full others;
-          joined = darts_connected p good_p.paths good_p.crossings good_p.rotations (collapsed_connected (at (final + 1)) size (left_after half (final + 1)) (map_of (turn_images p)) (length (turn_images p)) name onto c st.connected);
+          joined = darts_connected p good_p.paths good_p.crossings good_p.rotations (collapsed_connected c st.connected);
         };
-        faces = (let below = collapsed_faces (at (final + 1)) size (left_after half (final + 1)) (map_of (turn_images p)) (length (turn_images p)) name onto c in
+        faces = (let below = collapsed_faces c in
             let shut = faces_shut q e row good known p hides in let f = st.faces in omega arith);
       }
 
@@ -172,7 +172,7 @@ module _ (q : Rows) (e : ℕ) (row : EdgeRow) (good : IsWellFormed q) (known : e
                 on.other,
                 back.there,
                 back.other,
-                parted at size half (final + 1) o i (omega (arith, hi)) st (one_face i hi one) (index_of q on.to) (index_of q back.to) (elsewhere on.to on.there on.other i hi) (elsewhere back.to back.there back.other i hi)
+                parted o (omega (arith, hi)) st (one_face i hi one) (elsewhere on.to on.there on.other i hi) (elsewhere back.to back.there back.other i hi)
                     (record { steps = 1; leads = at_a }) (record { steps = 1; leads = at_b }),
               )
         ]
@@ -187,7 +187,7 @@ module _ (q : Rows) (e : ℕ) (row : EdgeRow) (good : IsWellFormed q) (known : e
       let less : i + k < final + 1 = omega (arith, h, same) in
       let hi : i + k ≤ final = omega (arith, less) in
       put_all_back k i (omega (arith, less)) b d hb nb hd nd
-      (put_back at size half (final + 1) o (i + k) less (index_of q b) (index_of q d) (elsewhere b hb nb (i + k) hi) (elsewhere d hd nd (i + k) hi)
+      (put_back o (i + k) less (elsewhere b hb nb (i + k) hi) (elsewhere d hd nd (i + k) hi)
       (subst (λ (w : ℕ). Joined (at w) twin (index_of q b) (index_of q d)) same j))
 
   joins : (i : ℕ) → JoinsOpened q e i
@@ -217,7 +217,7 @@ module _ (q : Rows) (e : ℕ) (row : EdgeRow) (good : IsWellFormed q) (known : e
   falls_apart : (i : ℕ) → i ≤ final → IsBareOrParted i → Connected (system p) → ⊥
   falls_apart i hi (inl (v, lv, only, out)) whole_p = false≢true (sym whole_p.no_bare_point ∙ bare_points p ∙ ends.bare_without v lv only)
   falls_apart i hi (inr (b, d, hb, nb, hd, nd, parts)) whole_p =
-      let above : IsConnectedAmong (left_after half (final + 1)) (at (final + 1)) size = collapsed_back (at (final + 1)) size (left_after half (final + 1)) (map_of (turn_images p)) (length (turn_images p)) name onto c
+      let above : IsConnectedAmong (left_after half (final + 1)) (at (final + 1)) size = collapsed_back c
       (numbers_connected p good_p.paths good_p.crossings good_p.rotations whole_p.joined) in
       let all : final + 1 ≤ final + 1 = omega arith in
       let joined : Joined (at (final + 1)) twin (index_of q b) (index_of q d) = above (index_of q b) (index_of q d) (number_less q good b hb) (number_less q good d hd)

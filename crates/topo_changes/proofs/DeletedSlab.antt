@@ -87,6 +87,6 @@ module _ (rows : Rows) (good : IsWellFormed rows) (e : ℕ) (row : EdgeRow) (kno
     pub deleted_slab : (w v : Turning) (xs : List ℕ) → IsRun limit t (unchords_of (λ j. nu (half j)) segments) w → AreMids Middle left n xs → ((x : ℕ) → IsAlive left n x → Middle x → IsIn x xs) → IsRun limit w (smooths_of nu xs) v
         → IsSmoothedUnder (map_of (turn_images after)) m name nu v limit
     deleted_slab w v xs unchords mids all smooths =
-        let opened_slab : RenumbersSlab nu back left (opened segments) n w.live w.turn limit = opened_numbers opened n half segments opening nu back limit t w shut_slab segments (omega arith) unchords in
+        let opened_slab : RenumbersSlab nu back left (opened segments) n w.live w.turn limit = opened_numbers opening w shut_slab segments (omega arith) unchords in
         let p : IsWellFormed after = good_p rows good e row known in
-        smoothed_numbers Middle rank left (opened segments) n (map_of (turn_images after)) m name onto midway (turn_permutes after p.paths p.crossings p.rotations) (even_count after p) nu back limit w opened_slab xs v mids all smooths
+        smoothed_numbers midway (turn_permutes after p.paths p.crossings p.rotations) (even_count after p) w opened_slab xs v mids all smooths

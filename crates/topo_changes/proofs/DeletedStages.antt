@@ -58,7 +58,7 @@ module _ (rows : Rows) (good : IsWellFormed rows) (e : ℕ) (row : EdgeRow) (kno
 
   module _ (nu home : ℕ → ℕ) (limit : ℕ) (u : Turning) (r : RenumbersTurn nu home (map_of (turn_images rows)) u.turn many u.live limit) (slab : IsSlab u.live u.turn limit) where
     pub stage_numbers : (i : ℕ) → i ≤ last + 1 → (w : Turning) → IsRun limit u (unchords_of (λ j. nu (num (forward e j))) i) w → RenumbersSlab nu home (left_after h i) (t i) many w.live w.turn limit
-    stage_numbers i li w run = opened_numbers t many h (last + 1) (opening rows good e row known connected zero_genus) nu home limit u w (shut_slab rows good e row known connected zero_genus nu home limit u r slab) i li run
+    stage_numbers i li w run = opened_numbers (opening rows good e row known connected zero_genus) w (shut_slab rows good e row known connected zero_genus nu home limit u r slab) i li run
 
     module _ (i : ℕ) (w : Turning) (run : IsRun limit u (unchords_of (λ j. nu (num (forward e j))) i) w) where
       there : (j : ℕ) → j ≤ last → num (forward e j) < many
@@ -114,6 +114,6 @@ module _ (rows : Rows) (good : IsWellFormed rows) (e : ℕ) (row : EdgeRow) (kno
     pub smoothable_along : (w v : Turning) → IsRun limit u (unchords_of (λ j. nu (num (forward e j))) (last + 1)) w → (i : ℕ) → i < last → IsRun limit w (smooths_of nu (first_of middle_at i)) v → IsSmoothable v limit (nu (middle_at i))
     smoothable_along w v run i li smooths =
         let p : IsWellFormed (without rows e) = good_p rows good e row known in
-        smoothable (Middle rows good e row known connected zero_genus) (rank rows good e row known connected zero_genus) (left rows good e row known connected zero_genus) (t (last + 1)) many (map_of (turn_images (without rows e)))
-        (length (turn_images (without rows e))) (name rows good e row known connected zero_genus) (onto rows good e row known connected zero_genus) (midway rows good e row known connected zero_genus) (turn_permutes (without rows e) p.paths p.crossings p.rotations)
-        (even_count (without rows e) p) nu home limit w (stage_numbers (last + 1) (omega arith) w run) (middle_at i) (first_of middle_at i) v (path_mids rows good e row known connected zero_genus (suc i) (omega (arith, li))) smooths
+        smoothable
+        (midway rows good e row known connected zero_genus) (turn_permutes (without rows e) p.paths p.crossings p.rotations)
+        (even_count (without rows e) p) w (stage_numbers (last + 1) (omega arith) w run) (middle_at i) (first_of middle_at i) v (path_mids rows good e row known connected zero_genus (suc i) (omega (arith, li))) smooths

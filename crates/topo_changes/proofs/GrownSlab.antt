@@ -123,4 +123,4 @@ module _ (rows : Rows) (good : IsWellFormed rows) (u p kind : ℕ) (u_in : u < l
     -- the old darts keep their halves, and the new edge has y
     pub grown_slab : (nu back : ℕ → ℕ) (limit : ℕ) (t t' : Turning) (y : ℕ) → RenumbersTurn nu back before_turn t.turn m t.live limit → IsSlab t.live t.turn limit → IsStep limit t (Hang (nu (index_of rows c)) y) t'
         → IsGrowthUnder after_turn m nu t' limit y
-    grown_slab nu back limit t t' y renumbers slab hang = growth_numbers before_turn after_turn m (index_of rows c) growth nu back limit t t' y renumbers slab hang
+    grown_slab nu back limit t t' y renumbers slab hang = growth_numbers growth y renumbers slab hang

@@ -42,6 +42,6 @@ inserted_slab rows u v kind r good h nu back limit t middle t' js is renumbers s
     let q : Rows = shown rows u v kind r in
     let z : Dart = lifted rows q h.from in
     let e : Dart = lifted rows q h.to in
-    passage_numbers (map_of (turn_images q)) (length (turn_images q)) (map_of (turn_images rows)) (length (turn_images rows)) (name rows q rows.next_edge u v r good h.form h.turns) (index_of rows h.from)
-    (path_bends rows q rows.next_edge u v r good h.form h.turns z e h.path) (index_of rows h.to) (path_links rows q rows.next_edge u v r good h.form h.turns z e) h.passage nu back limit t middle t' renumbers slab js is
+    passage_numbers
+    h.passage middle t' renumbers slab js is
     (halves_under rows q rows.next_edge u v r good h.form h.turns nu rows.next_crossing r.crossed js crossed) along splits chords

@@ -13,7 +13,7 @@ use Rattle.topo_map.specs.Segments.{put, without, holds, next_in, before_in, fac
 use Rattle.topo_map.specs.Labels.{painted, IsLabelled, IsPainted}
 use Rattle.topo_map.specs.declared.segments.Segment.{Segment}
 use Rattle.topo_map.proofs.Maps.{IsLone}
-use Rattle.topo_map.proofs.Kept.{live_before}
+use Rattle.topo_map.proofs.Kept.{live_before, live_next}
 use Rattle.topo_map.proofs.Steps.{whole, live_twin}
 use Rattle.topo_map.proofs.Walked.{painted_kept}
 use Rattle.topo_map.proofs.Painting.{IsCoarse, IsScene, AreEnds, parted, joined, part_painted, share_painted, painted_below, put_exchange, without_exchange}
@@ -44,19 +44,19 @@ pub record IsStep (s s1 : Slab Segment) (i j : ℕ) : Type 0 where
   pub faces : face_in s1 ≡ face_in s
   pub exchange : IsExchange (face_next (next_in s)) (face_next (next_in s1)) i j
 
-pub part_labels : (s s1 s2 : Slab Segment) (i j y label : ℕ) → IsStep s s1 i j → IsLabelled s label → face_in s i ≡ face_in s j → holds s y ≡ true
+pub part_labels : {s s1 : Slab Segment} (s2 : Slab Segment) {i j : ℕ} (y : ℕ) {label : ℕ} → IsStep s s1 i j → IsLabelled s label → face_in s i ≡ face_in s j → holds s y ≡ true
     → SameCycle (face_next (next_in s1)) i y ⊎ SameCycle (face_next (next_in s1)) j y → IsPainted s1 s2 y label → IsLabelled s2 (label + 1)
-part_labels s s1 s2 i j y label w was same hy side p =
+part_labels {s} {s1} s2 {i} {j} y {label} w was same hy side p =
     let l : ℕ → ℕ = face_in s in
     let f : ℕ → ℕ = next_in s in
     let g : ℕ → ℕ = next_in s1 in
     let n : ℕ = half_limit in
     let hg : IsPermutation (face_next g) n = faces_permuted s1 w.kept_after in
     let there : IsScene (holds s) (face_next g) n i j = record { permutation = hg; below = w.kept.within; first = w.first; second = w.second } in
-    let coarse : IsCoarse (holds s) (face_next g) l i j = parted (holds s) f g l n i j (scene s i j w.kept w.first w.second) w.exchange was.labels same in
+    let coarse : IsCoarse (holds s) (face_next g) l i j = parted g (scene s i j w.kept w.first w.second) w.exchange was.labels same in
     let ends : SameCycle (face_next g) y i ⊎ SameCycle (face_next g) y j = grind (arith, i, j) in
     let fresh : (b : ℕ) → holds s b ≡ true → l b ≢ label = λ b t d. (let lb : l b < label = was.below b t in let z : ⊥ = omega arith in z) in
-    let done : LabelsFaces (holds s) g (painted (face_next g) n y label l) = part_painted (holds s) g l n i j y label there coarse hy ends fresh in
+    let done : LabelsFaces (holds s) g (painted (face_next g) n y label l) = part_painted g y label there coarse hy ends fresh in
     let el : face_in s2 ≡ painted (face_next g) n y label l = p.faces ∙ ap (λ (m : ℕ → ℕ). painted (face_next g) n y label m) w.faces in
     let eh : holds s2 ≡ holds s = p.live ∙ w.live in
     record {
@@ -70,9 +70,9 @@ part_labels s s1 s2 i j y label w was same hy side p =
 
 -- ---- A step between two faces
 
-pub join_labels : (s s1 s2 : Slab Segment) (i j y z unused : ℕ) → IsKept s → IsStep s1 s2 i j → IsLabelled s unused → holds s y ≡ true → holds s z ≡ true
+pub join_labels : {s s1 s2 : Slab Segment} {i j : ℕ} (y z : ℕ) {unused : ℕ} → IsKept s → IsStep s1 s2 i j → IsLabelled s unused → holds s y ≡ true → holds s z ≡ true
     → AreEnds (face_next (next_in s)) i j y z → face_in s y ≢ face_in s z → IsPainted s s1 y (face_in s z) → IsLabelled s2 unused
-join_labels s s1 s2 i j y z unused k w was hy hz side apart p =
+join_labels {s} {s2} {i} {j} y z {unused} k w was hy hz side apart p =
     let l : ℕ → ℕ = face_in s in
     let f : ℕ → ℕ = next_in s in
     let g : ℕ → ℕ = next_in s2 in
@@ -82,13 +82,13 @@ join_labels s s1 s2 i j y z unused k w was hy hz side apart p =
     let hj : holds s j ≡ true = ap (λ (h : ℕ → Bool). h j) (sym p.live) ∙ w.second in
     let here : IsScene (holds s) (face_next f) n i j = scene s i j k hi hj in
     let m : ℕ → ℕ = painted (face_next f) n y (l z) l in
-    let coarse : IsCoarse (holds s) (face_next f) m i j = share_painted (holds s) f l n i j y z here was.labels hy hz side in
+    let coarse : IsCoarse (holds s) (face_next f) m i j = share_painted y z here was.labels hy hz side in
     let two : SameCycle (face_next f) i j → ⊥ = λ v. apart (elim side [
       | inl u ↦ was.labels.same_label y z hy hz (SameCycle-trans (face_next f) y i z u.0 (SameCycle-trans (face_next f) i j z v (SameCycle-sym (face_next f) n hf z j (k.within z hz) u.1)))
       | inr u ↦ was.labels.same_label y z hy hz (SameCycle-trans (face_next f) y j z u.0 (SameCycle-trans (face_next f) j i z (SameCycle-sym (face_next f) n hf i j (k.within i hi) v) (SameCycle-sym (face_next f) n hf z i (k.within z hz) u.1)))
     ]) in
     let x : IsExchange (face_next f) (face_next g) i j = subst (λ (h : ℕ → ℕ). IsExchange (face_next h) (face_next g) i j) p.next w.exchange in
-    let done : LabelsFaces (holds s) g m = joined (holds s) f g m n i j here x coarse two in
+    let done : LabelsFaces (holds s) g m = joined f g here x coarse two in
     let eh : holds s2 ≡ holds s = w.live ∙ p.live in
     let el : face_in s2 ≡ m = w.faces ∙ p.faces in
     record {
@@ -103,16 +103,24 @@ join_labels s s1 s2 i j y z unused k w was hy hz side apart p =
 lone : (s : Slab Segment) (x c : ℕ) → IsKept s → next_in s x ≡ x → c ≢ x → IsLone (next_in s) (before_in s) x c
 lone s x c k alone ne = record { inverse = k.inverse; alone = alone; different = ne }
 
-put_step : (s s1 : Slab Segment) (x c : ℕ) → IsKept s → holds s x ≡ true → holds s c ≡ true → next_in s x ≡ x → c ≢ x → IsTurned s s1 (put (next_in s) x c)
+-- a half that stands alone, and the corner that it is put before
+pub record IsAttachable (s : Slab Segment) (x c : ℕ) : Type 0 where
+  pub kept : IsKept s
+  pub live : holds s x ≡ true
+  pub live_corner : holds s c ≡ true
+  pub alone : next_in s x ≡ x
+  pub different : c ≢ x
+
+put_step : {s s1 : Slab Segment} {x c : ℕ} → IsAttachable s x c → IsTurned s s1 (put (next_in s) x c)
     → face_in s1 ≡ face_in s → IsStep s s1 (twin (before_in s c)) (twin x)
-put_step s s1 x c k hx hc alone ne t e = record {
-  kept = k;
+put_step {s} {x = x} {c = c} on t e = record {
+  kept = on.kept;
   kept_after = t.kept;
-  first = live_twin s (before_in s c) (twin (before_in s c)) refl (live_before s c k hc);
-  second = live_twin s x (twin x) refl hx;
+  first = live_twin s (before_in s c) (twin (before_in s c)) refl (live_before s c on.kept on.live_corner);
+  second = live_twin s x (twin x) refl on.live;
   live = t.live;
   faces = e;
-  exchange = subst (λ (g : ℕ → ℕ). IsExchange (face_next (next_in s)) (face_next g) (twin (before_in s c)) (twin x)) (sym t.next) (put_exchange (next_in s) (before_in s) x c (lone s x c k alone ne));
+  exchange = subst (λ (g : ℕ → ℕ). IsExchange (face_next (next_in s)) (face_next g) (twin (before_in s c)) (twin x)) (sym t.next) (put_exchange (next_in s) (before_in s) x c (lone s x c on.kept on.alone on.different));
 }
 
 -- from the half before c along the face comes c, and from the twin of what stands alone that itself
@@ -122,33 +130,33 @@ onto s c k = ap (next_in s) (twin-twin (before_in s c)) ∙ k.inverse.onward c
 self : (s : Slab Segment) (x : ℕ) → face_next (next_in s) (twin x) ≡ next_in s x
 self s x = ap (next_in s) (twin-twin x)
 
-pub put_parts : (s s1 s2 : Slab Segment) (x c label : ℕ) → IsKept s → holds s x ≡ true → holds s c ≡ true → next_in s x ≡ x → c ≢ x → IsLabelled s label
+pub put_parts : {s s1 : Slab Segment} (s2 : Slab Segment) {x c label : ℕ} → IsAttachable s x c → IsLabelled s label
     → face_in s x ≡ face_in s c → IsTurned s s1 (put (next_in s) x c) → face_in s1 ≡ face_in s → IsPainted s1 s2 x label ⊎ IsPainted s1 s2 c label
     → IsLabelled s2 (label + 1)
-put_parts s s1 s2 x c label k hx hc alone ne was same t e p =
+put_parts {s} {s1} s2 {x} {c} {label} on was same t e p =
     let i : ℕ = twin (before_in s c) in
     let j : ℕ = twin x in
-    let w : IsStep s s1 i j = put_step s s1 x c k hx hc alone ne t e in
+    let w : IsStep s s1 i j = put_step on t e in
     let f : ℕ → ℕ = face_next (next_in s) in
     let g : ℕ → ℕ = face_next (next_in s1) in
-    let equal : face_in s i ≡ face_in s j = was.labels.same_label i c w.first hc (step f i c (onto s c k)) ∙ sym same ∙ sym (was.labels.same_label j x w.second hx (step f j x (self s x ∙ alone))) in
+    let equal : face_in s i ≡ face_in s j = was.labels.same_label i c w.first on.live_corner (step f i c (onto s c on.kept)) ∙ sym same ∙ sym (was.labels.same_label j x w.second on.live (step f j x (self s x ∙ on.alone))) in
     elim p [
-      | inl v ↦ part_labels s s1 s2 i j x label w was equal hx (inl (step g i x (w.exchange.at_first ∙ self s x ∙ alone))) v
-      | inr v ↦ part_labels s s1 s2 i j c label w was equal hc (inr (step g j c (w.exchange.at_second ∙ onto s c k))) v
+      | inl v ↦ part_labels s2 x w was equal on.live (inl (step g i x (w.exchange.at_first ∙ self s x ∙ on.alone))) v
+      | inr v ↦ part_labels s2 c w was equal on.live_corner (inr (step g j c (w.exchange.at_second ∙ onto s c on.kept))) v
     ]
 
-pub put_joins : (s s1 s2 : Slab Segment) (x c unused : ℕ) → IsKept s → holds s x ≡ true → holds s c ≡ true → next_in s x ≡ x → c ≢ x → IsLabelled s unused
+pub put_joins : {s s1 s2 : Slab Segment} {x c unused : ℕ} → IsAttachable s x c → IsLabelled s unused
     → face_in s x ≢ face_in s c → IsPainted s s1 x (face_in s c) ⊎ IsPainted s s1 c (face_in s x) → IsTurned s1 s2 (put (next_in s1) x c)
     → face_in s2 ≡ face_in s1 → IsLabelled s2 unused
-put_joins s s1 s2 x c unused k hx hc alone ne a apart p t e = elim p [
+put_joins {s} {s1} {s2} {x} {c} {unused} on a apart p t e = elim p [
   | inl v ↦
-      let w : IsStep s1 s2 (twin (before_in s1 c)) j = put_step s1 s2 x c (painted_kept s s1 _ k v) (ap (λ (h : ℕ → Bool). h x) v.live ∙ hx) (ap (λ (h : ℕ → Bool). h c) v.live ∙ hc) (ap (λ (h : ℕ → ℕ). h x) v.next ∙ alone) ne t e in
+      let w : IsStep s1 s2 (twin (before_in s1 c)) j = put_step (painted_attachable _ _ v) t e in
       let w' : IsStep s1 s2 i j = subst (λ (b : ℕ → ℕ). IsStep s1 s2 (twin (b c)) j) v.before w in
-      join_labels s s1 s2 i j x c unused k w' a hx hc (inr (x_j, c_i)) apart v
+      join_labels x c on.kept w' a on.live on.live_corner (inr (x_j, c_i)) apart v
   | inr v ↦
-      let w : IsStep s1 s2 (twin (before_in s1 c)) j = put_step s1 s2 x c (painted_kept s s1 _ k v) (ap (λ (h : ℕ → Bool). h x) v.live ∙ hx) (ap (λ (h : ℕ → Bool). h c) v.live ∙ hc) (ap (λ (h : ℕ → ℕ). h x) v.next ∙ alone) ne t e in
+      let w : IsStep s1 s2 (twin (before_in s1 c)) j = put_step (painted_attachable _ _ v) t e in
       let w' : IsStep s1 s2 i j = subst (λ (b : ℕ → ℕ). IsStep s1 s2 (twin (b c)) j) v.before w in
-      join_labels s s1 s2 i j c x unused k w' a hc hx (inl (c_i, x_j)) (λ q. apart (sym q)) v
+      join_labels c x on.kept w' a on.live_corner on.live (inl (c_i, x_j)) (λ q. apart (sym q)) v
 ]
   where
     i : ℕ
@@ -161,10 +169,19 @@ put_joins s s1 s2 x c unused k hx hc alone ne a apart p t e = elim p [
     f = face_next (next_in s)
 
     c_i : SameCycle f c i
-    c_i = SameCycle-sym f half_limit (faces_permuted s k) i c (k.within i (live_twin s (before_in s c) i refl (live_before s c k hc))) (step f i c (onto s c k))
+    c_i = SameCycle-sym f half_limit (faces_permuted s on.kept) i c (on.kept.within i (live_twin s (before_in s c) i refl (live_before s c on.kept on.live_corner))) (step f i c (onto s c on.kept))
 
     x_j : SameCycle f x j
-    x_j = SameCycle-sym f half_limit (faces_permuted s k) j x (k.within j (live_twin s x j refl hx)) (step f j x (self s x ∙ alone))
+    x_j = SameCycle-sym f half_limit (faces_permuted s on.kept) j x (on.kept.within j (live_twin s x j refl on.live)) (step f j x (self s x ∙ on.alone))
+
+    painted_attachable : (b l : ℕ) → IsPainted s s1 b l → IsAttachable s1 x c
+    painted_attachable b l v = record {
+      kept = painted_kept s s1 _ on.kept v;
+      live = ap (λ (h : ℕ → Bool). h x) v.live ∙ on.live;
+      live_corner = ap (λ (h : ℕ → Bool). h c) v.live ∙ on.live_corner;
+      alone = ap (λ (h : ℕ → ℕ). h x) v.next ∙ on.alone;
+      different = on.different;
+    }
 
 -- ---- A half that is taken out
 
@@ -180,32 +197,39 @@ without_step s s1 x k hx t e = record {
   exchange = subst (λ (g : ℕ → ℕ). IsExchange (face_next (next_in s)) (face_next g) (twin (before_in s x)) (twin x)) (sym t.next) (without_exchange (next_in s) (before_in s) x k.inverse);
 }
 
-pub without_parts : (s s1 s2 : Slab Segment) (x y on label : ℕ) → IsKept s → holds s x ≡ true → y ≡ twin x → on ≡ next_in s x → holds s on ≡ true
-    → IsLabelled s label → face_in s x ≡ face_in s y → IsTurned s s1 (without (next_in s) x) → face_in s1 ≡ face_in s
+-- a half that is taken out, its twin, and the half that it turns to
+pub record IsDetachable (s : Slab Segment) (x y on : ℕ) : Type 0 where
+  pub kept : IsKept s
+  pub live : holds s x ≡ true
+  pub other : y ≡ twin x
+  pub onward : on ≡ next_in s x
+
+pub without_parts : {s s1 : Slab Segment} (s2 : Slab Segment) {x y on label : ℕ} → IsDetachable s x y on → IsLabelled s label → face_in s x ≡ face_in s y → IsTurned s s1 (without (next_in s) x) → face_in s1 ≡ face_in s
     → IsPainted s1 s2 x label ⊎ IsPainted s1 s2 on label → IsLabelled s2 (label + 1)
-without_parts s s1 s2 x y on label k hx ey eo ho was same t e p =
+without_parts {s} {s1} s2 {x} {y} {on} {label} d was same t e p =
+    let ho : holds s on ≡ true = ap (holds s) d.onward ∙ live_next s x d.kept d.live in
     let i : ℕ = twin (before_in s x) in
     let j : ℕ = twin x in
-    let w : IsStep s s1 i j = without_step s s1 x k hx t e in
+    let w : IsStep s s1 i j = without_step s s1 x d.kept d.live t e in
     let f : ℕ → ℕ = face_next (next_in s) in
     let g : ℕ → ℕ = face_next (next_in s1) in
-    let equal : face_in s i ≡ face_in s j = was.labels.same_label i x w.first hx (step f i x (onto s x k)) ∙ same ∙ ap (face_in s) ey in
+    let equal : face_in s i ≡ face_in s j = was.labels.same_label i x w.first d.live (step f i x (onto s x d.kept)) ∙ same ∙ ap (face_in s) d.other in
     elim p [
-      | inl v ↦ part_labels s s1 s2 i j x label w was equal hx (inr (step g j x (w.exchange.at_second ∙ onto s x k))) v
-      | inr v ↦ part_labels s s1 s2 i j on label w was equal ho (inl (step g i on (w.exchange.at_first ∙ self s x ∙ sym eo))) v
+      | inl v ↦ part_labels s2 x w was equal d.live (inr (step g j x (w.exchange.at_second ∙ onto s x d.kept))) v
+      | inr v ↦ part_labels s2 on w was equal ho (inl (step g i on (w.exchange.at_first ∙ self s x ∙ sym d.onward))) v
     ]
 
-pub without_joins : (s s1 s2 : Slab Segment) (x y unused : ℕ) → IsKept s → holds s x ≡ true → y ≡ twin x → IsLabelled s unused → face_in s x ≢ face_in s y
+pub without_joins : {s s1 s2 : Slab Segment} (x y : ℕ) {unused : ℕ} → IsKept s → holds s x ≡ true → y ≡ twin x → IsLabelled s unused → face_in s x ≢ face_in s y
     → IsPainted s s1 x (face_in s y) ⊎ IsPainted s s1 y (face_in s x) → IsTurned s1 s2 (without (next_in s1) x) → face_in s2 ≡ face_in s1 → IsLabelled s2 unused
-without_joins s s1 s2 x y unused k hx ey a apart p t e = elim p [
+without_joins {s} {s1} {s2} x y {unused} k hx ey a apart p t e = elim p [
   | inl v ↦
       let w : IsStep s1 s2 (twin (before_in s1 x)) j = without_step s1 s2 x (painted_kept s s1 _ k v) (ap (λ (h : ℕ → Bool). h x) v.live ∙ hx) t e in
       let w' : IsStep s1 s2 i j = subst (λ (b : ℕ → ℕ). IsStep s1 s2 (twin (b x)) j) v.before w in
-      join_labels s s1 s2 i j x y unused k w' a hx hy (inl (x_i, y_j)) apart v
+      join_labels x y k w' a hx hy (inl (x_i, y_j)) apart v
   | inr v ↦
       let w : IsStep s1 s2 (twin (before_in s1 x)) j = without_step s1 s2 x (painted_kept s s1 _ k v) (ap (λ (h : ℕ → Bool). h x) v.live ∙ hx) t e in
       let w' : IsStep s1 s2 i j = subst (λ (b : ℕ → ℕ). IsStep s1 s2 (twin (b x)) j) v.before w in
-      join_labels s s1 s2 i j y x unused k w' a hy hx (inr (y_j, x_i)) (λ q. apart (sym q)) v
+      join_labels y x k w' a hy hx (inr (y_j, x_i)) (λ q. apart (sym q)) v
 ]
   where
     i : ℕ

@@ -30,8 +30,8 @@ hang_more live live' f g c x w t alive k =
       connected = hang_connects f g live live' half_limit c x k t alive;
     }
 
-pub chord_more : (live live' : ℕ → Bool) (f g : ℕ → ℕ) (c d x : ℕ) → IsWhole live f → AddsSegment live live' half_limit x → live c ≡ true → live d ≡ true → IsAllowedChord f g half_limit c d x → More live live' f g 0 1
-chord_more live live' f g c d x w t alive alive_d k =
+pub chord_more : {live live' : ℕ → Bool} {f g : ℕ → ℕ} {c d x : ℕ} → IsWhole live f → AddsSegment live live' half_limit x → live c ≡ true → live d ≡ true → IsAllowedChord f g half_limit c d x → More live live' f g 0 1
+chord_more {live} {live'} {f} {g} {c} {d} {x} w t alive alive_d k =
     let s : IsSlab live' g half_limit = chord_keeps_slab live live' f g half_limit c d x w.slab t alive alive_d k in
     let e : GrowsSlab live live' f g half_limit x = record { before = w.slab; after = s; within = k.turns.within; adds = t } in
     record {

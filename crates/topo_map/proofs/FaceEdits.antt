@@ -53,36 +53,36 @@ adds_below : (s s' : Slab Segment) (x : ℕ) → IsKept s → IsKept s' → Adds
 adds_below s s' x k k' a = record { below = k.within; below_after = k'.within; adds = a }
 
 -- a new segment is given no label that is not in use
-new_below : (s s' : Slab Segment) (l : ℕ → ℕ) (x left right unused : ℕ) → IsKept s' → AddsSegment (holds s) (holds s') half_limit x
+new_below : (s : Slab Segment) {s' : Slab Segment} {l : ℕ → ℕ} {x left right : ℕ} (unused : ℕ) → IsKept s' → AddsSegment (holds s) (holds s') half_limit x
     → ((a : ℕ) → holds s a ≡ true → face_in s a < unused) → AddsFaces (holds s) (face_in s) l x left right → left < unused → right < unused → (a : ℕ)
     → holds s' a ≡ true → l a < unused
-new_below s s' l x left right unused k' t below f ll lr a h = grind (arith, cases_eq)
+new_below s unused k' t below f ll lr a h = grind (arith, cases_eq)
 
 faces_added : (live : ℕ → Bool) (old l m : ℕ → ℕ) (x left right : ℕ) → m ≡ l → AddsFaces live old l x left right → AddsFaces live old m x left right
 faces_added live old l m x left right e f = subst (λ (k : ℕ → ℕ). AddsFaces live old k x left right) (sym e) f
 
-pub hung_labels : (s s1 s2 : Slab Segment) (c x label unused : ℕ) → IsStart s s1 x → holds s c ≡ true → IsTurned s1 s2 (put (next_in s1) x c)
+pub hung_labels : {s s1 s2 : Slab Segment} (c : ℕ) {x label unused : ℕ} → IsStart s s1 x → holds s c ≡ true → IsTurned s1 s2 (put (next_in s1) x c)
     → AddsFaces (holds s) (face_in s) (face_in s1) x label label → label ≡ face_in s c → face_in s2 ≡ face_in s1 → IsLabelled s unused → IsLabelled s2 unused
-hung_labels s s1 s2 c x label unused st hc t f el e w =
+hung_labels {s} {s1} {s2} c {x} {label} {unused} st hc t f el e w =
     let done : IsHung s s2 c x = hung s s1 s2 c x st hc t in
     let new : AddsFaces (holds s) (face_in s) (face_in s2) x label label = faces_added (holds s) (face_in s) (face_in s1) (face_in s2) x label label e f in
     let k : IsKept s2 = done.added.sound in
     let ll : label < unused = subst (λ (v : ℕ). v < unused) (sym el) (w.below c hc) in
     record {
       labels = hang_labels (holds s) (holds s2) (next_in s) (next_in s2) (face_in s) (face_in s2) half_limit c x (adds_below s s2 x st.sound k done.added.grows.live) hc done.allowed w.labels new.others (new.here ∙ el) (new.here_twin ∙ el);
-      below = new_below s s2 (face_in s2) x label label unused k done.added.grows.live w.below new ll ll;
+      below = new_below s unused k done.added.grows.live w.below new ll ll;
     }
 
-pub split_labelled : (s s' : Slab Segment) (l : ℕ → ℕ) (h x t left right unused : ℕ) → IsKept s → holds s h ≡ true → t ≡ twin h → IsSplitUp s s' h x
+pub split_labelled : {s s' : Slab Segment} {l : ℕ → ℕ} {h x : ℕ} (t : ℕ) {left right unused : ℕ} → IsKept s → holds s h ≡ true → t ≡ twin h → IsSplitUp s s' h x
     → AddsFaces (holds s) (face_in s) l x left right → left ≡ face_in s h → right ≡ face_in s t → face_in s' ≡ l → IsLabelled s unused → IsLabelled s' unused
-split_labelled s s' l h x t left right unused k hh et done f el er e w =
+split_labelled {s} {s'} {l} {h} {x} t {left} {right} {unused} k hh et done f el er e w =
     let new : AddsFaces (holds s) (face_in s) (face_in s') x left right = faces_added (holds s) (face_in s) l (face_in s') x left right e f in
     let k' : IsKept s' = done.added.sound in
     let ht : holds s (twin h) ≡ true = live_twin s h (twin h) refl hh in
     let er' : right ≡ face_in s (twin h) = er ∙ ap (face_in s) et in
     record {
       labels = split_labels (holds s) (holds s') (next_in s) (next_in s') (face_in s) (face_in s') half_limit h x (adds_below s s' x k k' done.added.grows.live) hh ht done.allowed w.labels new.others (new.here ∙ el) (new.here_twin ∙ er');
-      below = new_below s s' (face_in s') x left right unused k' done.added.grows.live w.below new (subst (λ (v : ℕ). v < unused) (sym el) (w.below h hh)) (subst (λ (v : ℕ). v < unused) (sym er') (w.below (twin h) ht));
+      below = new_below s unused k' done.added.grows.live w.below new (subst (λ (v : ℕ). v < unused) (sym el) (w.below h hh)) (subst (λ (v : ℕ). v < unused) (sym er') (w.below (twin h) ht));
     }
 
 pub smooth_labelled : (s s' : Slab Segment) (l : ℕ → ℕ) (x unused : ℕ) → IsKept s → IsSmoothed s s' x → l ≡ face_in s → KeepsLabels (holds s') l (face_in s')
@@ -100,10 +100,10 @@ smooth_labelled s s' l x unused k done e kept w =
 
 -- ---- The second end of a segment that goes
 
-pub unhung_labels : (s s1 s2 s3 : Slab Segment) (h t unused : ℕ) → holds s h ≡ true → t ≡ twin h → IsTurned s s1 (without (next_in s) h)
+pub unhung_labels : {s s1 s2 s3 : Slab Segment} {h : ℕ} (t : ℕ) {unused : ℕ} → holds s h ≡ true → t ≡ twin h → IsTurned s s1 (without (next_in s) h)
     → IsTurned s1 s2 (without (next_in s1) t) → face_in s2 ≡ face_in s1 → IsRemoved s2 s3 h → KeepsLabels (holds s3) (face_in s2) (face_in s3)
     → IsLabelled s1 unused → IsLabelled s3 unused
-unhung_labels s s1 s2 s3 h t unused hh et u v e r kept w =
+unhung_labels {s} {s1} {s2} {s3} {h} t {unused} hh et u v e r kept w =
     let h1 : holds s1 h ≡ true = ap (λ (p : ℕ → Bool). p h) u.live ∙ hh in
     let ht : holds s1 t ≡ true = live_twin s1 h t et h1 in
     let i : ℕ = twin (before_in s1 t) in
@@ -114,7 +114,7 @@ unhung_labels s s1 s2 s3 h t unused hh et u v e r kept w =
     let g : ℕ → ℕ = face_next (next_in s2) in
     let fixed : next_in s1 h ≡ h = self_alone s s1 h u in
     let two : SameCycle f i j = record { steps = 2; leads = ap f (onto s1 t u.kept) ∙ ap (next_in s1) ej ∙ fixed ∙ sym ej } in
-    let coarse : IsCoarse (holds s1) g (face_in s1) i j = parted (holds s1) (next_in s1) (next_in s2) (face_in s1) half_limit i j (scene s1 i j u.kept x.first x.second) x.exchange w.labels (w.labels.same_label i j x.first x.second two) in
+    let coarse : IsCoarse (holds s1) g (face_in s1) i j = parted (next_in s2) (scene s1 i j u.kept x.first x.second) x.exchange w.labels (w.labels.same_label i j x.first x.second two) in
     let hg : IsPermutation g half_limit = faces_permuted s2 v.kept in
     let isolated : IsIsolated (next_in s2) t = grind (arith, without_alone, unchord_alone) in
     let was : (b : ℕ) → holds s3 b ≡ true → holds s1 b ≡ true = λ b hb.

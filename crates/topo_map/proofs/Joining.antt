@@ -55,7 +55,7 @@ one_more s s' x k i = segments_grow (holds s) (holds s') (λ a. a) (λ a. a) hal
 pub alone_more : (s s' : Slab Segment) (hs new : List ℕ) (x y : ℕ) → AreAlone s hs → IsInserted s s' x → y ≡ twin x → new ≡ (hs ++ x ∷ []) ++ y ∷ [] → AreAlone s' new
 alone_more s s' hs new x y k i ey en = record {
   kept = i.kept;
-  listed = listed_more (holds s) (holds s') hs new x y (one_more s s' x k.kept i) k.kept.within i.kept.within k.listed i.live ey en;
+  listed = listed_more new y (one_more s s' x k.kept i) k.kept.within i.kept.within k.listed i.live ey en;
 }
 
 -- ---- Turns
@@ -63,8 +63,8 @@ alone_more s s' hs new x y k i ey en = record {
 half-apart : (live : ℕ → Bool) (hs : List ℕ) (a b : ℕ) → IsListed live hs → a < length hs → b < length hs → a ≢ b → map_of hs a ≢ map_of hs b
 half-apart live hs a b k la lb ne e = ne (sym (k.returns a la) ∙ ap k.place e ∙ k.returns b lb)
 
-pub joined_more : (s s' : Slab Segment) (hs ts : List ℕ) (k : ℕ) (from to : ℕ) → IsPermutation (map_of ts) (length ts) → length hs ≡ length ts → k < length ts → from ≡ map_of hs k → to ≡ map_of hs (map_of ts k) → AreJoinedBelow s hs ts k → Rewires s s' (written (next_in s) from to) (written (before_in s) to from) → AreJoinedBelow s' hs ts (k + 1)
-joined_more s s' hs ts k from to p el lk ef et j r =
+pub joined_more : {s s' : Slab Segment} {hs ts : List ℕ} {k : ℕ} (from to : ℕ) → IsPermutation (map_of ts) (length ts) → length hs ≡ length ts → k < length ts → from ≡ map_of hs k → to ≡ map_of hs (map_of ts k) → AreJoinedBelow s hs ts k → Rewires s s' (written (next_in s) from to) (written (before_in s) to from) → AreJoinedBelow s' hs ts (k + 1)
+joined_more {s} {hs} {ts} {k} from to p el lk ef et j r =
     let small : (a : ℕ) → a < length ts → a < length hs = λ a l. subst (λ (n : ℕ). a < n) (sym el) l in
     record {
       listed = subst (λ (l : ℕ → Bool). IsListed l hs) (sym r.live) j.listed;

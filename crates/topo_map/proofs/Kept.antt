@@ -37,32 +37,32 @@ live_next s a k h = elim (cases_Bool (holds s (next_in s a))) [
 inverse-at : (f b f' b' : ℕ → ℕ) → f ≡ f' → b ≡ b' → AreInverse f' b' → AreInverse f b
 inverse-at f b f' b' e d k = subst (λ (g : ℕ → ℕ). AreInverse g b) (sym e) (subst (λ (g : ℕ → ℕ). AreInverse f' g) (sym d) k)
 
-turned_to : (s s1 s2 : Slab Segment) (f f' b' : ℕ → ℕ) (f1 b1 f2 b2 : ℕ → ℕ) → IsKept s → Rewires s s1 f1 b1 → Rewires s1 s2 f2 b2 → f2 ≡ f' → b2 ≡ b' → f' ≡ f → AreInverse f' b' → IsTurned s s2 f
-turned_to s s1 s2 f f' b' f1 b1 f2 b2 k r1 r2 ef eb e i = grind (arith, inverse-at)
+turned_to : {s s1 s2 : Slab Segment} (f : ℕ → ℕ) {f' b' : ℕ → ℕ} {f1 b1 f2 b2 : ℕ → ℕ} → IsKept s → Rewires s s1 f1 b1 → Rewires s1 s2 f2 b2 → f2 ≡ f' → b2 ≡ b' → f' ≡ f → AreInverse f' b' → IsTurned s s2 f
+turned_to f k r1 r2 ef eb e i = grind (arith, inverse-at)
 
-pub put_turned : (s s1 s2 : Slab Segment) (p x c : ℕ) → IsKept s → p ≡ before_in s c → c ≢ x → next_in s x ≡ x
+pub put_turned : {s s1 s2 : Slab Segment} (p x c : ℕ) → IsKept s → p ≡ before_in s c → c ≢ x → next_in s x ≡ x
     → Rewires s s1 (written (next_in s) p x) (written (before_in s) x p)
     → Rewires s1 s2 (written (next_in s1) x c) (written (before_in s1) c x)
     → IsTurned s s2 (put (next_in s) x c)
-put_turned s s1 s2 p x c k e ne alone r1 r2 =
+put_turned {s} {s1} {s2} p x c k e ne alone r1 r2 =
     let f : ℕ → ℕ = next_in s in
     let b : ℕ → ℕ = before_in s in
     let l : IsLone f b x c = record { inverse = k.inverse; alone = alone; different = ne } in
-    turned_to s s1 s2 (put f x c) (written (written f (b c) x) x c) (written (written b x (b c)) c x)
-    (written f p x) (written b x p) (written (next_in s1) x c) (written (before_in s1) c x) k r1 r2
+    turned_to (put f x c)
+    k r1 r2
     (ap (λ (g : ℕ → ℕ). written g x c) (r1.next ∙ ap (λ (q : ℕ). written f q x) e))
     (ap (λ (g : ℕ → ℕ). written g c x) (r1.before ∙ ap (λ (q : ℕ). written b x q) e))
     (put_next f b x c l) (put_inverse f b x c l)
 
-pub without_turned : (s s1 s2 : Slab Segment) (p q x : ℕ) → IsKept s → p ≡ before_in s x → q ≡ next_in s x
+pub without_turned : {s s1 s2 : Slab Segment} (p q x : ℕ) → IsKept s → p ≡ before_in s x → q ≡ next_in s x
     → Rewires s s1 (written (next_in s) p q) (written (before_in s) q p)
     → Rewires s1 s2 (written (next_in s1) x x) (written (before_in s1) x x)
     → IsTurned s s2 (without (next_in s) x)
-without_turned s s1 s2 p q x k e d r1 r2 =
+without_turned {s} {s1} {s2} p q x k e d r1 r2 =
     let f : ℕ → ℕ = next_in s in
     let b : ℕ → ℕ = before_in s in
-    turned_to s s1 s2 (without f x) (written (written f (b x) (f x)) x x) (written (written b (f x) (b x)) x x)
-    (written f p q) (written b q p) (written (next_in s1) x x) (written (before_in s1) x x) k r1 r2
+    turned_to (without f x)
+    k r1 r2
     (ap (λ (g : ℕ → ℕ). written g x x) (r1.next ∙ ap (λ (v : ℕ). written f v q) e ∙ ap (λ (v : ℕ). written f (b x) v) d))
     (ap (λ (g : ℕ → ℕ). written g x x) (r1.before ∙ ap (λ (v : ℕ). written b v p) d ∙ ap (λ (v : ℕ). written b (f x) v) e))
     (without_next f b x k.inverse) (without_inverse f b x k.inverse)

@@ -82,9 +82,9 @@ step_over s s1 k y unused w ey ne = record {
   partly = given_already (holds s) (face_next (next_in s)) (face_in s1) k y unused w.partly ey (λ h. ne (painted_live s s1 (face_in s1) y w.same h));
 }
 
-pub step_painted : (s s1 s2 : Slab Segment) (k y label : ℕ) → IsKept s → IsPartlyLabelled s s1 k label → y ≡ k → holds s1 y ≡ true → face_in s1 y ≡ 0
+pub step_painted : {s s1 : Slab Segment} (s2 : Slab Segment) {k : ℕ} (y : ℕ) {label : ℕ} → IsKept s → IsPartlyLabelled s s1 k label → y ≡ k → holds s1 y ≡ true → face_in s1 y ≡ 0
     → IsPainted s1 s2 y label → IsPartlyLabelled s s2 (k + 1) (label + 1)
-step_painted s s1 s2 k y label kept w ey hy zero p =
+step_painted {s} {s1} s2 {k} y {label} kept w ey hy zero p =
     let l : ℕ → ℕ = face_in s1 in
     let f : ℕ → ℕ = face_next (next_in s) in
     let r : Repaints s s1 l = w.same in

@@ -41,8 +41,8 @@ placed-else : (place : ℕ → ℕ) (x y m v : ℕ) → v ≢ x → v ≢ y → 
 placed-else place x y m v ne nd = cond-false _ _ _ (ne_eqb _ _ ne) ∙ cond-false _ _ _ (ne_eqb _ _ nd)
 
 -- a new segment comes to the end of the list
-pub listed_more : (live live' : ℕ → Bool) (hs new : List ℕ) (x y : ℕ) → live_segments live' half_limit ≡ live_segments live half_limit + 1 → ((a : ℕ) → live a ≡ true → a < half_limit) → ((a : ℕ) → live' a ≡ true → a < half_limit) → IsListed live hs → AddsSegment live live' half_limit x → y ≡ twin x → new ≡ (hs ++ x ∷ []) ++ y ∷ [] → IsListed live' new
-listed_more live live' hs new x y one_more within within' k t ey en =
+pub listed_more : {live live' : ℕ → Bool} {hs : List ℕ} (new : List ℕ) {x : ℕ} (y : ℕ) → live_segments live' half_limit ≡ live_segments live half_limit + 1 → ((a : ℕ) → live a ≡ true → a < half_limit) → ((a : ℕ) → live' a ≡ true → a < half_limit) → IsListed live hs → AddsSegment live live' half_limit x → y ≡ twin x → new ≡ (hs ++ x ∷ []) ++ y ∷ [] → IsListed live' new
+listed_more {live} {live'} {hs} new {x} y one_more within within' k t ey en =
     let m : ℕ = length hs in
     let g : Longer hs new x y = subst (λ (l : List ℕ). Longer hs l x y) (sym en) (longer hs x y) in
     let size : length new ≡ length hs + 2 = g.size in
@@ -80,9 +80,9 @@ listed_more live live' hs new x y one_more within within' k t ey en =
     }
 
 -- a new segment's halves have its label
-pub labelled_more : (old new : ℕ → ℕ) (live : ℕ → Bool) (labels hs all : List ℕ) (x y i label : ℕ) → all ≡ (hs ++ x ∷ []) ++ y ∷ [] → y ≡ twin x → length hs ≡ 2 * i → label ≡ map_of labels i → IsListed live hs
+pub labelled_more : {old new : ℕ → ℕ} {live : ℕ → Bool} (labels : List ℕ) {hs : List ℕ} (all : List ℕ) {x : ℕ} (y i : ℕ) {label : ℕ} → all ≡ (hs ++ x ∷ []) ++ y ∷ [] → y ≡ twin x → length hs ≡ 2 * i → label ≡ map_of labels i → IsListed live hs
     → AreLabelled labels hs old → AddsLabel live old new x label → AreLabelled labels all new
-labelled_more old new live labels hs all x y i label en ey size is k were t a l =
+labelled_more {old} {new} labels {hs} all {x} y i en ey size is k were t a l =
     let g : Longer hs all x y = subst (λ (l : List ℕ). Longer hs l x y) (sym en) (longer hs x y) in
     elim (three a (length hs) (subst (λ (n : ℕ). a < n) g.size l)) [
       | inl before ↦ ap new (g.old a before) ∙ t.others (map_of hs a) (k.alive a before) ∙ were a before

@@ -55,21 +55,21 @@ pub record IsScene (live : ℕ → Bool) (f : ℕ → ℕ) (n i j : ℕ) : Type 
   pub second : live j ≡ true
 
 -- an exchange in one face leaves two with one label
-pub parted : (live : ℕ → Bool) (f g l : ℕ → ℕ) (n i j : ℕ) → IsScene live (face_next f) n i j → IsExchange (face_next f) (face_next g) i j → LabelsFaces live f l → l i ≡ l j → IsCoarse live (face_next g) l i j
-parted live f g l n i j w x labels e =
+pub parted : {live : ℕ → Bool} {f : ℕ → ℕ} (g : ℕ → ℕ) {l : ℕ → ℕ} {n i j : ℕ} → IsScene live (face_next f) n i j → IsExchange (face_next f) (face_next g) i j → LabelsFaces live f l → l i ≡ l j → IsCoarse live (face_next g) l i j
+parted {f} g {n} {i} {j} w x labels e =
     let p : ℕ → ℕ = face_next f in
     let q : ℕ → ℕ = face_next g in
     let back : IsExchange q p i j = IsExchange-back p q i j x in
     let met : SameCycle p i j = labels.same_face i j w.first w.second e in
     record {
       same_face = λ a b ta tb d. spread q p i j back a b (labels.same_face a b ta tb d);
-      same_label = λ a b ta tb s. labels.same_label a b ta tb (kept q p n i j w.permutation (w.below i w.first) (w.below j w.second) back met a b s);
+      same_label = λ a b ta tb s. labels.same_label a b ta tb (kept w.permutation (w.below i w.first) (w.below j w.second) back met a b s);
       ends = e;
     }
 
 -- and where two faces have one label, an exchange between them makes one of them
-pub joined : (live : ℕ → Bool) (f g l : ℕ → ℕ) (n i j : ℕ) → IsScene live (face_next f) n i j → IsExchange (face_next f) (face_next g) i j → IsCoarse live (face_next f) l i j → (SameCycle (face_next f) i j → ⊥) → LabelsFaces live g l
-joined live f g l n i j w x k apart =
+pub joined : {live : ℕ → Bool} (f g : ℕ → ℕ) {l : ℕ → ℕ} {n i j : ℕ} → IsScene live (face_next f) n i j → IsExchange (face_next f) (face_next g) i j → IsCoarse live (face_next f) l i j → (SameCycle (face_next f) i j → ⊥) → LabelsFaces live g l
+joined f g {n} {i} {j} w x k apart =
     let p : ℕ → ℕ = face_next f in
     let q : ℕ → ℕ = face_next g in
     let li : i < n = w.below i w.first in
@@ -80,7 +80,7 @@ joined live f g l n i j w x k apart =
       | inl s ↦ absurd (apart s.before)
       | inr s ↦ s.before
     ] in
-    let keep : (a b : ℕ) → SameCycle p a b → SameCycle q a b = kept p q n i j hq li lj x met in
+    let keep : (a b : ℕ) → SameCycle p a b → SameCycle q a b = kept hq li lj x met in
     record {
       same_face = λ a b ta tb d. elim (k.same_face a b ta tb d) [
         | inl s ↦ keep a b s
@@ -96,8 +96,8 @@ joined live f g l n i j w x k apart =
     }
 
 -- one of two faces with one label gets a new one
-pub part_painted : (live : ℕ → Bool) (g l : ℕ → ℕ) (n i j y new : ℕ) → IsScene live (face_next g) n i j → IsCoarse live (face_next g) l i j → live y ≡ true → SameCycle (face_next g) y i ⊎ SameCycle (face_next g) y j → ((a : ℕ) → live a ≡ true → l a ≢ new) → LabelsFaces live g (painted (face_next g) n y new l)
-part_painted live g l n i j y new w k ty side fresh =
+pub part_painted : {live : ℕ → Bool} (g : ℕ → ℕ) {l : ℕ → ℕ} {n i j : ℕ} (y new : ℕ) → IsScene live (face_next g) n i j → IsCoarse live (face_next g) l i j → live y ≡ true → SameCycle (face_next g) y i ⊎ SameCycle (face_next g) y j → ((a : ℕ) → live a ≡ true → l a ≢ new) → LabelsFaces live g (painted (face_next g) n y new l)
+part_painted {live} g {l} {n} {i} {j} y new w k ty side fresh =
     let q : ℕ → ℕ = face_next g in
     let hq : IsPermutation q n = w.permutation in
     let ly : y < n = w.below y ty in
@@ -139,8 +139,8 @@ abbrev pub AreEnds : (ℕ → ℕ) → ℕ → ℕ → ℕ → ℕ → Type 0
 AreEnds f i j y z = (SameCycle f y i × SameCycle f z j) ⊎ (SameCycle f y j × SameCycle f z i)
 
 -- the face of y gets the label of the face of z
-pub share_painted : (live : ℕ → Bool) (f l : ℕ → ℕ) (n i j y z : ℕ) → IsScene live (face_next f) n i j → LabelsFaces live f l → live y ≡ true → live z ≡ true → AreEnds (face_next f) i j y z → IsCoarse live (face_next f) (painted (face_next f) n y (l z) l) i j
-share_painted live f l n i j y z w labels ty tz side =
+pub share_painted : {live : ℕ → Bool} {f l : ℕ → ℕ} {n i j : ℕ} (y z : ℕ) → IsScene live (face_next f) n i j → LabelsFaces live f l → live y ≡ true → live z ≡ true → AreEnds (face_next f) i j y z → IsCoarse live (face_next f) (painted (face_next f) n y (l z) l) i j
+share_painted {live} {f} {l} {n} {i} {j} y z w labels ty tz side =
     let q : ℕ → ℕ = face_next f in
     let hq : IsPermutation q n = w.permutation in
     let ly : y < n = w.below y ty in

@@ -71,12 +71,17 @@ sided : (way : Way) (key at a to : ℕ) (t : Slot) (f : ℕ → ℕ) → half_nu
 sided Forward key at a to t f e k h = grind (arith, cases_eq, cond-true, eq-eqb, written-at, cond-false, ne_eqb, written-else)
 sided Back key at a to t f e k h = grind (arith, cases_eq, cond-true, eq-eqb, written-else, cond-false, ne_eqb, written-at)
 
-pub rewritten : (pick : Segment → Slot) (s s' : Slab Segment) (key : ℕ) (way : Way) (at to : ℕ) (seg v : Segment) → half_number key way ≡ at → get s key ≡ Some seg → Updates s s' key (Some v) → pick v ≡ with_side way (pick seg) to → turn_in (shown pick s') ≡ written (turn_in (shown pick s)) at to
-rewritten pick s s' key way at to seg v e g u p = funext (turn_in (shown pick s')) (written (turn_in (shown pick s)) at to) (λ a. elim (cases_eq (a / 2) key) [
+-- the half `at` is a way of the segment at the key
+pub record StandsAt (s : Slab Segment) (key : ℕ) (way : Way) (at : ℕ) (seg : Segment) : Type 0 where
+  pub half : half_number key way ≡ at
+  pub there : get s key ≡ Some seg
+
+pub rewritten : (pick : Segment → Slot) {s s' : Slab Segment} {key : ℕ} {way : Way} {at : ℕ} (to : ℕ) {seg : Segment} (v : Segment) → StandsAt s key way at seg → Updates s s' key (Some v) → pick v ≡ with_side way (pick seg) to → turn_in (shown pick s') ≡ written (turn_in (shown pick s)) at to
+rewritten pick {s} {s'} {key} {way} {at} to {seg} v stands u p = funext (turn_in (shown pick s')) (written (turn_in (shown pick s)) at to) (λ a. elim (cases_eq (a / 2) key) [
   | inr ne ↦ turn_at pick s' a ∙ ap (λ (o : Option Segment). turned a (option_map pick o)) (u.others (a / 2) ne) ∙ sym (turn_at pick s a)
-      ∙ sym (written-else (turn_in (shown pick s)) at to a (λ w. ne (ap (λ (n : ℕ). n / 2) w ∙ key-at key way at e)))
+      ∙ sym (written-else (turn_in (shown pick s)) at to a (λ w. ne (ap (λ (n : ℕ). n / 2) w ∙ key-at key way at stands.half)))
   | inl same ↦ slot-at pick s' a key v same u.changed ∙ ap (λ (t : Slot). turned a (Some t)) p
-      ∙ sided way key at a to (pick seg) (turn_in (shown pick s)) e same (slot-at pick s a key seg same g)
+      ∙ sided way key at a to (pick seg) (turn_in (shown pick s)) stands.half same (slot-at pick s a key seg same stands.there)
 ])
 
 pub unwritten : (pick : Segment → Slot) (s s' : Slab Segment) (key : ℕ) (seg v : Segment) → get s key ≡ Some seg → Updates s s' key (Some v) → pick v ≡ pick seg → turn_in (shown pick s') ≡ turn_in (shown pick s)
@@ -136,11 +141,12 @@ updates s key seg v g = grind (arith, get_or-set_same, in-slots, get_or-set_othe
 pub same_len : (s : Slab Segment) (key : ℕ) (seg v : Segment) → get s key ≡ Some seg → slab_len (with_value s key v) ≡ slab_len s
 same_len s key seg v g = grind (arith, sum_by-set, in-slots)
 
-pub wired_next : (s : Slab Segment) (key : ℕ) (way : Way) (at to : ℕ) (seg v : Segment) → half_number key way ≡ at → get s key ≡ Some seg → nexts v ≡ with_side way (nexts seg) to → befores v ≡ befores seg → sides v ≡ sides seg → Rewires s (with_value s key v) (written (next_in s) at to) (before_in s)
-wired_next s key way at to seg v e g p q r =
+pub wired_next : {s : Slab Segment} {key : ℕ} (way : Way) {at : ℕ} (to : ℕ) {seg : Segment} (v : Segment) → StandsAt s key way at seg → nexts v ≡ with_side way (nexts seg) to → befores v ≡ befores seg → sides v ≡ sides seg → Rewires s (with_value s key v) (written (next_in s) at to) (before_in s)
+wired_next {s} {key} way {at} to {seg} v stands p q r =
+    let g : get s key ≡ Some seg = stands.there in
     let u : Updates s (with_value s key v) key (Some v) = updates s key seg v g in
     record {
-      next = rewritten nexts s (with_value s key v) key way at to seg v e g u p;
+      next = rewritten nexts to v stands u p;
       before = unwritten befores s (with_value s key v) key seg v g u q;
       faces = unwritten sides s (with_value s key v) key seg v g u r;
       live = same_live s (with_value s key v) key seg v g u;
@@ -149,12 +155,13 @@ wired_next s key way at to seg v e g p q r =
       capacity = refl;
     }
 
-pub wired_before : (s : Slab Segment) (key : ℕ) (way : Way) (at to : ℕ) (seg v : Segment) → half_number key way ≡ at → get s key ≡ Some seg → befores v ≡ with_side way (befores seg) to → nexts v ≡ nexts seg → sides v ≡ sides seg → Rewires s (with_value s key v) (next_in s) (written (before_in s) at to)
-wired_before s key way at to seg v e g p q r =
+pub wired_before : {s : Slab Segment} {key : ℕ} (way : Way) {at : ℕ} (to : ℕ) {seg : Segment} (v : Segment) → StandsAt s key way at seg → befores v ≡ with_side way (befores seg) to → nexts v ≡ nexts seg → sides v ≡ sides seg → Rewires s (with_value s key v) (next_in s) (written (before_in s) at to)
+wired_before {s} {key} way {at} to {seg} v stands p q r =
+    let g : get s key ≡ Some seg = stands.there in
     let u : Updates s (with_value s key v) key (Some v) = updates s key seg v g in
     record {
       next = unwritten nexts s (with_value s key v) key seg v g u q;
-      before = rewritten befores s (with_value s key v) key way at to seg v e g u p;
+      before = rewritten befores to v stands u p;
       faces = unwritten sides s (with_value s key v) key seg v g u r;
       live = same_live s (with_value s key v) key seg v g u;
       edges = same_labels s (with_value s key v) key seg v g u (ap (λ (t : Slot). t.edge) q);
@@ -162,11 +169,12 @@ wired_before s key way at to seg v e g p q r =
       capacity = refl;
     }
 
-pub wired_face : (s : Slab Segment) (key : ℕ) (way : Way) (at to : ℕ) (seg v : Segment) → half_number key way ≡ at → get s key ≡ Some seg → sides v ≡ with_side way (sides seg) to → nexts v ≡ nexts seg → befores v ≡ befores seg → Repaints s (with_value s key v) (written (face_in s) at to)
-wired_face s key way at to seg v e g p q r =
+pub wired_face : {s : Slab Segment} {key : ℕ} (way : Way) {at : ℕ} (to : ℕ) {seg : Segment} (v : Segment) → StandsAt s key way at seg → sides v ≡ with_side way (sides seg) to → nexts v ≡ nexts seg → befores v ≡ befores seg → Repaints s (with_value s key v) (written (face_in s) at to)
+wired_face {s} {key} way {at} to {seg} v stands p q r =
+    let g : get s key ≡ Some seg = stands.there in
     let u : Updates s (with_value s key v) key (Some v) = updates s key seg v g in
     record {
-      faces = rewritten sides s (with_value s key v) key way at to seg v e g u p;
+      faces = rewritten sides to v stands u p;
       next = unwritten nexts s (with_value s key v) key seg v g u q;
       before = unwritten befores s (with_value s key v) key seg v g u r;
       live = same_live s (with_value s key v) key seg v g u;

@@ -179,8 +179,8 @@ pub record IsChorded (s s' : Slab Segment) (c d x : ℕ) : Type 0 where
 pub chord_end_alone : (s s1 s2 : Slab Segment) (c x y : ℕ) → IsStart s s1 x → holds s c ≡ true → IsTurned s1 s2 (put (next_in s1) x c) → y ≡ twin x → next_in s2 y ≡ y
 chord_end_alone s s1 s2 c x y st alive t e = grind (arith, apart, twin_alone, put-elsewhere, twin-other)
 
-pub chorded : (s s1 s2 s3 : Slab Segment) (c d x y : ℕ) → IsStart s s1 x → holds s c ≡ true → holds s d ≡ true → y ≡ twin x → IsTurned s1 s2 (put (next_in s1) x c) → IsTurned s2 s3 (put (next_in s2) y d) → IsChorded s s3 c d x
-chorded s s1 s2 s3 c d x y st alive alive_d ey t u =
+pub chorded : {s s1 s2 s3 : Slab Segment} (c d : ℕ) {x : ℕ} (y : ℕ) → IsStart s s1 x → holds s c ≡ true → holds s d ≡ true → y ≡ twin x → IsTurned s1 s2 (put (next_in s1) x c) → IsTurned s2 s3 (put (next_in s2) y d) → IsChorded s s3 c d x
+chorded {s} {s1} {s2} {s3} c d {x} y st alive alive_d ey t u =
     let both : IsTurned s1 s3 (put (next_in s2) y d) = then_turned s1 s2 s3 (put (next_in s1) x c) (put (next_in s2) y d) t u in
     let e : next_in s3 ≡ put (put (next_in s) x c) (twin x) d = u.next ∙ ap (λ (v : ℕ). put (next_in s2) v d) ey ∙ ap (λ (f : ℕ → ℕ). put f (twin x) d) (t.next ∙ ap (λ (f : ℕ → ℕ). put f x c) st.inserted.next) in
     let k : IsChordPut (next_in s) (next_in s3) half_limit c d x = subst (λ (g : ℕ → ℕ). IsChordPut (next_in s) g half_limit c d x) (sym e)
@@ -188,7 +188,7 @@ chorded s s1 s2 s3 c d x y st alive alive_d ey t u =
     record {
       drawn = k;
       added = added s s1 s3 x (put (next_in s2) y d) st both;
-      counts = λ one. counts_more s s3 0 1 (chord_more (holds s) (holds s3) (next_in s) (next_in s3) c d x (whole s st.sound) (live_added s s1 s3 x (put (next_in s2) y d) st both) alive alive_d
+      counts = λ one. counts_more s s3 0 1 (chord_more (whole s st.sound) (live_added s s1 s3 x (put (next_in s2) y d) st both) alive alive_d
           (chord_allowed (next_in s) (next_in s3) half_limit c d x k one));
     }
 
@@ -200,11 +200,11 @@ pub record IsSplitUp (s s' : Slab Segment) (h x : ℕ) : Type 0 where
   pub counts : CountsMore (view_of s) (view_of s') 1 0
 
 -- after its end is out of the turn, x still stands alone
-pub split_alone : (s s1 s2 s3 : Slab Segment) (h x y t : ℕ) → IsStart s s1 x → holds s h ≡ true → y ≡ twin x → t ≡ twin h → IsTurned s1 s2 (put (next_in s1) y t) → IsTurned s2 s3 (without (next_in s2) t) → next_in s3 x ≡ x
-split_alone s s1 s2 s3 h x y t st alive ey et u v = grind (arith, apart, twin-twin, alone, twin-other, put-elsewhere, without-elsewhere)
+pub split_alone : {s s1 s2 s3 : Slab Segment} (h : ℕ) {x : ℕ} (y t : ℕ) → IsStart s s1 x → holds s h ≡ true → y ≡ twin x → t ≡ twin h → IsTurned s1 s2 (put (next_in s1) y t) → IsTurned s2 s3 (without (next_in s2) t) → next_in s3 x ≡ x
+split_alone h y t st alive ey et u v = grind (arith, apart, twin-twin, alone, twin-other, put-elsewhere, without-elsewhere)
 
-pub splitted : (s s1 s2 s3 s4 : Slab Segment) (h x y t : ℕ) → IsStart s s1 x → holds s h ≡ true → y ≡ twin x → t ≡ twin h → IsTurned s1 s2 (put (next_in s1) y t) → IsTurned s2 s3 (without (next_in s2) t) → IsTurned s3 s4 (put (next_in s3) x t) → IsSplitUp s s4 h x
-splitted s s1 s2 s3 s4 h x y t st alive ey et u v w =
+pub splitted : {s s1 s2 s3 s4 : Slab Segment} (h : ℕ) {x : ℕ} (y t : ℕ) → IsStart s s1 x → holds s h ≡ true → y ≡ twin x → t ≡ twin h → IsTurned s1 s2 (put (next_in s1) y t) → IsTurned s2 s3 (without (next_in s2) t) → IsTurned s3 s4 (put (next_in s3) x t) → IsSplitUp s s4 h x
+splitted {s} {s1} {s2} {s3} {s4} h {x} y t st alive ey et u v w =
     let f : ℕ → ℕ = next_in s in
     let uv : IsTurned s1 s3 (without (next_in s2) t) = then_turned s1 s2 s3 (put (next_in s1) y t) (without (next_in s2) t) u v in
     let all : IsTurned s1 s4 (put (next_in s3) x t) = then_turned s1 s3 s4 (without (next_in s2) t) (put (next_in s3) x t) uv w in
@@ -232,8 +232,8 @@ unchord_alone s s1 s2 h t et u v = grind (arith, twin-other, without-self, witho
 pub without_alone : (s s1 : Slab Segment) (h t : ℕ) → t ≡ twin h → IsTurned s s1 (without (next_in s) t) → next_in s1 (twin h) ≡ twin h
 without_alone s s1 h t et v = ap (next_in s1) (sym et) ∙ ap (λ (f : ℕ → ℕ). f t) v.next ∙ without-self (next_in s) t t refl ∙ et
 
-pub unchorded : (s s1 s2 s3 : Slab Segment) (h t : ℕ) → IsKept s → holds s h ≡ true → t ≡ twin h → IsTurned s s1 (without (next_in s) h) → IsTurned s1 s2 (without (next_in s1) t) → IsRemoved s2 s3 h → IsUnchorded s s3 h
-unchorded s s1 s2 s3 h t i alive et u v r =
+pub unchorded : {s s1 s2 s3 : Slab Segment} {h : ℕ} (t : ℕ) → IsKept s → holds s h ≡ true → t ≡ twin h → IsTurned s s1 (without (next_in s) h) → IsTurned s1 s2 (without (next_in s1) t) → IsRemoved s2 s3 h → IsUnchorded s s3 h
+unchorded {s} {s1} {s2} {s3} {h} t i alive et u v r =
     let f : ℕ → ℕ = next_in s in
     let uv : IsTurned s s2 (without (next_in s1) t) = then_turned s s1 s2 (without f h) (without (next_in s1) t) u v in
     let e : next_in s3 ≡ without (without f h) (twin h) = r.next ∙ v.next ∙ ap (λ (k : ℕ → ℕ). without k t) u.next ∙ ap (λ (a : ℕ). without (without f h) a) et in
@@ -251,8 +251,19 @@ pub record IsSmoothed (s s' : Slab Segment) (x : ℕ) : Type 0 where
   pub taken : IsTaken s s' x
   pub counts : CountsFewer (view_of s) (view_of s') 1 0
 
-pub smoothed_out : (s s1 s2 s3 s4 : Slab Segment) (x t y : ℕ) → IsKept s → holds s x ≡ true → next_in s (next_in s x) ≡ x → next_in s x ≢ x → next_in s x ≢ twin x → t ≡ next_in s x → y ≡ twin x → IsTurned s s1 (without (next_in s) x) → IsTurned s1 s2 (put (next_in s1) t y) → IsTurned s2 s3 (without (next_in s2) y) → IsRemoved s3 s4 x → IsSmoothed s s4 x
-smoothed_out s s1 s2 s3 s4 x t y i alive back na nl et ey u v w r =
+-- a live half at a point of degree two, the half that it turns to, and its twin
+pub record IsAtMidpoint (s : Slab Segment) (x t y : ℕ) : Type 0 where
+  pub kept : IsKept s
+  pub live : holds s x ≡ true
+  pub degree_two : next_in s (next_in s x) ≡ x
+  pub not_alone : next_in s x ≢ x
+  pub two_segments : next_in s x ≢ twin x
+  pub onward : t ≡ next_in s x
+  pub other : y ≡ twin x
+
+pub smoothed_out : {s s1 s2 s3 s4 : Slab Segment} {x t y : ℕ} → IsAtMidpoint s x t y → IsTurned s s1 (without (next_in s) x) → IsTurned s1 s2 (put (next_in s1) t y) → IsTurned s2 s3 (without (next_in s2) y) → IsRemoved s3 s4 x → IsSmoothed s s4 x
+smoothed_out {s} {s1} {s2} {s3} {s4} {x} {t} {y} m u v w r =
+    let record { kept = i; live = alive; degree_two = back; not_alone = na; two_segments = nl; onward = et; other = ey } = m in
     let f : ℕ → ℕ = next_in s in
     let uv : IsTurned s s2 (put (next_in s1) t y) = then_turned s s1 s2 (without f x) (put (next_in s1) t y) u v in
     let all : IsTurned s s3 (without (next_in s2) y) = then_turned s s2 s3 (put (next_in s1) t y) (without (next_in s2) y) uv w in

@@ -88,8 +88,8 @@ pub record IsNewAt (s new : Slab Segment) (key edge left right : ℕ) : Type 0 w
   pub capacity : new.capacity ≡ s.capacity
   pub below : key < s.capacity
 
-pub inserted : (s new : Slab Segment) (key edge left right x : ℕ) → IsKept s → 0 < room_of s → IsNewAt s new key edge left right → 2 * key ≡ x → IsInserted s new x
-inserted s new key edge left right x k room i ex =
+pub inserted : {s new : Slab Segment} {key edge left right : ℕ} (x : ℕ) → IsKept s → 0 < room_of s → IsNewAt s new key edge left right → 2 * key ≡ x → IsInserted s new x
+inserted {s} {new} {key} {edge} {left} {right} x k room i ex =
     let kx : x / 2 ≡ key = omega arith in
     let r : HasRoom s.capacity (slab_len s) = has_room s.capacity (slab_len s) room in
     let narrow : s.capacity ≤ 2147483647 = r.narrow in
@@ -163,7 +163,7 @@ pub faces_left : (s new : Slab Segment) (key : ℕ) (seg : Segment) → IsGoneAt
 faces_left s new key seg i a h = face-else s new key None i.updates a (λ e. true_false (sym h ∙ live-there s new key None i.updates a e))
 
 -- stored, and then written again at its key
-pub two_writes : (s mid : Slab Segment) (key edge left right : ℕ) (blank seg : Segment) → get s key ≡ None → Updates s mid key (Some blank) → seg ≡ isolated_segment key edge left right → slab_len mid ≡ slab_len s + 1 → mid.capacity ≡ s.capacity → key < mid.capacity → IsNewAt s (with_value mid key seg) key edge left right
-two_writes s mid key edge left right blank seg free u e len cap below =
+pub two_writes : {s mid : Slab Segment} {key : ℕ} (edge left right : ℕ) {blank : Segment} (seg : Segment) → get s key ≡ None → Updates s mid key (Some blank) → seg ≡ isolated_segment key edge left right → slab_len mid ≡ slab_len s + 1 → mid.capacity ≡ s.capacity → key < mid.capacity → IsNewAt s (with_value mid key seg) key edge left right
+two_writes {s} {mid} {key} edge left right {blank} seg free u e len cap below =
     let v : Updates mid (with_value mid key seg) key (Some seg) = updates mid key blank seg u.changed in
     grind (arith, free, updates, len, same_len, below)

@@ -40,8 +40,8 @@ pub record IsPaintedTo (s s1 : Slab Segment) (k start label at : ℕ) : Type 0 w
 pub painted_start : (s : Slab Segment) (start label : ℕ) → holds s start ≡ true → IsPaintedTo s s 0 start label start
 painted_start s start label h = record { place = refl; live = h; painted = unpainted s }
 
-pub painted_on : (s s1 s2 : Slab Segment) (k start label at t next : ℕ) → IsKept s → IsPaintedTo s s1 k start label at → Repaints s1 s2 (written (face_in s1) at label) → t ≡ twin at → next ≡ next_in s2 t → IsPaintedTo s s2 (k + 1) start label next
-painted_on s s1 s2 k start label at t next kept w r et en =
+pub painted_on : {s s1 s2 : Slab Segment} {k start label at : ℕ} (t next : ℕ) → IsKept s → IsPaintedTo s s1 k start label at → Repaints s1 s2 (written (face_in s1) at label) → t ≡ twin at → next ≡ next_in s2 t → IsPaintedTo s s2 (k + 1) start label next
+painted_on {s} {s1} {s2} {k} {start} {label} {at} t next kept w r et en =
     let f : ℕ → ℕ = face_next (next_in s) in
     let e : next ≡ next_in s t = en ∙ ap (λ (g : ℕ → ℕ). g t) (r.next ∙ w.painted.next) in
     record {

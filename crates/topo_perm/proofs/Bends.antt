@@ -89,17 +89,17 @@ pub record IsStep (b c : ℕ → ℕ) (n : ℕ) (f : ℕ → ℕ) (m : ℕ) (nam
   pub split : IsAllowedSplit c b n k.near k.beyond
 
 -- a dart that is no end of the bend's own turns on as before
-step_elsewhere : (b c : ℕ → ℕ) (n : ℕ) (f : ℕ → ℕ) (m : ℕ) (name : ℕ → ℕ) (k : Bend) → IsStep b c n f m name k → (a : ℕ) → a < n → a ≢ k.beyond → a ≢ twin k.beyond → a ≢ twin k.near → b a ≢ twin k.beyond → c a ≡ b a
-step_elsewhere b c n f m name k s a la nx ny nt ne =
+step_elsewhere : {b c : ℕ → ℕ} {n : ℕ} {f : ℕ → ℕ} {m : ℕ} {name : ℕ → ℕ} {k : Bend} → IsStep b c n f m name k → (a : ℕ) → a < n → a ≢ k.beyond → a ≢ twin k.beyond → a ≢ twin k.near → b a ≢ twin k.beyond → c a ≡ b a
+step_elsewhere s a la nx ny nt ne =
     sym (s.split.edit.elsewhere a la nx ny nt (λ w. ne (s.split.edit.led_to a la nt w)))
 
-not_twin_beyond : (b c : ℕ → ℕ) (n : ℕ) (f : ℕ → ℕ) (m : ℕ) (name : ℕ → ℕ) (k : Bend) → IsStep b c n f m name k → (d : ℕ) → d < m → d ≢ twin k.dart → name d ≢ twin k.beyond
-not_twin_beyond b c n f m name k s d ld ne w =
+not_twin_beyond : {b c : ℕ → ℕ} {n : ℕ} {f : ℕ → ℕ} {m : ℕ} {name : ℕ → ℕ} {k : Bend} → IsStep b c n f m name k → (d : ℕ) → d < m → d ≢ twin k.dart → name d ≢ twin k.beyond
+not_twin_beyond {m} {k} s d ld ne w =
     ne (s.named.apart d (twin k.dart) ld (twin-within m k.dart s.named.turn_even s.bend.there) (w ∙ sym s.bend.other_end))
 
 -- what is led to the twin of `beyond` is that twin itself
-led_beyond : (b c : ℕ → ℕ) (n : ℕ) (f : ℕ → ℕ) (m : ℕ) (name : ℕ → ℕ) (k : Bend) → IsStep b c n f m name k → (a : ℕ) → a < n → c a ≡ twin k.beyond → a ≡ twin k.beyond
-led_beyond b c n f m name k s a la w =
+led_beyond : {b c : ℕ → ℕ} {n : ℕ} {f : ℕ → ℕ} {m : ℕ} {name : ℕ → ℕ} {k : Bend} → IsStep b c n f m name k → (a : ℕ) → a < n → c a ≡ twin k.beyond → a ≡ twin k.beyond
+led_beyond {n} {k} s a la w =
     s.split.turns.before.apart a (twin k.beyond) la (twin-within n k.beyond s.named.even s.bend.beyond_there) (w ∙ sym s.split.edit.isolated.other)
 
 -- a name is unlike the twin of the bend's name
@@ -117,26 +117,26 @@ turn_far b c n f m name k s =
       | inl e ↦ grind (arith, renamed-twin)
       | inr ne ↦
           let on : name (f (twin a)) ≡ c t = sym at ∙ s.split.edit.leads_on ne in
-          let other : f (twin a) ≢ twin a = λ w. apart_twins b c n f m name k s (led_beyond b c n f m name k s t lt (sym on ∙ ap name w ∙ s.bend.other_end)) in
+          let other : f (twin a) ≢ twin a = λ w. apart_twins b c n f m name k s (led_beyond s t lt (sym on ∙ ap name w ∙ s.bend.other_end)) in
           sym (renamed-other name k (f (twin a)) other ∙ on)
     ]
 
-turn_near : (b c : ℕ → ℕ) (n : ℕ) (f : ℕ → ℕ) (m : ℕ) (name : ℕ → ℕ) (k : Bend) → IsStep b c n f m name k → (d : ℕ) → d < m → d ≢ twin k.dart → c (name d) ≡ renamed name k (f d)
-turn_near b c n f m name k s d ld nd =
+turn_near : {b c : ℕ → ℕ} {n : ℕ} {f : ℕ → ℕ} {m : ℕ} {name : ℕ → ℕ} {k : Bend} → IsStep b c n f m name k → (d : ℕ) → d < m → d ≢ twin k.dart → c (name d) ≡ renamed name k (f d)
+turn_near {b} {c} {n} {f} {m} {name} {k} s d ld nd =
     let a : ℕ = k.dart in
     let z : ℕ = name d in
     let lz : z < n = s.named.within d ld in
     let lta : twin a < m = twin-within m a s.named.turn_even s.bend.there in
     let nx : z ≢ k.beyond = s.bend.new d ld in
     let nt : z ≢ twin k.near = s.bend.new_back d ld in
-    let ny : z ≢ twin k.beyond = not_twin_beyond b c n f m name k s d ld nd in
+    let ny : z ≢ twin k.beyond = not_twin_beyond s d ld nd in
     elim (cases_eq (c z) (twin k.near)) [
       | inl e ↦
           let same : f d ≡ twin a = s.named.apart (f d) (twin a) (s.named.turn.within d ld) lta (sym (s.named.turns d ld) ∙ s.split.edit.led_to z lz nt e ∙ sym s.bend.other_end) in
           e ∙ sym (renamed-twin name k (f d) same)
       | inr ne ↦
           let on : c z ≡ name (f d) = sym (s.split.edit.elsewhere z lz nx ny nt ne) ∙ s.named.turns d ld in
-          let other : f d ≢ twin a = λ w. ny (led_beyond b c n f m name k s z lz (on ∙ ap name w ∙ s.bend.other_end)) in
+          let other : f d ≢ twin a = λ w. ny (led_beyond s z lz (on ∙ ap name w ∙ s.bend.other_end)) in
           on ∙ sym (renamed-other name k (f d) other)
     ]
 
@@ -160,7 +160,7 @@ step_named b c n f m name k s =
       ];
       turns = λ d ld. elim (cases_eq d (twin a)) [
         | inl e ↦ ap c (renamed-twin name k d e) ∙ turn_far b c n f m name k s ∙ ap (λ (v : ℕ). renamed name k (f v)) (sym e)
-        | inr ne ↦ ap c (renamed-other name k d ne) ∙ turn_near b c n f m name k s d ld ne
+        | inr ne ↦ ap c (renamed-other name k d ne) ∙ turn_near s d ld ne
       ];
     }
 
@@ -171,11 +171,11 @@ renamed_dart : (m : ℕ) (name : ℕ → ℕ) (k l : Bend) → AreOnOthers m k l
 renamed_dart m name k l o = renamed-other name k l.dart o.dart.not_twin
 
 -- a point that has nothing to do with the bend stays as it is
-pub step_point : (b c : ℕ → ℕ) (n : ℕ) (f : ℕ → ℕ) (m : ℕ) (name : ℕ → ℕ) (k : Bend) → IsStep b c n f m name k → (x y : ℕ) → x < n → x ≢ k.beyond → x ≢ twin k.beyond → x ≢ twin k.near → y ≢ twin k.beyond → b x ≡ y → c x ≡ y
-step_point b c n f m name k s x y lx nx nt nn ny e = step_elsewhere b c n f m name k s x lx nx nt nn (λ w. ny (sym e ∙ w)) ∙ e
+pub step_point : {b c : ℕ → ℕ} {n : ℕ} {f : ℕ → ℕ} {m : ℕ} {name : ℕ → ℕ} {k : Bend} → IsStep b c n f m name k → (x y : ℕ) → x < n → x ≢ k.beyond → x ≢ twin k.beyond → x ≢ twin k.near → y ≢ twin k.beyond → b x ≡ y → c x ≡ y
+step_point {b} {c} {n} {f} {m} {name} {k} s x y lx nx nt nn ny e = step_elsewhere s x lx nx nt nn (λ w. ny (sym e ∙ w)) ∙ e
 
-step_bend : (b c : ℕ → ℕ) (n : ℕ) (f : ℕ → ℕ) (m : ℕ) (name : ℕ → ℕ) (k l : Bend) → IsStep b c n f m name k → AreOnOthers m k l → IsBend b n m name l → IsBend c n m (renamed name k) l
-step_bend b c n f m name k l s o i =
+step_bend : {b c : ℕ → ℕ} {n : ℕ} {f : ℕ → ℕ} {m : ℕ} {name : ℕ → ℕ} {k l : Bend} → IsStep b c n f m name k → AreOnOthers m k l → IsBend b n m name l → IsBend c n m (renamed name k) l
+step_bend {b} {c} {n} {f} {m} {name} {k} {l} s o i =
     let a : ℕ = k.dart in
     let back : ℕ = twin l.near in
     let lb : back < n = twin-within n l.near s.named.even i.near_there in
@@ -188,8 +188,8 @@ step_bend b c n f m name k l s o i =
       near_there = i.near_there;
       beyond_there = i.beyond_there;
       near_apart = i.near_apart;
-      onto = step_point b c n f m name k s l.beyond back i.beyond_there o.beyond beyond_far o.beyond_back back_far i.onto;
-      round = step_point b c n f m name k s back l.beyond lb (λ w. o.back_beyond (sym w)) back_far back_apart beyond_far i.round;
+      onto = step_point s l.beyond back i.beyond_there o.beyond beyond_far o.beyond_back back_far i.onto;
+      round = step_point s back l.beyond lb (λ w. o.back_beyond (sym w)) back_far back_apart beyond_far i.round;
       other_end = renamed-other name k (twin l.dart) (λ w. o.dart.not_self (twin-apart l.dart a w)) ∙ i.other_end;
       two = i.two;
       new = λ d ld w. elim (cases_eq d (twin a)) [
@@ -202,12 +202,12 @@ step_bend b c n f m name k l s o i =
       ];
     }
 
-step_bends : (b c : ℕ → ℕ) (n : ℕ) (f : ℕ → ℕ) (m : ℕ) (name : ℕ → ℕ) (k : Bend) (ls : List Bend) → IsStep b c n f m name k → AllByRecursion (AreOnOthers m k) ls → AreBends b n m name ls → AreBends c n m (renamed name k) ls
-step_bends b c n f m name k [] s o h = h
-step_bends b c n f m name k (l ∷ ls) s o h = (step_bend b c n f m name k l s o.0 h.0, h.1, step_bends b c n f m name k ls s o.1 h.2, h.3 ∙ sym (renamed_dart m name k l o.0))
+step_bends : {b c : ℕ → ℕ} {n : ℕ} {f : ℕ → ℕ} {m : ℕ} {name : ℕ → ℕ} {k : Bend} (ls : List Bend) → IsStep b c n f m name k → AllByRecursion (AreOnOthers m k) ls → AreBends b n m name ls → AreBends c n m (renamed name k) ls
+step_bends [] s o h = h
+step_bends {b} {c} {n} {f} {m} {name} {k} (l ∷ ls) s o h = (step_bend s o.0 h.0, h.1, step_bends ls s o.1 h.2, h.3 ∙ sym (renamed_dart m name k l o.0))
 
-step_straight : (b c : ℕ → ℕ) (n : ℕ) (f : ℕ → ℕ) (m : ℕ) (name : ℕ → ℕ) (k : Bend) (ls : List Bend) → IsStep b c n f m name k → k.near ≡ name k.dart → IsStraight m name (k ∷ ls) → IsStraight m (renamed name k) ls
-step_straight b c n f m name k ls s at h d ld u =
+step_straight : {b c : ℕ → ℕ} {n : ℕ} {f : ℕ → ℕ} {m : ℕ} {name : ℕ → ℕ} {k : Bend} (ls : List Bend) → IsStep b c n f m name k → k.near ≡ name k.dart → IsStraight m name (k ∷ ls) → IsStraight m (renamed name k) ls
+step_straight {name} {k} ls s at h d ld u =
     let a : ℕ = k.dart in
     elim (cases_eq d (twin a)) [
       | inl e ↦
@@ -294,11 +294,11 @@ beyond_apart : (b : ℕ → ℕ) (n m : ℕ) (name : ℕ → ℕ) (k l : Bend) �
 beyond_apart b n m name k l even i o j = grind (arith, twin-within)
 
 -- what the first step leaves as it was
-step_alone : (b c : ℕ → ℕ) (n : ℕ) (f : ℕ → ℕ) (m : ℕ) (name : ℕ → ℕ) (k : Bend) → IsStep b c n f m name k → (y : ℕ) → y < n → b y ≡ y → ((d : ℕ) → d < m → name d ≢ y) → c y ≡ y
-step_alone b c n f m name k s y ly e u = grind (arith, twin-within, step_elsewhere)
+step_alone : {b c : ℕ → ℕ} {n : ℕ} {f : ℕ → ℕ} {m : ℕ} {name : ℕ → ℕ} {k : Bend} → IsStep b c n f m name k → (y : ℕ) → y < n → b y ≡ y → ((d : ℕ) → d < m → name d ≢ y) → c y ≡ y
+step_alone s y ly e u = grind (arith, twin-within, step_elsewhere)
 
-fresh_after : (b c : ℕ → ℕ) (n : ℕ) (f : ℕ → ℕ) (m : ℕ) (name : ℕ → ℕ) (k : Bend) → IsStep b c n f m name k → (y : ℕ) → y ≢ twin k.near → ((d : ℕ) → d < m → d ≢ twin k.dart → name d ≢ y) → (d : ℕ) → d < m → renamed name k d ≢ y
-fresh_after b c n f m name k s y nt u d ld w = grind (arith, cases_eq, renamed-twin, renamed-other)
+fresh_after : {b c : ℕ → ℕ} {n : ℕ} {f : ℕ → ℕ} {m : ℕ} {name : ℕ → ℕ} {k : Bend} → IsStep b c n f m name k → (y : ℕ) → y ≢ twin k.near → ((d : ℕ) → d < m → d ≢ twin k.dart → name d ≢ y) → (d : ℕ) → d < m → renamed name k d ≢ y
+fresh_after s y nt u d ld w = grind (arith, cases_eq, renamed-twin, renamed-other)
 
 -- b, c without the bend, and that the bend can go
 record IsFirstStep (b : ℕ → ℕ) (n : ℕ) (f : ℕ → ℕ) (m : ℕ) (name : ℕ → ℕ) (k : Bend) : Type 0 where
@@ -316,20 +316,20 @@ first_step b n f m name k named i =
       step = grind (arith, twin-twin, smoothed);
     }
 
-bend_adds : (live : ℕ → Bool) (b c : ℕ → ℕ) (n : ℕ) (f : ℕ → ℕ) (m : ℕ) (name : ℕ → ℕ) (k : Bend) (ks : List Bend) → IsStep b c n f m name k → AllByRecursion (AreOnOthers m k) ks → AreBends b n m name ks → AreBendable live (k ∷ ks)
+bend_adds : (live : ℕ → Bool) {b c : ℕ → ℕ} {n : ℕ} {f : ℕ → ℕ} {m : ℕ} {name : ℕ → ℕ} {k : Bend} (ks : List Bend) → IsStep b c n f m name k → AllByRecursion (AreOnOthers m k) ks → AreBends b n m name ks → AreBendable live (k ∷ ks)
     → AddsSegment (with_bends live ks) (with_bends live (k ∷ ks)) n k.beyond
-bend_adds live b c n f m name k ks s o h r =
+bend_adds live {b} {n} {m} {name} {k} ks s o h r =
     let here : IsWithin n ks k.beyond = all_both (AreOnOthers m k) (IsBend b n m name) (λ l. IsApart n k.beyond l.beyond)
     (λ l u v. beyond_apart b n m name k l s.named.turn_even s.bend u v) ks o (all_bends b n m name ks h) in
     let here_twin : IsWithin n ks (twin k.beyond) = all_map (λ l. IsApart n k.beyond l.beyond) (λ l. IsApart n (twin k.beyond) l.beyond) (λ l u. apart_twin n k.beyond l.beyond s.named.even u) ks here in
     adds_segment (with_bends live ks) n k.beyond (dead_bends live n ks k.beyond r.0.0 here) (dead_bends live n ks (twin k.beyond) r.0.1 here_twin)
 
 -- the bent slab with one bend more
-one_bend_more : (live : ℕ → Bool) (b c e : ℕ → ℕ) (n : ℕ) (f : ℕ → ℕ) (m : ℕ) (name : ℕ → ℕ) (k : Bend) (ks : List Bend) → IsStep b c n f m name k → AllByRecursion (AreOnOthers m k) ks → AreBends b n m name ks → AreBendable live (k ∷ ks) → Bent live e c n ks → Bent live e b n (k ∷ ks)
-one_bend_more live b c e n f m name k ks s o h r w =
+one_bend_more : {live : ℕ → Bool} {b c e : ℕ → ℕ} {n : ℕ} {f : ℕ → ℕ} {m : ℕ} {name : ℕ → ℕ} {k : Bend} {ks : List Bend} → IsStep b c n f m name k → AllByRecursion (AreOnOthers m k) ks → AreBends b n m name ks → AreBendable live (k ∷ ks) → Bent live e c n ks → Bent live e b n (k ∷ ks)
+one_bend_more {live} {b} {c} {n} {f} {m} {name} {k} {ks} s o h r w =
     let old : ℕ → Bool = with_bends live ks in
     let new : ℕ → Bool = with_segment old k.beyond in
-    let adds : AddsSegment old new n k.beyond = bend_adds live b c n f m name k ks s o h r in
+    let adds : AddsSegment old new n k.beyond = bend_adds live ks s o h r in
     let alive : old k.near ≡ true = live_bends live ks k.near r.0.2 in
     let after : IsSlab new b n = split_keeps_slab old new c b n k.near k.beyond w.slab adds alive s.split in
     let grows : GrowsSlab old new c b n k.beyond = record { before = w.slab; after = after; within = s.bend.beyond_there; adds = adds } in
@@ -364,7 +364,7 @@ straighten b n f m name (k ∷ ks) named h straight =
     let c : ℕ → ℕ = first.c in
     let s : IsStep b c n f m name k = first.step in
     let name' : ℕ → ℕ = renamed name k in
-    let rest : Straightened c n f m name' ks = straighten c n f m name' ks (step_named b c n f m name k s) (step_bends b c n f m name k ks s h.1 h.2) (step_straight b c n f m name k ks s h.3 straight) in
+    let rest : Straightened c n f m name' ks = straighten c n f m name' ks (step_named b c n f m name k s) (step_bends ks s h.1 h.2) (step_straight ks s h.3 straight) in
     let others : AllByRecursion (IsBend b n m name) ks = all_bends b n m name ks h.2 in
     let k_unbent : IsUnbent m ks k.dart = all_map (AreOnOthers m k) (λ l. IsApart m k.dart l.dart) (λ l o. record {
       within = i.there;
@@ -380,35 +380,35 @@ straighten b n f m name (k ∷ ks) named h straight =
       unbent = λ d u. rest.unbent d u.1 ∙ renamed-other name k d u.0.not_twin;
       nears = all_nears b n m name (k ∷ ks) h;
       near = (rest.unbent k.dart k_unbent ∙ near_k ∙ sym h.3, rest.near);
-      fresh = λ y u w. rest.fresh y (fresh_after b c n f m name k s y (λ e. w.0 (sym e)) (λ d ld ne. u d ld))
+      fresh = λ y u w. rest.fresh y (fresh_after s y (λ e. w.0 (sym e)) (λ d ld ne. u d ld))
           w.1;
       within = λ d ld. (
         record {
           within = rest.named.within d ld;
-          not_self = rest.fresh k.beyond (fresh_after b c n f m name k s k.beyond i.two (λ e le ne. i.new e le))
+          not_self = rest.fresh k.beyond (fresh_after s k.beyond i.two (λ e le ne. i.new e le))
               (all_map (AreOnOthers m k) (λ l. twin l.near ≢ k.beyond) (λ l o e. o.back_beyond (sym e)) ks h.1) d ld;
-          not_twin = rest.fresh (twin k.beyond) (fresh_after b c n f m name k s (twin k.beyond) (λ w. apart_twins b c n f m name k s (sym w)) (λ e le ne. not_twin_beyond b c n f m name k s e le ne))
+          not_twin = rest.fresh (twin k.beyond) (fresh_after s (twin k.beyond) (λ w. apart_twins b c n f m name k s (sym w)) (λ e le ne. not_twin_beyond s e le ne))
               (all_map (IsBend b n m name) (λ l. twin l.near ≢ twin k.beyond) (λ l j e. j.new_back (twin k.dart) (twin-within m k.dart named.turn_even i.there) (i.other_end ∙ sym e)) ks others) d ld;
         },
         rest.within d ld,
       );
-      alone = λ y ly e u. rest.alone y ly (step_alone b c n f m name k s y ly e u)
-          (fresh_after b c n f m name k s y (λ w. i.two (sym i.round ∙ ap b (sym w) ∙ e ∙ w)) (λ d ld ne. u d ld));
+      alone = λ y ly e u. rest.alone y ly (step_alone s y ly e u)
+          (fresh_after s y (λ w. i.two (sym i.round ∙ ap b (sym w) ∙ e ∙ w)) (λ d ld ne. u d ld));
       beyond_alone = (
         (
-          rest.alone k.beyond i.beyond_there s.split.edit.isolated.this (fresh_after b c n f m name k s k.beyond i.two (λ d ld ne. i.new d ld)),
+          rest.alone k.beyond i.beyond_there s.split.edit.isolated.this (fresh_after s k.beyond i.two (λ d ld ne. i.new d ld)),
           rest.alone (twin k.beyond) (twin-within n k.beyond named.even i.beyond_there) s.split.edit.isolated.other
-              (fresh_after b c n f m name k s (twin k.beyond) (λ w. apart_twins b c n f m name k s (sym w)) (λ d ld ne. not_twin_beyond b c n f m name k s d ld ne)),
+              (fresh_after s (twin k.beyond) (λ w. apart_twins b c n f m name k s (sym w)) (λ d ld ne. not_twin_beyond s d ld ne)),
         ),
         rest.beyond_alone,
       );
-      bent = λ live slab r. one_bend_more live b c rest.bottom n f m name k ks s h.1 h.2 r
+      bent = λ live slab r. one_bend_more s h.1 h.2 r
           (rest.bent live slab r.1);
       run = λ live r. (
         record { live = with_bends live ks; turn = c },
         rest.run live r.1,
         (
-          record { within = i.beyond_there; adds = bend_adds live b c n f m name k ks s h.1 h.2 r; permutation = named.permutation },
+          record { within = i.beyond_there; adds = bend_adds live ks s h.1 h.2 r; permutation = named.permutation },
           record { within = i.near_there; alive = live_bends live ks k.near r.0.2 },
           s.split.edit,
         ),
@@ -417,18 +417,18 @@ straighten b n f m name (k ∷ ks) named h straight =
       back = λ a e u v w. rest.back a e u.1 v.1 (smooth_keeps_faces b c n k.beyond a e first.smooth u.0 v.0 w);
       sides = (
         split_sides c b n k.near k.beyond s.split,
-        all_sides b c n f m name k ks s h.1 others (all_nears b n m name ks h.2) rest.sides,
+        all_sides ks s h.1 others (all_nears b n m name ks h.2) rest.sides,
       );
     } where
-      all_sides : (b c : ℕ → ℕ) (n : ℕ) (f : ℕ → ℕ) (m : ℕ) (name : ℕ → ℕ) (k : Bend) (ls : List Bend) → IsStep b c n f m name k → AllByRecursion (AreOnOthers m k) ls → AllByRecursion (IsBend b n m name) ls → AllByRecursion (λ l. l.near ≡ name l.dart) ls
+      all_sides : {b c : ℕ → ℕ} {n : ℕ} {f : ℕ → ℕ} {m : ℕ} {name : ℕ → ℕ} {k : Bend} (ls : List Bend) → IsStep b c n f m name k → AllByRecursion (AreOnOthers m k) ls → AllByRecursion (IsBend b n m name) ls → AllByRecursion (λ l. l.near ≡ name l.dart) ls
           → AllByRecursion (λ l. SameCycle (face_next c) l.near l.beyond × SameCycle (face_next c) (twin l.beyond) (twin l.near)) ls
           → AllByRecursion (λ l. SameCycle (face_next b) l.near l.beyond × SameCycle (face_next b) (twin l.beyond) (twin l.near)) ls
-      all_sides b c n f m name k [] s o i e h = h
-      all_sides b c n f m name k (l ∷ ls) s o i e h =
+      all_sides [] s o i e h = h
+      all_sides {b} {c} {n} {m = m} {k = k} (l ∷ ls) s o i e h =
           let near : IsApart n l.near k.beyond = record {
             within = i.0.near_there;
             not_self = λ w. s.bend.new l.dart i.0.there (sym e.0 ∙ w);
-            not_twin = λ w. not_twin_beyond b c n f m name k s l.dart i.0.there o.0.dart.not_twin (sym e.0 ∙ w);
+            not_twin = λ w. not_twin_beyond s l.dart i.0.there o.0.dart.not_twin (sym e.0 ∙ w);
           } in
           let far : IsApart n (twin l.beyond) k.beyond = record {
             within = twin-within n l.beyond s.named.even i.0.beyond_there;
@@ -436,5 +436,5 @@ straighten b n f m name (k ∷ ks) named h straight =
             not_twin = λ w. o.0.beyond (twin-apart l.beyond k.beyond w);
           } in (
             (split_keeps_faces c b n k.near k.beyond l.near l.beyond s.split near h.0.0, split_keeps_faces c b n k.near k.beyond (twin l.beyond) (twin l.near) s.split far h.0.1),
-            all_sides b c n f m name k ls s o.1 i.1 e.1 h.1,
+            all_sides ls s o.1 i.1 e.1 h.1,
           )

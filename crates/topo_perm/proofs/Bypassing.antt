@@ -3,7 +3,8 @@ use Rattle.std.proofs.Common.{◌≡◌, ◌≢◌, ℕ, zero, suc, ◌+◌, ◌
 use Rattle.std.proofs.lemmas.Bool.{cases_eq, cond-true, cond-false, eq-eqb, ne_eqb, not_from_true, not_from_false}
 use Rattle.topo_core.specs.Cycles.{IsPermutation, SameCycle, IsBypass, count_below}
 use Rattle.topo_core.specs.Rotations.{twin, face_next, partly, Joined}
-use Rattle.topo_perm.specs.Cuts.{all_but, JoinedWithout, IsSegmentOf, TwoFacesJoined, TwoFacesKeep, OneFaceParts, TakenOutJoined, TakenOutKeeps, TakenOutParts}
+use Rattle.topo_core.specs.Edits.{IsIsolated}
+use Rattle.topo_perm.specs.Cuts.{all_but, IsElsewhere, JoinedWithout, IsSegmentOf, TwoFacesJoined, TwoFacesKeep, OneFaceParts, TakenOutJoined, TakenOutKeeps, TakenOutParts}
 use Rattle.topo_core.proofs.Orbits.{SameCycle-sym}
 use Rattle.topo_perm.proofs.Walks.{Joined-refl, Joined-trans, Joined-turned, Joined-crossed, Joined-SameCycle, kept_joined, twin-within, twin-cases, face_next-permutation}
 use Rattle.topo_perm.proofs.Cuts.{IsWithout, two_faces_joined, one_face_cuts, around, Joined-sym, partly-within}
@@ -21,8 +22,8 @@ abbrev Through : (ℕ → ℕ) → (ℕ → ℕ) → (ℕ → ℕ) → ℕ → �
 Through f g o n i a v = (v < n) × (((v ≢ i) × Joined g o a v) ⊎ ((v ≡ i) × Joined g o a (f i)))
 
 -- a walk of f past i is one of g
-pub bypassed_joined : (f g o : ℕ → ℕ) (n i a b : ℕ) → IsPermutation f n → i < n → IsBypass f g n i → IsAside o n i → a < n → a ≢ i → b ≢ i → Joined f o a b → Joined g o a b
-bypassed_joined f g o n i a b h li x w la na nb j =
+pub bypassed_joined : {f g o : ℕ → ℕ} {n i a b : ℕ} → IsPermutation f n → i < n → IsBypass f g n i → IsAside o n i → a < n → a ≢ i → b ≢ i → Joined f o a b → Joined g o a b
+bypassed_joined {f} {g} {o} {n} {i} {a} {b} h li x w la na nb j =
     elim (kept_joined f o (Through f g o n i a) turned crossed a b j (la, inl (na, Joined-refl g o a))).1 [
       | inl v ↦ v.1
       | inr v ↦ absurd (nb v.0)
@@ -43,8 +44,8 @@ bypassed_joined f g o n i a b h li x w la na nb j =
     crossed v (lv, inr (e, k)) = (w.within v lv, inr (ap o e ∙ w.still, k))
 
 -- a walk of g is one of f
-pub unbypassed_joined : (f g o : ℕ → ℕ) (n i a b : ℕ) → IsPermutation g n → IsBypass f g n i → ((a : ℕ) → a < n → o a < n) → a < n → Joined g o a b → Joined f o a b
-unbypassed_joined f g o n i a b h x w la j = (kept_joined g o (λ v. (v < n) × Joined f o a v) turned crossed a b j (la, Joined-refl f o a)).1
+pub unbypassed_joined : {f g o : ℕ → ℕ} {n i a b : ℕ} → IsPermutation g n → IsBypass f g n i → ((a : ℕ) → a < n → o a < n) → a < n → Joined g o a b → Joined f o a b
+unbypassed_joined {f} {g} {o} {n} {i} {a} {b} h x w la j = (kept_joined g o (λ v. (v < n) × Joined f o a v) turned crossed a b j (la, Joined-refl f o a)).1
   where
     turned : (v : ℕ) → (v < n) × Joined f o a v → (g v < n) × Joined f o a (g v)
     turned v (lv, k) = (
@@ -83,18 +84,18 @@ aside_self n h i even e = grind (arith, partly-within, crossed_not, cases_eq, cr
 Outside : (ℕ → ℕ) → (ℕ → ℕ) → ℕ → ℕ → ℕ → ℕ → Type 0
 Outside g o n h a v = (v < n) × (v ≢ h) × (v ≢ twin h) × Joined g o a v
 
-isolated_joined : (g : ℕ → ℕ) (n h a b : ℕ) → IsPermutation g n → n % 2 ≡ 0 → h < n → g h ≡ h → g (twin h) ≡ twin h → a < n → a ≢ h → a ≢ twin h → Joined g (partly (all_but h)) a b ↔ Joined g twin a b
+isolated_joined : {g : ℕ → ℕ} {n h a : ℕ} (b : ℕ) → IsPermutation g n → n % 2 ≡ 0 → h < n → IsIsolated g h → IsElsewhere n h a → Joined g (partly (all_but h)) a b ↔ Joined g twin a b
 unfolding Outside
-isolated_joined g n h a b hg even lh at_h at_t la nh nt = (
-  λ j. (kept_joined g (partly (all_but h)) (Outside g twin n h a) turned1 crossed1 a b j (la, nh, nt, Joined-refl g twin a)).3,
-  λ j. (kept_joined g twin (Outside g (partly (all_but h)) n h a) turned2 crossed2 a b j (la, nh, nt, Joined-refl g (partly (all_but h)) a)).3,
+isolated_joined {g} {n} {h} {a} b hg even lh alone off = (
+  λ j. (kept_joined g (partly (all_but h)) (Outside g twin n h a) turned1 crossed1 a b j (off.within, off.not_self, off.not_twin, Joined-refl g twin a)).3,
+  λ j. (kept_joined g twin (Outside g (partly (all_but h)) n h a) turned2 crossed2 a b j (off.within, off.not_self, off.not_twin, Joined-refl g (partly (all_but h)) a)).3,
 )
   where
     lt : twin h < n
     lt = twin-within n h even lh
 
     away : (v : ℕ) → v < n → v ≢ h → v ≢ twin h → (g v ≢ h) × (g v ≢ twin h)
-    away v lv nv nw = (λ e. nv (hg.apart v h lv lh (e ∙ sym at_h)), λ e. nw (hg.apart v (twin h) lv lt (e ∙ sym at_t)))
+    away v lv nv nw = (λ e. nv (hg.apart v h lv lh (e ∙ sym alone.this)), λ e. nw (hg.apart v (twin h) lv lt (e ∙ sym alone.other)))
 
     twins : (v : ℕ) → v ≢ h → v ≢ twin h → (twin v ≢ h) × (twin v ≢ twin h)
     twins v nv nw = (λ e. nw (sym (twin-twin v) ∙ ap twin e), λ e. nv (twin-apart v h e))
@@ -151,7 +152,7 @@ two_faces_keep f n h a b k differ j =
     let lt : twin h < n = twin-within n h k.even k.within in
     let low : 2 * (h / 2) + 1 < n = omega (arith, halves h, lt) in
     let ends : JoinedWithout f h (2 * (h / 2)) (2 * (h / 2) + 1) = low_ends f n h k (two_faces_law f n h k differ) in
-    subst (λ v. JoinedWithout f h a v) j.leads (around f n (all_but h) (λ _. true) (h / 2) k.permutation k.even low (without_is h) ends j.moves a)
+    subst (λ v. JoinedWithout f h a v) j.leads (around k.permutation k.even low (without_is h) ends j.moves a)
 
 pub one_face_law : OneFaceParts
 one_face_law f n h k z same j =
@@ -163,7 +164,7 @@ one_face_law f n h k z same j =
       | inr e ↦ subst (λ v. SameCycle (face_next f) (2 * (h / 2)) v) e.0 (subst (λ v. SameCycle (face_next f) v h) e.1 (SameCycle-sym (face_next f) n hff h (twin h) k.within same))
     ] in
     let all : count_below (λ _. true) (n / 2) ≡ n / 2 = every (n / 2) in
-    one_face_cuts f n (all_but h) (λ _. true) (h / 2) z.components k.permutation k.even hff low (without_is h) z.counted (z.formula ∙ ap (λ v. v + 2 * z.components) (sym all)) one (low_ends f n h k j)
+    one_face_cuts k.permutation k.even hff low (without_is h) z.counted (z.formula ∙ ap (λ v. v + 2 * z.components) (sym all)) one (low_ends f n h k j)
   where
     every : (k : ℕ) → count_below (λ _. true) k ≡ k
     every zero = refl
@@ -179,12 +180,12 @@ taken_out_joined f g n h a b k u ea eb =
     let hg : IsPermutation g n = bypassed-permutation u.half g n t hh lt u.second in
     let at_h : g h ≡ h = u.second.elsewhere h k.within (λ e. th (sym e)) (λ e. th (sym e ∙ u.first.alone)) ∙ u.first.alone in
     let inside : (v : ℕ) → v < n → o v < n = λ v lv. partly-within (all_but h) n v k.even lv in
-    let last : Joined g o a b ↔ Joined g twin a b = isolated_joined g n h a b hg k.even k.within at_h u.second.alone ea.within ea.not_self ea.not_twin in (
+    let last : Joined g o a b ↔ Joined g twin a b = isolated_joined b hg k.even k.within (record { this = at_h; other = u.second.alone }) ea in (
       λ j. last.0
-          (bypassed_joined u.half g o n t a b hh lt u.second (aside_self n h t k.even (twin-half h)) ea.within ea.not_twin eb.not_twin
-          (bypassed_joined f u.half o n h a b k.permutation k.within u.first (aside_self n h h k.even refl) ea.within ea.not_self eb.not_self j)),
-      λ j. unbypassed_joined f u.half o n h a b hh u.first inside ea.within
-          (unbypassed_joined u.half g o n t a b hg u.second inside ea.within (last.1 j)),
+          (bypassed_joined hh lt u.second (aside_self n h t k.even (twin-half h)) ea.within ea.not_twin eb.not_twin
+          (bypassed_joined k.permutation k.within u.first (aside_self n h h k.even refl) ea.within ea.not_self eb.not_self j)),
+      λ j. unbypassed_joined hh u.first inside ea.within
+          (unbypassed_joined hg u.second inside ea.within (last.1 j)),
     )
 
 pub taken_out_keeps : TakenOutKeeps

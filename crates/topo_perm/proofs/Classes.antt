@@ -65,8 +65,8 @@ least_of r n i h l =
     ]
 
 -- a number that is first of its class and related to i is the least one related to i
-first-least : (r : ℕ → ℕ → Bool) (n i m a : ℕ) → IsEquivalence r n → i < n → a < n → IsLeast r i m → r a i ≡ true → is_first r a ≡ true → a ≡ m
-first-least r n i m a h li la least rel first =
+first-least : {r : ℕ → ℕ → Bool} {n i m : ℕ} (a : ℕ) → IsEquivalence r n → i < n → a < n → IsLeast r i m → r a i ≡ true → is_first r a ≡ true → a ≡ m
+first-least {r} {n} {i} {m} a h li la least rel first =
     let lm : m < n = omega (arith, least.low) in
     elim (cases_order a m) [
       | inl e ↦ e
@@ -77,8 +77,8 @@ first-least r n i m a h li la least rel first =
       ]
     ]
 
-joined_below : (r s : ℕ → ℕ → Bool) (n i j mi mj : ℕ) → IsEquivalence r n → IsJoin r s n i j → i < n → j < n → r i j ≡ false → IsLeast r i mi → IsLeast r j mj → mi < mj → class_count r n ≡ class_count s n + 1
-joined_below r s n i j mi mj h w li lj apart ti tj l =
+joined_below : {r s : ℕ → ℕ → Bool} {n i j mi mj : ℕ} → IsEquivalence r n → IsJoin r s n i j → i < n → j < n → r i j ≡ false → IsLeast r i mi → IsLeast r j mj → mi < mj → class_count r n ≡ class_count s n + 1
+joined_below {r} {s} {n} {i} {j} {mi} {mj} h w li lj apart ti tj l =
     let lmi : mi < n = omega (arith, ti.low) in
     let lmj : mj < n = omega (arith, tj.low) in
     let first_j : is_first r mj ≡ true =
@@ -91,9 +91,9 @@ joined_below r s n i j mi mj h w li lj apart ti tj l =
       | inl met ↦ elim (w.from b a (omega arith) la met) [
         | inl old ↦ absurd (both_ways (r b a) (first-before r a b first lb) old)
         | inr crossed ↦ elim crossed [
-          | inl x ↦ absurd (ne (first-least r n j mj a h lj la tj (h.symmetric j a lj la x.1) first))
+          | inl x ↦ absurd (ne (first-least a h lj la tj (h.symmetric j a lj la x.1) first))
           | inr x ↦
-              let at : a ≡ mi = first-least r n i mi a h li la ti (h.symmetric i a li la x.1) first in
+              let at : a ≡ mi = first-least a h li la ti (h.symmetric i a li la x.1) first in
               absurd (both_ways (r b j) (tj.least b (omega arith)) x.0)
         ]
       ]
@@ -114,7 +114,7 @@ class_count-join r s n i j h w li lj apart =
     elim (cases_order mi mj) [
       | inl e ↦ absurd (both_ways (r i j) apart (h.transitive i mi j li lmi lj (h.symmetric mi i lmi li ti.related) (ap (λ m. r m j) e ∙ tj.related)))
       | inr v ↦ elim v [
-        | inl l ↦ joined_below r s n i j mi mj h w li lj apart ti tj l
-        | inr l ↦ joined_below r s n j i mj mi h (IsJoin-sym r s n i j w) lj li apart' tj ti l
+        | inl l ↦ joined_below h w li lj apart ti tj l
+        | inr l ↦ joined_below h (IsJoin-sym r s n i j w) lj li apart' tj ti l
       ]
     ]

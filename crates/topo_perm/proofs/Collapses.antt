@@ -31,7 +31,7 @@ pub record Collapses (t : ℕ → ℕ) (n : ℕ) (live : ℕ → Bool) (f : ℕ 
   pub parts : (y : ℕ) → y < n → live y ≡ true → SameCycle (face_next t) (name (onto y)) y
   pub forth : (d : ℕ) → d < m → SameCycle (face_next t) (name d) (name (face_next f d))
 
-module _ (t : ℕ → ℕ) (n : ℕ) (live : ℕ → Bool) (f : ℕ → ℕ) (m : ℕ) (name onto : ℕ → ℕ) (c : Collapses t n live f m name onto) where
+module _ {t : ℕ → ℕ} {n : ℕ} {live : ℕ → Bool} {f : ℕ → ℕ} {m : ℕ} {name onto : ℕ → ℕ} (c : Collapses t n live f m name onto) where
   faces_t : IsPermutation (face_next t) n
   faces_t = face_next-permutation t n c.slab.permutation c.slab.even
 

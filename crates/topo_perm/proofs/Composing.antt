@@ -21,16 +21,16 @@ back_numbers h back live f n live' g m r = record {
       sym (r.into.returns (f (back y)) (alive_turn live f n (back y) r.before home)) ∙ ap back (sym (r.turns (back y) home) ∙ ap g (r.from.returns y yt));
 }
 
-into_into : (h back h' back' : ℕ → ℕ) (live : ℕ → Bool) (n : ℕ) (live' : ℕ → Bool) (m : ℕ) (live'' : ℕ → Bool) (l : ℕ) → IsInto h back live n live' m → IsInto h' back' live' m live'' l → IsInto (λ a. h' (h a)) (λ y. back (back' y)) live n live'' l
-into_into h back h' back' live n live' m live'' l i j = grind arith
+into_into : {h back h' back' : ℕ → ℕ} {live : ℕ → Bool} {n : ℕ} {live' : ℕ → Bool} {m : ℕ} {live'' : ℕ → Bool} {l : ℕ} → IsInto h back live n live' m → IsInto h' back' live' m live'' l → IsInto (λ a. h' (h a)) (λ y. back (back' y)) live n live'' l
+into_into i j = grind arith
 
-pub composed_numbers : (h back h' back' : ℕ → ℕ) (live : ℕ → Bool) (f : ℕ → ℕ) (n : ℕ) (live' : ℕ → Bool) (g : ℕ → ℕ) (m : ℕ) (live'' : ℕ → Bool) (k : ℕ → ℕ) (l : ℕ) → RenumbersSlab h back live f n live' g m → RenumbersSlab h' back' live' g m live'' k l
+pub composed_numbers : {h back h' back' : ℕ → ℕ} {live : ℕ → Bool} {f : ℕ → ℕ} {n : ℕ} {live' : ℕ → Bool} {g : ℕ → ℕ} {m : ℕ} {live'' : ℕ → Bool} {k : ℕ → ℕ} {l : ℕ} → RenumbersSlab h back live f n live' g m → RenumbersSlab h' back' live' g m live'' k l
     → RenumbersSlab (λ a. h' (h a)) (λ y. back (back' y)) live f n live'' k l
-composed_numbers h back h' back' live f n live' g m live'' k l r s = record {
+composed_numbers {h} {back} {h'} {back'} {live} {n} {live'} {m} {live''} {l} r s = record {
   before = r.before;
   after = s.after;
-  into = into_into h back h' back' live n live' m live'' l r.into s.into;
-  from = into_into back' h' back h live'' l live' m live n s.from r.from;
+  into = into_into r.into s.into;
+  from = into_into s.from r.from;
   turns = λ a at. s.turns (h a) (r.into.there a at) ∙ ap h' (r.turns a at);
 }
 

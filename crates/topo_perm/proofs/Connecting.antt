@@ -36,8 +36,8 @@ insert_walks f g n x c alone p turns v lv =
     ]
 
 -- one segment more, joined to a live dart
-with_segment : (g : ℕ → ℕ) (live live' : ℕ → Bool) (n c x : ℕ) → IsPermutation g n → n % 2 ≡ 0 → c < n → live c ≡ true → AddsSegment live live' n x → ((a b : ℕ) → a < n → b < n → live a ≡ true → live b ≡ true → Joined g twin a b) → Joined g twin c x → IsConnectedAmong live' g n
-with_segment g live live' n c x hg even lc alive s all j a b la lb va vb =
+with_segment : {g : ℕ → ℕ} {live live' : ℕ → Bool} {n c x : ℕ} → IsPermutation g n → n % 2 ≡ 0 → c < n → live c ≡ true → AddsSegment live live' n x → ((a b : ℕ) → a < n → b < n → live a ≡ true → live b ≡ true → Joined g twin a b) → Joined g twin c x → IsConnectedAmong live' g n
+with_segment {g} {live'} {n} {c} {x} hg even lc alive s all j a b la lb va vb =
     Joined-trans g twin a c b (Joined-back g n hg even c a lc (from_c a la va)) (from_c b lb vb)
   where
     from_c : (v : ℕ) → v < n → live' v ≡ true → Joined g twin c v
@@ -54,7 +54,7 @@ hang_connects f g live live' n c x k s alive all =
     let h : Hung f g n x c = hung f g n c x k in
     let p : Insertion f g n x c = insertion f g n x c h.permutation h.within h.not_self h.before in
     let each : (v : ℕ) → v < n → Joined g twin v (f v) = insert_walks f g n x c k.edit.room.this p k.edit.start.turns in
-    with_segment g live live' n c x k.turns.after k.turns.even k.corner.within alive s
+    with_segment k.turns.after k.turns.even k.corner.within alive s
     (λ a b la lb va vb. walked_by f g n k.turns.before k.turns.even each a b la (all a b la lb va vb))
     (Joined-back g n k.turns.after k.turns.even x c k.turns.within (Joined-turn g twin x c k.edit.start.turns))
 
@@ -69,7 +69,7 @@ chord_connects f g live live' n c d x k s alive all =
     let each1 : (v : ℕ) → v < n → Joined half twin v (f v) = insert_walks f half n x c q.hung.isolated.this p1 q.hung.before.turns in
     let each2 : (v : ℕ) → v < n → Joined g twin v (half v) = insert_walks half g n (twin x) d q.before.without.alone p2 q.before.turns in
     let to_c : Joined g twin x c = walked_by half g n q.hung.permutation k.turns.even each2 x c lx (Joined-turn half twin x c q.hung.before.turns) in
-    with_segment g live live' n c x k.turns.after k.turns.even k.corner.within alive s
+    with_segment k.turns.after k.turns.even k.corner.within alive s
     (λ a b la lb va vb.
     walked_by half g n q.hung.permutation k.turns.even each2 a b la
     (walked_by f half n k.turns.before k.turns.even each1 a b la (all a b la lb va vb)))
@@ -111,7 +111,7 @@ pub split_connects : SplitConnects
 split_connects f g live live' n h x k s alive all =
     let to_x : Joined g twin h x =
     subst (λ z. Joined g twin h z) k.edit.point_back (Joined-turned g twin h (twin h) (Joined-cross g twin h (twin h) refl)) in
-    with_segment g live live' n h x k.turns.after k.turns.even k.segment.within alive s
+    with_segment k.turns.after k.turns.even k.segment.within alive s
     (λ a b la lb va vb. walked_by f g n k.turns.before k.turns.even (split_walks f g n h x k) a b la (all a b la lb va vb))
     to_x
 

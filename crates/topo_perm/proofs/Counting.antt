@@ -63,11 +63,11 @@ counted_closed f n seen found count k h even lk c = record {
 }
 
 -- a dart that is not marked is the least of its component
-pub counted_new : (f : ℕ → ℕ) (n : ℕ) (seen seen' : List Bool) (found found' count k : ℕ) → Counted f n seen found count k → k < n → mark seen k ≡ false → found' ≡ marked_count seen' n → ((a : ℕ) → a < n → (mark seen' a ≡ true) ↔ ((mark seen a ≡ true) ⊎ Joined f twin k a)) → Counted f n seen' found' (count + 1) (k + 1)
-counted_new f n seen seen' found found' count k c lk fresh e reached = grind (arith, first_counted, cases_Bool, some_below_more, or_right, or_left, both_ways, or_cases)
+pub counted_new : {f : ℕ → ℕ} {n : ℕ} {seen : List Bool} (seen' : List Bool) {found : ℕ} (found' : ℕ) {count k : ℕ} → Counted f n seen found count k → k < n → mark seen k ≡ false → found' ≡ marked_count seen' n → ((a : ℕ) → a < n → (mark seen' a ≡ true) ↔ ((mark seen a ≡ true) ⊎ Joined f twin k a)) → Counted f n seen' found' (count + 1) (k + 1)
+counted_new seen' found' c lk fresh e reached = grind (arith, first_counted, cases_Bool, some_below_more, or_right, or_left, both_ways, or_cases)
 
-pub counted_old : (f : ℕ → ℕ) (n : ℕ) (seen : List Bool) (found count k : ℕ) → IsPermutation f n → n % 2 ≡ 0 → Counted f n seen found count k → k < n → mark seen k ≡ true → Counted f n seen found count (k + 1)
-counted_old f n seen found count k h even c lk old =
+pub counted_old : {f : ℕ → ℕ} {n : ℕ} {seen : List Bool} {found count k : ℕ} → IsPermutation f n → n % 2 ≡ 0 → Counted f n seen found count k → k < n → mark seen k ≡ true → Counted f n seen found count (k + 1)
+counted_old {f} {n} {k} h even c lk old =
     let r : ℕ → ℕ → Bool = c.test in
     let met : some_below (λ b. r b k) k ≡ true = sym (c.marked k lk) ∙ old in
     record {
@@ -104,8 +104,8 @@ one_below p (suc n) h =
     grind (arith, cases_eq, cases_Bool)
 
 -- at most one component: any two are joined
-pub one_class : (f : ℕ → ℕ) (n c : ℕ) → IsPermutation f n → n % 2 ≡ 0 → IsClassCount (Joined f twin) n c → c ≤ 1 → (a b : ℕ) → a < n → b < n → Joined f twin a b
-one_class f n c h even k low a b la lb =
+pub one_class : {f : ℕ → ℕ} {n c : ℕ} → IsPermutation f n → n % 2 ≡ 0 → IsClassCount (Joined f twin) n c → c ≤ 1 → (a b : ℕ) → a < n → b < n → Joined f twin a b
+one_class {f} {n} h even k low a b la lb =
     let r : ℕ → ℕ → Bool = k.test in
     let e : IsEquivalence r n = IsJoinTest-equivalence f n r h even (record { sound = k.sound; complete = k.complete }) in
     let u : IsFirstOf r a (leader r a) = leader-first r n a e la in

@@ -83,8 +83,8 @@ stage_along f n s l h even t (Turn ∷ ms) a la =
 stage_along f n s l h even t (Cross ∷ ms) a la =
     stage_along f n s l h even t ms a la ∙ t.crossed _ (along-within f s n h even ms a la)
 
-pub stage_complete : (f : ℕ → ℕ) (n : ℕ) (s : ℕ → Bool) (l : ℕ → ℕ) → IsPermutation f n → n % 2 ≡ 0 → Stage f n s l → (a b : ℕ) → a < n → Joined f (partly s) a b → l a ≡ l b
-stage_complete f n s l h even t a b la j = stage_along f n s l h even t j.moves a la ∙ ap l j.leads
+pub stage_complete : {f : ℕ → ℕ} {n : ℕ} {s : ℕ → Bool} {l : ℕ → ℕ} → IsPermutation f n → n % 2 ≡ 0 → Stage f n s l → {a b : ℕ} → a < n → Joined f (partly s) a b → l a ≡ l b
+stage_complete {f} {n} {s} {l} h even t {a} la j = stage_along f n s l h even t j.moves a la ∙ ap l j.leads
 
 -- no segment
 none_below : (n : ℕ) → count_below (λ _. false) n ≡ 0
@@ -131,9 +131,9 @@ face_keeps : (f : ℕ → ℕ) (n : ℕ) (s : ℕ → Bool) (l : ℕ → ℕ) �
 face_keeps f n s l even t a la = t.crossed a la ∙ t.turned (partly s a) (partly-within s n a even la)
 
 -- one segment more
-pub stage_more : (f : ℕ → ℕ) (n : ℕ) (s t : ℕ → Bool) (k : ℕ) (l : ℕ → ℕ) → IsPermutation f n → n % 2 ≡ 0 → 2 * k + 1 < n → IsWithout s t k → Stage f n s l → Stage f n t (relabelled l (2 * k) (2 * k + 1))
-stage_more f n s t k l h even lk w st = record {
-  turned = λ a la. relabel-keeps l m n i j a (f a) r la (h.within a la) (st.turned a la);
+pub stage_more : {f : ℕ → ℕ} {n : ℕ} {s t : ℕ → Bool} {k : ℕ} {l : ℕ → ℕ} → IsPermutation f n → n % 2 ≡ 0 → 2 * k + 1 < n → IsWithout s t k → Stage f n s l → Stage f n t (relabelled l (2 * k) (2 * k + 1))
+stage_more {f} {n} {s} {t} {k} {l} h even lk w st = record {
+  turned = λ a la. relabel-keeps a (f a) r la (h.within a la) (st.turned a la);
   crossed = λ a la. elim (cases_eq a i) [
     | inl e ↦ ap m e ∙ relabel-meets l m n i j r li lk ∙ ap m (sym (ap (partly t) e ∙ low))
     | inr ni ↦ elim (cases_eq a j) [
@@ -141,10 +141,10 @@ stage_more f n s t k l h even lk w st = record {
       | inr nj ↦
           let ne : a / 2 ≢ k = omega arith in
           let same : partly s a ≡ partly t a = ap (λ b. cond b (twin a) a) (w.others (a / 2) ne) in
-          relabel-keeps l m n i j a (partly s a) r la (partly-within s n a even la) (st.crossed a la) ∙ ap m same
+          relabel-keeps a (partly s a) r la (partly-within s n a even la) (st.crossed a la) ∙ ap m same
     ]
   ];
-  sound = λ a b la lb e. elim (relabel-from l m n i j a b r la lb e) [
+  sound = λ a b la lb e. elim (relabel-from a b r la lb e) [
     | inl x ↦ more a b (st.sound a b la lb x)
     | inr c ↦ elim c [
       | inl x ↦ Joined-trans f (partly t) a i b (more a i (st.sound a i la li x.0))
@@ -160,18 +160,18 @@ stage_more f n s t k l h even lk w st = record {
         elim (cases_Bool (is_met (face_by f s) n i j)) [
           | inl met ↦
               let up : cycle_count (face_by f t) n ≡ cycle_count (face_by f s) n + 1 =
-              exchanged_splits (face_by f s) (face_by f t) n i j st.faces li lk (omega arith) ex (is_met-SameCycle _ n i j met) in
+              exchanged_splits st.faces li lk (omega arith) ex (is_met-SameCycle _ n i j met) in
               omega (arith, st.bound, same, up, segments)
           | inr none ↦
               let down : cycle_count (face_by f s) n ≡ cycle_count (face_by f t) n + 1 =
-              exchanged_joins (face_by f s) (face_by f t) n i j st.faces li lk (omega arith) ex
+              exchanged_joins st.faces li lk (omega arith) ex
               (λ c. both_ways (is_met (face_by f s) n i j) none (SameCycle-is_met (face_by f s) n st.faces i j li c)) in
               omega (arith, st.bound, same, down, segments)
         ]
     | inr ne ↦
         let fewer : class_count (same_label l) n ≡ class_count (same_label m) n + 1 = relabel-apart l m n i j r li lk ne in
         let down : cycle_count (face_by f s) n ≡ cycle_count (face_by f t) n + 1 =
-        exchanged_joins (face_by f s) (face_by f t) n i j st.faces li lk (omega arith) ex
+        exchanged_joins st.faces li lk (omega arith) ex
         (λ c. ne (keeps_label (face_by f s) l n st.faces (face_keeps f n s l even st) i j li c)) in
         omega (arith, st.bound, fewer, down, segments)
   ];
@@ -232,7 +232,7 @@ stage_below f n s h even (suc k) l =
       }
       | inl here ↦ record {
         labels = relabelled before.labels (2 * k) (2 * k + 1);
-        stage = stage_more f n (below s k) (below s (suc k)) k before.labels h even (omega arith)
+        stage = stage_more h even (omega arith)
             (grind (arith, and_right, le-ltb, and_from, lt-ltb)) before.stage;
       }
     ]
@@ -261,7 +261,7 @@ components_of f n s h even =
       components = record {
         test = same_label last.labels;
         sound = λ a b la lb e. moved_to part a b la (last.stage.sound a b la lb (eqb-true _ _ e));
-        complete = λ a b la lb j. eq-eqb _ _ (stage_complete f n t last.labels h even last.stage a b la (moved_back part a b la j));
+        complete = λ a b la lb j. eq-eqb _ _ (stage_complete h even last.stage la (moved_back part a b la j));
         count = refl;
       };
       faces = IsPermutation-same (face_by f t) (face_by f s) n last.stage.faces (λ a la. ap f (part a la));
@@ -291,7 +291,7 @@ euler_bound f n s c h even comps =
 -- a segment with two faces does not cut: without it its ends are still joined
 pub two_faces_joined : (f : ℕ → ℕ) (n : ℕ) (s t : ℕ → Bool) (k : ℕ) → IsPermutation (face_by f t) n → 2 * k + 1 < n → IsWithout s t k → (SameCycle (face_by f t) (2 * k) (2 * k + 1) → ⊥) → Joined f (partly s) (2 * k) (2 * k + 1)
 two_faces_joined f n s t k h lk w differ =
-    round (exchanged_apart (face_by f t) (face_by f s) n (2 * k) (2 * k + 1) h (omega arith) lk (omega arith) (back (face_by-exchange f s t n k w)) differ)
+    round (exchanged_apart h (omega arith) lk (omega arith) (back (face_by-exchange f s t n k w)) differ)
   where
     back : IsExchangeBelow (face_by f s) (face_by f t) n (2 * k) (2 * k + 1) → IsExchangeBelow (face_by f t) (face_by f s) n (2 * k) (2 * k + 1)
     back x = record { at_first = sym x.at_second; at_second = sym x.at_first; elsewhere = λ a la ni nj. sym (x.elsewhere a la ni nj) }
@@ -327,12 +327,12 @@ pub Joined-back : (f : ℕ → ℕ) (n : ℕ) → IsPermutation f n → n % 2 �
 Joined-back f n h even a b la j = Joined-sym f (λ _. true) n h even a b la j
 
 -- where the ends are joined without the segment, all is joined as with it
-pub around : (f : ℕ → ℕ) (n : ℕ) (s t : ℕ → Bool) (k : ℕ) → IsPermutation f n → n % 2 ≡ 0 → 2 * k + 1 < n → IsWithout s t k → Joined f (partly s) (2 * k) (2 * k + 1) → (ms : List Move) (a : ℕ) → Joined f (partly s) a (along f (partly t) ms a)
-around f n s t k h even lk w j [] a = Joined-refl f (partly s) a
-around f n s t k h even lk w j (Turn ∷ ms) a =
-    Joined-trans f (partly s) a _ _ (around f n s t k h even lk w j ms a) (Joined-turn f (partly s) _ _ refl)
-around f n s t k h even lk w j (Cross ∷ ms) a =
-    Joined-trans f (partly s) a _ _ (around f n s t k h even lk w j ms a) (step (along f (partly t) ms a))
+pub around : {f : ℕ → ℕ} {n : ℕ} {s t : ℕ → Bool} {k : ℕ} → IsPermutation f n → n % 2 ≡ 0 → 2 * k + 1 < n → IsWithout s t k → Joined f (partly s) (2 * k) (2 * k + 1) → (ms : List Move) (a : ℕ) → Joined f (partly s) a (along f (partly t) ms a)
+around {f} {s} h even lk w j [] a = Joined-refl f (partly s) a
+around {f} {n} {s} {t} {k} h even lk w j (Turn ∷ ms) a =
+    Joined-trans f (partly s) a _ _ (around h even lk w j ms a) (Joined-turn f (partly s) _ _ refl)
+around {f} {n} {s} {t} {k} h even lk w j (Cross ∷ ms) a =
+    Joined-trans f (partly s) a _ _ (around h even lk w j ms a) (step (along f (partly t) ms a))
   where
     step : (d : ℕ) → Joined f (partly s) d (partly t d)
     step d = elim (cases_eq (d / 2) k) [
@@ -350,18 +350,18 @@ around f n s t k h even lk w j (Cross ∷ ms) a =
     ]
 
 -- in genus zero a segment with one face on both sides cuts
-pub one_face_cuts : (f : ℕ → ℕ) (n : ℕ) (s t : ℕ → Bool) (k c : ℕ) → IsPermutation f n → n % 2 ≡ 0 → IsPermutation (face_by f t) n → 2 * k + 1 < n → IsWithout s t k → IsClassCount (Joined f (partly t)) n c → cycle_count f n + cycle_count (face_by f t) n ≡ count_below t (n / 2) + 2 * c → SameCycle (face_by f t) (2 * k) (2 * k + 1) → Joined f (partly s) (2 * k) (2 * k + 1) → ⊥
-one_face_cuts f n s t k c h even hf lk w comps flat one j =
+pub one_face_cuts : {f : ℕ → ℕ} {n : ℕ} {s t : ℕ → Bool} {k c : ℕ} → IsPermutation f n → n % 2 ≡ 0 → IsPermutation (face_by f t) n → 2 * k + 1 < n → IsWithout s t k → IsClassCount (Joined f (partly t)) n c → cycle_count f n + cycle_count (face_by f t) n ≡ count_below t (n / 2) + 2 * c → SameCycle (face_by f t) (2 * k) (2 * k + 1) → Joined f (partly s) (2 * k) (2 * k + 1) → ⊥
+one_face_cuts {f} {n} {s} {t} {k} {c} h even hf lk w comps flat one j =
     let ex : IsExchangeBelow (face_by f t) (face_by f s) n (2 * k) (2 * k + 1) = back (face_by-exchange f s t n k w) in
     let up : cycle_count (face_by f s) n ≡ cycle_count (face_by f t) n + 1 =
-    exchanged_splits (face_by f t) (face_by f s) n (2 * k) (2 * k + 1) hf (omega arith) lk (omega arith) ex one in
+    exchanged_splits hf (omega arith) lk (omega arith) ex one in
     let size : count_below t (n / 2) ≡ count_below s (n / 2) + 1 =
     count_below-more t s (n / 2) k (omega arith) w.there w.gone (λ a la ne. sym (w.others a ne)) in
     let still : IsClassCount (Joined f (partly s)) n c = record {
       test = comps.test;
       sound = λ a b la lb e.
           let joined = comps.sound a b la lb e in
-          subst (λ v. Joined f (partly s) a v) joined.leads (around f n s t k h even lk w j joined.moves a);
+          subst (λ v. Joined f (partly s) a v) joined.leads (around h even lk w j joined.moves a);
       complete = λ a b la lb joined. comps.complete a b la lb (Joined-more f s t k a b w joined);
       count = comps.count;
     } in

@@ -23,13 +23,13 @@ abbrev pub unchords_of : (ℕ → ℕ) → ℕ → List Edit
 unchords_of h zero = []
 unchords_of h (suc i) = Unchord (h i) ∷ unchords_of h i
 
-pub opened_numbers : (t : ℕ → ℕ → ℕ) (n : ℕ) (h : ℕ → ℕ) (count : ℕ) → IsOpening t n h count → (nu back : ℕ → ℕ) (limit : ℕ) (u v : Turning) → RenumbersSlab nu back (left_after h 0) (t 0) n u.live u.turn limit
+pub opened_numbers : {t : ℕ → ℕ → ℕ} {n : ℕ} {h : ℕ → ℕ} {count : ℕ} → IsOpening t n h count → {nu back : ℕ → ℕ} {limit : ℕ} {u : Turning} (v : Turning) → RenumbersSlab nu back (left_after h 0) (t 0) n u.live u.turn limit
     → (i : ℕ) → i ≤ count → IsRun limit u (unchords_of (λ j. nu (h j)) i) v → RenumbersSlab nu back (left_after h i) (t i) n v.live v.turn limit
-opened_numbers t n h count o nu back limit u v r zero li run = subst (λ (w : Turning). RenumbersSlab nu back (left_after h 0) (t 0) n w.live w.turn limit) run r
-opened_numbers t n h count o nu back limit u v r (suc i) li run =
+opened_numbers {t} {n} {h} o {nu} {back} {limit} v r zero li run = subst (λ (w : Turning). RenumbersSlab nu back (left_after h 0) (t 0) n w.live w.turn limit) run r
+opened_numbers {t} {n} {h} {count} o {nu} {back} {limit} {u} v r (suc i) li run =
     let lc : i < count = omega (arith, li) in
-    unchord_numbers nu back (left_after h (suc i)) (left_after h i) (t i) (t (suc i)) n (h i) v.live run.0.live run.0.turn v.turn limit
-    (opened_numbers t n h count o nu back limit u run.0 r i (omega (arith, li)) run.1)
+    unchord_numbers
+    (opened_numbers o run.0 r i (omega (arith, li)) run.1)
     (record { within = o.there i lc; alive = (segment_left t n h count o i lc).0 }) (step_adds t n h count o i lc) run.2.0.takes (o.unchord i lc) run.2.1
 
 -- ---- The midpoints
@@ -70,8 +70,8 @@ pub record IsSmoothable (v : Turning) (limit x : ℕ) : Type 0 where
   pub not_alone : v.turn x ≢ x
   pub two_segments : v.turn x ≢ twin x
 
-module _ (middle : ℕ → Type 0) (rank : ℕ → ℕ) (live : ℕ → Bool) (t : ℕ → ℕ) (n : ℕ) (f : ℕ → ℕ) (m : ℕ) (name onto : ℕ → ℕ) (w : AreMidway middle rank live t n f m name onto) (p : IsPermutation f m) (even : m % 2 ≡ 0)
-    (nu back : ℕ → ℕ) (limit : ℕ) (u : Turning) (r : RenumbersSlab nu back live t n u.live u.turn limit) where
+module _ {middle : ℕ → Type 0} {rank : ℕ → ℕ} {live : ℕ → Bool} {t : ℕ → ℕ} {n : ℕ} {f : ℕ → ℕ} {m : ℕ} {name onto : ℕ → ℕ} (w : AreMidway middle rank live t n f m name onto) (p : IsPermutation f m) (even : m % 2 ≡ 0)
+    {nu back : ℕ → ℕ} {limit : ℕ} (u : Turning) (r : RenumbersSlab nu back live t n u.live u.turn limit) where
   away : (a : ℕ) → a % 2 ≡ 0 → (xs : List ℕ) → AreMids middle live n xs → AllByRecursion (λ y. a ≢ y) xs → AllByRecursion (λ x. (a ≢ x) × (a ≢ twin x)) xs
   away a e [] mids apart = tt
   away a e (x ∷ xs) mids apart = ((apart.0, even_not_odd a (twin x) e (odd_twin x (w.midpoints x mids.0 mids.1).even)), away a e xs mids.3 apart.1)
@@ -90,17 +90,17 @@ module _ (middle : ℕ → Type 0) (rank : ℕ → ℕ) (live : ℕ → Bool) (t
       let old : ℕ → Bool = before.left in
       let point : IsMidpoint t m name onto rank x = w.midpoints x mids.0 mids.1 in
       let xt : IsAlive old n x = before.stays x mids.0 (away x point.even xs mids.3 mids.2) in
-      let led : Leads (λ g. IsAllowedSmooth before.turn g n x) = can_smooth middle rank old before.turn n f m before.names onto before.midway x xt mids.1 in
-      let takes = taken middle rank old before.turn n f m before.names onto before.midway x xt mids.1 in
+      let led : Leads (λ g. IsAllowedSmooth before.turn g n x) = can_smooth before.midway xt mids.1 in
+      let takes = taken before.midway xt mids.1 in
       let new : ℕ → Bool = without_segment old x in
       let sub : (a : ℕ) → IsAlive new n a → IsAlive old n a = λ a at. still_alive new old n x a takes at in
       record {
         left = new;
         turn = led.turn;
         names = smoothed_name before.turn before.names x;
-        midway = smoothed_midway middle rank old before.turn n f m before.names onto before.midway x xt mids.1 led.turn led.edit p;
-        numbers = smooth_numbers nu back new old before.turn led.turn n x v.live run.0.live run.0.turn v.turn limit before.numbers xt
-            (no_loop middle rank old before.turn n f m before.names onto before.midway x xt mids.1) takes run.2.0.takes led.edit.turns.after run.2.0.permutation led.edit.edit run.2.2;
+        midway = smoothed_midway before.midway xt mids.1 led.edit p;
+        numbers = smooth_numbers before.numbers xt
+            (no_loop before.midway xt mids.1) takes run.2.0.takes led.edit.turns.after run.2.0.permutation led.edit.edit run.2.2;
         forward = λ d ld e.
             let same : before.names d ≡ name d = before.forward d ld e in
             smoothed_name-other before.turn before.names x d (λ k. even_not_odd (name d) (twin x) e (odd_twin x point.even) (sym same ∙ k)) ∙ same;
@@ -123,7 +123,7 @@ module _ (middle : ℕ → Type 0) (rank : ℕ → ℕ) (live : ℕ → Bool) (t
         there = s.numbers.into.there x xt;
         two = ap v.turn leads ∙ s.numbers.turns (s.turn x) next ∙ ap nu point.two;
         not_alone = apart x xt (λ e. even_not_odd x (s.turn x) point.even point.odd (sym e));
-        two_segments = λ e. apart (twin x) (alive_twin s.left s.turn n x s.midway.slab xt) (no_loop middle rank s.left s.turn n f m s.names onto s.midway x xt mids.1) (e ∙ sym (s.numbers.into.twins x xt));
+        two_segments = λ e. apart (twin x) (alive_twin s.left s.turn n x s.midway.slab xt) (no_loop s.midway xt mids.1) (e ∙ sym (s.numbers.into.twins x xt));
       }
 
   pub smoothed_numbers : (xs : List ℕ) (v : Turning) → AreMids middle live n xs → ((x : ℕ) → IsAlive live n x → middle x → IsIn x xs) → IsRun limit u (smooths_of nu xs) v → IsSmoothedUnder f m name nu v limit
@@ -159,6 +159,6 @@ module _ (middle : ℕ → Type 0) (rank : ℕ → ℕ) (live : ℕ → Bool) (t
         number = λ a. nu (s.names a);
         back_number = λ y. onto (back y);
         renumbers = turn_of_slab (λ a. nu (s.names a)) (λ y. onto (back y)) f v.turn m (λ _. true) v.live limit (λ a la. refl)
-            (composed_numbers s.names onto nu back (λ _. true) f m s.left s.turn n v.live v.turn limit (slab_of_turn s.names onto f s.turn m s.left n below z.slab) s.numbers);
+            (composed_numbers (slab_of_turn s.names onto f s.turn m s.left n below z.slab) s.numbers);
         forward = λ d ld e. ap nu (s.forward d ld e);
       }

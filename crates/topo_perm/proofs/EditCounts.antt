@@ -13,8 +13,8 @@ use Rattle.topo_perm.proofs.Splitting.{Splitting, without, without-self, without
 
 -- ---- Permutations
 
-put_exchange : (f g : ℕ → ℕ) (n x c : ℕ) → IsPermutation f n → x < n → c < n → c ≢ x → IsPutBefore f g n x c → (p : HasBefore f n c) → IsExchangeBelow f g n p.place x
-put_exchange f g n x c h lx lc ne e p = grind arith
+put_exchange : {f g : ℕ → ℕ} {n x c : ℕ} → IsPermutation f n → x < n → c < n → c ≢ x → IsPutBefore f g n x c → (p : HasBefore f n c) → IsExchangeBelow f g n p.place x
+put_exchange h lx lc ne e p = grind arith
 
 pub put_permutation : PutBeforeIsPermutation
 put_permutation f g n x c h lx lc ne e = grind (arith, before_of, exchanged-permutation, put_exchange)
@@ -141,7 +141,7 @@ unchord_faces_law f g n h k =
     let u : Unchorded f k.edit.half g n h = unchorded f g n h k in
     let lt : twin h < n = twin-within n h k.turns.even k.turns.within in
     let first : IsBefore k.edit.half f n h (f h) = record { turns = refl; without = k.edit.first } in
-    unchord_faces g k.edit.half f n (twin h) (k.edit.half (twin h)) (f h)
+    unchord_faces g (k.edit.half (twin h))
     (grind (arith, twin-twin, without))
     k.turns.before
     (λ e. u.not_fixed (e ∙ twin-twin h))

@@ -23,26 +23,26 @@ alive_twin live f n a s at = record { within = twin-within n a s.even at.within;
 pub alive_turn : (live : ℕ → Bool) (f : ℕ → ℕ) (n a : ℕ) → IsSlab live f n → IsAlive live n a → IsAlive live n (f a)
 alive_turn live f n a s at = grind (arith, cases_Bool, dead_apart)
 
-pub into_apart : (h back : ℕ → ℕ) (live : ℕ → Bool) (n : ℕ) (live' : ℕ → Bool) (m : ℕ) → IsInto h back live n live' m → (a b : ℕ) → IsAlive live n a → IsAlive live n b → h a ≡ h b → a ≡ b
-into_apart h back live n live' m i a b at bt e = sym (i.returns a at) ∙ ap back e ∙ i.returns b bt
+pub into_apart : {h back : ℕ → ℕ} {live : ℕ → Bool} {n : ℕ} {live' : ℕ → Bool} {m : ℕ} → IsInto h back live n live' m → (a b : ℕ) → IsAlive live n a → IsAlive live n b → h a ≡ h b → a ≡ b
+into_apart {back} i a b at bt e = sym (i.returns a at) ∙ ap back e ∙ i.returns b bt
 
 -- ---- A dart put in, and a dart taken out
 
-pub put_in_slab : (live : ℕ → Bool) (f f' : ℕ → ℕ) (n x c : ℕ) → IsSlab live f n → IsPermutation f' n → IsAlive live n x → IsAlive live n c → IsBefore f f' n x c → IsSlab live f' n
-put_in_slab live f f' n x c s p xt ct b = grind (arith, dead_apart)
+pub put_in_slab : {live : ℕ → Bool} {f f' : ℕ → ℕ} {n x c : ℕ} → IsSlab live f n → IsPermutation f' n → IsAlive live n x → IsAlive live n c → IsBefore f f' n x c → IsSlab live f' n
+put_in_slab s p xt ct b = grind (arith, dead_apart)
 
 pub taken_out_slab : (live : ℕ → Bool) (f f' : ℕ → ℕ) (n i : ℕ) → IsSlab live f n → IsAlive live n i → IsBypass f f' n i → IsSlab live f' n
 taken_out_slab live f f' n i s it b = grind (arith, bypassed-permutation, dead_apart)
 
-module _ (h back : ℕ → ℕ) (live : ℕ → Bool) (f : ℕ → ℕ) (n : ℕ) (live' : ℕ → Bool) (g : ℕ → ℕ) (m : ℕ) (r : RenumbersSlab h back live f n live' g m) where
+module _ {h back : ℕ → ℕ} {live : ℕ → Bool} {f : ℕ → ℕ} {n : ℕ} {live' : ℕ → Bool} {g : ℕ → ℕ} {m : ℕ} (r : RenumbersSlab h back live f n live' g m) where
   apart : (a b : ℕ) → IsAlive live n a → IsAlive live n b → h a ≡ h b → a ≡ b
-  apart = into_apart h back live n live' m r.into
+  apart = into_apart r.into
 
-  pub put_in_numbers : (f' g' : ℕ → ℕ) (x c : ℕ) → IsPermutation f' n → IsPermutation g' m → IsAlive live n x → IsAlive live n c → IsBefore f f' n x c → IsBefore g g' m (h x) (h c)
+  pub put_in_numbers : {f' g' : ℕ → ℕ} {x c : ℕ} → IsPermutation f' n → IsPermutation g' m → IsAlive live n x → IsAlive live n c → IsBefore f f' n x c → IsBefore g g' m (h x) (h c)
       → RenumbersSlab h back live f' n live' g' m
-  put_in_numbers f' g' x c p q xt ct b d = record {
-    before = put_in_slab live f f' n x c r.before p xt ct b;
-    after = put_in_slab live' g g' m (h x) (h c) r.after q (r.into.there x xt) (r.into.there c ct) d;
+  put_in_numbers {f'} {g'} {x} {c} p q xt ct b d = record {
+    before = put_in_slab r.before p xt ct b;
+    after = put_in_slab r.after q (r.into.there x xt) (r.into.there c ct) d;
     into = r.into;
     from = r.from;
     turns = λ a at. elim (cases_eq a x) [
@@ -131,9 +131,9 @@ added_slab live new f n x s t = record {
   free = λ a la e. (stayed live new f n x a s t la e).fixed;
 }
 
-added_into : (h back : ℕ → ℕ) (live new : ℕ → Bool) (n x : ℕ) (live' new' : ℕ → Bool) (m y : ℕ) → m % 2 ≡ 0 → x < n → y < m → AddsSegment live new n x → AddsSegment live' new' m y
+added_into : {h back : ℕ → ℕ} {live new : ℕ → Bool} {n x : ℕ} {live' new' : ℕ → Bool} {m y : ℕ} → m % 2 ≡ 0 → x < n → y < m → AddsSegment live new n x → AddsSegment live' new' m y
     → ((a : ℕ) → IsAlive live n a → IsAlive live n (twin a)) → IsInto h back live n live' m → IsInto (extended h x y) (extended back y x) new n new' m
-added_into h back live new n x live' new' m y even lx ly s t twinned i = record {
+added_into {h} {back} {live} {new} {n} {x} {live'} {new'} {m} {y} even lx ly s t twinned i = record {
   there = λ a at. elim (new_or_old live new n x a s at) [
     | inl e ↦ subst (IsAlive new' m) (sym (extended-self h x y a e)) (record { within = ly; alive = t.here })
     | inr (inl e) ↦ subst (IsAlive new' m) (sym (extended-twin h x y a e)) (record { within = twin-within m y even ly; alive = t.here_twin })
@@ -151,13 +151,13 @@ added_into h back live new n x live' new' m y even lx ly s t twinned i = record 
   ];
 }
 
-pub added_numbers : (h back : ℕ → ℕ) (live new : ℕ → Bool) (f : ℕ → ℕ) (n x : ℕ) (live' new' : ℕ → Bool) (g : ℕ → ℕ) (m y : ℕ) → RenumbersSlab h back live f n live' g m → AddsBoth live new n x live' new' m y
+pub added_numbers : {h back : ℕ → ℕ} {live new : ℕ → Bool} {f : ℕ → ℕ} {n x : ℕ} {live' new' : ℕ → Bool} {g : ℕ → ℕ} {m y : ℕ} → RenumbersSlab h back live f n live' g m → AddsBoth live new n x live' new' m y
     → IsIsolated f x → IsIsolated g y → RenumbersSlab (extended h x y) (extended back y x) new f n new' g m
-added_numbers h back live new f n x live' new' g m y r s alone alone' = record {
+added_numbers {h} {back} {live} {new} {f} {n} {x} {live'} {new'} {g} {m} {y} r s alone alone' = record {
   before = added_slab live new f n x r.before s.adds;
   after = added_slab live' new' g m y r.after s.adds_other;
-  into = added_into h back live new n x live' new' m y r.after.even s.within s.within_other s.adds s.adds_other (λ a at. alive_twin live f n a r.before at) r.into;
-  from = added_into back h live' new' m y live new n x r.before.even s.within_other s.within s.adds_other s.adds (λ a at. alive_twin live' g m a r.after at) r.from;
+  into = added_into r.after.even s.within s.within_other s.adds s.adds_other (λ a at. alive_twin live f n a r.before at) r.into;
+  from = added_into r.before.even s.within_other s.within s.adds_other s.adds (λ a at. alive_twin live' g m a r.after at) r.from;
   turns = λ a at. elim (new_or_old live new n x a s.adds at) [
     | inl e ↦ ap g (extended-self h x y a e) ∙ alone'.this ∙ sym (extended-self h x y (f a) (ap f e ∙ alone.this))
     | inr (inl e) ↦ ap g (extended-twin h x y a e) ∙ alone'.other ∙ sym (extended-twin h x y (f a) (ap f e ∙ alone.other))
@@ -170,22 +170,22 @@ added_numbers h back live new f n x live' new' g m y r s alone alone' = record {
 removed_slab : (live old : ℕ → Bool) (f : ℕ → ℕ) (n x : ℕ) → IsSlab old f n → AddsSegment live old n x → IsIsolated f x → IsSlab live f n
 removed_slab live old f n x s t alone = grind (arith, taken_twins, cases_eq)
 
-removed_into : (h back : ℕ → ℕ) (live old : ℕ → Bool) (n x : ℕ) (live' old' : ℕ → Bool) (m : ℕ) → IsAlive old n x → IsAlive old n (twin x) → AddsSegment live old n x → AddsSegment live' old' m (h x) → IsInto h back old n old' m → IsInto h back live n live' m
-removed_into h back live old n x live' old' m xt tt' s t i = record {
+removed_into : {h back : ℕ → ℕ} {live old : ℕ → Bool} {n x : ℕ} {live' old' : ℕ → Bool} {m : ℕ} → IsAlive old n x → IsAlive old n (twin x) → AddsSegment live old n x → AddsSegment live' old' m (h x) → IsInto h back old n old' m → IsInto h back live n live' m
+removed_into {h} {back} {live} {old} {n} {x} {old'} {m} xt tt' s t i = record {
   there = λ a at.
       let was : IsAlive old n a = still_alive live old n x a s at in
       let ha : IsAlive old' m (h a) = i.there a was in
-      let nx : h a ≢ h x = λ w. dead_apart live x a s.new at.alive (sym (into_apart h back old n old' m i a x was xt w)) in
-      let nt : h a ≢ twin (h x) = λ w. dead_apart live (twin x) a s.new_twin at.alive (sym (into_apart h back old n old' m i a (twin x) was tt' (w ∙ sym (i.twins x xt)))) in
+      let nx : h a ≢ h x = λ w. dead_apart live x a s.new at.alive (sym (into_apart i a x was xt w)) in
+      let nt : h a ≢ twin (h x) = λ w. dead_apart live (twin x) a s.new_twin at.alive (sym (into_apart i a (twin x) was tt' (w ∙ sym (i.twins x xt)))) in
       record { within = ha.within; alive = sym (t.others (h a) ha.within nx nt) ∙ ha.alive };
   returns = λ a at. i.returns a (still_alive live old n x a s at);
   twins = λ a at. i.twins a (still_alive live old n x a s at);
 }
 
 -- the isolated segment of x goes, and that of its number
-pub removed_numbers : (h back : ℕ → ℕ) (live old : ℕ → Bool) (f : ℕ → ℕ) (n x : ℕ) (live' old' : ℕ → Bool) (g : ℕ → ℕ) (m : ℕ) → RenumbersSlab h back old f n old' g m → IsAlive old n x
+pub removed_numbers : {h back : ℕ → ℕ} {live old : ℕ → Bool} {f : ℕ → ℕ} {n x : ℕ} {live' old' : ℕ → Bool} {g : ℕ → ℕ} {m : ℕ} → RenumbersSlab h back old f n old' g m → IsAlive old n x
     → AddsSegment live old n x → AddsSegment live' old' m (h x) → IsIsolated f x → RenumbersSlab h back live f n live' g m
-removed_numbers h back live old f n x live' old' g m r xt s t alone =
+removed_numbers {h} {back} {live} {old} {f} {n} {x} {live'} {old'} {g} {m} r xt s t alone =
     let tx : IsAlive old n (twin x) = alive_twin old f n x r.before xt in
     let hx : IsAlive old' m (h x) = r.into.there x xt in
     let home : back (h x) ≡ x = r.into.returns x xt in
@@ -196,40 +196,40 @@ removed_numbers h back live old f n x live' old' g m r xt s t alone =
     record {
       before = removed_slab live old f n x r.before s alone;
       after = removed_slab live' old' g m (h x) r.after t alone';
-      into = removed_into h back live old n x live' old' m xt tx s t r.into;
-      from = removed_into back h live' old' m (h x) live old n hx (alive_twin old' g m (h x) r.after hx) t (subst (AddsSegment live old n) (sym home) s) r.from;
+      into = removed_into xt tx s t r.into;
+      from = removed_into hx (alive_twin old' g m (h x) r.after hx) t (subst (AddsSegment live old n) (sym home) s) r.from;
       turns = λ a at. r.turns a (still_alive live old n x a s at);
     }
 
 -- ---- A segment hung, drawn as a chord, and taken out
 
-pub hang_numbers : (h back : ℕ → ℕ) (live new : ℕ → Bool) (f f' : ℕ → ℕ) (n c x : ℕ) (live' new' : ℕ → Bool) (g g' : ℕ → ℕ) (m y : ℕ) → RenumbersSlab h back live f n live' g m → AddsBoth live new n x live' new' m y
+pub hang_numbers : {h back : ℕ → ℕ} {live new : ℕ → Bool} {f f' : ℕ → ℕ} {n c x : ℕ} {live' new' : ℕ → Bool} {g g' : ℕ → ℕ} {m y : ℕ} → RenumbersSlab h back live f n live' g m → AddsBoth live new n x live' new' m y
     → IsAlive live n c → IsPermutation f' n → IsPermutation g' m → IsHang f f' n c x → IsHang g g' m (h c) y → RenumbersSlab (extended h x y) (extended back y x) new f' n new' g' m
-hang_numbers h back live new f f' n c x live' new' g g' m y r s ct p q b d =
-    let added : RenumbersSlab (extended h x y) (extended back y x) new f n new' g m = added_numbers h back live new f n x live' new' g m y r s b.room d.room in
-    put_in_numbers (extended h x y) (extended back y x) new f n new' g m added f' g' x c p q (record { within = s.within; alive = s.adds.here }) (still_alive live new n x c s.adds ct) b.start
+hang_numbers {h} {back} {live} {new} {f} {f'} {n} {c} {x} {live'} {new'} {g} {g'} {m} {y} r s ct p q b d =
+    let added : RenumbersSlab (extended h x y) (extended back y x) new f n new' g m = added_numbers r s b.room d.room in
+    put_in_numbers added p q (record { within = s.within; alive = s.adds.here }) (still_alive live new n x c s.adds ct) b.start
     (subst (λ z. IsBefore g g' m z (extended h x y c)) (sym (extended-here h x y)) (subst (IsBefore g g' m y) (sym (extended-old h live new n x y c s.adds ct.alive)) d.start))
 
-pub chord_numbers : (h back : ℕ → ℕ) (live new : ℕ → Bool) (f f' : ℕ → ℕ) (n c e x : ℕ) (live' new' : ℕ → Bool) (g g' : ℕ → ℕ) (m y : ℕ) → RenumbersSlab h back live f n live' g m → AddsBoth live new n x live' new' m y
+pub chord_numbers : {h back : ℕ → ℕ} {live new : ℕ → Bool} {f f' : ℕ → ℕ} {n c e x : ℕ} {live' new' : ℕ → Bool} {g g' : ℕ → ℕ} {m y : ℕ} → RenumbersSlab h back live f n live' g m → AddsBoth live new n x live' new' m y
     → IsAlive live n c → IsAlive live n e → IsPermutation f' n → IsPermutation g' m → IsChord f f' n c e x → IsChord g g' m (h c) (h e) y → RenumbersSlab (extended h x y) (extended back y x) new f' n new' g' m
-chord_numbers h back live new f f' n c e x live' new' g g' m y r s ct et p q b d =
+chord_numbers {h} {back} {live} {new} {f} {f'} {n} {c} {e} {x} {live'} {new'} {g} {g'} {m} {y} r s ct et p q b d =
     let lx : twin x < n = twin-within n x r.before.even s.within in
     let ly : twin y < m = twin-within m y r.after.even s.within_other in
     let ph : IsPermutation b.half n = bypassed-permutation f' b.half n (twin x) p lx b.end.without in
     let qh : IsPermutation d.half m = bypassed-permutation g' d.half m (twin y) q ly d.end.without in
     let first : RenumbersSlab (extended h x y) (extended back y x) new b.half n new' d.half m =
-    hang_numbers h back live new f b.half n c x live' new' g d.half m y r s ct ph qh (record { room = b.room; start = b.start }) (record { room = d.room; start = d.start }) in
-    put_in_numbers (extended h x y) (extended back y x) new b.half n new' d.half m first f' g' (twin x) e p q (record { within = lx; alive = s.adds.here_twin }) (still_alive live new n x e s.adds et) b.end
+    hang_numbers r s ct ph qh (record { room = b.room; start = b.start }) (record { room = d.room; start = d.start }) in
+    put_in_numbers first p q (record { within = lx; alive = s.adds.here_twin }) (still_alive live new n x e s.adds et) b.end
     (subst (λ z. IsBefore d.half g' m z (extended h x y e)) (sym (extended-there h x y)) (subst (IsBefore d.half g' m (twin y)) (sym (extended-old h live new n x y e s.adds et.alive)) d.end))
 
-pub unchord_numbers : (h back : ℕ → ℕ) (live old : ℕ → Bool) (f f' : ℕ → ℕ) (n i : ℕ) (live' old' : ℕ → Bool) (g g' : ℕ → ℕ) (m : ℕ) → RenumbersSlab h back old f n old' g m → IsAlive old n i
+pub unchord_numbers : {h back : ℕ → ℕ} {live old : ℕ → Bool} {f f' : ℕ → ℕ} {n i : ℕ} {live' old' : ℕ → Bool} {g g' : ℕ → ℕ} {m : ℕ} → RenumbersSlab h back old f n old' g m → IsAlive old n i
     → AddsSegment live old n i → AddsSegment live' old' m (h i) → IsUnchord f f' n i → IsUnchord g g' m (h i) → RenumbersSlab h back live f' n live' g' m
-unchord_numbers h back live old f f' n i live' old' g g' m r it s t b d =
+unchord_numbers {h} {back} {live} {old} {f} {f'} {n} {i} {live'} {old'} {g} {g'} {m} r it s t b d =
     let tt' : IsAlive old n (twin i) = alive_twin old f n i r.before it in
-    let first : RenumbersSlab h back old b.half n old' d.half m = taken_out_numbers h back old f n old' g m r b.half d.half i it b.first d.first in
+    let first : RenumbersSlab h back old b.half n old' d.half m = taken_out_numbers r b.half d.half i it b.first d.first in
     let second : RenumbersSlab h back old f' n old' g' m =
-    taken_out_numbers h back old b.half n old' d.half m first f' g' (twin i) tt' b.second (subst (IsBypass d.half g' m) (sym (r.into.twins i it)) d.second) in
-    removed_numbers h back live old f' n i live' old' g' m second it s t (record {
+    taken_out_numbers first f' g' (twin i) tt' b.second (subst (IsBypass d.half g' m) (sym (r.into.twins i it)) d.second) in
+    removed_numbers second it s t (record {
       this = b.second.elsewhere i it.within (λ e. twin-other i (sym e)) (λ e. twin-other i (sym e ∙ b.first.alone)) ∙ b.first.alone;
       other = b.second.alone;
     })

@@ -89,8 +89,8 @@ exchange_parts f g n i j h li lj ne x =
     away u a b m ne clear (suc k) l = clear k (omega arith)
 
 -- a step of f is made in g where i and j lie together
-pub kept : (f g : ℕ → ℕ) (n i j : ℕ) → IsPermutation g n → i < n → j < n → IsExchange f g i j → SameCycle g i j → (a b : ℕ) → SameCycle f a b → SameCycle g a b
-kept f g n i j hg li lj x met a b s = subst (λ v. SameCycle g a v) s.leads (walked s.steps)
+pub kept : {f g : ℕ → ℕ} {n i j : ℕ} → IsPermutation g n → i < n → j < n → IsExchange f g i j → SameCycle g i j → (a b : ℕ) → SameCycle f a b → SameCycle g a b
+kept {f} {g} {n} {i} {j} hg li lj x met a b s = subst (λ v. SameCycle g a v) s.leads (walked s.steps)
   where
     walked : (k : ℕ) → SameCycle g a (after f k a)
     walked zero = SameCycle-refl g a
@@ -165,12 +165,12 @@ joined_cycles f g n i j h li lj x s =
     class_count-join (is_met f n) (is_met g n) n i j (is_met-equivalence f n h)
     (record {
       into = λ a b la lb w. SameCycle-is_met g n hg a b la (elim w [
-        | inl v ↦ kept f g n i j hg li lj x s.before a b (is_met-SameCycle f n a b v)
+        | inl v ↦ kept hg li lj x s.before a b (is_met-SameCycle f n a b v)
         | inr c ↦ elim c [
-          | inl v ↦ SameCycle-trans g a i b (kept f g n i j hg li lj x s.before a i (is_met-SameCycle f n a i v.0))
-              (SameCycle-trans g i j b s.before (kept f g n i j hg li lj x s.before j b (is_met-SameCycle f n j b v.1)))
-          | inr v ↦ SameCycle-trans g a j b (kept f g n i j hg li lj x s.before a j (is_met-SameCycle f n a j v.0))
-              (SameCycle-trans g j i b (SameCycle-sym g n hg i j li s.before) (kept f g n i j hg li lj x s.before i b (is_met-SameCycle f n i b v.1)))
+          | inl v ↦ SameCycle-trans g a i b (kept hg li lj x s.before a i (is_met-SameCycle f n a i v.0))
+              (SameCycle-trans g i j b s.before (kept hg li lj x s.before j b (is_met-SameCycle f n j b v.1)))
+          | inr v ↦ SameCycle-trans g a j b (kept hg li lj x s.before a j (is_met-SameCycle f n a j v.0))
+              (SameCycle-trans g j i b (SameCycle-sym g n hg i j li s.before) (kept hg li lj x s.before i b (is_met-SameCycle f n i b v.1)))
         ]
       ]);
       from = λ a b la lb e. elim (spread f g i j x a b (is_met-SameCycle g n a b e)) [
@@ -185,16 +185,16 @@ joined_cycles f g n i j h li lj x s =
     (grind (arith, cases_Bool, is_met-SameCycle))
 
 -- an exchange in one cycle makes two of it
-pub exchange_splits : (f g : ℕ → ℕ) (n i j : ℕ) → IsPermutation f n → i < n → j < n → i ≢ j → IsExchange f g i j → SameCycle f i j → cycle_count g n ≡ cycle_count f n + 1
-exchange_splits f g n i j h li lj ne x met =
+pub exchange_splits : {f g : ℕ → ℕ} {n i j : ℕ} → IsPermutation f n → i < n → j < n → i ≢ j → IsExchange f g i j → SameCycle f i j → cycle_count g n ≡ cycle_count f n + 1
+exchange_splits {f} {g} {n} {i} {j} h li lj ne x met =
     elim (exchange_parts f g n i j h li lj ne x) [
       | inl s ↦ joined_cycles g f n i j (IsExchange-permutation f g n i j h li lj x) li lj (IsExchange-back f g i j x) s
       | inr s ↦ absurd (s.later met)
     ]
 
 -- an exchange between two cycles makes one of them
-pub exchange_joins : (f g : ℕ → ℕ) (n i j : ℕ) → IsPermutation f n → i < n → j < n → i ≢ j → IsExchange f g i j → (SameCycle f i j → ⊥) → cycle_count f n ≡ cycle_count g n + 1
-exchange_joins f g n i j h li lj ne x apart =
+pub exchange_joins : {f g : ℕ → ℕ} {n i j : ℕ} → IsPermutation f n → i < n → j < n → i ≢ j → IsExchange f g i j → (SameCycle f i j → ⊥) → cycle_count f n ≡ cycle_count g n + 1
+exchange_joins {f} {g} {n} {i} {j} h li lj ne x apart =
     elim (exchange_parts f g n i j h li lj ne x) [
       | inl s ↦ absurd (apart s.before)
       | inr s ↦ joined_cycles f g n i j h li lj x s

@@ -69,7 +69,7 @@ hang_faces f g n x c h =
     let lt : twin x < n = twin-within n x h.even h.within in
     let hf : IsPermutation (face_next f) n = face_next-permutation f n p.permutation h.even in
     let ex : IsExchangeBelow (face_next f) (face_next g) n (twin p.place) (twin x) = exchange_faces f g n p.place x h.even p.exchange in
-    exchanged_joins (face_next f) (face_next g) n (twin p.place) (twin x) hf lp lt (λ e. p.other (twin-apart _ _ e)) ex
+    exchanged_joins hf lp lt (λ e. p.other (twin-apart _ _ e)) ex
     (λ s. elim (isolated_face f x (twin p.place) h.isolated (SameCycle-sym (face_next f) n hf _ _ lp s)) [
       | inl e ↦ p.other (twin-apart _ _ e)
       | inr e ↦ grind (arith, twin-twin)
@@ -89,11 +89,11 @@ hang_keeps f g n x c h a b la s =
     let to_x : face_next g (twin p.place) ≡ x = ap g (twin-twin p.place) ∙ p.leads in
     let together : SameCycle (face_next g) (twin p.place) (twin x) =
     record { steps = 2; leads = ap (face_next g) to_x ∙ hang_twin f g n x c h } in
-    exchanged_keeps (face_next f) (face_next g) n (twin p.place) (twin x) hf lp lt ex together a b la s
+    exchanged_keeps hf lp lt ex together la s
 
 -- the other end put into a corner of the same face: one face becomes two
-pub close_faces : (f g : ℕ → ℕ) (n y d : ℕ) → IsPermutation g n → n % 2 ≡ 0 → y < n → d ≢ y → IsBefore f g n y d → SameCycle (face_next f) (twin y) d → cycle_count (face_next g) n ≡ cycle_count (face_next f) n + 1
-close_faces f g n y d hg even ly ne b s =
+pub close_faces : {f g : ℕ → ℕ} {n y d : ℕ} → IsPermutation g n → n % 2 ≡ 0 → y < n → d ≢ y → IsBefore f g n y d → SameCycle (face_next f) (twin y) d → cycle_count (face_next g) n ≡ cycle_count (face_next f) n + 1
+close_faces {f} {g} {n} {y} {d} hg even ly ne b s =
     let p : Insertion f g n y d = insertion f g n y d hg ly ne b in
     let lp : twin p.place < n = twin-within n p.place even p.within in
     let ld : d < n = omega (arith, p.led, p.permutation.within p.place p.within) in
@@ -101,7 +101,7 @@ close_faces f g n y d hg even ly ne b s =
     let hf : IsPermutation (face_next f) n = face_next-permutation f n p.permutation even in
     let ex : IsExchangeBelow (face_next f) (face_next g) n (twin p.place) (twin y) = exchange_faces f g n p.place y even p.exchange in
     let to_d : SameCycle (face_next f) (twin p.place) d = record { steps = 1; leads = ap f (twin-twin p.place) ∙ p.led } in
-    exchanged_splits (face_next f) (face_next g) n (twin p.place) (twin y) hf lp lt (λ e. p.other (twin-apart _ _ e)) ex
+    exchanged_splits hf lp lt (λ e. p.other (twin-apart _ _ e)) ex
     (SameCycle-trans (face_next f) _ d _ to_d (SameCycle-sym (face_next f) n hf (twin y) d lt s))
 
 -- a chord: f has the new segment isolated, g has both ends in place
@@ -133,12 +133,12 @@ chord_faces f g n x c d k =
     let to_c : SameCycle (face_next k.half) x c = record { steps = 2; leads = ap (face_next k.half) first ∙ second } in
     let to_d : SameCycle (face_next k.half) x d = SameCycle-trans (face_next k.half) x c d to_c (hang_keeps f k.half n x c k.hung c d k.old k.one_face) in
     let less = hang_faces f k.half n x c k.hung in
-    let more = close_faces k.half g n (twin x) d k.permutation k.hung.even lt k.apart k.before (subst (λ v. SameCycle (face_next k.half) v d) (sym (twin-twin x)) to_d) in
+    let more = close_faces k.permutation k.hung.even lt k.apart k.before (subst (λ v. SameCycle (face_next k.half) v d) (sym (twin-twin x)) to_d) in
     omega (arith, less, more)
 
 -- a segment with different faces on its two sides, taken out: as many faces, the segment's own counted afterwards. d may be x, as at a loop whose ends are neighbours
-pub unchord_faces : (f half g : ℕ → ℕ) (n x c d : ℕ) → Hung f half n x c → IsPermutation g n → d ≢ twin x → IsBefore half g n (twin x) d → (SameCycle (face_next g) x (twin x) → ⊥) → cycle_count (face_next f) n ≡ cycle_count (face_next g) n
-unchord_faces f half g n x c d h hg nt b differ =
+pub unchord_faces : (f : ℕ → ℕ) {half g : ℕ → ℕ} {n x : ℕ} (c : ℕ) {d : ℕ} → Hung f half n x c → IsPermutation g n → d ≢ twin x → IsBefore half g n (twin x) d → (SameCycle (face_next g) x (twin x) → ⊥) → cycle_count (face_next f) n ≡ cycle_count (face_next g) n
+unchord_faces f {half} {g} {n} {x} c {d} h hg nt b differ =
     let lx : x < n = h.within in
     let lt : twin x < n = twin-within n x h.even lx in
     let q : Insertion half g n (twin x) d = insertion half g n (twin x) d hg lt nt b in
@@ -151,6 +151,6 @@ unchord_faces f half g n x c d h hg nt b differ =
     λ s. differ (SameCycle-trans (face_next g) x (twin q.place) (twin x) (SameCycle-sym (face_next g) n hgf (twin q.place) x lq s) to_twin) in
     let other : twin q.place ≢ x = λ e. q.other (sym (twin-twin q.place) ∙ ap twin e) in
     let first : cycle_count (face_next g) n ≡ cycle_count (face_next half) n + 1 =
-    exchanged_joins (face_next g) (face_next half) n (twin q.place) x hgf lq lx other (IsExchangeBelow-back _ _ _ _ _ ez) apart in
+    exchanged_joins hgf lq lx other (IsExchangeBelow-back _ _ _ _ _ ez) apart in
     let second = hang_faces f half n x c h in
     omega (arith, first, second)

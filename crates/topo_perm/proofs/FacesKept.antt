@@ -69,8 +69,8 @@ split_sides f g n h x k = grind (arith, twin-twin)
 -- ---- Chord
 
 -- an exchange leaves the cycles of neither as they are
-exchange_elsewhere : (f g : ℕ → ℕ) (n i j : ℕ) → IsPermutation f n → IsExchangeBelow f g n i j → (a b : ℕ) → a < n → (SameCycle f a i → ⊥) → (SameCycle f a j → ⊥) → SameCycle f a b → SameCycle g a b
-exchange_elsewhere f g n i j h x a b la ni nj s = record { steps = s.steps; leads = walked s.steps ∙ s.leads }
+exchange_elsewhere : {f g : ℕ → ℕ} {n i j : ℕ} → IsPermutation f n → IsExchangeBelow f g n i j → {a b : ℕ} → a < n → (SameCycle f a i → ⊥) → (SameCycle f a j → ⊥) → SameCycle f a b → SameCycle g a b
+exchange_elsewhere {f} {g} {n} h x {a} la ni nj s = record { steps = s.steps; leads = walked s.steps ∙ s.leads }
   where
     walked : (m : ℕ) → after g m a ≡ after f m a
     walked zero = refl
@@ -78,17 +78,17 @@ exchange_elsewhere f g n i j h x a b la ni nj s = record { steps = s.steps; lead
         ap g (walked m) ∙ x.elsewhere (after f m a) (after-within f n h m a la) (λ e. ni (record { steps = m; leads = e })) (λ e. nj (record { steps = m; leads = e }))
 
 -- an exchange within one cycle parts the two
-exchange_parted : (f g : ℕ → ℕ) (n i j : ℕ) → IsPermutation f n → i < n → j < n → i ≢ j → IsExchangeBelow f g n i j → SameCycle f i j → SameCycle g i j → ⊥
-exchange_parted f g n i j h li lj ne x s t =
+exchange_parted : {f g : ℕ → ℕ} {n i j : ℕ} → IsPermutation f n → i < n → j < n → i ≢ j → IsExchangeBelow f g n i j → SameCycle f i j → SameCycle g i j → ⊥
+exchange_parted {f} {g} {n} {i} {j} h li lj ne x s t =
     omega (
       arith,
-      exchanged_splits f g n i j h li lj ne x s,
-      exchanged_splits g f n i j (exchanged-permutation f g n i j h li lj x) li lj ne (IsExchangeBelow-back f g n i j x) t,
+      exchanged_splits h li lj ne x s,
+      exchanged_splits (exchanged-permutation f g n i j h li lj x) li lj ne (IsExchangeBelow-back f g n i j x) t,
     )
 
 -- a dart of another face, after the first end: not in the face of the new segment
-half_apart : (f half : ℕ → ℕ) (n c x a : ℕ) → Hung f half n x c → IsPermutation f n → a < n → a ≢ x → a ≢ twin x → (SameCycle (face_next f) a c → ⊥) → SameCycle (face_next half) a x → ⊥
-half_apart f half n c x a h hf la nx ny out s =
+half_apart : {f half : ℕ → ℕ} {n c x a : ℕ} → Hung f half n x c → IsPermutation f n → a < n → a ≢ x → a ≢ twin x → (SameCycle (face_next f) a c → ⊥) → SameCycle (face_next half) a x → ⊥
+half_apart {f} {half} {n} {c} {x} {a} h hf la nx ny out s =
     let p : Insertion f half n x c = insertion f half n x c h.permutation h.within h.not_self h.before in
     let lp : twin p.place < n = twin-within n p.place h.even p.within in
     let lt : twin x < n = twin-within n x h.even h.within in
@@ -97,7 +97,7 @@ half_apart f half n c x a h hf la nx ny out s =
     let to_c : SameCycle (face_next f) (twin p.place) c = record { steps = 1; leads = ap f (twin-twin p.place) ∙ p.led } in
     let not_new : SameCycle (face_next f) (twin x) a → ⊥ = λ w. elim (isolated_face f x a h.isolated w) [ inl e ↦ ny e | inr e ↦ nx e ] in
     let x_to : SameCycle (face_next f) (twin x) x = record { steps = 1; leads = ap f (twin-twin x) ∙ h.isolated.this } in
-    elim (exchanged_spread (face_next f) (face_next half) n (twin p.place) (twin x) hff lp lt ex a x la s) [
+    elim (exchanged_spread hff lp lt ex la s) [
       | inl w ↦ not_new (SameCycle-trans (face_next f) (twin x) x a x_to (SameCycle-sym (face_next f) n hff a x la w))
       | inr v ↦ elim v [
         | inl w ↦ out (SameCycle-trans (face_next f) a (twin p.place) c w.0 to_c)
@@ -145,8 +145,8 @@ chord_keeps_faces f g n c d x a b k p out s =
     let q : Chord f g n x c d = chorded f g n c d x k in
     let e : SecondEnd f q.half g n x c d = second_end f g n c d x q in
     let kept : SameCycle (face_next q.half) a b = hang_keeps f q.half n x c q.hung a b p.within s in
-    let far : SameCycle (face_next q.half) a x → ⊥ = half_apart f q.half n c x a q.hung k.turns.before p.within p.not_self p.not_twin out in
-    exchange_elsewhere (face_next q.half) (face_next g) n e.place x e.half_faces e.exchange a b p.within
+    let far : SameCycle (face_next q.half) a x → ⊥ = half_apart q.hung k.turns.before p.within p.not_self p.not_twin out in
+    exchange_elsewhere e.half_faces e.exchange p.within
     (λ w. far (SameCycle-trans (face_next q.half) a e.place x w e.met)) far kept
 
 pub chord_sides : ChordSides
@@ -159,21 +159,21 @@ chord_sides f g n c d x k other =
     let at_x : g x ≡ c = grind (arith, cases_eq) in (
       record { steps = 1; leads = q.before.turns },
       record { steps = 1; leads = ap g (twin-twin x) ∙ at_x },
-      λ s. exchange_parted (face_next q.half) (face_next g) n e.place x e.half_faces e.place_within lx e.apart e.exchange e.met
+      λ s. exchange_parted e.half_faces e.place_within lx e.apart e.exchange e.met
           (SameCycle-trans (face_next g) e.place (twin x) x (record { steps = 1; leads = e.leads }) (SameCycle-sym (face_next g) n hg x (twin x) lx s)),
     )
 
 -- ---- Unchord
 
 -- with one end of a segment left, and that taken out too, no face is parted
-pub unhung_faces : (f g : ℕ → ℕ) (n x c a b : ℕ) → Hung f g n x c → a < n → a ≢ x → a ≢ twin x → b ≢ x → b ≢ twin x → SameCycle (face_next g) a b → SameCycle (face_next f) a b
-unhung_faces f g n x c a b h la ax ay bx by' s =
+pub unhung_faces : (f g : ℕ → ℕ) {n x : ℕ} (c : ℕ) {a b : ℕ} → Hung f g n x c → a < n → a ≢ x → a ≢ twin x → b ≢ x → b ≢ twin x → SameCycle (face_next g) a b → SameCycle (face_next f) a b
+unhung_faces f g {n} {x} c {a} {b} h la ax ay bx by' s =
     let p : Insertion f g n x c = insertion f g n x c h.permutation h.within h.not_self h.before in
     let lp : twin p.place < n = twin-within n p.place h.even p.within in
     let lt : twin x < n = twin-within n x h.even h.within in
     let hff : IsPermutation (face_next f) n = face_next-permutation f n p.permutation h.even in
     let ex : IsExchangeBelow (face_next f) (face_next g) n (twin p.place) (twin x) = exchange_faces f g n p.place x h.even p.exchange in
-    elim (exchanged_spread (face_next f) (face_next g) n (twin p.place) (twin x) hff lp lt ex a b la s) [
+    elim (exchanged_spread hff lp lt ex la s) [
       | inl w ↦ w
       | inr v ↦ elim v [
         | inl w ↦ elim (isolated_face f x b h.isolated w.1) [ inl e ↦ absurd (by' e) | inr e ↦ absurd (bx e) ]
@@ -195,11 +195,11 @@ unchord_keeps_faces f g n h a b k pa pb s =
     IsExchangeBelow-back (face_next half) (face_next f) n (twin p.place) (twin h) (exchange_faces half f n p.place h even p.exchange) in
     let to_h : SameCycle (face_next f) (twin p.place) h = record { steps = 1; leads = ap f (twin-twin p.place) ∙ p.leads } in
     let near : SameCycle (face_next half) (twin p.place) (twin h) =
-    exchanged_apart (face_next f) (face_next half) n (twin p.place) (twin h) hff lp lt (λ e. p.other (twin-apart _ _ e)) ex
+    exchanged_apart hff lp lt (λ e. p.other (twin-apart _ _ e)) ex
     (λ w. k.two_faces (SameCycle-trans (face_next f) h (twin p.place) (twin h) (SameCycle-sym (face_next f) n hff (twin p.place) h lp to_h) w)) in
-    let kept : SameCycle (face_next half) a b = exchanged_keeps (face_next f) (face_next half) n (twin p.place) (twin h) hff lp lt ex near a b pa.within s in
+    let kept : SameCycle (face_next half) a b = exchanged_keeps hff lp lt ex near pa.within s in
     let back : twin (twin h) ≡ h = twin-twin h in
-    unhung_faces g half n (twin h) (half (twin h)) a b
+    unhung_faces g half (half (twin h))
     (grind arith)
     pa.within pa.not_twin (λ e. pa.not_self (e ∙ back)) pb.not_twin (λ e. pb.not_self (e ∙ back)) kept
 

@@ -58,7 +58,7 @@ pub record IsGrowthUnder (g : ℕ → ℕ) (m : ℕ) (nu : ℕ → ℕ) (v : Tur
   pub old_number : (d : ℕ) → d < m → number d ≡ nu d
   pub new_number : number m ≡ y
 
-module _ (f g : ℕ → ℕ) (m c : ℕ) (o : IsGrowth f g m c) where
+module _ {f g : ℕ → ℕ} {m c : ℕ} (o : IsGrowth f g m c) where
   abbrev n : ℕ
   n = suc (suc m)
 
@@ -77,7 +77,7 @@ module _ (f g : ℕ → ℕ) (m c : ℕ) (o : IsGrowth f g m c) where
   grows : AddsSegment (below m) (λ a. true) n m
   grows = grind (arith, not_below, below, twin_new, parts, lt-ltb)
 
-  module _ (nu back : ℕ → ℕ) (limit : ℕ) (u v : Turning) (y : ℕ) (r : RenumbersTurn nu back f u.turn m u.live limit) (slab : IsSlab u.live u.turn limit) (step : IsStep limit u (Hang (nu c) y) v) where
+  module _ {nu back : ℕ → ℕ} {limit : ℕ} {u v : Turning} (y : ℕ) (r : RenumbersTurn nu back f u.turn m u.live limit) (slab : IsSlab u.live u.turn limit) (step : IsStep limit u (Hang (nu c) y) v) where
     whole : RenumbersSlab nu back (λ _. true) f m u.live u.turn limit
     whole = slab_of_turn nu back f u.turn m u.live limit r slab
 
@@ -101,7 +101,7 @@ module _ (f g : ℕ → ℕ) (m c : ℕ) (o : IsGrowth f g m c) where
       number = extended nu m y;
       back_number = extended back y m;
       renumbers = turn_of_slab (extended nu m y) (extended back y m) g v.turn n (λ _. true) v.live limit (λ a la. refl)
-          (hang_numbers nu back (below m) (λ _. true) room g n c m u.live v.live u.turn v.turn limit y with_place
+          (hang_numbers with_place
           (record { within = omega arith; within_other = step.0.within; adds = grows; adds_other = step.0.adds })
           (outside c (record { within = o.corner; alive = refl })) o.after step.0.permutation hang step.2);
       old_number = λ d ld. extended-other nu m y d (λ e. omega (arith, e, ld)) (λ e. let w : d ≡ suc m = e ∙ twin_new m o.even in omega (arith, w, ld));

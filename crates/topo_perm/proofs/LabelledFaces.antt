@@ -22,11 +22,11 @@ record HasOld (live : ℕ → Bool) (g l l' : ℕ → ℕ) (a : ℕ) : Type 0 wh
   label : l' a ≡ l old
 
 -- where darts that were live lie in one face after just when they did before
-labelled : (live live' : ℕ → Bool) (f g l l' : ℕ → ℕ) (n : ℕ) → IsPermutation (face_next g) n → ((a : ℕ) → live' a ≡ true → a < n) → LabelsFaces live f l
+labelled : {live : ℕ → Bool} (live' : ℕ → Bool) {f : ℕ → ℕ} (g : ℕ → ℕ) {l : ℕ → ℕ} (l' : ℕ → ℕ) {n : ℕ} → IsPermutation (face_next g) n → ((a : ℕ) → live' a ≡ true → a < n) → LabelsFaces live f l
     → ((a b : ℕ) → live a ≡ true → live b ≡ true → SameCycle (face_next f) a b → SameCycle (face_next g) a b)
     → ((a b : ℕ) → live a ≡ true → live b ≡ true → SameCycle (face_next g) a b → SameCycle (face_next f) a b)
     → ((a : ℕ) → live' a ≡ true → HasOld live g l l' a) → LabelsFaces live' g l'
-labelled live live' f g l l' n perm below labels onward back old = record {
+labelled live' g l' {n} perm below labels onward back old = record {
   same_face = λ a b t s e.
       let r = old a t in
       let q = old b s in
@@ -53,11 +53,11 @@ away : (live live' : ℕ → Bool) (n x a : ℕ) → AddsBelow live live' n x �
 away live live' n x a k t = grind (arith, false≢true)
 
 -- with a dart for each half of the new segment
-old_by : (live live' : ℕ → Bool) (g l l' : ℕ → ℕ) (x r q a : ℕ) → AreKept live l l' → live r ≡ true → live q ≡ true → SameCycle (face_next g) x r → SameCycle (face_next g) (twin x) q → l' x ≡ l r → l' (twin x) ≡ l q
+old_by : {live : ℕ → Bool} (live' : ℕ → Bool) (g l l' : ℕ → ℕ) {x r q a : ℕ} → AreKept live l l' → live r ≡ true → live q ≡ true → SameCycle (face_next g) x r → SameCycle (face_next g) (twin x) q → l' x ≡ l r → l' (twin x) ≡ l q
     → Comes live x a → HasOld live g l l' a
-old_by live live' g l l' x r q a kept tr tq sr sq er eq (IsNew e) = record { old = r; was = tr; in_face = subst (λ (v : ℕ). SameCycle (face_next g) v r) (sym e) sr; label = ap l' e ∙ er }
-old_by live live' g l l' x r q a kept tr tq sr sq er eq (IsNewTwin e) = record { old = q; was = tq; in_face = subst (λ (v : ℕ). SameCycle (face_next g) v q) (sym e) sq; label = ap l' e ∙ eq }
-old_by live live' g l l' x r q a kept tr tq sr sq er eq (WasLive t) = record { old = a; was = t; in_face = SameCycle-refl (face_next g) a; label = kept a t }
+old_by live' g l l' {r} kept tr tq sr sq er eq (IsNew e) = record { old = r; was = tr; in_face = subst (λ (v : ℕ). SameCycle (face_next g) v r) (sym e) sr; label = ap l' e ∙ er }
+old_by live' g l l' {q} kept tr tq sr sq er eq (IsNewTwin e) = record { old = q; was = tq; in_face = subst (λ (v : ℕ). SameCycle (face_next g) v q) (sym e) sq; label = ap l' e ∙ eq }
+old_by live' g l l' {a} kept tr tq sr sq er eq (WasLive t) = record { old = a; was = t; in_face = SameCycle-refl (face_next g) a; label = kept a t }
 
 -- ---- Hang
 
@@ -66,13 +66,13 @@ hang_labels live live' f g l l' n c x adds tc k labels kept here there =
     let sides = hang_sides f g n c x k in
     let perm : IsPermutation (face_next g) n = face_next-permutation g n k.turns.after k.turns.even in
     let twin_c : SameCycle (face_next g) (twin x) c = SameCycle-trans (face_next g) (twin x) x c (SameCycle-sym (face_next g) n perm x (twin x) k.turns.within sides.0) sides.1 in
-    labelled live live' f g l l' n perm adds.below_after labels
+    labelled live' g l' perm adds.below_after labels
     (λ a b t s. hang_keeps_faces f g n c x a b k (adds.below a t))
     (λ a b t s.
     let pa = away live live' n x a adds t in
     let pb = away live live' n x b adds s in
-    unhung_faces f g n x c a b (hung f g n c x k) (adds.below a t) pa.not_self pa.not_twin pb.not_self pb.not_twin)
-    (λ a t. old_by live live' g l l' x c c a kept tc tc sides.1 twin_c here there (comes live live' n x a adds t))
+    unhung_faces f g c (hung f g n c x k) (adds.below a t) pa.not_self pa.not_twin pb.not_self pb.not_twin)
+    (λ a t. old_by live' g l l' kept tc tc sides.1 twin_c here there (comes live live' n x a adds t))
 
 -- ---- Split and smooth
 
@@ -85,10 +85,10 @@ split_labels live live' f g l l' n h x adds th tt' k labels kept here there =
     let sides = split_sides f g n h x k in
     let perm : IsPermutation (face_next g) n = face_next-permutation g n k.turns.after k.turns.even in
     let x_h : SameCycle (face_next g) x h = SameCycle-sym (face_next g) n perm h x k.segment.within sides.0 in
-    labelled live live' f g l l' n perm adds.below_after labels
+    labelled live' g l' perm adds.below_after labels
     (λ a b t s. split_keeps_faces f g n h x a b k (away live live' n x a adds t))
     (λ a b t s. smooth_keeps_faces g f n x a b (smoothed_back f g n h x k) (away live live' n x a adds t) (away live live' n x b adds s))
-    (λ a t. old_by live live' g l l' x h (twin h) a kept th tt' x_h sides.1 here there (comes live live' n x a adds t))
+    (λ a t. old_by live' g l l' kept th tt' x_h sides.1 here there (comes live live' n x a adds t))
 
 pub smooth_labels : SmoothLabels
 smooth_labels live live' f g l l' n x takes k labels kept =
@@ -106,7 +106,7 @@ same_or_not g n a b perm la = elim (cases_Bool (is_met g n a b)) [
   | inr f ↦ inr (λ s. false≢true (sym f ∙ SameCycle-is_met g n perm a b la s))
 ]
 
-module _ (live live' : ℕ → Bool) (f g l l' : ℕ → ℕ) (n c d x y new : ℕ) (adds : AddsBelow live live' n x) (tc : live c ≡ true) (td : live d ≡ true) (apart : c ≢ d) (k : IsAllowedChord f g n c d x)
+module _ {live live' : ℕ → Bool} {f g l l' : ℕ → ℕ} {n c d x y new : ℕ} (adds : AddsBelow live live' n x) (tc : live c ≡ true) (td : live d ≡ true) (apart : c ≢ d) (k : IsAllowedChord f g n c d x)
     (labels : LabelsFaces live f l) (side : (y ≡ x) ⊎ (y ≡ twin x)) (part : ArePartLabels live live' g l l' c y new) where
   abbrev Met : ℕ → ℕ → Type 0
   Met a b = SameCycle (face_next g) a b
@@ -208,8 +208,8 @@ module _ (live live' : ℕ → Bool) (f g l l' : ℕ → ℕ) (n c d x y new : �
     ]
   ]
 
-  onward : (a b : ℕ) → live a ≡ true → live b ≡ true → (Met a y → ⊥) → (Met b y → ⊥) → SameCycle (face_next f) a b → Met a b
-  onward a b t s na nb e = elim (same_or_not (face_next f) n a c was_perm (adds.below a t)) [
+  onward : {a b : ℕ} → live a ≡ true → live b ≡ true → (Met a y → ⊥) → (Met b y → ⊥) → SameCycle (face_next f) a b → Met a b
+  onward {a} {b} t s na nb e = elim (same_or_not (face_next f) n a c was_perm (adds.below a t)) [
     | inr other ↦ chord_keeps_faces f g n c d x a b k (away live live' n x a adds t) other e
     | inl met ↦
         let from : SameCycle (face_next f) c a = SameCycle-sym (face_next f) n was_perm a c (adds.below a t) met in
@@ -260,7 +260,7 @@ module _ (live live' : ℕ → Bool) (f g l l' : ℕ → ℕ) (n c d x y new : �
       | inr far ↦
           let r = old a t out in
           let q = old b s far in
-          let met : Met r.old q.old = onward r.old q.old r.was q.was (out_old a t out) (out_old b s far) (labels.same_face r.old q.old r.was q.was (sym r.label ∙ e ∙ q.label)) in
+          let met : Met r.old q.old = onward r.was q.was (out_old a t out) (out_old b s far) (labels.same_face r.old q.old r.was q.was (sym r.label ∙ e ∙ q.label)) in
           join a r.old b r.in_face (join r.old q.old b met (turn_round b q.old (adds.below_after b s) q.in_face))
     ]
   ]
@@ -278,8 +278,8 @@ module _ (live live' : ℕ → Bool) (f g l l' : ℕ → ℕ) (n c d x y new : �
 
 pub chord_labels : ChordLabels
 chord_labels live live' f g l l' n c d x y new adds tc td apart k labels side part = record {
-  same_face = chord_same_face live live' f g l l' n c d x y new adds tc td apart k labels side part;
-  same_label = chord_same_label live live' f g l l' n c d x y new adds tc td apart k labels side part;
+  same_face = chord_same_face adds tc td apart k labels side part;
+  same_label = chord_same_label adds tc td apart k labels side part;
 }
 
 -- ---- Unchord
@@ -292,7 +292,7 @@ after_fixed f a (suc m) e = ap f (after_fixed f a m e) ∙ e
 alone_on : (f : ℕ → ℕ) (a b : ℕ) → f a ≡ a → SameCycle f a b → b ≡ a
 alone_on f a b e s = sym s.leads ∙ after_fixed f a s.steps e
 
-module _ (live live' : ℕ → Bool) (f g l l' : ℕ → ℕ) (n h y : ℕ) (takes : AddsBelow live' live n h) (k : IsAllowedUnchord f g n h) (labels : LabelsFaces live f l) (side : (y ≡ h) ⊎ (y ≡ twin h)) (part : AreJoinedLabels live' f l l' y) where
+module _ {live live' : ℕ → Bool} {f g l l' : ℕ → ℕ} {n h y : ℕ} (takes : AddsBelow live' live n h) (k : IsAllowedUnchord f g n h) (labels : LabelsFaces live f l) (side : (y ≡ h) ⊎ (y ≡ twin h)) (part : AreJoinedLabels live' f l l' y) where
   abbrev Was : ℕ → ℕ → Type 0
   Was a b = SameCycle (face_next f) a b
 
@@ -406,8 +406,8 @@ module _ (live live' : ℕ → Bool) (f g l l' : ℕ → ℕ) (n h y : ℕ) (tak
   kept_met a b pa pb s = unchord_keeps_faces f g n h a b k pa pb s
 
   -- the two faces become one
-  merged : (a b : ℕ) → IsApart n a h → IsApart n b h → Was a h → Was b (twin h) → Is a b
-  merged a b pa pb ah bt =
+  merged : {a b : ℕ} → IsApart n a h → IsApart n b h → Was a h → Was b (twin h) → Is a b
+  merged {a} {b} pa pb ah bt =
       let q : HasBefore (face_next f) n h = before_of (face_next f) n h perm_f lh in
       let v : ℕ = q.place in
       let lv : v < n = q.within in
@@ -434,9 +434,9 @@ module _ (live live' : ℕ → Bool) (f g l l' : ℕ → ℕ) (n h y : ℕ) (tak
   -- one on the side of y and one on the other
   across : (a b : ℕ) → live' a ≡ true → live' b ≡ true → Was a y → Was b (twin y) → Is a b
   across a b t s ay by' = elim side [
-    | inl e ↦ merged a b (other a t) (other b s) (subst (λ (v : ℕ). Was a v) e ay) (subst (λ (v : ℕ). Was b (twin v)) e by')
+    | inl e ↦ merged (other a t) (other b s) (subst (λ (v : ℕ). Was a v) e ay) (subst (λ (v : ℕ). Was b (twin v)) e by')
     | inr e ↦ SameCycle-sym (face_next g) n perm_g b a (other b s).within
-        (merged b a (other b s) (other a t) (subst (λ (v : ℕ). Was b v) (ap twin e ∙ twin-twin h) by') (subst (λ (v : ℕ). Was a v) e ay))
+        (merged (other b s) (other a t) (subst (λ (v : ℕ). Was b v) (ap twin e ∙ twin-twin h) by') (subst (λ (v : ℕ). Was a v) e ay))
   ]
 
   beside_y : (a : ℕ) → live' a ≡ true → Beside a → Was a y ⊎ Was a (twin y)
@@ -488,6 +488,6 @@ module _ (live live' : ℕ → Bool) (f g l l' : ℕ → ℕ) (n h y : ℕ) (tak
 
 pub unchord_labels : UnchordLabels
 unchord_labels live live' f g l l' n h y takes k labels side part = record {
-  same_face = unchord_same_face live live' f g l l' n h y takes k labels side part;
-  same_label = unchord_same_label live live' f g l l' n h y takes k labels side part;
+  same_face = unchord_same_face takes k labels side part;
+  same_label = unchord_same_label takes k labels side part;
 }

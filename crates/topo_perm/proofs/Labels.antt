@@ -19,14 +19,14 @@ pub relabel-at : (l m : ℕ → ℕ) (n i j a : ℕ) → IsRelabel l m n i j →
 relabel-at l m n i j a h la = grind (arith, cases_eq, cond-true, eq-eqb, cond-false, ne_eqb)
 
 -- what had one label keeps one
-pub relabel-keeps : (l m : ℕ → ℕ) (n i j a b : ℕ) → IsRelabel l m n i j → a < n → b < n → l a ≡ l b → m a ≡ m b
-relabel-keeps l m n i j a b h la lb e = grind (arith, relabel-at)
+pub relabel-keeps : {l m : ℕ → ℕ} {n i j : ℕ} (a b : ℕ) → IsRelabel l m n i j → a < n → b < n → l a ≡ l b → m a ≡ m b
+relabel-keeps a b h la lb e = grind (arith, relabel-at)
 
 pub relabel-meets : (l m : ℕ → ℕ) (n i j : ℕ) → IsRelabel l m n i j → i < n → j < n → m i ≡ m j
 relabel-meets l m n i j h li lj = grind (arith, relabel-at)
 
-pub relabel-from : (l m : ℕ → ℕ) (n i j a b : ℕ) → IsRelabel l m n i j → a < n → b < n → m a ≡ m b → (l a ≡ l b) ⊎ (((l a ≡ l i) × (l j ≡ l b)) ⊎ ((l a ≡ l j) × (l i ≡ l b)))
-relabel-from l m n i j a b h la lb e = grind (arith, relabel-at)
+pub relabel-from : {l m : ℕ → ℕ} {n i j : ℕ} (a b : ℕ) → IsRelabel l m n i j → a < n → b < n → m a ≡ m b → (l a ≡ l b) ⊎ (((l a ≡ l i) × (l j ≡ l b)) ⊎ ((l a ≡ l j) × (l i ≡ l b)))
+relabel-from a b h la lb e = grind (arith, relabel-at)
 
 pub relabel-join : (l m : ℕ → ℕ) (n i j : ℕ) → IsRelabel l m n i j → i < n → j < n → IsJoin (same_label l) (same_label m) n i j
 relabel-join l m n i j h li lj = grind (arith, eq-eqb, relabel-keeps, eqb-true, relabel-meets, relabel-from)

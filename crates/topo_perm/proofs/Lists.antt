@@ -13,13 +13,13 @@ exchange_from_swap xs ys i j li lj e =
     let s : Swapped (map_of xs) (map_of ys) i j = swapped_from_swap xs ys i j 0 li lj e in
     record { at_first = s.0; at_second = s.1; elsewhere = s.2 }
 
-pub cycles_of-swap_together : (xs ys : List ℕ) (i j : ℕ) → IsPermutationList xs → i < length xs → j < length xs → i ≢ j → ys ≡ swap xs i j → length ys ≡ length xs → SameCycle (map_of xs) i j → cycles_of ys ≡ cycles_of xs + 1
-cycles_of-swap_together xs ys i j h li lj ne e same met =
-    ap (λ n. cycle_count (map_of ys) n) same ∙ exchange_splits (map_of xs) (map_of ys) (length xs) i j h li lj ne (exchange_from_swap xs ys i j li lj e) met
+pub cycles_of-swap_together : (xs ys : List ℕ) {i j : ℕ} → IsPermutationList xs → i < length xs → j < length xs → i ≢ j → ys ≡ swap xs i j → length ys ≡ length xs → SameCycle (map_of xs) i j → cycles_of ys ≡ cycles_of xs + 1
+cycles_of-swap_together xs ys {i} {j} h li lj ne e same met =
+    ap (λ n. cycle_count (map_of ys) n) same ∙ exchange_splits h li lj ne (exchange_from_swap xs ys i j li lj e) met
 
 pub cycles_of-swap_apart : (xs ys : List ℕ) (i j : ℕ) → IsPermutationList xs → i < length xs → j < length xs → i ≢ j → ys ≡ swap xs i j → length ys ≡ length xs → (SameCycle (map_of xs) i j → ⊥) → cycles_of ys + 1 ≡ cycles_of xs
 cycles_of-swap_apart xs ys i j h li lj ne e same apart =
-    ap (λ n. cycle_count (map_of ys) n + 1) same ∙ sym (exchange_joins (map_of xs) (map_of ys) (length xs) i j h li lj ne (exchange_from_swap xs ys i j li lj e) apart)
+    ap (λ n. cycle_count (map_of ys) n + 1) same ∙ sym (exchange_joins h li lj ne (exchange_from_swap xs ys i j li lj e) apart)
 
 pub after_more : (f : ℕ → ℕ) (k a : ℕ) → after f (k + 1) a ≡ f (after f k a)
 after_more f k a = rw add-one refl

@@ -16,8 +16,8 @@ use Rattle.topo_perm.proofs.SlabEdits.{smooth_keeps_slab}
 
 -- ---- The images after a smoothing
 
-smoothing_of : (f g : ℕ → ℕ) (n x : ℕ) → IsPermutation f n → IsPermutation g n → n % 2 ≡ 0 → x < n → f (f x) ≡ x → f x ≢ twin x → IsSmooth f g n x → IsSmoothing f g n x
-smoothing_of f g n x p q even lx two no_loop b = grind (arith, twin-twin, twin-within, cases_eq, twin-other)
+smoothing_of : {f g : ℕ → ℕ} {n : ℕ} (x : ℕ) → IsPermutation f n → IsPermutation g n → n % 2 ≡ 0 → x < n → f (f x) ≡ x → f x ≢ twin x → IsSmooth f g n x → IsSmoothing f g n x
+smoothing_of x p q even lx two no_loop b = grind (arith, twin-twin, twin-within, cases_eq, twin-other)
 
 -- ---- Midpoints
 
@@ -70,7 +70,7 @@ odd_twin x e = omega (arith, twin-cases x)
 pub even_not_odd : (a b : ℕ) → a % 2 ≡ 0 → b % 2 ≡ 1 → a ≢ b
 even_not_odd a b ea ob e = (let w : b % 2 ≡ 0 = subst (λ (v : ℕ). v % 2 ≡ 0) e ea in absurd (omega arith))
 
-module _ (middle : ℕ → Type 0) (rank : ℕ → ℕ) (live : ℕ → Bool) (t : ℕ → ℕ) (n : ℕ) (f : ℕ → ℕ) (m : ℕ) (name onto : ℕ → ℕ) (w : AreMidway middle rank live t n f m name onto) (x : ℕ) (xt : IsAlive live n x) (is : middle x) where
+module _ {middle : ℕ → Type 0} {rank : ℕ → ℕ} {live : ℕ → Bool} {t : ℕ → ℕ} {n : ℕ} {f : ℕ → ℕ} {m : ℕ} {name onto : ℕ → ℕ} (w : AreMidway middle rank live t n f m name onto) {x : ℕ} (xt : IsAlive live n x) (is : middle x) where
   abbrev left : ℕ → Bool
   left = without_segment live x
 
@@ -108,9 +108,9 @@ module _ (middle : ℕ → Type 0) (rank : ℕ → ℕ) (live : ℕ → Bool) (t
   back_stays : IsAlive left n (t x)
   back_stays = stays (t x) (alive_turn live t n x w.slab xt) not_alone no_loop
 
-  module _ (g : ℕ → ℕ) (a : IsAllowedSmooth t g n x) where
+  module _ {g : ℕ → ℕ} (a : IsAllowedSmooth t g n x) where
     images : IsSmoothing t g n x
-    images = smoothing_of t g n x w.slab.permutation a.turns.after w.slab.even xt.within point.two no_loop a.edit
+    images = smoothing_of x w.slab.permutation a.turns.after w.slab.even xt.within point.two no_loop a.edit
 
     slab_left : IsSlab left g n
     slab_left = smooth_keeps_slab live left t g n x w.slab taken a

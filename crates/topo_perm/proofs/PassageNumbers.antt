@@ -87,23 +87,24 @@ chords_alike h n s t (l ∷ ls) (i ∷ is) r o = (
 abbrev AreAliveAt : (ℕ → Bool) → ℕ → List Bend → Type 0
 AreAliveAt live n ks = AllByRecursion (λ k. IsAlive live n k.beyond × IsAlive live n (twin k.near)) ks
 
-corners_under : (h name name' : ℕ → ℕ) (live : ℕ → Bool) (n z z' : ℕ) (ks js : List Bend) (e : ℕ) (ls is : List Link) → AreAlong name z ks e ls → AreAlong name' z' js e is → h z ≡ z' → h (name e) ≡ name' e
-    → IsAlive live n z → IsAlive live n (name e) → AreBendsAt h ks js → AreAliveAt live n ks → AreCornersUnder h live n ls is
-corners_under h name name' live n z z' [] [] e [] is a b at_z at_e zt et at alive = absurd a
-corners_under h name name' live n z z' [] [] e (l ∷ []) [] a b at_z at_e zt et at alive = absurd b
-corners_under h name name' live n z z' [] [] e (l ∷ []) (i ∷ []) a b at_z at_e zt et at alive =
-    ((subst (IsAlive live n) (sym a.0) zt, subst (IsAlive live n) (sym a.1) et), (b.0 ∙ sym at_z ∙ ap h (sym a.0), b.1 ∙ sym at_e ∙ ap h (sym a.1)), tt)
-corners_under h name name' live n z z' [] [] e (l ∷ []) (i ∷ (v ∷ is)) a b at_z at_e zt et at alive = absurd b
-corners_under h name name' live n z z' [] [] e (l ∷ (u ∷ ls)) is a b at_z at_e zt et at alive = absurd a
-corners_under h name name' live n z z' [] (j ∷ js) e ls is a b at_z at_e zt et at alive = absurd at
-corners_under h name name' live n z z' (k ∷ ks) [] e ls is a b at_z at_e zt et at alive = absurd at
-corners_under h name name' live n z z' (k ∷ ks) (j ∷ js) e [] is a b at_z at_e zt et at alive = absurd a
-corners_under h name name' live n z z' (k ∷ ks) (j ∷ js) e (l ∷ ls) [] a b at_z at_e zt et at alive = absurd b
-corners_under h name name' live n z z' (k ∷ ks) (j ∷ js) e (l ∷ ls) (i ∷ is) a b at_z at_e zt et at alive = (
-  (subst (IsAlive live n) (sym a.0) zt, subst (IsAlive live n) (sym a.1) alive.0.0),
-  (b.0 ∙ sym at_z ∙ ap h (sym a.0), b.1 ∙ sym at.0 ∙ ap h (sym a.1)),
-  corners_under h name name' live n (twin k.near) (twin j.near) ks js e ls is a.2 b.2 at.2 at_e alive.0.1 et at.3 alive.1,
-)
+module _ (h name name' : ℕ → ℕ) {live : ℕ → Bool} {n : ℕ} (e : ℕ) (at_e : h (name e) ≡ name' e) (et : IsAlive live n (name e)) where
+  corners_under : (z z' : ℕ) (ks js : List Bend) (ls is : List Link) → AreAlong name z ks e ls → AreAlong name' z' js e is → h z ≡ z'
+      → IsAlive live n z → AreBendsAt h ks js → AreAliveAt live n ks → AreCornersUnder h live n ls is
+  corners_under z z' [] [] [] is a b at_z zt at alive = absurd a
+  corners_under z z' [] [] (l ∷ []) [] a b at_z zt at alive = absurd b
+  corners_under z z' [] [] (l ∷ []) (i ∷ []) a b at_z zt at alive =
+      ((subst (IsAlive live n) (sym a.0) zt, subst (IsAlive live n) (sym a.1) et), (b.0 ∙ sym at_z ∙ ap h (sym a.0), b.1 ∙ sym at_e ∙ ap h (sym a.1)), tt)
+  corners_under z z' [] [] (l ∷ []) (i ∷ (v ∷ is)) a b at_z zt at alive = absurd b
+  corners_under z z' [] [] (l ∷ (u ∷ ls)) is a b at_z zt at alive = absurd a
+  corners_under z z' [] (j ∷ js) ls is a b at_z zt at alive = absurd at
+  corners_under z z' (k ∷ ks) [] ls is a b at_z zt at alive = absurd at
+  corners_under z z' (k ∷ ks) (j ∷ js) [] is a b at_z zt at alive = absurd a
+  corners_under z z' (k ∷ ks) (j ∷ js) (l ∷ ls) [] a b at_z zt at alive = absurd b
+  corners_under z z' (k ∷ ks) (j ∷ js) (l ∷ ls) (i ∷ is) a b at_z zt at alive = (
+    (subst (IsAlive live n) (sym a.0) zt, subst (IsAlive live n) (sym a.1) alive.0.0),
+    (b.0 ∙ sym at_z ∙ ap h (sym a.0), b.1 ∙ sym at.0 ∙ ap h (sym a.1)),
+    corners_under (twin k.near) (twin j.near) ks js ls is a.2 b.2 at.2 alive.0.1 at.3 alive.1,
+  )
 
 -- ---- The numbers of the darts of the system below
 
@@ -155,8 +156,8 @@ every : {X : Type 0} (P : X → Type 0) (xs : List X) → ((x : X) → IsIn x xs
 every P [] f = tt
 every P (x ∷ xs) f = (f x (inl refl), every P xs (λ y i. f y (inr i)))
 
-module _ (g : ℕ → ℕ) (n : ℕ) (f : ℕ → ℕ) (m : ℕ) (name : ℕ → ℕ) (c : ℕ) (ks : List Bend) (e : ℕ) (ls : List Link) (p : IsPassage g n f m name c ks e ls)
-    (nu nu_back : ℕ → ℕ) (limit : ℕ) (t u t' : Turning) (r : RenumbersTurn nu nu_back f t.turn m t.live limit) (slab : IsSlab t.live t.turn limit)
+module _ {g : ℕ → ℕ} {n : ℕ} {f : ℕ → ℕ} {m : ℕ} {name : ℕ → ℕ} {c : ℕ} {ks : List Bend} {e : ℕ} {ls : List Link} (p : IsPassage g n f m name c ks e ls)
+    {nu nu_back : ℕ → ℕ} {limit : ℕ} {t : Turning} (u t' : Turning) (r : RenumbersTurn nu nu_back f t.turn m t.live limit) (slab : IsSlab t.live t.turn limit)
     (js : List Bend) (is : List Link) (on : AreBendsUnder nu ks js) (along : AreAlong (bent_number nu js) (bent_number nu js c) js e is)
     (splits : IsRun limit t (splits_of js) u) (chords : IsRun limit u (chords_of is) t') where
   abbrev b : ℕ → ℕ
@@ -198,8 +199,8 @@ module _ (g : ℕ → ℕ) (n : ℕ) (f : ℕ → ℕ) (m : ℕ) (name : ℕ →
 
   start : SlabsAlike first first_back n bottom limit t
   start = (let renumbered : RenumbersTurn s.names down f s.bottom m below n = renumbers b n f m name ks s in
-      composed_numbers down s.names nu nu_back below s.bottom n (λ _. true) f m t.live t.turn limit
-      (back_numbers s.names down (λ _. true) f m below s.bottom n (slab_of_turn s.names down f s.bottom m below n renumbered (slab_below g n f m name c ks e ls p s)))
+      composed_numbers
+      (back_numbers s.names down (λ _. true) f m below s.bottom n (slab_of_turn s.names down f s.bottom m below n renumbered (slab_below p s)))
       (slab_of_turn nu nu_back f t.turn m t.live limit r slab))
 
   alive_name : (d : ℕ) → d < m → IsAlive below n (s.names d)
@@ -226,7 +227,7 @@ module _ (g : ℕ → ℕ) (n : ℕ) (f : ℕ → ℕ) (m : ℕ) (name : ℕ →
   second_back = backs_after first_back (splits_of ks) (splits_of js)
 
   with_all_bends : SlabsAlike second second_back n middle limit u
-  with_all_bends = run_numbers first first_back n bottom middle limit t u (splits_of ks) (splits_of js) start bends_run splits splits_are_alike
+  with_all_bends = run_numbers first first_back middle (splits_of ks) (splits_of js) start bends_run splits splits_are_alike
 
   second_name : (d : ℕ) → d < m → second (s.names d) ≡ nu d
   second_name d ld = kept_number first n bottom middle (splits_of ks) (splits_of js) (s.names d) (splits_add ks) bends_run (alive_name d ld) ∙ first_name d ld
@@ -239,7 +240,7 @@ module _ (g : ℕ → ℕ) (n : ℕ) (f : ℕ → ℕ) (m : ℕ) (name : ℕ →
 
   second_bends : AreBendsAt second ks js
   second_bends = made_bends second nu ks js
-      (new_numbers first second n bottom middle (splits_of ks) (splits_of js) even (splits_add ks) bends_run splits_are_alike (λ a at. refl))
+      (new_numbers first second bottom middle (splits_of ks) (splits_of js) even (splits_add ks) bends_run splits_are_alike (λ a at. refl))
       on (every (λ k. second (twin k.near) ≡ twin (nu k.dart)) ks far_back)
 
   other_ends : AllByRecursion (λ k. name (twin k.dart) ≡ twin k.beyond) ks
@@ -254,7 +255,7 @@ module _ (g : ℕ → ℕ) (n : ℕ) (f : ℕ → ℕ) (m : ℕ) (name : ℕ →
   -- ---- The links
 
   links_are : IsRun n middle (chords_of ls) top
-  links_are = links_run bent g n ls p.permutation even p.links (ready g n f m name c ks e ls p i s)
+  links_are = links_run bent g n ls p.permutation even p.links (ready p i s)
 
   alive_here : (d : ℕ) → d < m → IsAlive bent n (name d)
   alive_here d ld = record { within = p.named.within d ld; alive = name_live b n f m name ks i s d ld }
@@ -271,8 +272,8 @@ module _ (g : ℕ → ℕ) (n : ℕ) (f : ℕ → ℕ) (m : ℕ) (name : ℕ →
 
   chords_are_alike : AreAlike second (chords_of ls) (chords_of is)
   chords_are_alike = chords_alike second n middle top ls is links_are
-      (corners_under second name (bent_number nu js) bent n (name c) (bent_number nu js c) ks js e ls is p.along along (second_names c p.from_there) (second_names e p.to_there)
-      (alive_here c p.from_there) (alive_here e p.to_there) second_bends (every (λ k. IsAlive bent n k.beyond × IsAlive bent n (twin k.near)) ks (λ k h. ((alive_beyond k h).0, alive_back k h))))
+      (corners_under second name (bent_number nu js) e (second_names e p.to_there) (alive_here e p.to_there) (name c) (bent_number nu js c) ks js ls is
+      p.along along (second_names c p.from_there) (alive_here c p.from_there) second_bends (every (λ k. IsAlive bent n k.beyond × IsAlive bent n (twin k.near)) ks (λ k h. ((alive_beyond k h).0, alive_back k h))))
 
   abbrev third : ℕ → ℕ
   third = numbers_after second (chords_of ls) (chords_of is)
@@ -281,7 +282,7 @@ module _ (g : ℕ → ℕ) (n : ℕ) (f : ℕ → ℕ) (m : ℕ) (name : ℕ →
   third_back = backs_after second_back (chords_of ls) (chords_of is)
 
   with_all_links : SlabsAlike third third_back n top limit t'
-  with_all_links = run_numbers second second_back n middle top limit u t' (chords_of ls) (chords_of is) with_all_bends links_are chords chords_are_alike
+  with_all_links = run_numbers second second_back top (chords_of ls) (chords_of is) with_all_bends links_are chords chords_are_alike
 
   third_same : (a : ℕ) → IsAlive bent n a → third a ≡ second a
   third_same a at = kept_number second n middle top (chords_of ls) (chords_of is) a (chords_add ls) links_are at
@@ -290,9 +291,9 @@ module _ (g : ℕ → ℕ) (n : ℕ) (f : ℕ → ℕ) (m : ℕ) (name : ℕ →
   passage_numbers = record {
     number = third;
     back = third_back;
-    renumbers = turn_of_slab third third_back g t'.turn n (with_links bent ls) t'.live limit (all_live g n f m name c ks e ls p i s) with_all_links;
+    renumbers = turn_of_slab third third_back g t'.turn n (with_links bent ls) t'.live limit (all_live p i s) with_all_links;
     names = λ d ld. third_same (name d) (alive_here d ld) ∙ second_names d ld;
     bends = at_bends second third bent n ks js third_same
         (every (λ k. IsAlive bent n k.beyond × IsAlive bent n (twin k.beyond) × IsAlive bent n (twin k.near)) ks (λ k h. ((alive_beyond k h).0, (alive_beyond k h).1, alive_back k h))) second_bends;
-    links = new_numbers second third n middle top (chords_of ls) (chords_of is) even (chords_add ls) links_are chords_are_alike (λ a at. refl);
+    links = new_numbers second third middle top (chords_of ls) (chords_of is) even (chords_add ls) links_are chords_are_alike (λ a at. refl);
   }

@@ -64,8 +64,8 @@ back_live b n f m name ks i s k h =
 
 -- ---- The slab below
 
-pub slab_below : (g : ℕ → ℕ) (n : ℕ) (f : ℕ → ℕ) (m : ℕ) (name : ℕ → ℕ) (c : ℕ) (ks : List Bend) (e : ℕ) (ls : List Link) → IsPassage g n f m name c ks e ls → (s : Straightened (without_links g ls) n f m name ks) → IsSlab (is_named s.names m) s.bottom n
-slab_below g n f m name c ks e ls p s =
+pub slab_below : {g : ℕ → ℕ} {n : ℕ} {f : ℕ → ℕ} {m : ℕ} {name : ℕ → ℕ} {c : ℕ} {ks : List Bend} {e : ℕ} {ls : List Link} → IsPassage g n f m name c ks e ls → (s : Straightened (without_links g ls) n f m name ks) → IsSlab (is_named s.names m) s.bottom n
+slab_below {g} {n} {f} {m} {name} {ks} {ls} p s =
     let b : ℕ → ℕ = without_links g ls in
     let i : AllByRecursion (IsBend b n m name) ks = all_bends b n m name ks p.bends in
     let live : ℕ → Bool = is_named s.names m in
@@ -144,22 +144,23 @@ link_live live (j ∷ js) l h = elim h [
 ]
 
 -- the corners of the links are live
-corners_live : (live : ℕ → Bool) (m : ℕ) (name : ℕ → ℕ) (z : ℕ) (ks : List Bend) (e : ℕ) (ls : List Link) → AreAlong name z ks e ls → live z ≡ true → live (name e) ≡ true
-    → AllByRecursion (λ k. (live k.beyond ≡ true) × (live (twin k.near) ≡ true)) ks → AllByRecursion (λ l. (live l.from ≡ true) × (live l.to ≡ true)) ls
-corners_live live m name z [] e [] a hz he h = tt
-corners_live live m name z [] e (l ∷ []) a hz he h = ((ap live a.0 ∙ hz, ap live a.1 ∙ he), tt)
-corners_live live m name z [] e (l ∷ (j ∷ ls)) a hz he h = elim a [ ]
-corners_live live m name z (k ∷ ks) e [] a hz he h = tt
-corners_live live m name z (k ∷ ks) e (l ∷ ls) a hz he h = ((ap live a.0 ∙ hz, ap live a.1 ∙ h.0.0), corners_live live m name (twin k.near) ks e ls a.2 h.0.1 he h.1)
+module _ (live : ℕ → Bool) (name : ℕ → ℕ) (e : ℕ) (he : live (name e) ≡ true) where
+  corners_live : (z : ℕ) (ks : List Bend) (ls : List Link) → AreAlong name z ks e ls → live z ≡ true
+      → AllByRecursion (λ k. (live k.beyond ≡ true) × (live (twin k.near) ≡ true)) ks → AllByRecursion (λ l. (live l.from ≡ true) × (live l.to ≡ true)) ls
+  corners_live z [] [] a hz h = tt
+  corners_live z [] (l ∷ []) a hz h = ((ap live a.0 ∙ hz, ap live a.1 ∙ he), tt)
+  corners_live z [] (l ∷ (j ∷ ls)) a hz h = elim a [ ]
+  corners_live z (k ∷ ks) [] a hz h = tt
+  corners_live z (k ∷ ks) (l ∷ ls) a hz h = ((ap live a.0 ∙ hz, ap live a.1 ∙ h.0.0), corners_live (twin k.near) ks ls a.2 h.0.1 h.1)
 
 ready_of : (live : ℕ → Bool) (ls : List Link) → AllByRecursion (λ l. (live l.half ≡ false) × (live (twin l.half) ≡ false)) ls → AllByRecursion (λ l. (live l.from ≡ true) × (live l.to ≡ true)) ls → AreReady live ls
 ready_of live [] h g = tt
 ready_of live (l ∷ ls) h g = ((h.0.0, h.0.1, g.0.0, g.0.1), ready_of live ls h.1 g.1)
 
 -- the halves of a link are not live before
-half_dead : (g : ℕ → ℕ) (n : ℕ) (f : ℕ → ℕ) (m : ℕ) (name : ℕ → ℕ) (c : ℕ) (ks : List Bend) (e : ℕ) (ls : List Link) → OnGround g n f m name c ks e ls → (s : Straightened (without_links g ls) n f m name ks) → (l : Link) → IsIn l ls
+half_dead : {g : ℕ → ℕ} {n : ℕ} {f : ℕ → ℕ} {m : ℕ} {name : ℕ → ℕ} {c : ℕ} {ks : List Bend} {e : ℕ} {ls : List Link} → OnGround g n f m name c ks e ls → (s : Straightened (without_links g ls) n f m name ks) → (l : Link) → IsIn l ls
     → (with_bends (is_named s.names m) ks l.half ≡ false) × (with_bends (is_named s.names m) ks (twin l.half) ≡ false)
-half_dead g n f m name c ks e ls o s l h =
+half_dead {n} {m} {name} {ks} {ls} o s l h =
     let new : (d : ℕ) → d < m → IsApart n (name d) l.half = all_at (λ j. (d : ℕ) → d < m → IsApart n (name d) j.half) l ls o.p.new h in
     let strange : AllByRecursion (AreStrange n name l) ks = all_at (λ j. AllByRecursion (AreStrange n name j) ks) l ls o.p.strange h in
     let near : IsWithin n ks l.half = all_map (AreStrange n name l) (λ k. IsApart n l.half k.beyond) (λ k w. w.beyond) ks strange in
@@ -227,46 +228,47 @@ LiesAt b names z c = SameCycle (face_next b) z (names c)
 next_lies : (b : ℕ → ℕ) (m : ℕ) (name names : ℕ → ℕ) (k : Bend) → GoodBend b m name names k → LiesAt b names (twin k.near) (twin k.dart)
 next_lies b m name names k g = subst (λ (v : ℕ). SameCycle (face_next b) (twin k.near) v) (sym g.back) (SameCycle-refl (face_next b) (twin k.near))
 
--- a corner in a face that the walk does not meet is in the face of no link's start
-far_links : (b : ℕ → ℕ) (n : ℕ) (f : ℕ → ℕ) (m : ℕ) (name names : ℕ → ℕ) → AreFacesAbove b n f m name names → (y a : ℕ) → y < n → a < m → LiesAt b names y a
-    → (z c : ℕ) (ks : List Bend) (e : ℕ) (ls : List Link) → AreAlong name z ks e ls → c < m → LiesAt b names z c → (SameCycle (face_next f) a c → ⊥)
-    → AllByRecursion (λ k. SameCycle (face_next f) a (twin k.dart) → ⊥) ks → AllByRecursion (GoodBend b m name names) ks → AllByRecursion (λ l. SameCycle (face_next b) y l.from → ⊥) ls
-far_links b n f m name names h y a ly la at z c [] e [] along lc lies out outs good = tt
-far_links b n f m name names h y a ly la at z c [] e (l ∷ []) along lc lies out outs good = (
-  λ w. out (h.uncarried a c la lc
-      (SameCycle-trans (face_next b) (names a) y (names c) (SameCycle-sym (face_next b) n h.permutation y (names a) ly at)
-      (SameCycle-trans (face_next b) y z (names c) (subst (λ (v : ℕ). SameCycle (face_next b) y v) along.0 w) lies))),
-  tt,
-)
-far_links b n f m name names h y a ly la at z c [] e (l ∷ (j ∷ ls)) along lc lies out outs good = elim along [ ]
-far_links b n f m name names h y a ly la at z c (k ∷ ks) e [] along lc lies out outs good = tt
-far_links b n f m name names h y a ly la at z c (k ∷ ks) e (l ∷ ls) along lc lies out outs good = (
-  λ w. out (h.uncarried a c la lc
-      (SameCycle-trans (face_next b) (names a) y (names c) (SameCycle-sym (face_next b) n h.permutation y (names a) ly at)
-      (SameCycle-trans (face_next b) y z (names c) (subst (λ (v : ℕ). SameCycle (face_next b) y v) along.0 w) lies))),
-  far_links b n f m name names h y a ly la at (twin k.near) (twin k.dart) ks e ls along.2 (twin-within m k.dart h.even good.0.there) (next_lies b m name names k good.0) outs.0 outs.1 good.1,
-)
-
-in_faces : (b : ℕ → ℕ) (n : ℕ) (f : ℕ → ℕ) (m : ℕ) (name names : ℕ → ℕ) → AreFacesAbove b n f m name names → (z c : ℕ) (ks : List Bend) (e : ℕ) (ls : List Link) → AreAlong name z ks e ls → z < n → c < m → e < m → LiesAt b names z c
-    → Walks f c ks e → MeetsOnce f c ks → AllByRecursion (GoodBend b m name names) ks → AllByRecursion (λ k. twin k.near < n) ks → AreInFaces b ls
-in_faces b n f m name names h z c [] e [] along lz lc le lies walk once good within = tt
-in_faces b n f m name names h z c [] e (l ∷ []) along lz lc le lies walk once good within =
-    let there : SameCycle (face_next b) z (name e) = SameCycle-trans (face_next b) z (names c) (name e) lies
-    (SameCycle-trans (face_next b) (names c) (names e) (name e) (h.carried c e lc le walk) (SameCycle-sym (face_next b) n h.permutation (name e) (names e) (h.name_within e le) (h.at_name e le))) in
-    (subst (λ (v : ℕ). SameCycle (face_next b) v l.to) (sym along.0) (subst (λ (v : ℕ). SameCycle (face_next b) z v) (sym along.1) there), tt, tt)
-in_faces b n f m name names h z c [] e (l ∷ (j ∷ ls)) along lz lc le lies walk once good within = elim along [ ]
-in_faces b n f m name names h z c (k ∷ ks) e [] along lz lc le lies walk once good within = elim along [ ]
-in_faces b n f m name names h z c (k ∷ ks) e (l ∷ ls) along lz lc le lies walk once good within =
-    let lk : k.dart < m = good.0.there in
-    let lt : twin k.dart < m = twin-within m k.dart h.even lk in
-    let there : SameCycle (face_next b) z k.beyond = SameCycle-trans (face_next b) z (names c) k.beyond lies
-    (SameCycle-trans (face_next b) (names c) (names k.dart) k.beyond (h.carried c k.dart lc lk walk.0) (subst (λ (v : ℕ). SameCycle (face_next b) v k.beyond) (sym good.0.near) good.0.ahead)) in
-    let next : LiesAt b names (twin k.near) (twin k.dart) = next_lies b m name names k good.0 in
-    let far : AllByRecursion (λ j. SameCycle (face_next b) z j.from → ⊥) ls = far_links b n f m name names h z c lz lc lies (twin k.near) (twin k.dart) ks e ls along.2 lt next once.0.0 once.0.1 good.1 in (
-      subst (λ (v : ℕ). SameCycle (face_next b) v l.to) (sym along.0) (subst (λ (v : ℕ). SameCycle (face_next b) z v) (sym along.1) there),
-      all_map (λ j. SameCycle (face_next b) z j.from → ⊥) (λ j. SameCycle (face_next b) l.from j.from → ⊥) (λ j w v. w (subst (λ (u : ℕ). SameCycle (face_next b) u j.from) along.0 v)) ls far,
-      in_faces b n f m name names h (twin k.near) (twin k.dart) ks e ls along.2 within.0 lt le next walk.1 once.1 good.1 within.1,
+module _ {b : ℕ → ℕ} {n : ℕ} {f : ℕ → ℕ} {m : ℕ} {name names : ℕ → ℕ} (h : AreFacesAbove b n f m name names) (e : ℕ) (le : e < m) where
+  -- a corner in a face that the walk does not meet is in the face of no link's start
+  module _ (y a : ℕ) (ly : y < n) (la : a < m) (at : LiesAt b names y a) where
+    far_links : (z c : ℕ) (ks : List Bend) (ls : List Link) → AreAlong name z ks e ls → c < m → LiesAt b names z c → (SameCycle (face_next f) a c → ⊥)
+        → AllByRecursion (λ k. SameCycle (face_next f) a (twin k.dart) → ⊥) ks → AllByRecursion (GoodBend b m name names) ks → AllByRecursion (λ l. SameCycle (face_next b) y l.from → ⊥) ls
+    far_links z c [] [] along lc lies out outs good = tt
+    far_links z c [] (l ∷ []) along lc lies out outs good = (
+      λ w. out (h.uncarried a c la lc
+          (SameCycle-trans (face_next b) (names a) y (names c) (SameCycle-sym (face_next b) n h.permutation y (names a) ly at)
+          (SameCycle-trans (face_next b) y z (names c) (subst (λ (v : ℕ). SameCycle (face_next b) y v) along.0 w) lies))),
+      tt,
     )
+    far_links z c [] (l ∷ (j ∷ ls)) along lc lies out outs good = elim along [ ]
+    far_links z c (k ∷ ks) [] along lc lies out outs good = tt
+    far_links z c (k ∷ ks) (l ∷ ls) along lc lies out outs good = (
+      λ w. out (h.uncarried a c la lc
+          (SameCycle-trans (face_next b) (names a) y (names c) (SameCycle-sym (face_next b) n h.permutation y (names a) ly at)
+          (SameCycle-trans (face_next b) y z (names c) (subst (λ (v : ℕ). SameCycle (face_next b) y v) along.0 w) lies))),
+      far_links (twin k.near) (twin k.dart) ks ls along.2 (twin-within m k.dart h.even good.0.there) (next_lies b m name names k good.0) outs.0 outs.1 good.1,
+    )
+
+  in_faces : (z : ℕ) {c : ℕ} (ks : List Bend) (ls : List Link) → AreAlong name z ks e ls → z < n → c < m → LiesAt b names z c
+      → Walks f c ks e → MeetsOnce f c ks → AllByRecursion (GoodBend b m name names) ks → AllByRecursion (λ k. twin k.near < n) ks → AreInFaces b ls
+  in_faces z [] [] along lz lc lies walk once good within = tt
+  in_faces z {c} [] (l ∷ []) along lz lc lies walk once good within =
+      let there : SameCycle (face_next b) z (name e) = SameCycle-trans (face_next b) z (names c) (name e) lies
+      (SameCycle-trans (face_next b) (names c) (names e) (name e) (h.carried c e lc le walk) (SameCycle-sym (face_next b) n h.permutation (name e) (names e) (h.name_within e le) (h.at_name e le))) in
+      (subst (λ (v : ℕ). SameCycle (face_next b) v l.to) (sym along.0) (subst (λ (v : ℕ). SameCycle (face_next b) z v) (sym along.1) there), tt, tt)
+  in_faces z [] (l ∷ (j ∷ ls)) along lz lc lies walk once good within = elim along [ ]
+  in_faces z (k ∷ ks) [] along lz lc lies walk once good within = elim along [ ]
+  in_faces z {c} (k ∷ ks) (l ∷ ls) along lz lc lies walk once good within =
+      let lk : k.dart < m = good.0.there in
+      let lt : twin k.dart < m = twin-within m k.dart h.even lk in
+      let there : SameCycle (face_next b) z k.beyond = SameCycle-trans (face_next b) z (names c) k.beyond lies
+      (SameCycle-trans (face_next b) (names c) (names k.dart) k.beyond (h.carried c k.dart lc lk walk.0) (subst (λ (v : ℕ). SameCycle (face_next b) v k.beyond) (sym good.0.near) good.0.ahead)) in
+      let next : LiesAt b names (twin k.near) (twin k.dart) = next_lies b m name names k good.0 in
+      let far : AllByRecursion (λ j. SameCycle (face_next b) z j.from → ⊥) ls = far_links z c lz lc lies (twin k.near) (twin k.dart) ks ls along.2 lt next once.0.0 once.0.1 good.1 in (
+        subst (λ (v : ℕ). SameCycle (face_next b) v l.to) (sym along.0) (subst (λ (v : ℕ). SameCycle (face_next b) z v) (sym along.1) there),
+        all_map (λ j. SameCycle (face_next b) z j.from → ⊥) (λ j. SameCycle (face_next b) l.from j.from → ⊥) (λ j w v. w (subst (λ (u : ℕ). SameCycle (face_next b) u j.from) along.0 v)) ls far,
+        in_faces (twin k.near) ks ls along.2 within.0 lt next walk.1 once.1 good.1 within.1,
+      )
 
 -- ---- The whole passage
 
@@ -275,9 +277,9 @@ pub record Passed (g : ℕ → ℕ) (n : ℕ) (f : ℕ → ℕ) (m : ℕ) (ls : 
   pub faces : cycle_count (face_next g) n ≡ cycle_count (face_next f) m + length ls
   pub connected : ((a b : ℕ) → a < m → b < m → Joined f twin a b) → (a b : ℕ) → a < n → b < n → Joined g twin a b
 
-pub all_live : (g : ℕ → ℕ) (n : ℕ) (f : ℕ → ℕ) (m : ℕ) (name : ℕ → ℕ) (c : ℕ) (ks : List Bend) (e : ℕ) (ls : List Link) → IsPassage g n f m name c ks e ls
+pub all_live : {g : ℕ → ℕ} {n : ℕ} {f : ℕ → ℕ} {m : ℕ} {name : ℕ → ℕ} {c : ℕ} {ks : List Bend} {e : ℕ} {ls : List Link} → IsPassage g n f m name c ks e ls
     → AllByRecursion (IsBend (without_links g ls) n m name) ks → (s : Straightened (without_links g ls) n f m name ks) → (a : ℕ) → a < n → with_links (with_bends (is_named s.names m) ks) ls a ≡ true
-all_live g n f m name c ks e ls p i s a la =
+all_live {g} {n} {f} {m} {name} {ks} {ls} p i s a la =
     let b : ℕ → ℕ = without_links g ls in
     let live : ℕ → Bool = with_bends (is_named s.names m) ks in
     elim (p.placed a la) [
@@ -298,16 +300,16 @@ pub whole_count : (h : ℕ → ℕ) (n : ℕ) (live : ℕ → Bool) → IsPermut
 whole_count h n live p all = renumbered_cycles (λ a. a) (λ a. a) h h n live n (grind arith)
 
 -- with the bends, the links are ready to be drawn
-pub ready : (g : ℕ → ℕ) (n : ℕ) (f : ℕ → ℕ) (m : ℕ) (name : ℕ → ℕ) (c : ℕ) (ks : List Bend) (e : ℕ) (ls : List Link) → IsPassage g n f m name c ks e ls
+pub ready : {g : ℕ → ℕ} {n : ℕ} {f : ℕ → ℕ} {m : ℕ} {name : ℕ → ℕ} {c : ℕ} {ks : List Bend} {e : ℕ} {ls : List Link} → IsPassage g n f m name c ks e ls
     → AllByRecursion (IsBend (without_links g ls) n m name) ks → (s : Straightened (without_links g ls) n f m name ks) → AreReady (with_bends (is_named s.names m) ks) ls
-ready g n f m name c ks e ls p i s =
+ready {g} {n} {f} {m} {name} {c} {ks} {e} {ls} p i s =
     let b : ℕ → ℕ = without_links g ls in
     let below : ℕ → Bool = is_named s.names m in
     let live : ℕ → Bool = with_bends below ks in
-    let corners : AllByRecursion (λ l. (live l.from ≡ true) × (live l.to ≡ true)) ls = corners_live live m name (name c) ks e ls p.along (name_live b n f m name ks i s c p.from_there) (name_live b n f m name ks i s e p.to_there)
+    let corners : AllByRecursion (λ l. (live l.from ≡ true) × (live l.to ≡ true)) ls = corners_live live name e (name_live b n f m name ks i s e p.to_there) (name c) ks ls p.along (name_live b n f m name ks i s c p.from_there)
     (all_of (λ k. (live k.beyond ≡ true) × (live (twin k.near) ≡ true)) ks (λ k h. ((beyond_live below ks k h).0, live_bends below ks (twin k.near) (back_live b n f m name ks i s k h)))) in
     let halves : AllByRecursion (λ l. (live l.half ≡ false) × (live (twin l.half) ≡ false)) ls = all_of (λ l. (live l.half ≡ false) × (live (twin l.half) ≡ false)) ls
-    (λ l h. half_dead g n f m name c ks e ls (record { p = p; s = s; i = i }) s l h) in
+    (λ l h. half_dead (record { p = p; s = s; i = i }) s l h) in
     ready_of live ls halves corners
 
 pub passed : (g : ℕ → ℕ) (n : ℕ) (f : ℕ → ℕ) (m : ℕ) (name : ℕ → ℕ) (c : ℕ) (ks : List Bend) (e : ℕ) (ls : List Link) → IsPassage g n f m name c ks e ls → Passed g n f m ls
@@ -318,18 +320,18 @@ passed g n f m name c ks e ls p =
     let s : Straightened b n f m name ks = straighten b n f m name ks p.named p.bends p.straight in
     let below : ℕ → Bool = is_named s.names m in
     let live : ℕ → Bool = with_bends below ks in
-    let bent : Bent below s.bottom b n ks = s.bent below (slab_below g n f m name c ks e ls p s) (bendable b n f m name ks i s) in
+    let bent : Bent below s.bottom b n ks = s.bent below (slab_below p s) (bendable b n f m name ks i s) in
     let above : AreFacesAbove b n f m name s.names = faces_above b n f m name ks p.named i s in
     let good : AllByRecursion (GoodBend b m name s.names) ks = good_bends b n f m name ks i s in
-    let faces : AreInFaces b ls = in_faces b n f m name s.names above (name c) c ks e ls p.along (p.named.within c p.from_there) p.from_there p.to_there (above.at_name c p.from_there) p.walk p.once good
+    let faces : AreInFaces b ls = in_faces above e p.to_there (name c) ks ls p.along (p.named.within c p.from_there) p.from_there (above.at_name c p.from_there) p.walk p.once good
     (all_map (IsBend b n m name) (λ k. twin k.near < n) (λ k w. twin-within n k.near even w.near_there) ks i) in
-    let d : AreLinked live b g n ls = link_all live g n ls p.permutation even p.links (ready g n f m name c ks e ls p i s) faces bent.slab in
+    let d : AreLinked live b g n ls = link_all live g n ls p.permutation even p.links (ready p i s) faces bent.slab in
     let back : ℕ → ℕ = λ y. find_below (λ v. s.names v == y) m in
     let r : RenumbersTurn s.names back f s.bottom m below n = renumbers b n f m name ks s in
     let count_below : cycle_count (face_next f) m ≡ live_cycle_count below (face_next s.bottom) n = renumbered_cycles s.names back (face_next f) (face_next s.bottom) m below n (renumbered_faces s.names back f s.bottom m below n r) in
-    let count_above : cycle_count (face_next g) n ≡ live_cycle_count (with_links live ls) (face_next g) n = whole_count (face_next g) n (with_links live ls) (face_next-permutation g n p.permutation even) (all_live g n f m name c ks e ls p i s) in
+    let count_above : cycle_count (face_next g) n ≡ live_cycle_count (with_links live ls) (face_next g) n = whole_count (face_next g) n (with_links live ls) (face_next-permutation g n p.permutation even) (all_live p i s) in
     record {
       faces = omega (arith, count_below, count_above, bent.faces, d.faces);
       connected = λ hang x y lx ly. d.connected (bent.connected ((renumbered_connected s.names back f s.bottom m below n r).0 (λ u v lu lv hu hv. hang u v lu lv))) x y lx ly
-          (all_live g n f m name c ks e ls p i s x lx) (all_live g n f m name c ks e ls p i s y ly);
+          (all_live p i s x lx) (all_live p i s y ly);
     }

@@ -42,36 +42,36 @@ patched-count : (f g : ℕ → ℕ) (n i j : ℕ) → IsPermutation f n → i < 
 patched-count f g n i j h li lj x =
     cycle_count-same (patched f g n) g n (IsExchange-permutation f (patched f g n) n i j h li lj (patched-exchange f g n i j li lj x)) (λ a la. patched-below f g n a la)
 
-pub exchanged_splits : (f g : ℕ → ℕ) (n i j : ℕ) → IsPermutation f n → i < n → j < n → i ≢ j → IsExchangeBelow f g n i j → SameCycle f i j → cycle_count g n ≡ cycle_count f n + 1
-exchanged_splits f g n i j h li lj ne x s =
-    sym (patched-count f g n i j h li lj x) ∙ exchange_splits f (patched f g n) n i j h li lj ne (patched-exchange f g n i j li lj x) s
+pub exchanged_splits : {f g : ℕ → ℕ} {n i j : ℕ} → IsPermutation f n → i < n → j < n → i ≢ j → IsExchangeBelow f g n i j → SameCycle f i j → cycle_count g n ≡ cycle_count f n + 1
+exchanged_splits {f} {g} {n} {i} {j} h li lj ne x s =
+    sym (patched-count f g n i j h li lj x) ∙ exchange_splits h li lj ne (patched-exchange f g n i j li lj x) s
 
-pub exchanged_joins : (f g : ℕ → ℕ) (n i j : ℕ) → IsPermutation f n → i < n → j < n → i ≢ j → IsExchangeBelow f g n i j → (SameCycle f i j → ⊥) → cycle_count f n ≡ cycle_count g n + 1
-exchanged_joins f g n i j h li lj ne x s =
-    exchange_joins f (patched f g n) n i j h li lj ne (patched-exchange f g n i j li lj x) s ∙ ap (λ c. c + 1) (patched-count f g n i j h li lj x)
+pub exchanged_joins : {f g : ℕ → ℕ} {n i j : ℕ} → IsPermutation f n → i < n → j < n → i ≢ j → IsExchangeBelow f g n i j → (SameCycle f i j → ⊥) → cycle_count f n ≡ cycle_count g n + 1
+exchanged_joins {f} {g} {n} {i} {j} h li lj ne x s =
+    exchange_joins h li lj ne (patched-exchange f g n i j li lj x) s ∙ ap (λ c. c + 1) (patched-count f g n i j h li lj x)
 
 pub SameCycle-same : (f g : ℕ → ℕ) (n : ℕ) → IsPermutation f n → ((a : ℕ) → a < n → f a ≡ g a) → (a b : ℕ) → a < n → SameCycle f a b → SameCycle g a b
 SameCycle-same f g n h e a b la s = record { steps = s.steps; leads = sym (after-same f g n h e s.steps a la) ∙ s.leads }
 
 -- where an exchange brings i and j together, it parts no others
-pub exchanged_keeps : (f g : ℕ → ℕ) (n i j : ℕ) → IsPermutation f n → i < n → j < n → IsExchangeBelow f g n i j → SameCycle g i j → (a b : ℕ) → a < n → SameCycle f a b → SameCycle g a b
-exchanged_keeps f g n i j h li lj x met a b la s =
+pub exchanged_keeps : {f g : ℕ → ℕ} {n i j : ℕ} → IsPermutation f n → i < n → j < n → IsExchangeBelow f g n i j → SameCycle g i j → {a b : ℕ} → a < n → SameCycle f a b → SameCycle g a b
+exchanged_keeps {f} {g} {n} {i} {j} h li lj x met {a} {b} la s =
     let hp : IsPermutation (patched f g n) n = IsExchange-permutation f (patched f g n) n i j h li lj (patched-exchange f g n i j li lj x) in
     let there : (a : ℕ) → a < n → patched f g n a ≡ g a = λ a la. patched-below f g n a la in
     let back : (a : ℕ) → a < n → g a ≡ patched f g n a = λ a la. sym (patched-below f g n a la) in
     let hg : IsPermutation g n = exchanged-permutation f g n i j h li lj x in
     SameCycle-same (patched f g n) g n hp there a b la
-    (kept f (patched f g n) n i j hp li lj (patched-exchange f g n i j li lj x) (SameCycle-same g (patched f g n) n hg back i j li met) a b s)
+    (kept hp li lj (patched-exchange f g n i j li lj x) (SameCycle-same g (patched f g n) n hg back i j li met) a b s)
 
 -- an exchange brings together only what lay with i and what lay with j
-pub exchanged_spread : (f g : ℕ → ℕ) (n i j : ℕ) → IsPermutation f n → i < n → j < n → IsExchangeBelow f g n i j → (a b : ℕ) → a < n → SameCycle g a b → Together f i j a b
-exchanged_spread f g n i j h li lj x a b la s =
+pub exchanged_spread : {f g : ℕ → ℕ} {n i j : ℕ} → IsPermutation f n → i < n → j < n → IsExchangeBelow f g n i j → {a b : ℕ} → a < n → SameCycle g a b → Together f i j a b
+exchanged_spread {f} {g} {n} {i} {j} h li lj x {a} {b} la s =
     spread f (patched f g n) i j (patched-exchange f g n i j li lj x) a b
     (SameCycle-same g (patched f g n) n (exchanged-permutation f g n i j h li lj x) (λ a la. sym (patched-below f g n a la)) a b la s)
 
 -- of the two, one has i and j together
-pub exchanged_apart : (f g : ℕ → ℕ) (n i j : ℕ) → IsPermutation f n → i < n → j < n → i ≢ j → IsExchangeBelow f g n i j → (SameCycle f i j → ⊥) → SameCycle g i j
-exchanged_apart f g n i j h li lj ne x apart =
+pub exchanged_apart : {f g : ℕ → ℕ} {n i j : ℕ} → IsPermutation f n → i < n → j < n → i ≢ j → IsExchangeBelow f g n i j → (SameCycle f i j → ⊥) → SameCycle g i j
+exchanged_apart {f} {g} {n} {i} {j} h li lj ne x apart =
     let ex : IsExchange f (patched f g n) i j = patched-exchange f g n i j li lj x in
     elim (exchange_parts f (patched f g n) n i j h li lj ne ex) [
       | inl s ↦ absurd (apart s.before)
@@ -97,7 +97,7 @@ pub bypass_splits : (f g : ℕ → ℕ) (n i : ℕ) → IsPermutation f n → i 
 bypass_splits f g n i h li x moves =
     let b : HasBefore f n i = before_of f n i h li in
     let ne : b.place ≢ i = λ e. moves (ap f (sym e) ∙ b.leads) in
-    exchanged_splits f g n b.place i h b.within li ne (bypass_exchange f g n i h li x b ne) (record { steps = 1; leads = b.leads })
+    exchanged_splits h b.within li ne (bypass_exchange f g n i h li x b ne) (record { steps = 1; leads = b.leads })
 
 -- no more numbers pass p than pass q, where each that passes p has its own that passes q
 pub count_below-into : (p q : ℕ → Bool) (n m : ℕ) (h : ℕ → ℕ) → ((a : ℕ) → a < n → p a ≡ true → h a < m) → ((a : ℕ) → a < n → p a ≡ true → q (h a) ≡ true) → ((a b : ℕ) → a < n → b < n → p a ≡ true → p b ≡ true → h a ≡ h b → a ≡ b) → count_below p n ≤ count_below q m

@@ -21,21 +21,21 @@ along-stays f o I t c [] a i = i
 along-stays f o I t c (Turn ∷ ms) a i = t _ (along-stays f o I t c ms a i)
 along-stays f o I t c (Cross ∷ ms) a i = c _ (along-stays f o I t c ms a i)
 
-pub along-carried : {X : Type 0} {Y : Type 0} (h : X → Y) (f o : X → X) (g p : Y → Y) (I : X → Type 0) → Carries h f g I → Carries h o p I → (ms : List Move) (a : X) → I a → along g p ms (h a) ≡ h (along f o ms a)
-along-carried h f o g p I t c [] a i = refl
-along-carried h f o g p I t c (Turn ∷ ms) a i =
-    ap g (along-carried h f o g p I t c ms a i) ∙ t.each _ (along-stays f o I t.stays c.stays ms a i)
-along-carried h f o g p I t c (Cross ∷ ms) a i =
-    ap p (along-carried h f o g p I t c ms a i) ∙ c.each _ (along-stays f o I t.stays c.stays ms a i)
+pub along-carried : {X : Type 0} {Y : Type 0} {h : X → Y} {f o : X → X} {g p : Y → Y} {I : X → Type 0} → Carries h f g I → Carries h o p I → (ms : List Move) (a : X) → I a → along g p ms (h a) ≡ h (along f o ms a)
+along-carried t c [] a i = refl
+along-carried {h} {f} {o} {g} {p} {I} t c (Turn ∷ ms) a i =
+    ap g (along-carried t c ms a i) ∙ t.each _ (along-stays f o I t.stays c.stays ms a i)
+along-carried {h} {f} {o} {g} {p} {I} t c (Cross ∷ ms) a i =
+    ap p (along-carried t c ms a i) ∙ c.each _ (along-stays f o I t.stays c.stays ms a i)
 
-pub Joined-carried : {X : Type 0} {Y : Type 0} (h : X → Y) (f o : X → X) (g p : Y → Y) (I : X → Type 0) → Carries h f g I → Carries h o p I → (a b : X) → I a → Joined f o a b → Joined g p (h a) (h b)
-Joined-carried h f o g p I t c a b i j = record { moves = j.moves; leads = along-carried h f o g p I t c j.moves a i ∙ ap h j.leads }
+pub Joined-carried : {X : Type 0} {Y : Type 0} {h : X → Y} {f o : X → X} {g p : Y → Y} {I : X → Type 0} → Carries h f g I → Carries h o p I → {a b : X} → I a → Joined f o a b → Joined g p (h a) (h b)
+Joined-carried {h} {f} {o} {g} {p} {I} t c {a} i j = record { moves = j.moves; leads = along-carried t c j.moves a i ∙ ap h j.leads }
 
 -- where h sends no two darts to one
-pub Joined-uncarried : {X : Type 0} {Y : Type 0} (h : X → Y) (f o : X → X) (g p : Y → Y) (I : X → Type 0) → Carries h f g I → Carries h o p I → ((a b : X) → I a → I b → h a ≡ h b → a ≡ b) → (a b : X) → I a → I b → Joined g p (h a) (h b) → Joined f o a b
-Joined-uncarried h f o g p I t c apart a b i k j = record {
+pub Joined-uncarried : {X : Type 0} {Y : Type 0} {h : X → Y} {f o : X → X} {g p : Y → Y} {I : X → Type 0} → Carries h f g I → Carries h o p I → ((a b : X) → I a → I b → h a ≡ h b → a ≡ b) → (a b : X) → I a → I b → Joined g p (h a) (h b) → Joined f o a b
+Joined-uncarried {h} {f} {o} {g} {p} {I} t c apart a b i k j = record {
   moves = j.moves;
-  leads = apart _ b (along-stays f o I t.stays c.stays j.moves a i) k (sym (along-carried h f o g p I t c j.moves a i) ∙ j.leads);
+  leads = apart _ b (along-stays f o I t.stays c.stays j.moves a i) k (sym (along-carried t c j.moves a i) ∙ j.leads);
 }
 
 -- ---- Numbers
@@ -44,15 +44,15 @@ after-carried : (h f g : ℕ → ℕ) (n : ℕ) → IsPermutation f n → IsCarr
 after-carried h f g n p c zero a la = refl
 after-carried h f g n p c (suc k) a la = ap g (after-carried h f g n p c k a la) ∙ c.each _ (after-within f n p k a la)
 
-numbers_apart : (h back : ℕ → ℕ) (n : ℕ) (live : ℕ → Bool) (m : ℕ) → IsRenumbering h back n live m → (a b : ℕ) → a < n → b < n → h a ≡ h b → a ≡ b
-numbers_apart h back n live m r a b la lb e = sym (r.returns a la) ∙ ap back e ∙ r.returns b lb
+numbers_apart : {h back : ℕ → ℕ} {n : ℕ} {live : ℕ → Bool} {m : ℕ} → IsRenumbering h back n live m → (a b : ℕ) → a < n → b < n → h a ≡ h b → a ≡ b
+numbers_apart {back} r a b la lb e = sym (r.returns a la) ∙ ap back e ∙ r.returns b lb
 
 pub renumbered_same_cycle : RenumberedSameCycle
 renumbered_same_cycle h back f g n live m a b r la lb = (
   λ s. record { steps = s.steps; leads = after-carried h f g n r.before r.map s.steps a la ∙ ap h s.leads },
   λ s. record {
     steps = s.steps;
-    leads = numbers_apart h back n live m r.numbers _ b (after-within f n r.before s.steps a la) lb (sym (after-carried h f g n r.before r.map s.steps a la) ∙ s.leads);
+    leads = numbers_apart r.numbers _ b (after-within f n r.before s.steps a la) lb (sym (after-carried h f g n r.before r.map s.steps a la) ∙ s.leads);
   },
 )
 
@@ -106,8 +106,8 @@ pub renumbered_joined : RenumberedJoined
 renumbered_joined h back f g n live m a b r la lb =
     let t : Carries h f g (λ v. v < n) = record { stays = r.turn.before.within; each = r.turn.map.each } in
     let c : Carries h twin twin (λ v. v < n) = record { stays = λ v lv. twin-within n v r.even lv; each = r.twins.each } in (
-      λ j. Joined-carried h f twin g twin (λ v. v < n) t c a b la j,
-      λ j. Joined-uncarried h f twin g twin (λ v. v < n) t c (numbers_apart h back n live m r.turn.numbers) a b la lb j,
+      λ j. Joined-carried t c la j,
+      λ j. Joined-uncarried t c (numbers_apart r.turn.numbers) a b la lb j,
     )
 
 pub renumbered_connected : RenumberedConnected

@@ -17,26 +17,26 @@ SlabsAlike h back n s m t = RenumbersSlab h back s.live s.turn n t.live t.turn m
 both_come : (n : ℕ) (s : Turning) (x : ℕ) (s' : Turning) (m : ℕ) (t : Turning) (y : ℕ) (t' : Turning) → Comes n s x s' → Comes m t y t' → AddsBoth s.live s'.live n x t.live t'.live m y
 both_come n s x s' m t y t' a b = record { within = a.within; within_other = b.within; adds = a.adds; adds_other = b.adds }
 
-pub step_numbers : (h back : ℕ → ℕ) (n : ℕ) (s s' : Turning) (m : ℕ) (t t' : Turning) (e : Edit) (y : ℕ) → SlabsAlike h back n s m t → IsStep n s e s' → IsStep m t (under h e y) t' → SlabsAlike (stepped h e y) (stepped_back back e y) n s' m t'
-step_numbers h back n s s' m t t' (Hang c x) y r a b =
-    hang_numbers h back s.live s'.live s.turn s'.turn n c x t.live t'.live t.turn t'.turn m y r (both_come n s x s' m t y t' a.0 b.0) a.1 a.0.permutation b.0.permutation a.2 b.2
-step_numbers h back n s s' m t t' (Chord c d x) y r a b =
-    chord_numbers h back s.live s'.live s.turn s'.turn n c d x t.live t'.live t.turn t'.turn m y r (both_come n s x s' m t y t' a.0 b.0) a.1.0 a.1.1 a.0.permutation b.0.permutation a.2 b.2
-step_numbers h back n s s' m t t' (Unchord x) y r a b =
-    unchord_numbers h back s'.live s.live s.turn s'.turn n x t'.live t.live t.turn t'.turn m r a.0.there a.0.takes b.0.takes a.1 b.1
-step_numbers h back n s s' m t t' (Split c x) y r a b =
-    split_numbers h back s.live s'.live s.turn s'.turn n c x t.live t'.live t.turn t'.turn m y r (both_come n s x s' m t y t' a.0 b.0) a.1 a.0.permutation b.0.permutation a.2 b.2
-step_numbers h back n s s' m t t' (Smooth x) y r a b =
-    smooth_numbers h back s'.live s.live s.turn s'.turn n x t'.live t.live t.turn t'.turn m r a.0.there a.1 a.0.takes b.0.takes a.0.permutation b.0.permutation a.2 b.2
+pub step_numbers : (h back : ℕ → ℕ) {n : ℕ} {s s' : Turning} {m : ℕ} {t t' : Turning} (e : Edit) (y : ℕ) → SlabsAlike h back n s m t → IsStep n s e s' → IsStep m t (under h e y) t' → SlabsAlike (stepped h e y) (stepped_back back e y) n s' m t'
+step_numbers h back {n} {s} {s'} {m} {t} {t'} (Hang c x) y r a b =
+    hang_numbers r (both_come n s x s' m t y t' a.0 b.0) a.1 a.0.permutation b.0.permutation a.2 b.2
+step_numbers h back {n} {s} {s'} {m} {t} {t'} (Chord c d x) y r a b =
+    chord_numbers r (both_come n s x s' m t y t' a.0 b.0) a.1.0 a.1.1 a.0.permutation b.0.permutation a.2 b.2
+step_numbers h back {n} {s} {s'} {m} {t} {t'} (Unchord x) y r a b =
+    unchord_numbers r a.0.there a.0.takes b.0.takes a.1 b.1
+step_numbers h back {n} {s} {s'} {m} {t} {t'} (Split c x) y r a b =
+    split_numbers r (both_come n s x s' m t y t' a.0 b.0) a.1 a.0.permutation b.0.permutation a.2 b.2
+step_numbers h back {n} {s} {s'} {m} {t} {t'} (Smooth x) y r a b =
+    smooth_numbers r a.0.there a.1 a.0.takes b.0.takes a.0.permutation b.0.permutation a.2 b.2
 
 -- ---- A run of edits
 
-pub run_numbers : (h back : ℕ → ℕ) (n : ℕ) (s s' : Turning) (m : ℕ) (t t' : Turning) (es ds : List Edit) → SlabsAlike h back n s m t → IsRun n s es s' → IsRun m t ds t' → AreAlike h es ds → SlabsAlike (numbers_after h es ds) (backs_after back es ds) n s' m t'
-run_numbers h back n s s' m t t' [] [] r a b like = subst (λ u. SlabsAlike h back n u m t') a (subst (λ u. SlabsAlike h back n s m u) b r)
-run_numbers h back n s s' m t t' [] (d ∷ ds) r a b like = absurd like
-run_numbers h back n s s' m t t' (e ∷ es) [] r a b like = absurd like
-run_numbers h back n s s' m t t' (e ∷ es) (d ∷ ds) r a b like =
-    step_numbers (numbers_after h es ds) (backs_after back es ds) n a.0 s' m b.0 t' e (segment_of d) (run_numbers h back n s a.0 m t b.0 es ds r a.1 b.1 like.0) a.2
+pub run_numbers : (h back : ℕ → ℕ) {n : ℕ} {s : Turning} (s' : Turning) {m : ℕ} {t t' : Turning} (es ds : List Edit) → SlabsAlike h back n s m t → IsRun n s es s' → IsRun m t ds t' → AreAlike h es ds → SlabsAlike (numbers_after h es ds) (backs_after back es ds) n s' m t'
+run_numbers h back {n} {s} s' {m} {t'} [] [] r a b like = subst (λ u. SlabsAlike h back n u m t') a (subst (λ u. SlabsAlike h back n s m u) b r)
+run_numbers h back s' [] (d ∷ ds) r a b like = absurd like
+run_numbers h back s' (e ∷ es) [] r a b like = absurd like
+run_numbers h back {n} {s} s' {m} {t} {t'} (e ∷ es) (d ∷ ds) r a b like =
+    step_numbers (numbers_after h es ds) (backs_after back es ds) e (segment_of d) (run_numbers h back a.0 es ds r a.1 b.1 like.0) a.2
     (subst (λ (z : Edit). IsStep m b.0 z t') like.1 b.2)
 
 -- ---- What the edits that add a segment leave alone
@@ -82,16 +82,16 @@ AreNumbered h (e ∷ es) [] = ⊥
 AreNumbered h (e ∷ es) (d ∷ ds) = (h (segment_of e) ≡ segment_of d) × (h (twin (segment_of e)) ≡ twin (segment_of d)) × AreNumbered h es ds
 
 -- also under any numbers k that are the same on what is live
-pub new_numbers : (h k : ℕ → ℕ) (n : ℕ) (s t : Turning) (es ds : List Edit) → n % 2 ≡ 0 → AllByRecursion IsAdding es → IsRun n s es t → AreAlike h es ds → ((a : ℕ) → IsAlive t.live n a → k a ≡ numbers_after h es ds a) → AreNumbered k es ds
-new_numbers h k n s t [] ds even i r like same = tt
-new_numbers h k n s t (e ∷ es) [] even i r like same = absurd like
-new_numbers h k n s t (e ∷ es) (d ∷ ds) even i r like same =
+pub new_numbers : (h k : ℕ → ℕ) {n : ℕ} (s t : Turning) (es ds : List Edit) → n % 2 ≡ 0 → AllByRecursion IsAdding es → IsRun n s es t → AreAlike h es ds → ((a : ℕ) → IsAlive t.live n a → k a ≡ numbers_after h es ds a) → AreNumbered k es ds
+new_numbers h k s t [] ds even i r like same = tt
+new_numbers h k s t (e ∷ es) [] even i r like same = absurd like
+new_numbers h k {n} s t (e ∷ es) (d ∷ ds) even i r like same =
     let x : ℕ = segment_of e in
     let y : ℕ = segment_of d in
     let before : ℕ → ℕ = numbers_after h es ds in
     let come : Comes n r.0 x t = added_by n r.0 t e i.0 r.2 in (
       same x (record { within = come.within; alive = come.adds.here }) ∙ stepped_by before e y x i.0 ∙ extended-here before x y,
       same (twin x) (record { within = twin-within n x even come.within; alive = come.adds.here_twin }) ∙ stepped_by before e y (twin x) i.0 ∙ extended-there before x y,
-      new_numbers h k n s r.0 es ds even i.1 r.1 like.0 (λ a at.
+      new_numbers h k s r.0 es ds even i.1 r.1 like.0 (λ a at.
           same a (still_alive r.0.live t.live n x a come.adds at) ∙ stepped_by before e y a i.0 ∙ extended-old before r.0.live t.live n x y a come.adds at.alive),
     )

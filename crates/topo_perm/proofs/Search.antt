@@ -37,8 +37,8 @@ count_room n seen found dart e ld fresh =
     (λ a la ne. cond-false _ _ _ (ne_eqb a dart ne)) in
     omega (arith, e, one, count_below-le (λ a. cond (eqb a dart) true (mark seen a)) n)
 
-pub visited : (f : ℕ → ℕ) (n : ℕ) (old : List Bool) (start begin : ℕ) (seen seen' : List Bool) (order order' : List ℕ) (found found' dart : ℕ) → Found f n old start begin seen order found → dart < n → Joined f twin start dart → IsVisit seen seen' order order' found found' dart → Visited f n old start begin seen seen' order order' found found' dart
-visited f n old start begin seen seen' order order' found found' dart s ld j v =
+pub visited : {f : ℕ → ℕ} {n : ℕ} {old : List Bool} {start begin : ℕ} {seen : List Bool} (seen' : List Bool) {order : List ℕ} (order' : List ℕ) {found : ℕ} (found' : ℕ) {dart : ℕ} → Found f n old start begin seen order found → dart < n → Joined f twin start dart → IsVisit seen seen' order order' found found' dart → Visited f n old start begin seen seen' order order' found found' dart
+visited {n} {seen} seen' {order} order' {found} found' {dart} s ld j v =
     elim (cases_Bool (mark seen dart)) [
       | inl here ↦ grind arith
       | inr fresh ↦
@@ -81,24 +81,24 @@ pub record Searched (f : ℕ → ℕ) (n : ℕ) (old : List Bool) (start begin :
 found_none : (f : ℕ → ℕ) (n : ℕ) (old : List Bool) (start begin : ℕ) (order : List ℕ) → length old ≡ n → length order ≡ n → begin ≡ marked_count old n → Found f n old start begin old order begin
 found_none f n old start begin order ls lo e = grind arith
 
-pub search_start : (f : ℕ → ℕ) (n : ℕ) (old s1 : List Bool) (start begin : ℕ) (order o1 : List ℕ) (f1 : ℕ) → start < n → length old ≡ n → length order ≡ n → begin ≡ marked_count old n → IsVisit old s1 order o1 begin f1 start → Searched f n old start begin s1 o1 f1 begin
-search_start f n old s1 start begin order o1 f1 l ls lo e v =
-    let a : Visited f n old start begin old s1 order o1 begin f1 start = visited f n old start begin old s1 order o1 begin f1 start (found_none f n old start begin order ls lo e) l (Joined-refl f twin start) v in
+pub search_start : (f : ℕ → ℕ) (n : ℕ) {old s1 : List Bool} {start begin : ℕ} (order : List ℕ) {o1 : List ℕ} {f1 : ℕ} → start < n → length old ≡ n → length order ≡ n → begin ≡ marked_count old n → IsVisit old s1 order o1 begin f1 start → Searched f n old start begin s1 o1 f1 begin
+search_start f n {old} {s1} {start} {begin} order {o1} {f1} l ls lo e v =
+    let a : Visited f n old start begin old s1 order o1 begin f1 start = visited s1 o1 f1 (found_none f n old start begin order ls lo e) l (Joined-refl f twin start) v in
     record { state = a.state; started = a.here; behind = a.more; each = λ j low lj. absurd (omega arith) }
 
-pub first_visit : (f : ℕ → ℕ) (n : ℕ) (old : List Bool) (start begin : ℕ) (seen seen' : List Bool) (order order' : List ℕ) (found found' done : ℕ) → IsPermutation f n → Searched f n old start begin seen order found done → begin ≤ done → done < found → IsVisit seen seen' order order' found found' (f (slice_index order done)) → Visited f n old start begin seen seen' order order' found found' (f (slice_index order done))
-first_visit f n old start begin seen seen' order order' found found' done h s lo l v =
+pub first_visit : {f : ℕ → ℕ} {n : ℕ} {old : List Bool} {start begin : ℕ} {seen : List Bool} (seen' : List Bool) {order : List ℕ} (order' : List ℕ) {found : ℕ} (found' : ℕ) {done : ℕ} → IsPermutation f n → Searched f n old start begin seen order found done → begin ≤ done → done < found → IsVisit seen seen' order order' found found' (f (slice_index order done)) → Visited f n old start begin seen seen' order order' found found' (f (slice_index order done))
+first_visit {f} {n} {old} {start} {begin} {seen} seen' {order} order' {found} found' {done} h s lo l v =
     let d : ℕ = slice_index order done in
-    visited f n old start begin seen seen' order order' found found' (f d) s.state (h.within d (s.state.within done lo l))
+    visited seen' order' found' s.state (h.within d (s.state.within done lo l))
     (Joined-turned f twin start d (s.state.reached done lo l)) v
 
-pub two_visits : (f : ℕ → ℕ) (n : ℕ) (old : List Bool) (start begin : ℕ) (seen s1 s2 : List Bool) (order o1 o2 : List ℕ) (found f1 f2 done : ℕ) → IsPermutation f n → n % 2 ≡ 0 → start < n → Searched f n old start begin seen order found done → begin ≤ done → done < found → IsVisit seen s1 order o1 found f1 (f (slice_index order done)) → IsVisit s1 s2 o1 o2 f1 f2 (twin (slice_index order done)) → Searched f n old start begin s2 o2 f2 (done + 1)
-two_visits f n old start begin seen s1 s2 order o1 o2 found f1 f2 done h even ls s lo l v w =
+pub two_visits : {f : ℕ → ℕ} {n : ℕ} {old : List Bool} {start begin : ℕ} {seen : List Bool} (s1 : List Bool) {s2 : List Bool} {order : List ℕ} (o1 : List ℕ) {o2 : List ℕ} {found : ℕ} (f1 : ℕ) {f2 : ℕ} {done : ℕ} → IsPermutation f n → n % 2 ≡ 0 → start < n → Searched f n old start begin seen order found done → begin ≤ done → done < found → IsVisit seen s1 order o1 found f1 (f (slice_index order done)) → IsVisit s1 s2 o1 o2 f1 f2 (twin (slice_index order done)) → Searched f n old start begin s2 o2 f2 (done + 1)
+two_visits {f} {n} {old} {start} {begin} {seen} s1 {s2} {order} o1 {o2} {found} f1 {f2} {done} h even ls s lo l v w =
     let d : ℕ = slice_index order done in
     let ld : d < n = s.state.within done lo l in
-    let a : Visited f n old start begin seen s1 order o1 found f1 (f d) = first_visit f n old start begin seen s1 order o1 found f1 done h s lo l v in
+    let a : Visited f n old start begin seen s1 order o1 found f1 (f d) = first_visit s1 o1 f1 h s lo l v in
     let b : Visited f n old start begin s1 s2 o1 o2 f1 f2 (twin d) =
-    visited f n old start begin s1 s2 o1 o2 f1 f2 (twin d) a.state (twin-within n d even ld) (Joined-crossed f twin start d (s.state.reached done lo l)) w in
+    visited s2 o2 f2 a.state (twin-within n d even ld) (Joined-crossed f twin start d (s.state.reached done lo l)) w in
     let both : (x : ℕ) → x < n → mark seen x ≡ true → mark s2 x ≡ true = λ x lx e. b.kept x lx (a.kept x lx e) in
     let same : (j : ℕ) → j < found → slice_index o2 j ≡ slice_index order j = λ j lj. b.order_kept j (omega (arith, a.more)) ∙ a.order_kept j lj in
     record {
@@ -116,8 +116,8 @@ two_visits f n old start begin seen s1 s2 order o1 o2 found f1 f2 done h even ls
     }
 
 -- where all of the order is done, what is marked is what was marked and what is joined to the start
-pub searched_all : (f : ℕ → ℕ) (n : ℕ) (old : List Bool) (start begin : ℕ) (seen : List Bool) (order : List ℕ) (found done : ℕ) → IsPermutation f n → n % 2 ≡ 0 → start < n → IsClosed f n old → Searched f n old start begin seen order found done → found ≤ done → (a : ℕ) → a < n → (mark seen a ≡ true) ↔ ((mark old a ≡ true) ⊎ Joined f twin start a)
-searched_all f n old start begin seen order found done h even ls c s l a la = (
+pub searched_all : {f : ℕ → ℕ} {n : ℕ} {old : List Bool} {start begin : ℕ} {seen : List Bool} {order : List ℕ} {found done : ℕ} → IsPermutation f n → n % 2 ≡ 0 → start < n → IsClosed f n old → Searched f n old start begin seen order found done → found ≤ done → (a : ℕ) → a < n → (mark seen a ≡ true) ↔ ((mark old a ≡ true) ⊎ Joined f twin start a)
+searched_all {f} {n} {start} {seen} h even ls c s l a la = (
   λ e. elim (s.state.listed a la e) [
     | inl first ↦ inl first
     | inr place ↦ let (j, lo, lj, w) = place in inr (subst (λ z. Joined f twin start z) w (s.state.reached j lo lj))

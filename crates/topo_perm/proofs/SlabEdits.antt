@@ -114,8 +114,8 @@ pub stayed : (live live' : ℕ → Bool) (f : ℕ → ℕ) (n x a : ℕ) → IsS
 stayed live live' f n x a s t la e = grind (arith, both_ways)
 
 -- what is put before a live dart leaves a fixed dart that is not live as it is
-put_fixed : (live : ℕ → Bool) (f g : ℕ → ℕ) (n x c a : ℕ) → Insertion f g n x c → live c ≡ true → a < n → a ≢ x → live a ≡ false → f a ≡ a → g a ≡ a
-put_fixed live f g n x c a p alive la nx dead fixed =
+put_fixed : (live : ℕ → Bool) {f g : ℕ → ℕ} {n x c : ℕ} (a : ℕ) → Insertion f g n x c → live c ≡ true → a < n → a ≢ x → live a ≡ false → f a ≡ a → g a ≡ a
+put_fixed live {f} a p alive la nx dead fixed =
     p.exchange.elsewhere a la (λ e. both_ways (live a) dead (ap live (sym fixed ∙ ap f e ∙ p.led) ∙ alive)) nx ∙ fixed
 
 pub hang_keeps_slab : HangKeepsSlab
@@ -126,7 +126,7 @@ hang_keeps_slab live live' f g n c x s t alive k = record {
   free = λ a la e.
       let w : Stayed live live' f n x a = stayed live live' f n x a s t la e in
       let h : Hung f g n x c = hung f g n c x k in
-      put_fixed live f g n x c a (insertion f g n x c h.permutation h.within h.not_self h.before) alive la w.not_self w.dead w.fixed;
+      put_fixed live a (insertion f g n x c h.permutation h.within h.not_self h.before) alive la w.not_self w.dead w.fixed;
 }
 
 pub chord_keeps_slab : ChordKeepsSlab
@@ -139,8 +139,8 @@ chord_keeps_slab live live' f g n c d x s t alive_c alive_d k = record {
       let q : Chord f g n x c d = chorded f g n c d x k in
       let lx : x < n = k.turns.within in
       let lt : twin x < n = twin-within n x s.even lx in
-      let half : q.half a ≡ a = put_fixed live f q.half n x c a (insertion f q.half n x c q.hung.permutation lx q.hung.not_self q.hung.before) alive_c la w.not_self w.dead w.fixed in
-      put_fixed live q.half g n (twin x) d a (insertion q.half g n (twin x) d q.permutation lt q.apart q.before) alive_d la w.not_twin w.dead half;
+      let half : q.half a ≡ a = put_fixed live a (insertion f q.half n x c q.hung.permutation lx q.hung.not_self q.hung.before) alive_c la w.not_self w.dead w.fixed in
+      put_fixed live a (insertion q.half g n (twin x) d q.permutation lt q.apart q.before) alive_d la w.not_twin w.dead half;
 }
 
 pub split_keeps_slab : SplitKeepsSlab

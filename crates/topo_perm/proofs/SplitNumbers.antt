@@ -10,16 +10,16 @@ use Rattle.topo_perm.specs.RenumberedEdits.{IsAlive, RenumbersSlab, extended, Ad
 use Rattle.topo_perm.proofs.Faces.{twin-twin, twin-apart}
 use Rattle.topo_perm.proofs.EditNumbers.{added_numbers, alive_turn, alive_twin, dead_apart, extended-here, extended-old, into_apart, removed_numbers, still_alive}
 
-split_slab : (live : ℕ → Bool) (f f' : ℕ → ℕ) (n c x : ℕ) → IsSlab live f n → IsPermutation f' n → IsAlive live n c → IsAlive live n x → IsSplit f f' n c x → IsSlab live f' n
-split_slab live f f' n c x s p ct xt b = grind (arith, dead_apart, alive_twin)
+split_slab : {live : ℕ → Bool} {f f' : ℕ → ℕ} {n c x : ℕ} → IsSlab live f n → IsPermutation f' n → IsAlive live n c → IsAlive live n x → IsSplit f f' n c x → IsSlab live f' n
+split_slab s p ct xt b = grind (arith, dead_apart, alive_twin)
 
-unsplit_slab : (live : ℕ → Bool) (f f' : ℕ → ℕ) (n c x : ℕ) → IsSlab live f n → IsPermutation f' n → IsAlive live n c → IsAlive live n x → IsSplit f' f n c x → IsSlab live f' n
-unsplit_slab live f f' n c x s p ct xt b = grind (arith, dead_apart, alive_twin)
+unsplit_slab : {live : ℕ → Bool} {f f' : ℕ → ℕ} {n c x : ℕ} → IsSlab live f n → IsPermutation f' n → IsAlive live n c → IsAlive live n x → IsSplit f' f n c x → IsSlab live f' n
+unsplit_slab s p ct xt b = grind (arith, dead_apart, alive_twin)
 
-module _ (h back : ℕ → ℕ) (live : ℕ → Bool) (f : ℕ → ℕ) (n : ℕ) (live' : ℕ → Bool) (g : ℕ → ℕ) (m : ℕ) (r : RenumbersSlab h back live f n live' g m)
-    (f' g' : ℕ → ℕ) (c x : ℕ) (p : IsPermutation f' n) (q : IsPermutation g' m) (ct : IsAlive live n c) (xt : IsAlive live n x) where
+module _ {h back : ℕ → ℕ} {live : ℕ → Bool} {f : ℕ → ℕ} {n : ℕ} {live' : ℕ → Bool} {g : ℕ → ℕ} {m : ℕ} (r : RenumbersSlab h back live f n live' g m)
+    {f' g' : ℕ → ℕ} {c x : ℕ} (p : IsPermutation f' n) (q : IsPermutation g' m) (ct : IsAlive live n c) (xt : IsAlive live n x) where
   apart : (a b : ℕ) → IsAlive live n a → IsAlive live n b → h a ≡ h b → a ≡ b
-  apart = into_apart h back live n live' m r.into
+  apart = into_apart r.into
 
   tc : IsAlive live n (twin c)
   tc = alive_twin live f n c r.before ct
@@ -34,13 +34,13 @@ module _ (h back : ℕ → ℕ) (live : ℕ → Bool) (f : ℕ → ℕ) (n : ℕ
   at_x = r.into.twins x xt
 
   -- a dart that is not b has not its number
-  elsewhere : (a b z : ℕ) → IsAlive live n a → IsAlive live n b → h b ≡ z → a ≢ b → h a ≢ z
-  elsewhere a b z at bt e ne w = ne (apart a b at bt (w ∙ sym e))
+  elsewhere : {a b : ℕ} (z : ℕ) → IsAlive live n a → IsAlive live n b → h b ≡ z → a ≢ b → h a ≢ z
+  elsewhere {a} {b} z at bt e ne w = ne (apart a b at bt (w ∙ sym e))
 
   pub same_split : IsSplit f f' n c x → IsSplit g g' m (h c) (h x) → RenumbersSlab h back live f' n live' g' m
   same_split b d = record {
-    before = split_slab live f f' n c x r.before p ct xt b;
-    after = split_slab live' g g' m (h c) (h x) r.after q (r.into.there c ct) (r.into.there x xt) d;
+    before = split_slab r.before p ct xt b;
+    after = split_slab r.after q (r.into.there c ct) (r.into.there x xt) d;
     into = r.into;
     from = r.from;
     turns = λ a at. elim (cases_eq a x) [
@@ -51,12 +51,12 @@ module _ (h back : ℕ → ℕ) (live : ℕ → Bool) (f : ℕ → ℕ) (n : ℕ
           | inl e ↦ ap (λ z. g' (h z)) e ∙ ap g' at_x ∙ beyond b d ∙ ap (λ z. h (f' z)) (sym e)
           | inr nt ↦
               let ha : IsAlive live' m (h a) = r.into.there a at in
-              let off : h a ≢ twin (h c) = elsewhere a (twin c) (twin (h c)) at tc at_c nc in
+              let off : h a ≢ twin (h c) = elsewhere (twin (h c)) at tc at_c nc in
               elim (cases_eq (f a) (twin c)) [
                 | inl to ↦ d.led_to (h a) ha.within off (r.turns a at ∙ ap h to ∙ at_c) ∙ sym at_x ∙ ap h (sym (b.led_to a at.within nc to))
                 | inr ne ↦
-                    d.elsewhere (h a) ha.within (elsewhere a x (h x) at xt refl nx) (elsewhere a (twin x) (twin (h x)) at tx at_x nt) off
-                    (λ w. elsewhere (f a) (twin c) (twin (h c)) (alive_turn live f n a r.before at) tc at_c ne (sym (r.turns a at) ∙ w))
+                    d.elsewhere (h a) ha.within (elsewhere (h x) at xt refl nx) (elsewhere (twin (h x)) at tx at_x nt) off
+                    (λ w. elsewhere (twin (h c)) (alive_turn live f n a r.before at) tc at_c ne (sym (r.turns a at) ∙ w))
                     ∙ r.turns a at ∙ ap h (sym (b.elsewhere a at.within nx nt nc ne))
               ]
         ]
@@ -69,14 +69,14 @@ module _ (h back : ℕ → ℕ) (live : ℕ → Bool) (f : ℕ → ℕ) (n : ℕ
     beyond : IsSplit f f' n c x → IsSplit g g' m (h c) (h x) → g' (twin (h x)) ≡ h (f' (twin x))
     beyond b d = elim (cases_eq (f (twin c)) (twin c)) [
       | inl e ↦ d.leads_itself (led ∙ ap h e ∙ at_c) ∙ sym at_x ∙ ap h (sym (b.leads_itself e))
-      | inr ne ↦ d.leads_on (λ w. elsewhere (f (twin c)) (twin c) (twin (h c)) (alive_turn live f n (twin c) r.before tc) tc at_c ne (sym led ∙ w)) ∙ led ∙ ap h (sym (b.leads_on ne))
+      | inr ne ↦ d.leads_on (λ w. elsewhere (twin (h c)) (alive_turn live f n (twin c) r.before tc) tc at_c ne (sym led ∙ w)) ∙ led ∙ ap h (sym (b.leads_on ne))
     ]
 
   -- f is f' with the split, and g is g' with it
   pub same_unsplit : c ≢ x → IsSplit f' f n c x → IsSplit g' g m (h c) (h x) → RenumbersSlab h back live f' n live' g' m
   same_unsplit other b d = record {
-    before = unsplit_slab live f f' n c x r.before p ct xt b;
-    after = unsplit_slab live' g g' m (h c) (h x) r.after q (r.into.there c ct) (r.into.there x xt) d;
+    before = unsplit_slab r.before p ct xt b;
+    after = unsplit_slab r.after q (r.into.there c ct) (r.into.there x xt) d;
     into = r.into;
     from = r.from;
     turns = λ a at. elim (cases_eq a x) [
@@ -87,9 +87,9 @@ module _ (h back : ℕ → ℕ) (live : ℕ → Bool) (f : ℕ → ℕ) (n : ℕ
           | inl e ↦ ap (λ z. g' (h z)) e ∙ ap g' at_c ∙ beyond ∙ ap (λ z. h (f' z)) (sym e)
           | inr nc ↦
               let ha : IsAlive live' m (h a) = r.into.there a at in
-              let off : h a ≢ twin (h c) = elsewhere a (twin c) (twin (h c)) at tc at_c nc in
-              let off_x : h a ≢ h x = elsewhere a x (h x) at xt refl nx in
-              let off_t : h a ≢ twin (h x) = elsewhere a (twin x) (twin (h x)) at tx at_x nt in
+              let off : h a ≢ twin (h c) = elsewhere (twin (h c)) at tc at_c nc in
+              let off_x : h a ≢ h x = elsewhere (h x) at xt refl nx in
+              let off_t : h a ≢ twin (h x) = elsewhere (twin (h x)) at tx at_x nt in
               let fa : IsAlive live n (f a) = alive_turn live f n a r.before at in
               elim (cases_eq (f' a) (twin c)) [
                 | inl to ↦
@@ -138,20 +138,20 @@ module _ (h back : ℕ → ℕ) (live : ℕ → Bool) (f : ℕ → ℕ) (n : ℕ
 
 -- ---- With the segment that comes or goes
 
-pub split_numbers : (h back : ℕ → ℕ) (live new : ℕ → Bool) (f f' : ℕ → ℕ) (n c x : ℕ) (live' new' : ℕ → Bool) (g g' : ℕ → ℕ) (m y : ℕ) → RenumbersSlab h back live f n live' g m → AddsBoth live new n x live' new' m y
+pub split_numbers : {h back : ℕ → ℕ} {live new : ℕ → Bool} {f f' : ℕ → ℕ} {n c x : ℕ} {live' new' : ℕ → Bool} {g g' : ℕ → ℕ} {m y : ℕ} → RenumbersSlab h back live f n live' g m → AddsBoth live new n x live' new' m y
     → IsAlive live n c → IsPermutation f' n → IsPermutation g' m → IsSplit f f' n c x → IsSplit g g' m (h c) y → RenumbersSlab (extended h x y) (extended back y x) new f' n new' g' m
-split_numbers h back live new f f' n c x live' new' g g' m y r s ct p q b d =
-    let added : RenumbersSlab (extended h x y) (extended back y x) new f n new' g m = added_numbers h back live new f n x live' new' g m y r s b.isolated d.isolated in
-    same_split (extended h x y) (extended back y x) new f n new' g m added f' g' c x p q (still_alive live new n x c s.adds ct) (record { within = s.within; alive = s.adds.here }) b
+split_numbers {h} {back} {live} {new} {f} {f'} {n} {c} {x} {live'} {new'} {g} {g'} {m} {y} r s ct p q b d =
+    let added : RenumbersSlab (extended h x y) (extended back y x) new f n new' g m = added_numbers r s b.isolated d.isolated in
+    same_split added p q (still_alive live new n x c s.adds ct) (record { within = s.within; alive = s.adds.here }) b
     (subst (λ z. IsSplit g g' m z (extended h x y x)) (sym (extended-old h live new n x y c s.adds ct.alive)) (subst (IsSplit g g' m (h c)) (sym (extended-here h x y)) d))
 
-pub smooth_numbers : (h back : ℕ → ℕ) (live old : ℕ → Bool) (f f' : ℕ → ℕ) (n x : ℕ) (live' old' : ℕ → Bool) (g g' : ℕ → ℕ) (m : ℕ) → RenumbersSlab h back old f n old' g m → IsAlive old n x → f x ≢ twin x
+pub smooth_numbers : {h back : ℕ → ℕ} {live old : ℕ → Bool} {f f' : ℕ → ℕ} {n x : ℕ} {live' old' : ℕ → Bool} {g g' : ℕ → ℕ} {m : ℕ} → RenumbersSlab h back old f n old' g m → IsAlive old n x → f x ≢ twin x
     → AddsSegment live old n x → AddsSegment live' old' m (h x) → IsPermutation f' n → IsPermutation g' m → IsSmooth f f' n x → IsSmooth g g' m (h x) → RenumbersSlab h back live f' n live' g' m
-smooth_numbers h back live old f f' n x live' old' g g' m r xt no_loop s t p q b d =
+smooth_numbers {h} {back} {live} {old} {f} {f'} {n} {x} {live'} {old'} {g} {g'} {m} r xt no_loop s t p q b d =
     let fx : IsAlive old n (f x) = alive_turn old f n x r.before xt in
     let c : ℕ = twin (f x) in
     let at : twin (g (h x)) ≡ h c = ap twin (r.turns x xt) ∙ sym (r.into.twins (f x) fx) in
     let other : c ≢ x = λ e. no_loop (sym (twin-twin (f x)) ∙ ap twin e) in
     let smoothed : RenumbersSlab h back old f' n old' g' m =
-    same_unsplit h back old f n old' g m r f' g' c x p q (alive_twin old f n (f x) r.before fx) xt other b (subst (λ z. IsSplit g' g m z (h x)) at d) in
-    removed_numbers h back live old f' n x live' old' g' m smoothed xt s t b.isolated
+    same_unsplit r p q (alive_twin old f n (f x) r.before fx) xt other b (subst (λ z. IsSplit g' g m z (h x)) at d) in
+    removed_numbers smoothed xt s t b.isolated

@@ -110,7 +110,7 @@ split_faces f g n h x s =
     bypass_splits (face_next g) w1 n x hg s.x_within b1 (λ e. grind (arith, cases_eq)) in
     let second : cycle_count w n ≡ cycle_count w1 n + 1 = bypass_splits w1 w n (twin x) h1 ly b2 (λ e. ty (sym on ∙ e)) in
     let parted : cycle_count w n ≡ cycle_count (face_next f) n + 1 =
-    exchanged_splits (face_next f) w n x (twin x) hf s.x_within ly (λ e. yx (sym e)) ex (record { steps = 1; leads = s.split.isolated.other }) in
+    exchanged_splits hf s.x_within ly (λ e. yx (sym e)) ex (record { steps = 1; leads = s.split.isolated.other }) in
     omega (arith, first, second, parted)
 
 pub split_points : (f g : ℕ → ℕ) (n h x : ℕ) → Splitting f g n h x → cycle_count f n ≡ cycle_count g n + 1

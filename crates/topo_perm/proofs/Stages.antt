@@ -110,9 +110,9 @@ stage t n h count o (suc i) li two =
 -- ---- A segment with one face
 
 -- with one face on both sides, the darts at its one end are parted from those at its other
-pub parted : (t : ℕ → ℕ → ℕ) (n : ℕ) (h : ℕ → ℕ) (count : ℕ) → IsOpening t n h count → (i : ℕ) → i < count → Stage t n h i → SameCycle (face_next (t i)) (h i) (twin (h i))
-    → (a b : ℕ) → IsElsewhere n (h i) a → IsElsewhere n (h i) b → SameCycle (t i) (h i) a → SameCycle (t i) (twin (h i)) b → Joined (t (suc i)) twin a b → ⊥
-parted t n h count o i li s one a b ea eb at_a at_b =
+pub parted : {t : ℕ → ℕ → ℕ} {n : ℕ} {h : ℕ → ℕ} {count : ℕ} → IsOpening t n h count → {i : ℕ} → i < count → Stage t n h i → SameCycle (face_next (t i)) (h i) (twin (h i))
+    → {a b : ℕ} → IsElsewhere n (h i) a → IsElsewhere n (h i) b → SameCycle (t i) (h i) a → SameCycle (t i) (twin (h i)) b → Joined (t (suc i)) twin a b → ⊥
+parted {t} {n} {h} {count} o {i} li s one {a} {b} ea eb at_a at_b =
     taken_out_parts (t i) (t (suc i)) n (h i) a b (record { permutation = o.permutation i; even = o.even; within = o.there i li }) (o.unchord i li)
     (live_genus_zero_law (left_after h i) (t i) n (h i) s.slab s.connected (o.there i li) (segment_left t n h count o i li).0 s.formula) one ea eb at_a at_b
 
@@ -130,8 +130,8 @@ crossed_more f h a b j = kept_joined f (partly (all_but h)) (λ v. Joined f twin
     ]) a b j (Joined-refl f twin a)
 
 -- what is joined without the segment is joined with it
-pub put_back : (t : ℕ → ℕ → ℕ) (n : ℕ) (h : ℕ → ℕ) (count : ℕ) → IsOpening t n h count → (i : ℕ) → i < count → (a b : ℕ) → IsElsewhere n (h i) a → IsElsewhere n (h i) b → Joined (t (suc i)) twin a b → Joined (t i) twin a b
-put_back t n h count o i li a b ea eb j =
+pub put_back : {t : ℕ → ℕ → ℕ} {n : ℕ} {h : ℕ → ℕ} {count : ℕ} → IsOpening t n h count → (i : ℕ) → i < count → {a b : ℕ} → IsElsewhere n (h i) a → IsElsewhere n (h i) b → Joined (t (suc i)) twin a b → Joined (t i) twin a b
+put_back {t} {n} {h} o i li {a} {b} ea eb j =
     crossed_more (t i) (h i) a b ((taken_out_joined (t i) (t (suc i)) n (h i) a b (record { permutation = o.permutation i; even = o.even; within = o.there i li }) (o.unchord i li) ea eb).1 j)
 
 -- ---- Which darts are out

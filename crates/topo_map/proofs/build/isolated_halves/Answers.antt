@@ -33,7 +33,7 @@ loop-segment-preserved c =
     record {
       size = ap length e ∙ (let w : length ((old ++ x ∷ []) ++ y ∷ []) ≡ 2 * (c.loop-segment.segment + 1) = omega arith in w);
       alone = alone_more c.loop-segment.segments c.insert_isolated-half.new.segments old new x y c.loop-segment.invariant.alone c.insert_isolated-half.ensures.inserted c.twin.ensures e;
-      labels = labelled_more (label_in c.loop-segment.segments) (label_in c.insert_isolated-half.new.segments) (holds c.loop-segment.segments) c.args.edges.now old new x y c.loop-segment.segment (map_of c.args.edges.now c.loop-segment.segment)
+      labels = labelled_more c.args.edges.now new y c.loop-segment.segment
           e c.twin.ensures c.loop-segment.invariant.size refl c.loop-segment.invariant.alone.listed c.loop-segment.invariant.labels c.insert_isolated-half.ensures.label;
       blank = blank_more c.loop-segment.segments c.insert_isolated-half.new.segments x c.loop-segment.invariant.blank c.insert_isolated-half.ensures.inserted c.insert_isolated-half.ensures.faces;
       room = (let w : length c.args.edges.now ≤ room_of c.insert_isolated-half.new.segments + (c.loop-segment.segment + 1) = omega arith in w);

@@ -28,7 +28,7 @@ loop-place-preserved c =
     record {
       labels = c.link.ensures.edges ∙ c.loop-place.invariant.labels;
       blank = λ a h. ap (λ (l : ℕ → ℕ). l a) c.link.ensures.faces ∙ c.loop-place.invariant.blank a (ap (λ (p : ℕ → Bool). p a) (sym c.link.ensures.live) ∙ h);
-      joined = joined_more c.loop-place.segments c.link.new.segments c.args.halves.now c.args.turns.now k c.index-halves-place.result c.index-halves-turns.result
+      joined = joined_more c.index-halves-place.result c.index-halves-turns.result
           c.requires.permutation c.requires.same_length lk
           (c.index-halves-place.is ∙ get_or_default_zero c.args.halves.now k _ lh)
           (c.index-halves-turns.is ∙ get_or_default_zero c.args.halves.now (map_of c.args.turns.now k) _ lt)

@@ -15,11 +15,11 @@ pub share_label-requires-clause-live_other : goal.share_label-requires-clause-li
 share_label-requires-clause-live_other c = live_twin c.args.segments.now c.args.x c.twin-other.result c.twin-other.ensures c.requires.live
 
 pub label_after-requires-clause-labels : goal.label_after-requires-clause-labels
-label_after-requires-clause-labels c = without_parts c.args.segments.now c.take_out.new.segments c.part_label.new.segments c.args.x c.twin-other.result c.next-after.result c.args.unused
-    c.requires.kept c.requires.live c.twin-other.ensures c.next-after.ensures (ap (holds c.args.segments.now) c.next-after.ensures ∙ live_next c.args.segments.now c.args.x c.requires.kept c.requires.live)
+label_after-requires-clause-labels c = without_parts c.part_label.new.segments
+    (record { kept = c.requires.kept; live = c.requires.live; other = c.twin-other.ensures; onward = c.next-after.ensures })
     c.requires.labels (sym c.face.ensures ∙ c.if-face.true ∙ c.face-2.ensures) c.take_out.ensures.turned c.take_out.ensures.faces c.part_label.ensures
 
 pub returns-else-face-clause-labels : goal.returns-else-face-clause-labels
-returns-else-face-clause-labels c = without_joins c.args.segments.now c.share_label.new.segments c.take_out-else-face.new.segments c.args.x c.twin-other.result c.args.unused
+returns-else-face-clause-labels c = without_joins c.args.x c.twin-other.result
     c.requires.kept c.requires.live c.twin-other.ensures c.requires.labels (λ e. c.if-face.false (c.face.ensures ∙ e ∙ sym c.face-2.ensures)) c.share_label.ensures
     c.take_out-else-face.ensures.turned c.take_out-else-face.ensures.faces

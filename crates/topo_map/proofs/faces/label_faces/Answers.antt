@@ -22,7 +22,7 @@ loop-number-preserved c =
         | then-lacks_label w ↦
             let at = c.lacks_label.ensures.yes w.if-lacks_label.true in
             let done : IsPartlyLabelled s w.paint.new.segments (k + 1) (c.loop-number.unused + 1) =
-            step_painted s c.loop-number.segments w.paint.new.segments k y c.loop-number.unused c.requires.kept c.loop-number.invariant.partly c.numbered-half.ensures
+            step_painted w.paint.new.segments y c.requires.kept c.loop-number.invariant.partly c.numbered-half.ensures
             at.0 at.1 w.paint.ensures in
             grind arith
         | else-lacks_label w ↦

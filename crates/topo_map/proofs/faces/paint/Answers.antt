@@ -19,7 +19,7 @@ next-at-requires c = painted_live c.loop-steps.segments c.set_face.new.segments 
 
 pub loop-steps-preserved : goal.loop-steps-preserved
 loop-steps-preserved c = record {
-  walked = painted_on c.args.segments.now c.loop-steps.segments c.set_face.new.segments c.loop-steps._steps c.args.start c.args.label c.loop-steps.at c.twin.result c.next-at.result c.requires.kept
+  walked = painted_on c.twin.result c.next-at.result c.requires.kept
       c.loop-steps.invariant.walked c.set_face.ensures c.twin.ensures c.next-at.ensures;
 }
 
@@ -28,7 +28,7 @@ returns-then-eq c =
     let l : half_limit ≡ 4294967294 = limit-is in
     let below : c.loop-steps._steps < half_limit = omega arith in
     painted_all c.args.segments.now c.set_face.new.segments c.loop-steps._steps c.args.start c.args.label c.next-at.result below
-    (painted_on c.args.segments.now c.loop-steps.segments c.set_face.new.segments c.loop-steps._steps c.args.start c.args.label c.loop-steps.at c.twin.result c.next-at.result c.requires.kept
+    (painted_on c.twin.result c.next-at.result c.requires.kept
     c.loop-steps.invariant.walked c.set_face.ensures c.twin.ensures c.next-at.ensures)
     (eqb-true _ _ (sym c.if-eq.ensures))
 

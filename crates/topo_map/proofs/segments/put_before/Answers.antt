@@ -13,7 +13,7 @@ pub link-requires-2-clause-to : goal.link-requires-2-clause-to
 link-requires-2-clause-to c = ap (λ (g : ℕ → Bool). g c.args.c) c.link.ensures.live ∙ c.requires.live_corner
 
 pub returns-clause-turned : goal.returns-clause-turned
-returns-clause-turned c = put_turned c.args.segments.now c.link.new.segments c.link-2.new.segments c.previous-before.result c.args.x c.args.c c.requires.kept c.previous-before.ensures c.requires.different c.requires.alone c.link.ensures c.link-2.ensures
+returns-clause-turned c = put_turned c.previous-before.result c.args.x c.args.c c.requires.kept c.previous-before.ensures c.requires.different c.requires.alone c.link.ensures c.link-2.ensures
 
 pub returns-clause-faces : goal.returns-clause-faces
 returns-clause-faces c = c.link-2.ensures.faces ∙ c.link.ensures.faces

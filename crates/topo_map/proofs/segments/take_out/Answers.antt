@@ -10,7 +10,7 @@ pub link-requires-clause-to : goal.link-requires-clause-to
 link-requires-clause-to c = ap (holds c.args.segments.now) c.next-after.ensures ∙ live_next c.args.segments.now c.args.x c.requires.kept c.requires.live
 
 pub returns-clause-turned : goal.returns-clause-turned
-returns-clause-turned c = without_turned c.args.segments.now c.link.new.segments c.link-2.new.segments c.previous-before.result c.next-after.result c.args.x c.requires.kept c.previous-before.ensures c.next-after.ensures c.link.ensures c.link-2.ensures
+returns-clause-turned c = without_turned c.previous-before.result c.next-after.result c.args.x c.requires.kept c.previous-before.ensures c.next-after.ensures c.link.ensures c.link-2.ensures
 
 pub returns-clause-faces : goal.returns-clause-faces
 returns-clause-faces c = c.link-2.ensures.faces ∙ c.link.ensures.faces

@@ -10,6 +10,6 @@ returns g c =
     let f = map_of c.args.images.now in
     let n = length c.args.images.now in
     let count : IsComponentCount c.args.images.now c.in_ok-components.field-0 = c.in_ok-components.ensures in (
-      λ yes. one_class f n _ c.requires.permutation c.requires.even count (leb-true _ _ yes),
+      λ yes. one_class c.requires.permutation c.requires.even count (leb-true _ _ yes),
       λ all. le-leb _ _ (one_class_back f n _ count all),
     )

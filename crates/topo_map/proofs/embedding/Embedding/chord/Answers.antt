@@ -16,7 +16,7 @@ attach-self-inside-requires-clause-alone c = chord_end_alone c.self.inside.segme
     c.put_before.ensures.turned c.twin.ensures
 
 done : (c : goal.After-self-1) → IsChorded c.self.inside.segments c.attach-self-inside.new.segments c.args.c c.args.d c.insert_isolated-start.result
-done c = chorded c.self.inside.segments c.insert_isolated-start.new.segments c.put_before.new.segments c.attach-self-inside.new.segments c.args.c c.args.d c.insert_isolated-start.result c.twin.result
+done c = chorded c.args.c c.args.d c.twin.result
     (record { sound = c.self.invariant.kept; inserted = c.insert_isolated-start.ensures.inserted })
     (ap (λ (r : Rotation). is_live r c.args.c) c.self.view_is ∙ c.requires.live)
     (ap (λ (r : Rotation). is_live r c.args.d) c.self.view_is ∙ c.requires.live_end)
@@ -26,7 +26,7 @@ pub face-label-requires : goal.face-label-requires
 face-label-requires c = ap (λ (r : Rotation). is_live r c.args.c) c.self.view_is ∙ c.requires.live
 
 pub attach-self-inside-requires-clause-labels : goal.attach-self-inside-requires-clause-labels
-attach-self-inside-requires-clause-labels c = hung_labels c.self.inside.segments c.insert_isolated-start.new.segments c.put_before.new.segments c.args.c c.insert_isolated-start.result c.face-label.result c.self.inside.unused
+attach-self-inside-requires-clause-labels c = hung_labels c.args.c
     (record { sound = c.self.invariant.kept; inserted = c.insert_isolated-start.ensures.inserted })
     (ap (λ (r : Rotation). is_live r c.args.c) c.self.view_is ∙ c.requires.live)
     c.put_before.ensures.turned c.insert_isolated-start.ensures.faces c.face-label.ensures c.put_before.ensures.faces c.self.invariant.labels

@@ -21,7 +21,7 @@ face-label-requires c = ap (λ (r : Rotation). is_live r c.args.c) c.self.view_i
 pub invariant_of-self : goal.invariant_of-self
 invariant_of-self c = record {
   kept = (done c).added.sound;
-  labels = hung_labels c.self.inside.segments c.insert_isolated-x.new.segments c.put_before.new.segments c.args.c c.insert_isolated-x.result c.face-label.result c.self.inside.unused
+  labels = hung_labels c.args.c
       (record { sound = c.self.invariant.kept; inserted = c.insert_isolated-x.ensures.inserted })
       (ap (λ (r : Rotation). is_live r c.args.c) c.self.view_is ∙ c.requires.live)
       c.put_before.ensures.turned c.insert_isolated-x.ensures.faces c.face-label.ensures c.put_before.ensures.faces c.self.invariant.labels;

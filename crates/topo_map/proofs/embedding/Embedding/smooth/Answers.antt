@@ -21,12 +21,16 @@ take_out-requires-2-clause-live c = ap (λ (l : ℕ → Bool). l c.twin-end.resu
     (live_twin c.self.inside.segments c.args.x c.twin-end.result c.twin-end.ensures (ap (λ (r : Rotation). is_live r c.args.x) c.self.view_is ∙ c.requires.live))
 
 done : (c : goal.After-remove_isolated) → IsSmoothed c.self.inside.segments c.remove_isolated.new.segments c.args.x
-done c = smoothed_out c.self.inside.segments c.take_out.new.segments c.put_before.new.segments c.take_out-2.new.segments c.remove_isolated.new.segments c.args.x c.next-other.result c.twin-end.result c.self.invariant.kept
-    (ap (λ (r : Rotation). is_live r c.args.x) c.self.view_is ∙ c.requires.live)
-    (subst (λ (r : Rotation). turn r (turn r c.args.x) ≡ c.args.x) (sym c.self.view_is) c.requires.degree_two)
-    (subst (λ (r : Rotation). turn r c.args.x ≢ c.args.x) (sym c.self.view_is) c.requires.not_alone)
-    (subst (λ (r : Rotation). turn r c.args.x ≢ twin c.args.x) (sym c.self.view_is) c.requires.two_segments)
-    c.next-other.ensures c.twin-end.ensures c.take_out.ensures.turned c.put_before.ensures.turned c.take_out-2.ensures.turned c.remove_isolated.ensures.removed
+done c = smoothed_out
+    (record {
+      kept = c.self.invariant.kept;
+      live = ap (λ (r : Rotation). is_live r c.args.x) c.self.view_is ∙ c.requires.live;
+      degree_two = subst (λ (r : Rotation). turn r (turn r c.args.x) ≡ c.args.x) (sym c.self.view_is) c.requires.degree_two;
+      not_alone = subst (λ (r : Rotation). turn r c.args.x ≢ c.args.x) (sym c.self.view_is) c.requires.not_alone;
+      two_segments = subst (λ (r : Rotation). turn r c.args.x ≢ twin c.args.x) (sym c.self.view_is) c.requires.two_segments;
+      onward = c.next-other.ensures;
+      other = c.twin-end.ensures;
+    }) c.take_out.ensures.turned c.put_before.ensures.turned c.take_out-2.ensures.turned c.remove_isolated.ensures.removed
 
 pub invariant_of-self : goal.invariant_of-self
 invariant_of-self c = record {

@@ -28,13 +28,13 @@ put_before-requires-2-clause-live_corner c = ap (λ (l : ℕ → Bool). l c.twin
     (ap (λ (r : Rotation). is_live r c.args.h) c.self.view_is ∙ c.requires.live))
 
 pub put_before-requires-2-clause-alone : goal.put_before-requires-2-clause-alone
-put_before-requires-2-clause-alone c = split_alone c.self.inside.segments c.insert_isolated-x.new.segments c.put_before.new.segments c.take_out.new.segments c.args.h c.insert_isolated-x.result c.twin.result c.twin-end.result
+put_before-requires-2-clause-alone c = split_alone c.args.h c.twin.result c.twin-end.result
     (record { sound = c.self.invariant.kept; inserted = c.insert_isolated-x.ensures.inserted })
     (ap (λ (r : Rotation). is_live r c.args.h) c.self.view_is ∙ c.requires.live)
     c.twin.ensures c.twin-end.ensures c.put_before.ensures.turned c.take_out.ensures.turned
 
 done : (c : goal.After-put_before-2) → IsSplitUp c.self.inside.segments c.put_before-2.new.segments c.args.h c.insert_isolated-x.result
-done c = splitted c.self.inside.segments c.insert_isolated-x.new.segments c.put_before.new.segments c.take_out.new.segments c.put_before-2.new.segments c.args.h c.insert_isolated-x.result c.twin.result c.twin-end.result
+done c = splitted c.args.h c.twin.result c.twin-end.result
     (record { sound = c.self.invariant.kept; inserted = c.insert_isolated-x.ensures.inserted })
     (ap (λ (r : Rotation). is_live r c.args.h) c.self.view_is ∙ c.requires.live)
     c.twin.ensures c.twin-end.ensures c.put_before.ensures.turned c.take_out.ensures.turned c.put_before-2.ensures.turned
@@ -48,7 +48,7 @@ face-right-requires c = live_twin c.self.inside.segments c.args.h c.twin-end.res
 pub invariant_of-self : goal.invariant_of-self
 invariant_of-self c = record {
   kept = (done c).added.sound;
-  labels = split_labelled c.self.inside.segments c.put_before-2.new.segments (face_in c.insert_isolated-x.new.segments) c.args.h c.insert_isolated-x.result c.twin-end.result c.face-left.result c.face-right.result c.self.inside.unused
+  labels = split_labelled c.twin-end.result
       c.self.invariant.kept (ap (λ (r : Rotation). is_live r c.args.h) c.self.view_is ∙ c.requires.live) c.twin-end.ensures (done c) c.insert_isolated-x.ensures.faces c.face-left.ensures c.face-right.ensures
       (c.put_before-2.ensures.faces ∙ c.take_out.ensures.faces ∙ c.put_before.ensures.faces) c.self.invariant.labels;
 }

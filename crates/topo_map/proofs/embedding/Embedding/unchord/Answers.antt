@@ -10,7 +10,7 @@ pub take_out-requires-clause-live : goal.take_out-requires-clause-live
 take_out-requires-clause-live c = grind (arith, same_twin)
 
 done : (c : goal.After-remove_isolated) → IsUnchorded c.self.inside.segments c.remove_isolated.new.segments c.args.h
-done c = unchorded c.self.inside.segments c.detach-self-inside.new.segments c.take_out.new.segments c.remove_isolated.new.segments c.args.h c.twin.result c.self.invariant.kept
+done c = unchorded c.twin.result c.self.invariant.kept
     (ap (λ (r : Rotation). is_live r c.args.h) c.self.view_is ∙ c.requires)
     c.twin.ensures c.detach-self-inside.ensures.turned c.take_out.ensures.turned c.remove_isolated.ensures.removed
 
@@ -20,7 +20,7 @@ detach-self-inside-requires-clause-live c = ap (λ (r : Rotation). is_live r c.a
 pub invariant_of-self : goal.invariant_of-self
 invariant_of-self c = record {
   kept = (done c).taken.sound;
-  labels = unhung_labels c.self.inside.segments c.detach-self-inside.new.segments c.take_out.new.segments c.remove_isolated.new.segments c.args.h c.twin.result c.detach-self-inside.result
+  labels = unhung_labels c.twin.result
       (ap (λ (r : Rotation). is_live r c.args.h) c.self.view_is ∙ c.requires)
       c.twin.ensures c.detach-self-inside.ensures.turned c.take_out.ensures.turned c.take_out.ensures.faces c.remove_isolated.ensures.removed c.remove_isolated.ensures.faces c.detach-self-inside.ensures.labels;
 }
