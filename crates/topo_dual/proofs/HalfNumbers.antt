@@ -17,7 +17,7 @@ use Rattle.topo_core.proofs.SystemDarts.{get_there}
 use Rattle.topo_rows.specs.Recovering.{lawful_again}
 use Rattle.topo_embedded.specs.Halves.{RowsWithPaths, IsHalf, half_in}
 use Rattle.topo_embedded.specs.Walking.{named_in}
-use Rattle.topo_route.specs.Names.{IsName, IsNamed, canonical, dart_named, next_name, no_dart}
+use Rattle.topo_route.specs.Names.{HasFaces, IsName, IsNamed, canonical, dart_named, next_name, no_dart}
 use Rattle.topo_route.specs.Numbers.{dart_of}
 use Rattle.topo_route.proofs.Canonical.{canonical_below, canonical_dart, canonical_is}
 use Rattle.topo_route.proofs.Numbers.{dart_in, face_stays, got}
@@ -91,12 +91,13 @@ pub written_over : (written old : List ℕ) (n : ℕ) → n ≡ length written �
 written_over written old n is = ap (λ (m : ℕ). take m (written ++ drop (length written) old)) is ∙ take-append_seam written (drop (length written) old)
 
 -- the lists in their places are those that were written
-pub lists_are : {p : RowsWithPaths} {halves numbers nexts in_halves in_numbers in_nexts : List ℕ} → AreNumbersOf p halves numbers → length nexts ≡ length halves → ((k : ℕ) → k < length halves → slice_index nexts k ≡ next_name (canonical p.rows) k)
-    → halves ≡ in_halves → in_numbers ≡ numbers → in_nexts ≡ nexts → AreListsOf p in_halves in_numbers in_nexts
-lists_are {p} {halves} {numbers} {nexts} {in_halves} {in_numbers} {in_nexts} named as_many follow at_halves at_numbers at_nexts =
-    subst (λ (xs : List ℕ). AreListsOf p in_halves in_numbers xs) (sym at_nexts)
-    (subst (λ (xs : List ℕ). AreListsOf p in_halves xs nexts) (sym at_numbers)
-    (subst (λ (xs : List ℕ). AreListsOf p xs numbers nexts) at_halves (record { named = named; as_many = as_many; follow = follow })))
+pub lists_are : {p : RowsWithPaths} {halves numbers nexts faces in_halves in_numbers in_nexts in_faces : List ℕ} {bound : ℕ} → AreNumbersOf p halves numbers → length nexts ≡ length halves → ((k : ℕ) → k < length halves → slice_index nexts k ≡ next_name (canonical p.rows) k)
+    → length faces ≡ length halves → HasFaces (canonical p.rows) (slice_index faces) bound → halves ≡ in_halves → in_numbers ≡ numbers → in_nexts ≡ nexts → in_faces ≡ faces → AreListsOf p in_halves in_numbers in_nexts in_faces bound
+lists_are {p} {halves} {numbers} {nexts} {faces} {in_halves} {in_numbers} {in_nexts} {in_faces} {bound} named as_many follow labelled told at_halves at_numbers at_nexts at_faces =
+    subst (λ (xs : List ℕ). AreListsOf p in_halves in_numbers in_nexts xs bound) (sym at_faces)
+    (subst (λ (xs : List ℕ). AreListsOf p in_halves in_numbers xs faces bound) (sym at_nexts)
+    (subst (λ (xs : List ℕ). AreListsOf p in_halves xs nexts faces bound) (sym at_numbers)
+    (subst (λ (xs : List ℕ). AreListsOf p xs numbers nexts faces bound) at_halves (record { named = named; as_many = as_many; follow = follow; labelled = labelled; told = told }))))
 
 -- ---- What they tell
 
@@ -126,7 +127,8 @@ pub record AreNumbered (p : RowsWithPaths) (rows : Rows) (halves numbers : List 
   pub lawful : Lawful p.rows
   pub lists : AreNumbersOf p halves numbers
 
-pub known : {p : RowsWithPaths} {merely : ∥ Lawful p.rows ∥₁} {shown : LawfulRows} {halves numbers nexts : List ℕ} → record { rows = p.rows; lawful = merely } ≡ shown → AreListsOf p halves numbers nexts → AreNumbered p shown.rows halves numbers
+pub known : {p : RowsWithPaths} {merely : ∥ Lawful p.rows ∥₁} {shown : LawfulRows} {halves numbers nexts faces : List ℕ} {bound : ℕ} {told : ∥ HasFaces (canonical p.rows) (slice_index faces) bound ∥₁}
+    → record { rows = p.rows; lawful = merely; faces = faces; bound = bound; told = told } ≡ shown → AreListsOf p halves numbers nexts faces bound → AreNumbered p shown.rows halves numbers
 known {p} {merely} view lists = record { same = ap (λ (v : LawfulRows). v.rows) view; lawful = lawful_again p.rows merely; lists = lists.named }
 
 module _ {p : RowsWithPaths} {rows : Rows} {halves numbers : List ℕ} (n : AreNumbered p rows halves numbers) where
@@ -170,13 +172,6 @@ module _ {p : RowsWithPaths} {rows : Rows} {halves numbers : List ℕ} (n : AreN
       pub told : (P : Rows → Dart → Type 0) → ((d : Dart) → has_dart (darts p.rows) d ≡ true → half_in p d ≡ half → P p.rows d) → P rows (dart_named (canonical rows) k)
       told P says =
           subst (λ (q : Rows). P q (dart_named (canonical q) k)) same (subst (P p.rows) (sym (canonical_dart p.rows lawful k below)) (says (dart_of p.rows k) (dart_in p.rows lawful k below) half_is))
-
-  -- and of two darts
-  pub told_both : (i j : ℕ) → IsName (canonical rows) i → IsName (canonical rows) j → (g h : ℕ) → g ≡ slice_index halves i → h ≡ slice_index halves j → (P : Rows → Dart → Dart → Type 0)
-      → ((c d : Dart) → has_dart (darts p.rows) c ≡ true → has_dart (darts p.rows) d ≡ true → half_in p c ≡ g → half_in p d ≡ h → P p.rows c d) → P rows (dart_named (canonical rows) i) (dart_named (canonical rows) j)
-  told_both i j ni nj g h gi hj P says =
-      told i ni g gi (λ (q : Rows) (c : Dart). P q c (dart_named (canonical q) j))
-      (λ c hc ec. subst (P p.rows c) (sym (canonical_dart p.rows lawful j (below j nj))) (says c (dart_of p.rows j) hc (dart_in p.rows lawful j (below j nj)) ec (half_is j nj h hj)))
 
   -- the number at the half of a dart is its number
   pub half_within : (d : Dart) (half : ℕ) → has_dart (darts p.rows) d ≡ true → half ≡ half_in p d → half < length numbers
@@ -242,7 +237,8 @@ module _ {p : RowsWithPaths} {rows : Rows} {halves numbers : List ℕ} (n : AreN
 -- ---- The next darts
 
 -- they are read where a dart has a number
-module _ {p : RowsWithPaths} {merely : ∥ Lawful p.rows ∥₁} {shown : LawfulRows} {halves numbers nexts : List ℕ} (view : record { rows = p.rows; lawful = merely } ≡ shown) (lists : AreListsOf p halves numbers nexts)
+module _ {p : RowsWithPaths} {merely : ∥ Lawful p.rows ∥₁} {shown : LawfulRows} {halves numbers nexts faces : List ℕ} {bound : ℕ} {told : ∥ HasFaces (canonical p.rows) (slice_index faces) bound ∥₁}
+    (view : record { rows = p.rows; lawful = merely; faces = faces; bound = bound; told = told } ≡ shown) (lists : AreListsOf p halves numbers nexts faces bound)
     (k : ℕ) (name : IsName (canonical shown.rows) k) where
   inside : k < length halves
   inside = number_within (known view lists) k name
@@ -252,6 +248,12 @@ module _ {p : RowsWithPaths} {merely : ∥ Lawful p.rows ∥₁} {shown : Lawful
 
   pub read_next : (number : ℕ) → number ≡ slice_index nexts k → number ≡ next_name (canonical shown.rows) k
   read_next number read = read ∙ lists.follow k inside ∙ ap (λ (v : LawfulRows). next_name (canonical v.rows) k) view
+
+  pub face_within : k < length faces
+  face_within = let less = inside in omega (arith, less, lists.labelled)
+
+  pub face_read : (label : ℕ) → label ≡ slice_index faces k → label ≡ slice_index shown.faces k
+  face_read label read = read ∙ ap (λ (v : LawfulRows). slice_index v.faces k) view
 
 -- they are written one after the other, each by the half of its dart
 module _ (p : RowsWithPaths) (lawful : Lawful p.rows) (halves numbers : List ℕ) (named : AreNumbersOf p halves numbers) where

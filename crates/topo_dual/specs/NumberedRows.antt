@@ -6,14 +6,18 @@ use Rattle.topo_core.specs.Lawful.{Lawful}
 use Rattle.topo_core.specs.Picture.{darts, index_of}
 use Rattle.topo_core.specs.Systems.{has_dart}
 use Rattle.topo_embedded.specs.Halves.{RowsWithPaths, half_in}
-use Rattle.topo_route.specs.Names.{IsNamed, canonical, next_name}
+use Rattle.topo_embedded.specs.KnownFaces.{faces_known}
+use Rattle.topo_route.specs.Names.{HasFaces, IsNamed, canonical, next_name}
 use Rattle.topo_route.proofs.Canonical.{canonical_named}
 use Rattle.topo_rows.specs.Recovering.{lawful_again}
 
--- rows of which it is known that they are lawful
+-- rows of which it is known that they are lawful, and a label of the face of each dart by its number
 pub record LawfulRows : Type 0 where
   pub rows : Rows
   pub lawful : ∥ Lawful rows ∥₁
+  pub faces : List ℕ
+  pub bound : ℕ
+  pub told : ∥ HasFaces (canonical rows) (slice_index faces) bound ∥₁
 
 -- no number stands twice in the list
 abbrev pub AreApart : List ℕ → Type 0
@@ -27,12 +31,18 @@ pub record AreNumbersOf (p : RowsWithPaths) (halves numbers : List ℕ) : Type 0
   pub few_darts : length (darts p.rows) < 4294967296
   pub few_vertices : length p.rows.rotations < 4294967296
 
--- the lists hold what they should of the rows: with these two, at each number that of the next dart along the face
-pub record AreListsOf (p : RowsWithPaths) (halves numbers nexts : List ℕ) : Type 0 where
+-- the lists hold what they should of the rows: with these two, at each number that of the next dart along the face, and the label of the face
+pub record AreListsOf (p : RowsWithPaths) (halves numbers nexts faces : List ℕ) (bound : ℕ) : Type 0 where
   pub named : AreNumbersOf p halves numbers
   pub as_many : length nexts ≡ length halves
   pub follow : (k : ℕ) → k < length halves → slice_index nexts k ≡ next_name (canonical p.rows) k
+  pub labelled : length faces ≡ length halves
+  pub told : HasFaces (canonical p.rows) (slice_index faces) bound
 
 -- of rows of which it is merely known that they are lawful, each dart has a number of its own
 pub names_again : (rows : Rows) → ∥ Lawful rows ∥₁ → IsNamed (canonical rows)
 names_again rows merely = canonical_named rows (lawful_again rows merely)
+
+-- and two darts have one label just where one face lies on their left
+pub faces_again : (shown : LawfulRows) → HasFaces (canonical shown.rows) (slice_index shown.faces) shown.bound
+faces_again shown = faces_known (canonical shown.rows) (lawful_again shown.rows shown.lawful) (slice_index shown.faces) shown.bound shown.told

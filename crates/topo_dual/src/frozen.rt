@@ -1,6 +1,8 @@
 //! Frozen pictures: numbered ones that own their embedding.
 
+ghost use Rattle.std.specs.Prelude.{slice_index};
 ghost use Rattle.topo_core.specs.Lawful.{Lawful};
+ghost use Rattle.topo_route.specs.Names.{HasFaces, canonical};
 
 use crate::lists::NumberLists;
 use crate::numbered::Numbered;
@@ -18,6 +20,7 @@ pub struct Frozen {
     embedded: Embedded,
     lists: NumberLists,
     ghost lawful: { ∥ Lawful embedded.rows ∥₁ },
+    ghost told: { ∥ HasFaces (canonical embedded.rows) (slice_index lists.faces.items) lists.bound ∥₁ },
 }
 
 // Written out, so that it is proved once: a derived one is proved anew in each function that lets such a value go.
@@ -34,9 +37,9 @@ impl Model for Frozen {
 
     ghost Value = { LawfulRows };
 
-    ghost view = { λ f. record { rows = f.embedded.rows; lawful = f.lawful } };
+    ghost view = { λ f. record { rows = f.embedded.rows; lawful = f.lawful; faces = f.lists.faces.items; bound = f.lists.bound; told = f.told } };
 
-    ghost invariant = { λ f. AreListsOf f.embedded f.lists.halves.items f.lists.numbers.items f.lists.nexts.items };
+    ghost invariant = { λ f. AreListsOf f.embedded f.lists.halves.items f.lists.numbers.items f.lists.nexts.items f.lists.faces.items f.lists.bound };
 }
 
 impl Frozen {
@@ -71,7 +74,9 @@ impl Frozen {
 
     /// The same, borrowed.
     fn as_numbered(&self) -> Numbered<'_>
-        ensures { result.rows ≡ self.now.rows }
+        ensures rows { result.rows ≡ self.now.rows }
+        ensures faces { result.faces ≡ self.now.faces }
+        ensures bound { result.bound ≡ self.now.bound }
     {
         Numbered {
             embedded: &self.embedded,
@@ -82,8 +87,9 @@ impl Frozen {
 
 impl FaceGraph for Frozen {
     ghost use Rattle.topo_rows.specs.Recovering.{lawful_again};
+    ghost use Rattle.std.specs.Prelude.{slice_index};
     ghost use Rattle.topo_route.specs.Names.{canonical};
-    ghost use Rattle.topo_dual.specs.NumberedRows.{names_again};
+    ghost use Rattle.topo_dual.specs.NumberedRows.{faces_again, names_again};
 
     ghost named = { λ f. canonical f.rows };
 
@@ -123,13 +129,23 @@ impl FaceGraph for Frozen {
         self.as_numbered().precedes(dart, other)
     }
 
-    fn same_face(&self, dart: u32, other: u32) -> bool {
-        self.as_numbered().same_face(dart, other)
+    ghost face_of = { λ f. slice_index f.faces };
+
+    ghost face_bound = { λ f. f.bound };
+
+    fn faces(&self) -> u32 {
+        self.as_numbered().faces()
+    }
+
+    fn face(&self, dart: u32) -> u32 {
+        self.as_numbered().face(dart)
     }
 
     ghost lawful = { λ f. lawful_again f.rows f.lawful };
 
     ghost has_names = { λ f. names_again f.rows f.lawful };
+
+    ghost has_faces = { faces_again };
 }
 
 impl Dual for Frozen {

@@ -10,12 +10,15 @@ use topo_embedded::Embedded;
 use topo_map::Half;
 
 /// For each dart in canonical order its half, for each half the number of its dart, and for each dart the
-/// number of the next one along its face. The lists are written anew for each picture, and their memory
-/// serves for the next one.
+/// number of the next one along its face and the label of that face. The lists are written anew for each
+/// picture, and their memory serves for the next one.
 pub struct NumberLists {
     pub(crate) halves: Vec<u32>,
     pub(crate) numbers: Vec<u32>,
     pub(crate) nexts: Vec<u32>,
+    pub(crate) faces: Vec<u32>,
+    // All labels of faces are below it.
+    pub(crate) bound: u32,
 }
 
 // Written out, so that it is proved once: a derived one is proved anew in each function that lets such a value go.
@@ -25,10 +28,13 @@ impl Drop for NumberLists {
             halves,
             numbers,
             nexts,
+            faces,
+            bound: _,
         } = self;
         drop(halves);
         drop(numbers);
         drop(nexts);
+        drop(faces);
     }
 }
 
@@ -39,6 +45,8 @@ impl NumberLists {
             halves: Vec::new(alloc),
             numbers: Vec::new(alloc),
             nexts: Vec::new(alloc),
+            faces: Vec::new(alloc),
+            bound: 0,
         }
     }
 
@@ -46,14 +54,16 @@ impl NumberLists {
     pub(crate) fn fill(&mut self, embedded: &Embedded) -> Result<(), AllocError>
         requires lawful { Lawful embedded.now.rows }
         requires vertices { length embedded.now.rows.rotations < 2 ^ 32 }
-        ensures { OnOk result (AreListsOf embedded.now self.new.halves.items self.new.numbers.items self.new.nexts.items) }
+        ensures { OnOk result (AreListsOf embedded.now self.new.halves.items self.new.numbers.items self.new.nexts.items self.new.faces.items self.new.bound) }
     {
         embedded.fill_halves(&mut self.halves)?;
         let halves = self.halves.as_slice();
         self.numbers.resize(embedded.size() as usize, 0)?;
         self.nexts.resize(halves.len(), 0)?;
+        self.faces.resize(halves.len(), 0)?;
         write_numbers(&mut self.numbers, halves);
         write_nexts(&mut self.nexts, embedded, halves, self.numbers.as_slice());
+        self.bound = embedded.fill_faces(&mut self.faces, halves);
         Ok(())
     }
 
@@ -79,6 +89,14 @@ impl NumberLists {
         ensures { result ≡ slice_index self.now.nexts.items number }
     {
         self.nexts[number as usize]
+    }
+
+    /// The label of the face of the dart with a number.
+    pub(crate) fn face(&self, number: u32) -> u32
+        requires { number < length self.now.faces.items }
+        ensures { result ≡ slice_index self.now.faces.items number }
+    {
+        self.faces[number as usize]
     }
 }
 

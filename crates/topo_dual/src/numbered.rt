@@ -1,6 +1,8 @@
 //! A picture with its darts numbered, over lists that are lent: what a check asks of one.
 
+ghost use Rattle.std.specs.Prelude.{slice_index};
 ghost use Rattle.topo_core.specs.Lawful.{Lawful};
+ghost use Rattle.topo_route.specs.Names.{HasFaces, canonical};
 
 use crate::lists::NumberLists;
 use std::alloc::AllocError;
@@ -14,15 +16,16 @@ use topo_route::face_graph::FaceGraph;
 
 /// Lawful rows with their embedding, and with the lists that number their darts, all borrowed.
 /// Contracts see the rows. The darts are numbered in canonical order: 2i and 2i + 1 are the two of one
-/// segment. The next dart along a face is one read. A number is turned into its half in one read, and a half
-/// into its number in another; what else is asked is answered by the embedding. No question takes memory.
-/// Where a dart lies on its edge is told by how far its number is behind that of the first dart of the edge;
-/// `tail` alone looks along the path.
+/// segment. The next dart along a face is one read, and the label of the face another. A number is turned
+/// into its half in one read, and a half into its number in another; what else is asked is answered by the
+/// embedding. No question takes memory. Where a dart lies on its edge is told by how far its number is behind
+/// that of the first dart of the edge; `tail` alone looks along the path.
 #[derive(Drop)]
 pub struct Numbered<'a> {
     pub(crate) embedded: &'a Embedded,
     pub(crate) lists: &'a NumberLists,
     ghost lawful: { ∥ Lawful embedded.now.rows ∥₁ },
+    ghost told: { ∥ HasFaces (canonical embedded.now.rows) (slice_index lists.now.faces.items) lists.now.bound ∥₁ },
 }
 
 impl<'a> Model for Numbered<'a> {
@@ -30,9 +33,9 @@ impl<'a> Model for Numbered<'a> {
 
     ghost Value = { LawfulRows };
 
-    ghost view = { λ d. record { rows = d.embedded.now.rows; lawful = d.lawful } };
+    ghost view = { λ d. record { rows = d.embedded.now.rows; lawful = d.lawful; faces = d.lists.now.faces.items; bound = d.lists.now.bound; told = d.told } };
 
-    ghost invariant = { λ d. AreListsOf d.embedded.now d.lists.now.halves.items d.lists.now.numbers.items d.lists.now.nexts.items };
+    ghost invariant = { λ d. AreListsOf d.embedded.now d.lists.now.halves.items d.lists.now.numbers.items d.lists.now.nexts.items d.lists.now.faces.items d.lists.now.bound };
 }
 
 impl<'a> Numbered<'a> {
@@ -107,8 +110,9 @@ fn twin_of(dart: u32) -> u32
 
 impl FaceGraph for Numbered<'_> {
     ghost use Rattle.topo_rows.specs.Recovering.{lawful_again};
+    ghost use Rattle.std.specs.Prelude.{slice_index};
     ghost use Rattle.topo_route.specs.Names.{canonical};
-    ghost use Rattle.topo_dual.specs.NumberedRows.{names_again};
+    ghost use Rattle.topo_dual.specs.NumberedRows.{faces_again, names_again};
 
     ghost named = { λ d. canonical d.rows };
 
@@ -152,14 +156,23 @@ impl FaceGraph for Numbered<'_> {
         dart < other
     }
 
-    fn same_face(&self, dart: u32, other: u32) -> bool {
-        self.embedded
-            .same_face(self.lists.half(dart), self.lists.half(other))
+    ghost face_of = { λ d. slice_index d.faces };
+
+    ghost face_bound = { λ d. d.bound };
+
+    fn faces(&self) -> u32 {
+        self.lists.bound
+    }
+
+    fn face(&self, dart: u32) -> u32 {
+        self.lists.face(dart)
     }
 
     ghost lawful = { λ d. lawful_again d.rows d.lawful };
 
     ghost has_names = { λ d. names_again d.rows d.lawful };
+
+    ghost has_faces = { faces_again };
 }
 
 impl Dual for Numbered<'_> {

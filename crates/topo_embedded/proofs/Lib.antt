@@ -25,5 +25,6 @@ pub mod Splits
 pub mod AddedChords
 pub mod Routed
 pub mod SameFaces
+pub mod LabelledFaces
 pub mod InOrder
 pub mod FoundHalves

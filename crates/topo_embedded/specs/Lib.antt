@@ -10,3 +10,4 @@ pub mod Opening
 pub mod Padding
 pub mod Crossing
 pub mod Canonical
+pub mod KnownFaces

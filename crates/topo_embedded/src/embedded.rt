@@ -7,7 +7,7 @@ ghost use Rattle.topo_core.specs.Lawful.{IsWellFormed};
 ghost use Rattle.topo_core.specs.Picture.{corner, darts, edge_at, edge_row, end_dart, segment_count, system};
 ghost use Rattle.topo_core.specs.Routes.{AreFactsOf};
 ghost use Rattle.topo_core.specs.Systems.{SameFace, face_step, has_dart};
-ghost use Rattle.topo_embedded.specs.Halves.{IsHalf, half_in};
+ghost use Rattle.topo_embedded.specs.Halves.{IsHalf, ShowsRows, half_in};
 ghost use Rattle.topo_embedded.specs.Walking.{named_in};
 ghost use Rattle.topo_rows.specs.Flats.{AreTurnsOf};
 ghost use Rattle.topo_route.specs.Names.{IsNamed};
@@ -105,6 +105,13 @@ impl Embedded {
         ensures { result.now ≡ self.now.rows }
     {
         &self.parts.rows
+    }
+
+    /// The segments, which show the rows.
+    pub(crate) fn segments(&self) -> &Embedding
+        ensures { ShowsRows self.now result.now }
+    {
+        &self.parts.segments
     }
 
     /// Places of rows by their ids, to be tried before a search.

@@ -6,14 +6,15 @@ ghost use Rattle.topo_core.specs.Darts.{dart_cmp};
 ghost use Rattle.topo_core.specs.Lawful.{Lawful};
 ghost use Rattle.topo_embedded.specs.Halves.{by_way};
 ghost use Rattle.topo_embedded.specs.Walking.{IsOnPath, end_seg, end_way, named_in};
-ghost use Rattle.topo_route.specs.Names.{IsNamed};
+ghost use Rattle.topo_map.specs.Rotation.{turn_in};
+ghost use Rattle.topo_route.specs.Names.{HasFaces, IsNamed};
 
 use crate::embedded::Embedded;
 use crate::path::Path;
 use std::marker::Model;
 use topo_core::darts::{Dart, Way};
 use topo_core::rows::{EdgeRow, Facts};
-use topo_map::Half;
+use topo_map::{Embedding, Half};
 use topo_route::face_graph::FaceGraph;
 
 /// Where a half lies on the path of its edge, and which way it leads along it.
@@ -54,27 +55,30 @@ pub(crate) fn end_of(row: &EdgeRow, v: u32) -> (usize, Way)
 }
 
 /// Lawful rows with their embedding: what a search walks on that hands out no heights. Darts go by the
-/// numbers of their halves. The next dart along a face takes one read, the twin none, whether two lie
-/// in one face two, and no question takes memory. Where a dart lies on its edge is found by a look along the path of the edge, which a
+/// numbers of their halves. The next dart along a face takes one read, the twin none, the label of a
+/// face one, and no question takes memory. Where a dart lies on its edge is found by a look along the path of the edge, which a
 /// search asks only of darts that it may cross.
 #[derive(Drop)]
 pub struct EmbeddedRows<'a> {
     embedded: &'a Embedded,
+    segments: &'a Embedding,
     size: u32,
+    labels: u32,
     ghost named: { IsNamed (named_in embedded.now size) },
     ghost lawful: { ∥ Lawful embedded.now.rows ∥₁ },
+    ghost told: { ∥ HasFaces (named_in embedded.now size) (turn_in segments.now.labels) labels ∥₁ },
 }
 
 impl<'a> Model for EmbeddedRows<'a> {
     ghost use Rattle.std.specs.Prelude.{◌<◌, ◌^◌, length};
     ghost use Rattle.topo_core.specs.Picture.{darts};
-    ghost use Rattle.topo_embedded.specs.Walking.{FaceGraphRows};
+    ghost use Rattle.topo_embedded.specs.Walking.{AreLive, FaceGraphRows};
 
     ghost Value = { FaceGraphRows };
 
-    ghost view = { λ d. record { embedded = d.embedded.now; size = d.size; named = d.named; lawful = d.lawful } };
+    ghost view = { λ d. record { embedded = d.embedded.now; size = d.size; faces = d.segments.now.labels; bound = d.labels; named = d.named; lawful = d.lawful; told = d.told } };
 
-    ghost invariant = { λ d. (length (darts d.embedded.now.rows) < 2 ^ 32) × (length d.embedded.now.rows.rotations < 2 ^ 32) };
+    ghost invariant = { λ d. (length (darts d.embedded.now.rows) < 2 ^ 32) × (length d.embedded.now.rows.rotations < 2 ^ 32) × AreLive d.embedded.now d.segments.now };
 }
 
 impl<'a> EmbeddedRows<'a> {
@@ -87,13 +91,21 @@ impl<'a> EmbeddedRows<'a> {
         ensures { result.embedded ≡ embedded.now }
     {
         let size = embedded.size();
-        EmbeddedRows { embedded, size }
+        let segments = embedded.segments();
+        let labels = segments.labels();
+        EmbeddedRows {
+            embedded,
+            segments,
+            size,
+            labels,
+        }
     }
 }
 
 impl FaceGraph for EmbeddedRows<'_> {
     ghost use Rattle.topo_rows.specs.Recovering.{lawful_again};
-    ghost use Rattle.topo_embedded.specs.Walking.{named_rows, names_apart};
+    ghost use Rattle.topo_embedded.specs.Walking.{faces_apart, named_rows, names_apart};
+    ghost use Rattle.topo_map.specs.Rotation.{turn_in};
 
     ghost named = { named_rows };
 
@@ -142,14 +154,23 @@ impl FaceGraph for EmbeddedRows<'_> {
         }
     }
 
-    fn same_face(&self, dart: u32, other: u32) -> bool {
-        self.embedded
-            .same_face(Half::numbered(dart), Half::numbered(other))
+    ghost face_of = { λ w. turn_in w.faces };
+
+    ghost face_bound = { λ w. w.bound };
+
+    fn faces(&self) -> u32 {
+        self.labels
+    }
+
+    fn face(&self, dart: u32) -> u32 {
+        self.segments.face(Half::numbered(dart))
     }
 
     ghost lawful = { λ w. lawful_again w.embedded.rows w.lawful };
 
     ghost has_names = { names_apart };
+
+    ghost has_faces = { faces_apart };
 }
 
 /// Whether one dart comes before another of the same edge.

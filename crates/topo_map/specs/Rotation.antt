@@ -1,8 +1,9 @@
--- What a contract sees of an embedding: which halves are live, how they turn, and the room for more segments.
+-- What a contract sees of an embedding: which halves are live, how they turn, the labels of their faces, and the room for more segments.
 -- A half is a number: 2 * key and 2 * key + 1 are the two of the segment at a key.
 use Rattle.std.specs.Prelude.{◌≡◌, ◌≢◌, ℕ, ◌+◌, ◌*◌, ◌/◌, ◌%◌, ◌<◌, ◌≤◌, ◌==◌, Bool, true, cond, List, length, Option, Some, None, is_some, slice_index_or}
 use Rattle.topo_core.specs.Cycles.{SameCycle, after, map_of, cycles_of}
 use Rattle.topo_core.specs.Rotations.{twin, face_next, faces_of, IsConnected}
+use Rattle.topo_perm.specs.FaceLabels.{LabelsFaces}
 use Rattle.topo_perm.specs.Joins.{IsConnectedAmong, AddsSegment}
 use Rattle.topo_perm.specs.Renumbering.{RenumbersTurn}
 use Rattle.topo_perm.specs.Live.{IsSlab, live_cycle_count, live_segments}
@@ -14,9 +15,11 @@ pub record Slot : Type 0 where
   pub back : ℕ
   pub edge : ℕ
 
--- at each key a segment or nothing, what lies above all halves that there is place for, and how many segments can be added with no memory taken
+-- at each key a segment or nothing, likewise the labels of the faces on the left of its two halves, what lies above all halves that there is place for,
+-- and how many segments can be added with no memory taken
 pub record Rotation : Type 0 where
   pub slots : List (Option Slot)
+  pub labels : List (Option Slot)
   pub limit : ℕ
   pub room : ℕ
 
@@ -54,6 +57,10 @@ turning_of r = record { live = is_live r; turn = turn r }
 abbrev pub edge_of : Rotation → ℕ → ℕ
 edge_of r = edge_in r.slots
 
+-- the label of the face on the left of a half
+abbrev pub face_of : Rotation → ℕ → ℕ
+face_of r = turn_in r.labels
+
 -- above all halves. It is a name and no numeral, since counts run up to it
 unfoldable pub half_limit : ℕ
 half_limit = 4294967294
@@ -78,6 +85,10 @@ pub record IsWhole (live : ℕ → Bool) (f : ℕ → ℕ) : Type 0 where
 
 abbrev pub IsEmbedding : Rotation → Type 0
 IsEmbedding r = IsWhole (is_live r) (turn r)
+
+-- two live halves have one label exactly where they lie in one face
+abbrev pub TellsFaces : Rotation → Type 0
+TellsFaces r = LabelsFaces (is_live r) (turn r) (face_of r)
 
 -- any two live halves are joined
 abbrev pub HangsTogether : Rotation → Type 0

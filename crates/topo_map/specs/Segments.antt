@@ -45,7 +45,7 @@ room_of s = cond (nat_le s.capacity 2147483647) (s.capacity - slab_len s) 0
 
 -- what a contract sees
 abbrev pub view_of : Slab Segment → Rotation
-view_of s = record { slots = shown nexts s; limit = limit_of s; room = room_of s }
+view_of s = record { slots = shown nexts s; labels = shown sides s; limit = limit_of s; room = room_of s }
 
 -- a segment by itself
 abbrev pub isolated_segment : ℕ → ℕ → ℕ → ℕ → Segment

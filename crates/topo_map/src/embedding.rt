@@ -4,7 +4,7 @@ ghost use Rattle.std.specs.Prelude.{◌≡◌, ◌≢◌, ◌↔◌, ◌+◌, �
 ghost use Rattle.topo_core.specs.Cycles.{IsPermutationList, SameCycle};
 ghost use Rattle.topo_core.specs.Edits.{IsChord, IsHang, IsSmooth, IsSplit, IsUnchord};
 ghost use Rattle.topo_core.specs.Rotations.{face_next, twin};
-ghost use Rattle.topo_map.specs.Rotation.{AddsLabel, AreLabelled, CountsFewer, CountsMore, Grows, IsDegree, IsEmbedding, IsMadeFrom, IsOneFace, KeepsLabels, PartsFaces, Shrinks, edge_of, half_limit, is_live, segments as segments_of, turn};
+ghost use Rattle.topo_map.specs.Rotation.{AddsLabel, AreLabelled, CountsFewer, CountsMore, Grows, IsDegree, IsEmbedding, IsMadeFrom, IsOneFace, KeepsLabels, PartsFaces, Shrinks, TellsFaces, edge_of, face_of, half_limit, is_live, segments as segments_of, turn};
 
 use crate::build::{isolated_halves, join_turns};
 use crate::faces::{HALF_LIMIT, attach, detach, label_faces};
@@ -102,6 +102,7 @@ impl Embedding {
     /// changed.
     pub fn reserve(&mut self, more: usize) -> Result<(), AllocError>
         ensures same { self.new.slots ≡ self.old.slots }
+        ensures same_labels { self.new.labels ≡ self.old.labels }
         ensures room { OnOk result (more ≤ self.new.room) }
         ensures never_less { OnOk result (self.old.room ≤ self.new.room) }
         ensures succeeds { more ≤ self.old.room → IsOk result }
@@ -169,6 +170,24 @@ impl Embedding {
         ensures { result ≡ edge_of self.now h }
     {
         segments::edge(&self.segments, h)
+    }
+
+    /// The label of the face on the left of `h`.
+    pub fn face(&self, h: Half) -> u32
+        requires { is_live self.now h ≡ true }
+        ensures { result ≡ face_of self.now h }
+    {
+        face(&self.segments, h)
+    }
+
+    /// A length for lists by the label of a face: above the labels of all faces. It is at most about twice
+    /// that of lists by half.
+    pub fn labels(&self) -> u32
+        ensures tell { TellsFaces self.now }
+        ensures above { (a : ℕ) → is_live self.now a ≡ true → face_of self.now a < result }
+    {
+        let _segments = &self.segments;
+        self.unused
     }
 
     /// Whether `a` and `b` lie in one face.

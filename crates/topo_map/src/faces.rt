@@ -1,9 +1,10 @@
 //! The labels of faces. Each half has the label of the face on its left, and where a face is parted or
 //! two are joined, the smaller of the two is labelled anew by a walk.
 //!
-//! Labels are counted upwards. Where the last of them was given, all faces are labelled anew from the
-//! first on. That always suffices, since there are more labels than halves, and so than faces. With at
-//! most 2^31 halves it is one pass over all of them in no fewer than 2^31 - 1 edits.
+//! Labels are counted upwards. Where one was given that is above twice the number of halves that there is
+//! place for, and some, all faces are labelled anew from the first on. They then get no more labels than
+//! there are halves. So a list by label stays short, and a pass over all halves comes at most once in as
+//! many edits: it is amortized constant time for an edit.
 
 ghost use Rattle.std.specs.Prelude.{◌≡◌, ◌≢◌, ◌⊎◌, ◌+◌, ◌<◌, ℕ, true, false};
 ghost use Rattle.topo_core.specs.Rotations.{face_next, twin};
@@ -18,6 +19,9 @@ use slab::Slab;
 
 /// Above the numbers of all halves.
 pub(crate) const HALF_LIMIT: u64 = 4_294_967_294;
+
+/// So many labels are given beyond twice the halves, so that few halves are not labelled anew often.
+const SPARE_LABELS: usize = 1024;
 
 /// The whole face of `start` gets this label.
 pub(crate) fn paint(segments: &mut Slab<Segment>, start: Half, label: u32)
@@ -180,7 +184,12 @@ pub(crate) fn label_faces(segments: &mut Slab<Segment>) -> u32
     unused
 }
 
-/// The label after `given`, which was given last. Where it has no room in 32 bits, all faces are
+/// The label from which on all faces are labelled anew. It has room in 32 bits.
+fn label_limit(segments: &Slab<Segment>) -> u32 {
+    (2 * limit(segments) + SPARE_LABELS).min(u32::MAX as usize) as u32
+}
+
+/// The label after `given`, which was given last. Where labels have grown too large, all faces are
 /// labelled anew. Answers the label that is unused then.
 fn label_after(segments: &mut Slab<Segment>, given: u32) -> u32
     requires kept { IsKept segments.old }
@@ -188,11 +197,9 @@ fn label_after(segments: &mut Slab<Segment>, given: u32) -> u32
     ensures same { Repaints segments.old segments.new (face_in segments.new) }
     ensures labels { IsLabelled segments.new result }
 {
-    match given.checked_add(1) {
-        Some(unused) => unused,
-        None => {
-            unlabel(segments);
-            label_faces(segments)
-        }
+    if given < label_limit(segments) {
+        return given + 1;
     }
+    unlabel(segments);
+    label_faces(segments)
 }

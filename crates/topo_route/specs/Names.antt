@@ -7,7 +7,7 @@ use Rattle.topo_core.specs.declared.darts.Way.TheVariants.{Forward}
 use Rattle.topo_core.specs.declared.rows.Rows.{Rows}
 use Rattle.topo_core.specs.Darts.{dart_twin}
 use Rattle.topo_core.specs.Picture.{darts, index_of, system}
-use Rattle.topo_core.specs.Systems.{face_step, has_dart}
+use Rattle.topo_core.specs.Systems.{SameFace, face_step, has_dart}
 
 -- rows, the name of each dart, and a number that all names are below
 pub record Named : Type 0 where
@@ -39,6 +39,12 @@ next_name g k = g.name (face_step (system g.rows) (dart_named g k))
 -- the name of the same segment, the other way
 abbrev pub twin_name : Named → ℕ → ℕ
 twin_name g k = g.name (dart_twin (dart_named g k))
+
+-- labels of faces by the names of darts: they are below a bound, and two darts have one label exactly where they lie in one face
+pub record HasFaces (g : Named) (face : ℕ → ℕ) (bound : ℕ) : Type 0 where
+  pub within : (k : ℕ) → IsName g k → face k < bound
+  pub same : (j k : ℕ) → IsName g j → IsName g k → SameFace (system g.rows) (dart_named g j) (dart_named g k) → face j ≡ face k
+  pub one : (j k : ℕ) → IsName g j → IsName g k → face j ≡ face k → SameFace (system g.rows) (dart_named g j) (dart_named g k)
 
 -- the height of a dart in a list that has it at the dart's name
 abbrev pub height_of : Named → List ℕ → Dart → ℕ

@@ -1,13 +1,12 @@
 //! The darts of a picture by names.
 
-ghost use Rattle.std.specs.Prelude.{◌≡◌, ◌↔◌, IsTrue, length, option_map};
+ghost use Rattle.std.specs.Prelude.{◌≡◌, ◌↔◌, ℕ, IsTrue, length, option_map};
 ghost use Rattle.std.specs.declared.cmp.Ordering.TheVariants.{Less};
 ghost use Rattle.topo_core.specs.Darts.{dart_cmp};
 ghost use Rattle.topo_core.specs.Lawful.{Lawful};
-ghost use Rattle.topo_core.specs.Picture.{corner, edge_at, rotation, system};
+ghost use Rattle.topo_core.specs.Picture.{corner, edge_at, rotation};
 ghost use Rattle.topo_core.specs.Routes.{AreFactsOf};
-ghost use Rattle.topo_core.specs.Systems.{SameFace};
-ghost use Rattle.topo_route.specs.Names.{IsName, IsNamed, Named, dart_named, next_name, twin_name};
+ghost use Rattle.topo_route.specs.Names.{HasFaces, IsName, IsNamed, Named, dart_named, next_name, twin_name};
 
 use topo_core::darts::Dart;
 use topo_core::rows::Facts;
@@ -61,15 +60,27 @@ pub trait FaceGraph {
         requires other_there { IsName (named self.now) other }
         ensures { IsTrue result ↔ dart_cmp (dart_named (named self.now) dart) (dart_named (named self.now) other) ≡ Less };
 
-    /// Whether two darts have one face on their left. It takes no longer where the face is large.
-    fn same_face(&self, dart: u32, other: u32) -> bool
-        requires dart_there { IsName (named self.now) dart }
-        requires other_there { IsName (named self.now) other }
-        ensures { IsTrue result ↔ SameFace (system (named self.now).rows) (dart_named (named self.now) dart) (dart_named (named self.now) other) };
+    /// The label of the face on the left of a dart, by the name of the dart.
+    ghost face_of: { Self → ℕ → ℕ };
+
+    /// A number that the labels of all faces are below.
+    ghost face_bound: { Self → ℕ };
+
+    /// A number that the labels of all faces are below.
+    fn faces(&self) -> u32
+        ensures { result ≡ face_bound self.now };
+
+    /// The label of the face on the left of a dart.
+    fn face(&self, dart: u32) -> u32
+        requires { IsName (named self.now) dart }
+        ensures { result ≡ face_of self.now dart };
 
     /// What it shows is lawful.
     ghost lawful: { (picture : Self) → Lawful (named picture).rows };
 
     /// Each dart has a name of its own.
     ghost has_names: { (picture : Self) → IsNamed (named picture) };
+
+    /// Two darts have one label just where one face lies on their left.
+    ghost has_faces: { (picture : Self) → HasFaces (named picture) (face_of picture) (face_bound picture) };
 }

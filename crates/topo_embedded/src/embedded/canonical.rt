@@ -1,11 +1,13 @@
 //! What is asked of rows with their embedding by the canonical numbers of darts.
 
-ghost use Rattle.std.specs.Prelude.{◌≡◌, ◌+◌, ◌++◌, ◌≤◌, true, IfOk, None, OnOk, Some, flat_map, if◌then◌else◌, length, map, slice_index_or};
+ghost use Rattle.std.specs.Prelude.{◌≡◌, ◌+◌, ◌++◌, ◌<◌, ◌≤◌, ℕ, true, IfOk, None, OnOk, Some, flat_map, if◌then◌else◌, length, map, slice_index, slice_index_or};
 ghost use Rattle.topo_core.specs.declared.darts.Dart.{Dart};
 ghost use Rattle.topo_core.specs.Picture.{darts, points_of, rotation, start, start_place};
 ghost use Rattle.topo_core.specs.Systems.{has_dart};
 ghost use Rattle.topo_embedded.specs.Canonical.{halves_of};
 ghost use Rattle.topo_embedded.specs.Halves.{IsHalf, half_in};
+ghost use Rattle.topo_map.specs.Rotation.{face_of, is_live};
+ghost use Rattle.topo_route.specs.Names.{HasFaces, canonical};
 
 use super::Embedded;
 use crate::path::Path;
@@ -14,7 +16,7 @@ use std::alloc::{AllocError, Global};
 use topo_core::darts::{Dart, Point, Way};
 use topo_core::ids::{CrossId, VertexId};
 use topo_core::rows::{EdgeRow, Rows};
-use topo_map::Half;
+use topo_map::{Embedding, Half};
 use topo_rows::by_id::{edge_place, place_of_edge};
 
 /// Writes the two halves of each segment of a path behind those of a list.
@@ -37,6 +39,17 @@ fn write_paths(halves: &mut Vec<u32>, paths: &[Path]) -> Result<(), AllocError>
         write_path(halves, path)?;
     }
     Ok(())
+}
+
+/// Writes for each half of a list the label of the face on its left.
+fn write_faces(faces: &mut [u32], segments: &Embedding, halves: &[u32])
+    requires live { (i : ℕ) → i < length halves.now → is_live segments.now (slice_index halves.now i) ≡ true }
+    requires as_many { length faces.old ≡ length halves.now }
+    ensures { (i : ℕ) → i < length halves.now → slice_index faces.new i ≡ face_of segments.now (slice_index halves.now i) }
+{
+    for place in 0..halves.len() {
+        faces[place] = segments.face(Half::numbered(halves[place]));
+    }
 }
 
 /// The point at a place along an edge: its end `a`, the crossings of its path, its end `b`.
@@ -94,6 +107,18 @@ impl Embedded {
         halves.reserve(self.parts.segments.limit())?;
         write_paths(halves, self.parts.paths.as_slice())?;
         Ok(())
+    }
+
+    /// Writes for each dart, in canonical order, the label of the face on its left, by the halves of the
+    /// darts. Answers a number that all labels are below.
+    pub fn fill_faces(&self, faces: &mut [u32], halves: &[u32]) -> u32
+        requires halves { halves.now ≡ map (half_in self.now) (darts self.now.rows) }
+        requires as_many { length faces.old ≡ length halves.now }
+        ensures { HasFaces (canonical self.now.rows) (slice_index faces.new) result }
+    {
+        let segments = &self.parts.segments;
+        write_faces(faces, segments, halves);
+        segments.labels()
     }
 
     /// The half of a dart; none where it is no dart of the rows.

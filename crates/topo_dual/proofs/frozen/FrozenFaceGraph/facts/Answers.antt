@@ -5,4 +5,4 @@ use Rattle.topo_route.specs.Names.{canonical, dart_named}
 use Rattle.topo_dual.proofs.frozen.FrozenFaceGraph.facts.Goals as goal
 
 pub returns : goal.returns
-returns c = subst (λ rows. AreFactsOf (edge_at rows (dart_named (canonical rows) c.args.dart).edge) c.facts.result) c.as_numbered.ensures c.facts.ensures
+returns c = subst (λ rows. AreFactsOf (edge_at rows (dart_named (canonical rows) c.args.dart).edge) c.facts.result) c.as_numbered.ensures.rows c.facts.ensures

@@ -29,8 +29,12 @@ returns c =
     let as_long : length written ≡ c.size.result = grind arith in
     let whole : c.resize.new.self.len ≡ length written = grind arith in
     let as_many : length nexts ≡ length c.as_slice-halves.result.now = grind arith in
+    let faces = c.fill_faces-self.new.faces in
+    let labelled : length faces ≡ length c.as_slice-halves.result.now = grind arith in
+    let every : c.resize-3.new.self.len ≡ length faces = grind arith in
     let all : c.resize-2.new.self.len ≡ length nexts = grind arith in
     lists_are
     (numbers_are c.args.embedded.now c.requires.lawful.embedding.well_formed c.size.result c.size.ensures.named c.as_slice-halves.result.now (c.as_slice-halves.ensures.value ∙ c.in_ok-fill_halves.ensures)
     written as_long c.write_numbers.ensures (omega (arith, c.size.ensures.many)) c.requires.vertices)
-    as_many c.write_nexts.ensures c.as_slice-halves.ensures.value (written_over written c.resize.new.self.items c.resize.new.self.len whole) (written_over nexts c.resize-2.new.self.items c.resize-2.new.self.len all)
+    as_many c.write_nexts.ensures labelled c.fill_faces-self.ensures c.as_slice-halves.ensures.value (written_over written c.resize.new.self.items c.resize.new.self.len whole) (written_over nexts c.resize-2.new.self.items c.resize-2.new.self.len all)
+    (written_over faces c.resize-3.new.self.items c.resize-3.new.self.len every)
