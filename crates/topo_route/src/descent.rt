@@ -14,7 +14,7 @@ ghost use Rattle.topo_route.specs.Settling.{ArePrices};
 use crate::face_graph::FaceGraph;
 use crate::priced_graph::PricedGraph;
 use crate::stamped_array::StampedArray;
-use crate::steps::{across, corner_at, next_along};
+use crate::steps::{across, corner_at, next_along, same_face};
 use std::alloc::{AllocError, Global};
 use topo_core::darts::Dart;
 use topo_price::tariff::PriceFn;
@@ -88,7 +88,7 @@ pub(crate) fn end_corner<W: FaceGraph>(graph: &W, v: u32, last: u32) -> Option<u
 {
     for position in 0..graph.degree(v) {
         if let Some(corner) = corner_at(graph, v, position) {
-            if graph.same_face(last, corner) {
+            if same_face(graph, last, corner) {
                 return Some(position);
             }
         }
