@@ -1,14 +1,16 @@
 //! Steps from dart to dart by their names.
 
-ghost use Rattle.std.specs.Prelude.{◌≡◌, ◌<◌, ◌≤◌, ◌↔◌, IsTrue, Some, None, MatchOption, IfSome};
+ghost use Rattle.std.specs.Prelude.{◌≡◌, ◌<◌, ◌≤◌, ◌↔◌, IsTrue, Some, None, MatchOption, IfSome, length, slice_index};
 ghost use Rattle.topo_core.specs.Picture.{corner, system};
 ghost use Rattle.topo_core.specs.Routes.{KeepsPromise};
 ghost use Rattle.topo_core.specs.Systems.{SameFace};
 ghost use Rattle.topo_price.specs.Prices.{prices_of};
+ghost use Rattle.topo_route.specs.FaceHeights.{dart_heights};
 ghost use Rattle.topo_route.specs.Names.{IsName, dart_named, next_name, twin_name};
 ghost use Rattle.topo_route.specs.Numbers.{IsPriceFor};
 
 use crate::face_graph::FaceGraph;
+use crate::stamped_array::StampedArray;
 use topo_price::tariff::{PriceFn, Tariff};
 
 /// The next dart along the face on the left.
@@ -36,6 +38,15 @@ pub(crate) fn face_at<W: FaceGraph>(graph: &W, dart: u32) -> u32
     ensures within { result < W.face_bound graph.now }
 {
     graph.face(dart)
+}
+
+/// The height of the face on the left of a dart, in a list that has one for each label.
+pub(crate) fn height_at<W: FaceGraph>(graph: &W, heights: &StampedArray, dart: u32) -> u64
+    requires one_each { length heights.now ≡ W.face_bound graph.now }
+    requires name { IsName (W.named graph.now) dart }
+    ensures { result ≡ slice_index (dart_heights (W.named graph.now) (W.face_of graph.now) heights.now) dart }
+{
+    heights.get(face_at(graph, dart))
 }
 
 /// Whether two darts have one face on their left. It takes no longer where the face is large.
