@@ -1,13 +1,12 @@
--- Heights fit into an epoch of a list.
+-- How many heights are reached.
 use Rattle.std.proofs.Common.{◌≡◌, ◌≢◌, ℕ, ◌+◌, ◌*◌, ◌^◌, ◌<◌, ◌≤◌, ◌==◌, [], ◌∷◌, Bool, cond, List, length, inl, inr, ap, arith}
-use Rattle.std.specs.Prelude.{slice_index, sum_by}
+use Rattle.std.specs.Prelude.{sum_by}
 use Rattle.std.proofs.lemmas.Bool.{cases_eq, eq-eqb, ne_eqb}
 use Rattle.std.proofs.lemmas.List.Sums.{sum_by-cons}
-use Rattle.topo_core.specs.Routes.{Pricing, unreached}
-use Rattle.topo_route.specs.Names.{Named}
-use Rattle.topo_route.specs.Settling.{AreCosts, IsReached, reached}
+use Rattle.topo_core.specs.Routes.{unreached}
+use Rattle.topo_route.specs.Settling.{reached}
 
-abbrev counts : ℕ → ℕ
+abbrev pub counts : ℕ → ℕ
 counts h = cond {A = ℕ} (h == unreached) 0 1
 
 counts_one : (h : ℕ) → counts h ≤ 1
@@ -17,14 +16,6 @@ counts_one h = elim (cases_eq h unreached) [
 ]
 
 -- no more are reached than there are
-reached_within : (heights : List ℕ) → reached heights ≤ length heights
+pub reached_within : (heights : List ℕ) → reached heights ≤ length heights
 reached_within [] = omega arith
 reached_within (h ∷ heights) = let first = sum_by-cons counts h heights in let one = counts_one h in let rest = reached_within heights in omega arith
-
--- so a height is no more than 1000 for each dart
-pub height_fits : (price : Pricing) (g : Named) (v : ℕ) (heights : List ℕ) (d : ℕ) → AreCosts price g v heights → IsReached g heights d → g.size < 2 ^ 32 → slice_index heights d ≤ 4294967295000
-height_fits price g v heights d costs here small =
-    let near = costs.bounded d here.0 here.1 in
-    let most = reached_within heights in
-    let each = costs.one_each in
-    omega arith

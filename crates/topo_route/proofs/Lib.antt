@@ -5,8 +5,11 @@ pub mod Prices
 pub mod Tests
 pub mod Walking
 pub mod Verdicts
+pub mod FaceHeights
+pub mod FaceWalks
 pub mod Settled
 pub mod Fits
+pub mod Pending
 pub mod Sums
 pub mod Relaxing
 pub mod Buckets

@@ -7,6 +7,7 @@ use Rattle.topo_core.specs.declared.darts.Dart.{Dart}
 use Rattle.topo_core.specs.declared.rows.EdgeRow.{EdgeRow}
 use Rattle.topo_core.specs.declared.rows.Facts.{Facts}
 use Rattle.topo_core.specs.declared.rows.Rows.{Rows}
+use Rattle.topo_core.specs.Cycles.{after}
 use Rattle.topo_core.specs.Items.{has_id}
 use Rattle.topo_core.specs.Lawful.{IsWellFormed}
 use Rattle.topo_core.specs.Picture.{darts, edge_at, edge_row}
@@ -15,10 +16,11 @@ use Rattle.topo_core.specs.Systems.{has_dart}
 use Rattle.topo_core.proofs.NumberOrder.{either}
 use Rattle.topo_core.proofs.Standing.{listed_test, of_rows_is_dart}
 use Rattle.topo_core.proofs.SystemDarts.{edge_at_row, path_facts, row_id, row_in}
-use Rattle.topo_route.specs.Names.{IsNamed, Named, dart_named}
+use Rattle.topo_route.specs.FaceHeights.{dart_heights}
+use Rattle.topo_route.specs.Names.{HasFaces, IsName, IsNamed, Named, dart_named, next_name}
 use Rattle.topo_route.specs.Regions.{IsRegionOf, RegionState, holds_edge, holds_vertex}
-use Rattle.topo_route.specs.Seen.{AreNamed, HoldsBelow, HoldsMore}
-use Rattle.topo_route.proofs.Names.{name_below}
+use Rattle.topo_route.specs.Seen.{HoldsBelow, HoldsMore}
+use Rattle.topo_route.proofs.FaceHeights.{height_by_face}
 
 -- ---- Lists of numbers
 
@@ -117,23 +119,34 @@ no_more region = record { edges = λ e h. h }
 
 -- ---- All darts below a bound
 
--- the darts at the first places that are lower than the bound have their edges in the region
-abbrev pub HoldsFirst : Named → List ℕ → ℕ → List ℕ → ℕ → RegionState → Type 0
-HoldsFirst g heights bound places n region = (i : ℕ) → i < n → slice_index heights (slice_index places i) < bound → holds_edge region (dart_named g (slice_index places i)).edge ≡ true
+-- the darts of the faces at the first places that are lower than the bound have their edges in the region
+abbrev pub HoldsFirst : Named → (ℕ → ℕ) → List ℕ → ℕ → List ℕ → ℕ → RegionState → Type 0
+HoldsFirst g face heights bound places n region = (i : ℕ) → i < n → slice_index heights (slice_index places i) < bound
+    → (k : ℕ) → IsName g k → face k ≡ slice_index places i → holds_edge region (dart_named g k).edge ≡ true
 
-pub holds_next : (g : Named) (heights : List ℕ) (bound : ℕ) (places : List ℕ) (n : ℕ) (before after : RegionState) → HoldsMore before after → HoldsFirst g heights bound places n before
-    → (slice_index heights (slice_index places n) < bound → holds_edge after (dart_named g (slice_index places n)).edge ≡ true) → HoldsFirst g heights bound places (n + 1) after
-holds_next g heights bound places n before after more first next i less low = elim (cases_lt i n) [
-  | inl earlier ↦ more.edges (dart_named g (slice_index places i)).edge (first i earlier low)
+pub holds_next : (g : Named) (face : ℕ → ℕ) (heights : List ℕ) (bound : ℕ) (places : List ℕ) (n : ℕ) (before after : RegionState) → HoldsMore before after → HoldsFirst g face heights bound places n before
+    → (slice_index heights (slice_index places n) < bound → (k : ℕ) → IsName g k → face k ≡ slice_index places n → holds_edge after (dart_named g k).edge ≡ true) → HoldsFirst g face heights bound places (n + 1) after
+holds_next g face heights bound places n before after more first next i less low k l e = elim (cases_lt i n) [
+  | inl earlier ↦ more.edges (dart_named g k).edge (first i earlier low k l e)
   | inr last ↦
-      let is : n ≡ i = omega arith in
-      subst (λ j. slice_index heights (slice_index places j) < bound → holds_edge after (dart_named g (slice_index places j)).edge ≡ true) is next low
+      let is : i ≡ n = omega arith in
+      next (subst (λ j. slice_index heights (slice_index places j) < bound) is low) k l (e ∙ ap (slice_index places) is)
 ]
 
-pub holds_below : (g : Named) → IsNamed g → (heights : List ℕ) (bound : ℕ) (places : List ℕ) (region : RegionState) → AreNamed g heights → bound ≤ unreached
-    → ((k : ℕ) → k < length heights → slice_index heights k ≢ unreached → has_id places k ≡ true) → HoldsFirst g heights bound places (length places) region → HoldsBelow g heights bound region
-holds_below g has heights bound places region named small all first k l low =
-    let one_each = named.one_each in
-    let below = name_below g has k l in
-    let (i, less, is) = listed_at places k (all k (omega arith) (λ e. omega arith)) in
-    subst (λ j. slice_index heights j < bound → holds_edge region (dart_named g j).edge ≡ true) is (first i less) low
+pub holds_below : (g : Named) → IsNamed g → (face : ℕ → ℕ) (faces : ℕ) → HasFaces g face faces → (heights : List ℕ) (bound : ℕ) (places : List ℕ) (region : RegionState) → length heights ≡ faces → bound ≤ unreached
+    → ((f : ℕ) → f < length heights → slice_index heights f ≢ unreached → has_id places f ≡ true) → HoldsFirst g face heights bound places (length places) region → HoldsBelow g (dart_heights g face heights) bound region
+holds_below g has face faces has_faces heights bound places region one_each small all first k l low =
+    let within : face k < length heights = omega (arith, has_faces.within k l) in
+    let is = height_by_face g face heights has k l within in
+    let (i, less, at) = listed_at places (face k) (all (face k) within (λ e. omega arith)) in
+    first i less (subst (λ f. slice_index heights f < bound) (sym at) (omega arith)) k l (sym at)
+
+-- the edges of the darts from the first on, as many as a walk has met
+abbrev pub HoldsAlong : Named → ℕ → ℕ → RegionState → Type 0
+HoldsAlong g d n region = (j : ℕ) → j < n → holds_edge region (dart_named g (after (next_name g) j d)).edge ≡ true
+
+pub along_next : (g : Named) (d n at : ℕ) (before region : RegionState) → HoldsMore before region → at ≡ after (next_name g) n d → HoldsAlong g d n before → holds_edge region (dart_named g at).edge ≡ true → HoldsAlong g d (n + 1) region
+along_next g d n at before region more place so_far here j less = elim (cases_lt j n) [
+  | inl earlier ↦ more.edges (dart_named g (after (next_name g) j d)).edge (so_far j earlier)
+  | inr last ↦ let is : n ≡ j = omega arith in subst (λ k. holds_edge region (dart_named g k).edge ≡ true) (place ∙ ap (λ k. after (next_name g) k d) is) here
+]

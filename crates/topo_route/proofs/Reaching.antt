@@ -16,27 +16,10 @@ use Rattle.topo_core.proofs.DartLaws.{twin-twin}
 use Rattle.topo_core.proofs.Numbering.{twin_in}
 use Rattle.topo_route.specs.Names.{IsName, IsNamed, Named, dart_named, height_of, next_name, twin_name}
 use Rattle.topo_route.specs.Plans.{AreHeights, IsZeroAt}
-use Rattle.topo_route.specs.Settling.{AreCosts, IsSettled, reached}
+use Rattle.topo_route.specs.Settling.{AreCosts, IsSettled}
+use Rattle.topo_route.proofs.FaceWalks.{crosses_from}
 use Rattle.topo_route.proofs.Names.{back_round, dart_of_name, dart_of_twin, even_names, even_round, face_of_names, gentle_names, name_is, next_is, twin_back, twin_is, twin_price}
 use Rattle.topo_route.proofs.Numbers.{face_stays}
-use Rattle.topo_route.proofs.Settled.{counts}
-
--- ---- Faces
-
-after_sum : {X : Type 0} (f : X → X) (k m : ℕ) (a : X) → after f (k + m) a ≡ after f k (after f m a)
-after_sum f zero m a = let e : 0 + m ≡ m = omega arith in ap (λ n. after f n a) e
-after_sum f (suc k) m a = let e : suc k + m ≡ suc (k + m) = omega arith in ap (λ n. after f n a) e ∙ ap f (after_sum f k m a)
-
-same_through : {X : Type 0} (f : X → X) (a b c : X) → SameCycle f a b → SameCycle f b c → SameCycle f a c
-same_through f a b c g h = record {
-  steps = h.steps + g.steps;
-  leads = after_sum f h.steps g.steps a ∙ ap (after f h.steps) g.leads ∙ h.leads;
-}
-
--- a walk may start anywhere in its first face
-pub crosses_from : (rows : Rows) (c d : Dart) (xs : List Dart) (to : Dart) → SameFace (system rows) c d → Crosses (system rows) d xs to → Crosses (system rows) c xs to
-crosses_from rows c d [] to same walk = same_through (face_step (system rows)) c d to same walk
-crosses_from rows c d (x ∷ xs) to same walk = (same_through (face_step (system rows)) c d x same walk.0, walk.1)
 
 module _ (price : Pricing) (g : Named) (lawful : Lawful g.rows) (has : IsNamed g) (v : ℕ) where
   -- the next dart of the face reaches the target at the same cost
@@ -72,13 +55,6 @@ module _ (price : Pricing) (g : Named) (lawful : Lawful g.rows) (has : IsNamed g
 
 -- ---- When all are settled
 
-pub reached_most : (heights : List ℕ) → reached heights ≤ length heights
-reached_most [] = omega arith
-reached_most (h ∷ heights) = elim (cases_Bool (h == unreached)) [
-  | inl e ↦ let one : counts h ≡ 0 = ap (λ (b : Bool). cond {A = ℕ} b 0 1) e in omega (arith, sum_by-cons counts h heights, reached_most heights)
-  | inr e ↦ let one : counts h ≡ 1 = ap (λ (b : Bool). cond {A = ℕ} b 0 1) e in omega (arith, sum_by-cons counts h heights, reached_most heights)
-]
-
 module _ (price : Pricing) (g : Named) (lawful : Lawful g.rows) (has : IsNamed g) (v : ℕ) (bound : ℕ) (heights : List ℕ) (top : (k : ℕ) → slice_index heights k ≤ bound) (meets : IsZeroAt g.rows v (height_of g heights))
     (settled : (k : ℕ) → IsName g k → IsSettled price g bound heights k) where
   abbrev height : Dart → ℕ
@@ -97,12 +73,9 @@ module _ (price : Pricing) (g : Named) (lawful : Lawful g.rows) (has : IsNamed g
   pub certificate : IsCertificate price g.rows v height
   certificate = record { even = even_names g lawful has (slice_index heights) even; gentle = gentle_names g lawful has (slice_index heights) price gentle; target = meets }
 
-  module _ (promise : KeepsPromise price) (costs : AreCosts price g v heights) (small : g.size < 2 ^ 32) where
-    cap : (d : Dart) → has_dart (darts g.rows) d ≡ true → height d ≢ unreached → height d ≤ 1000 * 4294967296
-    cap d h ne =
-        let bound = costs.bounded (g.name d) (name_is g has d h) ne in
-        let most = reached_most heights in
-        let each = costs.one_each in omega arith
+  module _ (promise : KeepsPromise price) (costs : AreCosts price g v heights) where
+    cap : (d : Dart) → has_dart (darts g.rows) d ≡ true → height d ≢ unreached → height d ≤ 4294967296000
+    cap d h ne = costs.bounded (g.name d) (name_is g has d h) ne
 
     -- a face from which a walk leads to the target is reached
     is_reached : (xs : List Dart) (c to : Dart) (m : ℕ) → has_dart (darts g.rows) c ≡ true → Crosses (system g.rows) c xs to → Costs price g.rows xs m → height to ≡ 0 → height c ≢ unreached

@@ -1,4 +1,4 @@
--- How heights spread, on names of darts.
+-- How heights spread: faces are lowered, wait and are settled, said of darts by their names.
 use Rattle.std.proofs.Common.{◌≡◌, ◌≢◌, ℕ, ◌+◌, ◌*◌, ◌^◌, ◌<◌, ◌≤◌, ◌||◌, ◌==◌, Bool, true, false, cond, List, length, inl, inr, refl, sym, ap, subst, ◌∙◌, arith, get_or-set_same, get_or-set_other}
 use Rattle.std.specs.Prelude.{slice_index, sum_by}
 use Rattle.std.proofs.Math.ListN.{set}
@@ -7,13 +7,14 @@ use Rattle.std.proofs.lemmas.List.{length-set}
 use Rattle.std.proofs.lemmas.List.Sums.{sum_by-set}
 use Rattle.topo_core.specs.Routes.{Pricing, Reaches, unreached}
 use Rattle.topo_core.proofs.NumberOrder.{either}
-use Rattle.topo_route.specs.Names.{IsName, IsNamed, Named, dart_named, height_of, next_name, twin_name}
+use Rattle.topo_route.specs.FaceHeights.{AreLabelled, dart_heights}
+use Rattle.topo_route.specs.Names.{HasFaces, IsName, IsNamed, Named, dart_named, height_of, next_name, twin_name}
 use Rattle.topo_route.specs.Plans.{IsZeroAt}
+use Rattle.topo_route.specs.Settling.{AreCosts, AreFaceCosts, AreLowered, IsCrossed, IsReached, IsSettled, Spreads, dart_of_item, effort, is_pending, is_waiting, item_of, reached}
+use Rattle.topo_route.proofs.FaceHeights.{dart_capped, face_less, face_lowered, face_other, height_by_face, one_for_each, one_height, reached_named}
+use Rattle.topo_route.proofs.FaceWalks.{crosses_from}
+use Rattle.topo_route.proofs.Fits.{counts, reached_within}
 use Rattle.topo_route.proofs.Names.{name_below}
-use Rattle.topo_route.specs.Settling.{AreCosts, AreLowered, IsCrossed, IsReached, IsSettled, Spreads, dart_of_item, effort, is_pending, is_waiting, item_of, reached}
-
-abbrev pub counts : ℕ → ℕ
-counts h = cond {A = ℕ} (h == unreached) 0 1
 
 counts_reached : (h : ℕ) → h ≢ unreached → counts h ≡ 1
 counts_reached h ne = ap (λ (b : Bool). cond {A = ℕ} b 0 1) (ne_eqb h unreached ne)
@@ -30,10 +31,6 @@ either_false false b e = (refl, e)
 -- an item is that of its dart
 pub dart_of_own : (d h : ℕ) → d < 2 ^ 32 → dart_of_item (item_of d h) ≡ d
 dart_of_own d h short = omega arith
-
--- heights have one for each name
-pub has_height : (price : Pricing) (g : Named) → IsNamed g → (v : ℕ) (heights : List ℕ) → AreCosts price g v heights → (k : ℕ) → IsName g k → k < length heights
-has_height price g has v heights costs k name = omega (arith, costs.one_each, name_below g has k name)
 
 -- ---- One height lowered
 
@@ -60,125 +57,200 @@ module _ (heights : List ℕ) (t x : ℕ) (within : t < length heights) where
   pub lowered_more : x ≢ unreached → reached heights ≤ reached lowered
   lowered_more some = let e = lowered_reached some in grind (arith, cases_eq, counts_unreached, counts_reached)
 
-module _ (price : Pricing) (g : Named) (v : ℕ) (heights : List ℕ) (has : IsNamed g) (costs : AreCosts price g v heights) (t x : ℕ) (there : IsName g t)
-    (low : x < slice_index heights t) (walk : Reaches price g.rows v (dart_named g t) x) (near : x ≤ 1000 * reached heights + 1000) where
-  inside : t < length heights
-  inside = omega (arith, costs.one_each, name_below g has t there)
+-- ---- Faces and their labels
 
-  some : x ≢ unreached
-  some e = let cap = costs.capped t in omega arith
+-- labels have a height for each dart's face
+pub has_face : {price : Pricing} {g : Named} {face : ℕ → ℕ} {faces v : ℕ} {heights names : List ℕ} → HasFaces g face faces → AreFaceCosts price g face faces v heights names → (k : ℕ) → IsName g k → face k < length heights
+has_face has_faces costs k l = omega (arith, costs.labelled.one_each, has_faces.within k l)
 
-  -- a lower cost keeps heights costs
-  pub lowered_costs : AreCosts price g v (set heights t x)
-  lowered_costs = grind (arith, length-set, lowered_less, inside, cases_eq, set, lowered_there, lowered_other, lowered_more, some, lowered_reached, counts_unreached)
+module _ (price : Pricing) (g : Named) (has : IsNamed g) (face : ℕ → ℕ) (faces : ℕ) (has_faces : HasFaces g face faces) (v : ℕ) (heights names : List ℕ) (costs : AreFaceCosts price g face faces v heights names) where
+  abbrev of_darts : List ℕ
+  of_darts = dart_heights g face heights
 
-  -- what was reached is
-  pub lowered_stays : (k : ℕ) → slice_index heights k ≢ unreached → slice_index (set heights t x) k ≢ unreached
-  lowered_stays k was now = let less = lowered_less heights t x inside k (omega arith) in let cap = costs.capped k in was (omega arith)
+  pub of_face : (k : ℕ) → IsName g k → slice_index of_darts k ≡ slice_index heights (face k)
+  of_face k l = height_by_face g face heights has k l (has_face has_faces costs k l)
 
-  pub lowered_settled : (bound k : ℕ) → k ≢ t → IsSettled price g bound heights k → IsSettled price g bound (set heights t x) k
-  lowered_settled bound k ne (face, crossed) =
-      let same = lowered_other heights t x inside k ne in (
-        (let less = lowered_less heights t x inside (next_name g k) (omega arith) in omega arith),
-        (λ p e. let bound = crossed p e in let less = lowered_less heights t x inside (twin_name g k) (omega arith) in omega arith),
-      )
+  -- a dart is no higher than 1000 for each face that has been reached
+  pub near_dart : (k : ℕ) → IsName g k → slice_index of_darts k ≢ unreached → slice_index of_darts k ≤ 1000 * reached heights
+  near_dart k l some = let is = of_face k l in let near = costs.bounded (face k) (has_faces.within k l) (λ e. some (is ∙ e)) in omega arith
 
-  -- t is lowered and waits
-  pub lowered_waits : (top : ℕ → ℕ) (reach : ℕ) (waiting after : List ℕ) (in_hand : ℕ) → t < 2 ^ 32 → Spreads price g v top reach heights waiting in_hand
-      → ((i : ℕ) → is_waiting after i ≡ (item_of t x == i || is_waiting waiting i)) → Spreads price g v top reach (set heights t x) after in_hand
-  lowered_waits top reach waiting after in_hand short spreads added = record {
-    costs = lowered_costs;
-    others = λ k l ne less idle.
-        let item = item_of k (slice_index (set heights t x) k) in
-        let both = either_false (item_of t x == item) (is_waiting waiting item) (sym (added item) ∙ idle) in
-        let own : k ≡ t → item ≡ item_of t x = λ e. ap (λ j. item_of j (slice_index (set heights t x) j)) e ∙ ap (item_of t) (lowered_there heights t x inside) in
-        let apart : k ≢ t = λ e. false≢true (sym both.0 ∙ eq-eqb (item_of t x) item (sym (own e))) in
-        let same = lowered_other heights t x inside k apart in
-        lowered_settled reach k apart (spreads.others k l ne (omega arith) (ap (λ h. is_waiting waiting (item_of k h)) (sym same) ∙ both.1));
-    reached_waits = λ item waits. elim (either (item_of t x == item) (is_waiting waiting item) (sym (added item) ∙ waits)) [
-      | inl here ↦
-          let is : t ≡ dart_of_item item = sym (dart_of_own t x short) ∙ ap dart_of_item (eqb-true (item_of t x) item here) in (
-            subst (IsName g) is there,
-            subst (λ j. slice_index (set heights t x) j ≢ unreached) is (λ e. some (sym (lowered_there heights t x inside) ∙ e)),
-          )
-      | inr before ↦ let was = spreads.reached_waits item before in (was.0, lowered_stays (dart_of_item item) was.1)
-    ];
-  }
+  module _ (t x : ℕ) (there : IsName g t) (low : x < slice_index of_darts t) (walk : Reaches price g.rows v (dart_named g t) x) (near : x ≤ 1000 * reached heights + 1000) where
+    abbrev heights' : List ℕ
+    heights' = set heights (face t) x
 
--- t is the next along the face of the dart in hand, and is lowered to its height: now it is in hand
-pub passed_on : (price : Pricing) (g : Named) → IsNamed g → (v : ℕ) (top : ℕ → ℕ) (reach : ℕ) (heights waiting : List ℕ) (d t : ℕ) → Spreads price g v top reach heights waiting d
-    → t ≡ next_name g d → IsName g t → slice_index heights d < slice_index heights t → IsCrossed price g reach heights d
-    → Reaches price g.rows v (dart_named g t) (slice_index heights d) → slice_index heights d ≤ 1000 * reached heights
-    → Spreads price g v top reach (set heights t (slice_index heights d)) waiting t
-passed_on price g has v top reach heights waiting d t spreads is there low crossed walk near =
-    let x = slice_index heights d in
-    let costs = spreads.costs in
-    let within : t < length heights = omega (arith, costs.one_each, name_below g has t there) in
-    let near' : x ≤ 1000 * reached heights + 1000 = omega arith in
-    record {
-      costs = lowered_costs price g v heights has costs t x there low walk near';
-      others = λ k l ne less idle. elim (cases_eq k d) [
-        | inl e ↦
-            let same : slice_index (set heights t x) k ≡ x = lowered_other heights t x within k ne ∙ ap (slice_index heights) e in
-            let now : slice_index (set heights t x) (next_name g k) ≡ x = ap (λ j. slice_index (set heights t x) (next_name g j)) e ∙ ap (slice_index (set heights t x)) (sym is) ∙ lowered_there heights t x within in (
-              (omega arith),
-              (λ p priced.
-                  let bound = subst (IsCrossed price g reach heights) (sym e) crossed p priced in
-                  let was : slice_index heights k ≡ x = ap (slice_index heights) e in
-                  let less = lowered_less heights t x within (twin_name g k) (omega arith) in omega arith),
-            )
-        | inr other ↦
-            let same = lowered_other heights t x within k ne in
-            lowered_settled price g v heights has costs t x there low walk near' reach k ne (spreads.others k l other (omega arith) (ap (λ h. is_waiting waiting (item_of k h)) (sym same) ∙ idle))
-      ];
-      reached_waits = λ item waits. let was = spreads.reached_waits item waits in (was.0, lowered_stays price g v heights has costs t x there low walk near' (dart_of_item item) was.1);
+    abbrev after : List ℕ
+    after = dart_heights g face heights'
+
+    inside : face t < length heights
+    inside = has_face has_faces costs t there
+
+    some : x ≢ unreached
+    some e = let cap = costs.costs.capped t in omega arith
+
+    low_face : x < slice_index heights (face t)
+    low_face = omega (arith, of_face t there)
+
+    pub face_near : (f : ℕ) → f < faces → slice_index heights' f ≢ unreached → slice_index heights' f ≤ 1000 * reached heights'
+    face_near f l = grind (arith, cases_eq, inside, low_face, lowered_there, lowered_other, lowered_more, some, lowered_reached, counts_unreached, costs.bounded f l)
+
+    face_capped : (f : ℕ) → slice_index heights' f ≤ unreached
+    face_capped f = let cap = costs.capped f in let less = lowered_less heights (face t) x inside f (omega (arith, low_face)) in omega arith
+
+    labelled : AreLabelled g face faces heights' (set names (face t) t)
+    labelled =
+        let was = costs.labelled in
+        let room : face t < length names = omega (arith, was.as_many, has_faces.within t there) in record {
+          few = was.few;
+          one_each = length-set heights (face t) x ∙ was.one_each;
+          as_many = omega (arith, length-set names (face t) t, was.as_many);
+          named = λ f l reached. elim (cases_eq f (face t)) [
+            | inl e ↦ subst (IsName g) (sym (ap (slice_index (set names (face t) t)) e ∙ lowered_there names (face t) t room)) there
+            | inr ne ↦ subst (IsName g) (sym (lowered_other names (face t) t room f ne)) (was.named f l (λ e. reached (lowered_other heights (face t) x inside f ne ∙ e)))
+          ];
+          inside = λ f l reached. elim (cases_eq f (face t)) [
+            | inl e ↦ ap face (ap (slice_index (set names (face t) t)) e ∙ lowered_there names (face t) t room) ∙ sym e
+            | inr ne ↦ ap face (lowered_other names (face t) t room f ne) ∙ was.inside f l (λ e. reached (lowered_other heights (face t) x inside f ne ∙ e))
+          ];
+        }
+
+    -- darts that were reached are
+    pub lowered_stays : (k : ℕ) → slice_index of_darts k ≢ unreached → slice_index after k ≢ unreached
+    lowered_stays k was now = let less = face_less g has face heights t x inside there (omega arith) k in let cap = costs.costs.capped k in was (omega arith)
+
+    -- each dart of the face reaches the target at the cost at which one of them does
+    walk_of_face : (k : ℕ) → IsName g k → face k ≡ face t → Reaches price g.rows v (dart_named g k) x
+    walk_of_face k l e = let same = has_faces.one k t l there e in record {
+      crossed = walk.crossed;
+      position = walk.position;
+      to = walk.to;
+      ends = walk.ends;
+      walk = crosses_from g.rows (dart_named g k) (dart_named g t) walk.crossed walk.to same walk.walk;
+      cost = walk.cost;
     }
 
--- the dart in hand is settled
-pub put_down : (price : Pricing) (g : Named) (v : ℕ) (top : ℕ → ℕ) (reach : ℕ) (heights waiting : List ℕ) (d : ℕ) → Spreads price g v top reach heights waiting d
-    → IsSettled price g reach heights d → Spreads price g v top reach heights waiting g.size
-put_down price g v top reach heights waiting d spreads settled = record {
-  costs = spreads.costs;
-  others = λ k l ne less idle. elim (cases_eq k d) [
-    | inl e ↦ subst (IsSettled price g reach heights) (sym e) settled
-    | inr other ↦ spreads.others k l other less idle
-  ];
-  reached_waits = spreads.reached_waits;
-}
+    dart_costs : AreCosts price g v after
+    dart_costs = record {
+      one_each = one_for_each g face heights';
+      named = reached_named g face heights';
+      capped = dart_capped g face heights' face_capped;
+      costs = λ k l reached. elim (cases_eq (face k) (face t)) [
+        | inl e ↦ subst (Reaches price g.rows v (dart_named g k)) (sym (face_lowered g has face heights t x inside k l e)) (walk_of_face k l e)
+        | inr ne ↦
+            let same = face_other g has face heights t x inside k (λ l. ne) in
+            subst (Reaches price g.rows v (dart_named g k)) (sym same) (costs.costs.costs k l (λ e. reached (same ∙ e)))
+      ];
+      bounded = λ k l reached.
+          let within = labelled.one_each in
+          let is = height_by_face g face heights' has k l (omega (arith, has_faces.within k l)) in
+          let near' = face_near (face k) (has_faces.within k l) (λ e. reached (is ∙ e)) in
+          let most = reached_within heights' in
+          let few = costs.labelled.few in omega arith;
+    }
+
+    -- a lower cost keeps heights costs
+    pub lowered_costs : AreFaceCosts price g face faces v heights' (set names (face t) t)
+    lowered_costs = record { labelled = labelled; capped = face_capped; bounded = face_near; costs = dart_costs }
+
+    pub lowered_settled : (bound k : ℕ) → (IsName g k → face k ≢ face t) → IsSettled price g bound of_darts k → IsSettled price g bound after k
+    lowered_settled bound k ne (next, crossed) =
+        let same = face_other g has face heights t x inside k ne in (
+          (let less = face_less g has face heights t x inside there (omega arith) (next_name g k) in omega arith),
+          (λ p e. let bound = crossed p e in let less = face_less g has face heights t x inside there (omega arith) (twin_name g k) in omega arith),
+        )
+
+    -- the face is lowered, and its dart t waits
+    pub lowered_waits : (top : ℕ → ℕ) (reach : ℕ) (waiting waiting' : List ℕ) (in_hand : ℕ) → t < 2 ^ 32 → Spreads price g face faces v top reach heights names waiting in_hand
+        → ((i : ℕ) → is_waiting waiting' i ≡ (item_of t x == i || is_waiting waiting i)) → Spreads price g face faces v top reach heights' (set names (face t) t) waiting' in_hand
+    lowered_waits top reach waiting waiting' in_hand short spreads added = record {
+      costs = lowered_costs;
+      others = λ k l ne less idle.
+          let own : is_waiting waiting' (item_of t x) ≡ true = added (item_of t x) ∙ ap (λ b. b || is_waiting waiting (item_of t x)) (eq-eqb (item_of t x) (item_of t x) refl) in
+          let here = face_lowered g has face heights t x inside t there refl in
+          let apart : face k ≢ face t = λ e. false≢true (sym (idle t there (sym e)) ∙ ap (λ h. is_waiting waiting' (item_of t h)) here ∙ own) in
+          let same = face_other g has face heights t x inside k (λ l. apart) in
+          lowered_settled reach k (λ l. apart) (spreads.others k l ne (omega arith) (λ j lj e.
+              let still = face_other g has face heights t x inside j (λ l. λ c. apart (sym e ∙ c)) in
+              let item = item_of j (slice_index of_darts j) in
+              (either_false (item_of t x == item) (is_waiting waiting item) (sym (added item) ∙ ap (λ h. is_waiting waiting' (item_of j h)) (sym still) ∙ idle j lj e)).1));
+      reached_waits = λ item waits. elim (either (item_of t x == item) (is_waiting waiting item) (sym (added item) ∙ waits)) [
+        | inl here ↦
+            let is : t ≡ dart_of_item item = sym (dart_of_own t x short) ∙ ap dart_of_item (eqb-true (item_of t x) item here) in (
+              subst (IsName g) is there,
+              subst (λ j. slice_index after j ≢ unreached) is (λ e. some (sym (face_lowered g has face heights t x inside t there refl) ∙ e)),
+            )
+        | inr before ↦ let was = spreads.reached_waits item before in (was.0, lowered_stays (dart_of_item item) was.1)
+      ];
+    }
+
+  -- the face in hand is settled
+  pub put_down : (top : ℕ → ℕ) (reach : ℕ) (waiting : List ℕ) (d : ℕ) → IsName g d → Spreads price g face faces v top reach heights names waiting d
+      → ((k : ℕ) → IsName g k → face k ≡ face d → IsSettled price g reach of_darts k) → Spreads price g face faces v top reach heights names waiting g.size
+  put_down top reach waiting d there spreads settled = record {
+    costs = spreads.costs;
+    others = λ k l ne less idle. elim (cases_eq (face k) (face d)) [
+      | inl e ↦ settled k l e
+      | inr other ↦ spreads.others k l (λ within. other) less idle
+    ];
+    reached_waits = spreads.reached_waits;
+  }
 
 -- what is settled is settled as far as a lower reach
 pub settled_nearer : (price : Pricing) (g : Named) (reach nearer : ℕ) (heights : List ℕ) (k : ℕ) → nearer ≤ reach → IsSettled price g reach heights k → IsSettled price g nearer heights k
 settled_nearer price g reach nearer heights k near (face, crossed) = (face, λ p asked. let climb = crossed p asked in omega arith)
 
--- lower tops and a lower reach
-pub narrowed : (price : Pricing) (g : Named) (v : ℕ) (top lower : ℕ → ℕ) (reach nearer : ℕ) (heights waiting : List ℕ) (in_hand : ℕ) → Spreads price g v top reach heights waiting in_hand
-    → ((k : ℕ) → lower k ≤ top k) → nearer ≤ reach → Spreads price g v lower nearer heights waiting in_hand
-narrowed price g v top lower reach nearer heights waiting in_hand spreads low near = record {
-  costs = spreads.costs;
-  others = λ k l ne less idle. settled_nearer price g reach nearer heights k near (spreads.others k l ne (omega (arith, low k)) idle);
-  reached_waits = spreads.reached_waits;
-}
+module _ (price : Pricing) (g : Named) (face : ℕ → ℕ) (faces v : ℕ) (heights names waiting : List ℕ) where
+  abbrev high : List ℕ
+  high = dart_heights g face heights
 
--- a dart is taken from those that wait
-pub taken_up : (price : Pricing) (g : Named) → IsNamed g → (v : ℕ) (top : ℕ → ℕ) (reach : ℕ) (heights waiting after : List ℕ) (d : ℕ) → g.size < 2 ^ 32
-    → Spreads price g v top reach heights waiting g.size → ((k : ℕ) → k < 2 ^ 32 → slice_index heights k < top k → k ≢ d → is_pending heights after k ≡ is_pending heights waiting k)
-    → ((item : ℕ) → is_waiting after item ≡ true → is_waiting waiting item ≡ true) → Spreads price g v top reach heights after d
-taken_up price g has v top reach heights waiting after d small spreads same fewer = record {
-  costs = spreads.costs;
-  others = λ k l ne less idle. let below = name_below g has k l in spreads.others k l (omega arith) less (sym (same k (omega arith) less ne) ∙ idle);
-  reached_waits = λ item waits. spreads.reached_waits item (fewer item waits);
-}
+  -- lower tops and a lower reach
+  pub narrowed : (top lower : ℕ → ℕ) (reach nearer : ℕ) (in_hand : ℕ) → Spreads price g face faces v top reach heights names waiting in_hand
+      → ((k : ℕ) → lower k ≤ top k) → nearer ≤ reach → Spreads price g face faces v lower nearer heights names waiting in_hand
+  narrowed top lower reach nearer in_hand spreads low near = record {
+    costs = spreads.costs;
+    others = λ k l ne less idle. settled_nearer price g reach nearer high k near (spreads.others k l ne (omega (arith, low k)) idle);
+    reached_waits = spreads.reached_waits;
+  }
 
--- and has been reached
-pub taken_reached : (price : Pricing) (g : Named) (v : ℕ) (top : ℕ → ℕ) (reach : ℕ) (heights waiting : List ℕ) (in_hand d : ℕ) → d < 2 ^ 32 → Spreads price g v top reach heights waiting in_hand
-    → is_pending heights waiting d ≡ true → IsReached g heights d
-taken_reached price g v top reach heights waiting in_hand d short spreads pending =
-    subst (IsReached g heights) (dart_of_own d (slice_index heights d) short) (spreads.reached_waits (item_of d (slice_index heights d)) pending)
+  -- what waits is of darts, and has been reached
+  pub waits_named : (top : ℕ → ℕ) (reach : ℕ) (in_hand : ℕ) → Spreads price g face faces v top reach heights names waiting in_hand → (item : ℕ) → is_waiting waiting item ≡ true → IsName g (dart_of_item item)
+  waits_named top reach in_hand spreads item waits = (spreads.reached_waits item waits).0
 
--- none waits with its height, so all below their tops are settled
-pub all_settled : (price : Pricing) (g : Named) → IsNamed g → (v : ℕ) (top : ℕ → ℕ) (reach : ℕ) (heights waiting : List ℕ) → g.size < 2 ^ 32 → Spreads price g v top reach heights waiting g.size
-    → ((k : ℕ) → k < 2 ^ 32 → slice_index heights k < top k → is_pending heights waiting k ≡ false) → (k : ℕ) → IsName g k → slice_index heights k < top k → IsSettled price g reach heights k
-all_settled price g has v top reach heights waiting small spreads none k l less = let below = name_below g has k l in spreads.others k l (omega arith) less (none k (omega arith) less)
+  pub taken_reached : (top : ℕ → ℕ) (reach : ℕ) (in_hand d : ℕ) → d < 2 ^ 32 → Spreads price g face faces v top reach heights names waiting in_hand
+      → is_pending high waiting d ≡ true → IsReached g high d
+  taken_reached top reach in_hand d short spreads pending =
+      subst (IsReached g high) (dart_of_own d (slice_index high d) short) (spreads.reached_waits (item_of d (slice_index high d)) pending)
+
+  -- tops that are the same for the darts of a face
+  module _ (has : IsNamed g) (small : g.size < 2 ^ 32) (top : ℕ → ℕ) (reach : ℕ) (even : (j k : ℕ) → IsName g j → IsName g k → face j ≡ face k → top j ≡ top k)
+      (spreads : Spreads price g face faces v top reach heights names waiting g.size) where
+    below_top : (j k : ℕ) → IsName g j → IsName g k → face j ≡ face k → slice_index high k < top k → slice_index high j < top j
+    below_top j k lj lk e less = omega (arith, one_height g face heights has j k lj lk e, even j k lj lk e)
+
+    -- a face is taken from those that wait
+    pub taken_up : (left : List ℕ) (d : ℕ) → IsName g d → ((k : ℕ) → k < 2 ^ 32 → IsName g k → slice_index high k < top k → k ≢ d → is_pending high left k ≡ is_pending high waiting k)
+        → ((item : ℕ) → is_waiting left item ≡ true → is_waiting waiting item ≡ true) → Spreads price g face faces v top reach heights names left d
+    taken_up left d there same fewer = record {
+      costs = spreads.costs;
+      others = λ k l ne less idle.
+          let within = name_below g has d there in
+          spreads.others k l (λ none. absurd (omega arith)) less (λ j lj e.
+              let below = name_below g has j lj in
+              sym (same j (omega arith) lj (below_top j k lj l e less) (λ is. ne within (sym e ∙ ap face is))) ∙ idle j lj e);
+      reached_waits = λ item waits. spreads.reached_waits item (fewer item waits);
+    }
+
+    -- none waits with its height, so all below their tops are settled
+    pub all_settled : ((k : ℕ) → k < 2 ^ 32 → IsName g k → slice_index high k < top k → is_pending high waiting k ≡ false) → (k : ℕ) → IsName g k → slice_index high k < top k → IsSettled price g reach high k
+    all_settled none k l less = spreads.others k l (λ none. absurd (omega arith)) less (λ j lj e. let below = name_below g has j lj in none j (omega arith) lj (below_top j k lj l e less))
+
+    -- and whatever is left of it still spreads
+    pub emptied : (left : List ℕ) → ((k : ℕ) → k < 2 ^ 32 → IsName g k → slice_index high k < top k → is_pending high waiting k ≡ false) → ((item : ℕ) → is_waiting left item ≡ true → is_waiting waiting item ≡ true)
+        → Spreads price g face faces v top reach heights names left g.size
+    emptied left none fewer = record {
+      costs = spreads.costs;
+      others = λ k l ne less idle. all_settled none k l less;
+      reached_waits = λ item waits. spreads.reached_waits item (fewer item waits);
+    }
 
 -- what is not reached is settled
 pub every_settled : (price : Pricing) (g : Named) (v : ℕ) (heights : List ℕ) → AreCosts price g v heights
@@ -195,18 +267,3 @@ meets_lower g v before after lower meets p c at = omega (arith, lower (g.name c)
 -- a step falls
 pub passed_effort : (heights waiting : List ℕ) (t x : ℕ) → t < length heights → x < slice_index heights t → effort (set heights t x) waiting < effort heights waiting
 passed_effort heights waiting t x within low = let e = lowered_sum heights t x within in omega arith
-
--- what waits is of darts that have heights
-pub waits_within : (price : Pricing) (g : Named) → IsNamed g → (v : ℕ) (top : ℕ → ℕ) (reach : ℕ) (heights waiting : List ℕ) (in_hand : ℕ) → Spreads price g v top reach heights waiting in_hand
-    → (item : ℕ) → is_waiting waiting item ≡ true → dart_of_item item < length heights
-waits_within price g has v top reach heights waiting in_hand spreads item waits = has_height price g has v heights spreads.costs (dart_of_item item) (spreads.reached_waits item waits).0
-
--- and whatever is left of it still spreads
-pub emptied : (price : Pricing) (g : Named) → IsNamed g → (v : ℕ) (top : ℕ → ℕ) (reach : ℕ) (heights waiting after : List ℕ) → g.size < 2 ^ 32 → Spreads price g v top reach heights waiting g.size
-    → ((k : ℕ) → k < 2 ^ 32 → slice_index heights k < top k → is_pending heights waiting k ≡ false) → ((item : ℕ) → is_waiting after item ≡ true → is_waiting waiting item ≡ true)
-    → Spreads price g v top reach heights after g.size
-emptied price g has v top reach heights waiting after small spreads none fewer = record {
-  costs = spreads.costs;
-  others = λ k l ne less idle. all_settled price g has v top reach heights waiting small spreads none k l less;
-  reached_waits = λ item waits. spreads.reached_waits item (fewer item waits);
-}

@@ -1,6 +1,7 @@
 pub mod Chains
 pub mod Descents
 pub mod Direct
+pub mod FaceHeights
 pub mod FaultTexts
 pub mod Meeting
 pub mod Names

@@ -1,16 +1,12 @@
 -- What the region of a search from both ends holds.
-use Rattle.std.specs.Prelude.{◌≡◌, ◌≢◌, ℕ, ◌+◌, ◌-◌, ◌<◌, ◌≤◌, true, List, length, slice_index}
+use Rattle.std.specs.Prelude.{◌≡◌, ℕ, ◌+◌, ◌-◌, ◌<◌, ◌≤◌, true, List, slice_index}
 use Rattle.topo_core.specs.declared.routes.Route.{Route}
 use Rattle.topo_core.specs.RouteLaws.{IsFirstByHeights}
 use Rattle.topo_core.specs.Routes.{Pricing, unreached}
+use Rattle.topo_route.specs.FaceHeights.{AreLabelled}
 use Rattle.topo_route.specs.Meeting.{HasMet}
 use Rattle.topo_route.specs.Names.{IsName, Named, dart_named, height_of}
 use Rattle.topo_route.specs.Regions.{IsRegionOf, RegionState, holds_edge}
-
--- a height that is reached is that of a dart
-pub record AreNamed (g : Named) (heights : List ℕ) : Type 0 where
-  pub one_each : length heights ≡ g.size
-  pub named : (k : ℕ) → k < length heights → slice_index heights k ≢ unreached → IsName g k
 
 -- what one region holds is in the other
 pub record HoldsMore (before after : RegionState) : Type 0 where
@@ -27,10 +23,10 @@ pub record HoldsSeen (g : Named) (heights distances : List ℕ) (level least : �
   pub near_target : HoldsBelow g heights level region
   pub near_start : HoldsBelow g distances (least + 1 - level) region
 
--- where a search from both ends has stopped that has met, if its least price is reached
-pub record HasSeen (g : Named) (heights distances : List ℕ) (level least : ℕ) : Type 0 where
-  pub to_end : least < unreached → AreNamed g heights
-  pub to_start : least < unreached → AreNamed g distances
+-- where a search from both ends has stopped
+pub record HasSeen (g : Named) (face : ℕ → ℕ) (faces : ℕ) (heights names distances names' : List ℕ) (level least : ℕ) : Type 0 where
+  pub to_end : AreLabelled g face faces heights names
+  pub to_start : AreLabelled g face faces distances names'
   pub within : 0 < least → level ≤ least
 
 -- what a search knows of the route that it has found

@@ -4,6 +4,7 @@ use Rattle.std.specs.List.{list_any}
 use Rattle.topo_core.specs.declared.rows.Rows.{Rows}
 use Rattle.topo_core.specs.Picture.{darts}
 use Rattle.topo_core.specs.Routes.{KeepsPromise, Price, Pricing, Reaches, unreached}
+use Rattle.topo_route.specs.FaceHeights.{AreLabelled, dart_heights}
 use Rattle.topo_route.specs.Names.{IsName, Named, dart_named, next_name, twin_name}
 use Rattle.topo_route.specs.Numbers.{IsPriceAt, IsPriceFor}
 
@@ -26,7 +27,7 @@ pub record ArePrices (price : Pricing) (g : Named) (prices : List (Option ℕ)) 
 abbrev pub is_waiting : List ℕ → ℕ → Bool
 is_waiting waiting k = list_any (λ x. x == k) waiting
 
--- what waits when a dart is given a height: the name of the dart, and the low half of the height above it
+-- what waits when a face is given a height: the name of a dart of it, and the low half of the height above it
 abbrev pub item_of : ℕ → ℕ → ℕ
 item_of dart height = dart + 2 ^ 32 * (height % 2 ^ 32)
 
@@ -49,7 +50,14 @@ pub record AreCosts (price : Pricing) (g : Named) (v : ℕ) (heights : List ℕ)
   pub named : (k : ℕ) → k < length heights → slice_index heights k ≢ unreached → IsName g k
   pub capped : (k : ℕ) → slice_index heights k ≤ unreached
   pub costs : (k : ℕ) → IsName g k → slice_index heights k ≢ unreached → Reaches price g.rows v (dart_named g k) (slice_index heights k)
-  pub bounded : (k : ℕ) → IsName g k → slice_index heights k ≢ unreached → slice_index heights k ≤ 1000 * reached heights
+  pub bounded : (k : ℕ) → IsName g k → slice_index heights k ≢ unreached → slice_index heights k ≤ 4294967296000
+
+-- Heights of faces, of which each dart has that of its face. They are no higher than 1000 for each face that has been reached.
+pub record AreFaceCosts (price : Pricing) (g : Named) (face : ℕ → ℕ) (faces v : ℕ) (heights names : List ℕ) : Type 0 where
+  pub labelled : AreLabelled g face faces heights names
+  pub capped : (f : ℕ) → slice_index heights f ≤ unreached
+  pub bounded : (f : ℕ) → f < faces → slice_index heights f ≢ unreached → slice_index heights f ≤ 1000 * reached heights
+  pub costs : AreCosts price g v (dart_heights g face heights)
 
 -- where the dart has a price, its twin stands no higher above it than that, as far as the bound
 abbrev pub IsCrossed : Pricing → Named → ℕ → List ℕ → ℕ → Type 0
@@ -63,16 +71,17 @@ IsSettled price g bound heights k = (slice_index heights (next_name g k) ≤ sli
 abbrev pub IsReached : Named → List ℕ → ℕ → Type 0
 IsReached g heights k = IsName g k × (slice_index heights k ≢ unreached)
 
--- Heights are costs, and each dart lower than its top, but the one in hand, is settled as far as the reach or waits with its height.
--- What waits is of darts that have been reached, and may be of a height from before.
-pub record Spreads (price : Pricing) (g : Named) (v : ℕ) (top : ℕ → ℕ) (reach : ℕ) (heights waiting : List ℕ) (in_hand : ℕ) : Type 0 where
-  pub costs : AreCosts price g v heights
-  pub others : (k : ℕ) → IsName g k → k ≢ in_hand → slice_index heights k < top k → is_pending heights waiting k ≡ false → IsSettled price g reach heights k
-  pub reached_waits : (item : ℕ) → is_waiting waiting item ≡ true → IsReached g heights (dart_of_item item)
+-- Heights are costs. Each dart lower than its top is settled as far as the reach, but where its face is that in hand or one of the face's
+-- darts waits with its height. What waits is of darts that have been reached, and may be of a height from before.
+pub record Spreads (price : Pricing) (g : Named) (face : ℕ → ℕ) (faces v : ℕ) (top : ℕ → ℕ) (reach : ℕ) (heights names waiting : List ℕ) (in_hand : ℕ) : Type 0 where
+  pub costs : AreFaceCosts price g face faces v heights names
+  pub others : (k : ℕ) → IsName g k → (in_hand < g.size → face k ≢ face in_hand) → slice_index (dart_heights g face heights) k < top k
+      → ((j : ℕ) → IsName g j → face j ≡ face k → is_pending (dart_heights g face heights) waiting j ≡ false) → IsSettled price g reach (dart_heights g face heights) k
+  pub reached_waits : (item : ℕ) → is_waiting waiting item ≡ true → IsReached g (dart_heights g face heights) (dart_of_item item)
 
 -- all darts lower than the reach are settled or wait
-abbrev pub SpreadsTo : Pricing → Named → ℕ → ℕ → List ℕ → List ℕ → Type 0
-SpreadsTo price g v reach heights waiting = Spreads price g v (λ k. reach) reach heights waiting g.size
+abbrev pub SpreadsTo : Pricing → Named → (ℕ → ℕ) → ℕ → ℕ → ℕ → List ℕ → List ℕ → List ℕ → Type 0
+SpreadsTo price g face faces v reach heights names waiting = Spreads price g face faces v (λ k. reach) reach heights names waiting g.size
 
 -- ---- Heights from two ends
 
@@ -102,10 +111,10 @@ abbrev pub effort : List ℕ → List ℕ → ℕ
 effort heights waiting = sum_by (λ h. h) heights + length waiting
 
 -- One step of a search, or more: heights that spread below any tops still do, with another dart in hand
-pub record Relaxes (price : Pricing) (g : Named) (v : ℕ) (others heights waiting : List ℕ) (least in_hand : ℕ) (heights' waiting' : List ℕ) (least' in_hand' : ℕ) : Type 0 where
-  pub spreads : (top : ℕ → ℕ) → Spreads price g v top (reach_of least) heights waiting in_hand → Spreads price g v top (reach_of least') heights' waiting' in_hand'
-  pub costs : AreCosts price g v heights'
-  pub sums : AreSums g heights' others least'
+pub record Relaxes (price : Pricing) (g : Named) (face : ℕ → ℕ) (faces v : ℕ) (others heights names waiting : List ℕ) (least in_hand : ℕ) (heights' names' waiting' : List ℕ) (least' in_hand' : ℕ) : Type 0 where
+  pub spreads : (top : ℕ → ℕ) → Spreads price g face faces v top (reach_of least) heights names waiting in_hand → Spreads price g face faces v top (reach_of least') heights' names' waiting' in_hand'
+  pub costs : AreFaceCosts price g face faces v heights' names'
+  pub sums : AreSums g (dart_heights g face heights') (dart_heights g face others) least'
   pub less : least' ≤ least
   pub falls : effort heights' waiting' ≤ effort heights waiting
-  pub lower : AreLowered heights heights'
+  pub lower : AreLowered (dart_heights g face heights) (dart_heights g face heights')

@@ -5,6 +5,7 @@ ghost use Rattle.topo_core.specs.Picture.{darts};
 ghost use Rattle.topo_core.specs.Routes.{unreached};
 ghost use Rattle.topo_price.specs.Prices.{prices_of};
 ghost use Rattle.topo_route.specs.Descents.{AreHeightsFor};
+ghost use Rattle.topo_route.specs.FaceHeights.{AreLabelled, dart_heights};
 ghost use Rattle.topo_route.specs.Meeting.{HasMet, SpreadsBoth};
 ghost use Rattle.topo_route.specs.Plans.{AreHeights};
 ghost use Rattle.topo_route.specs.Settling.{ArePrices};
@@ -28,18 +29,18 @@ pub(crate) struct Stop {
     pub least: u64,
 }
 
-/// Gives the corners of both ends height 0: the least sum of the two heights of a dart so far.
+/// Gives the faces at both ends height 0: the least sum of the two heights of a face so far.
 fn start_both<W: FaceGraph, F: PriceFn>(
     priced: &PricedGraph<W, F>,
     work: &mut Workspace,
     u: u32,
     v: u32,
 ) -> Result<u64, AllocError>
-    ensures { IfOk result (λ least. SpreadsBoth (prices_of (F.may_return priced.now.tariff.now)) (W.named priced.now.graph.now) u v work.new.to_end.heights work.new.to_end.waiting work.new.to_start.heights work.new.to_start.waiting least) }
+    ensures { IfOk result (λ least. SpreadsBoth (prices_of (F.may_return priced.now.tariff.now)) (W.named priced.now.graph.now) (W.face_of priced.now.graph.now) (W.face_bound priced.now.graph.now) u v work.new.to_end.heights work.new.to_end.names.items work.new.to_end.waiting work.new.to_start.heights work.new.to_start.names.items work.new.to_start.waiting least) }
 {
-    let size = priced.graph.size() as usize;
-    work.to_end.clear(size)?;
-    work.to_start.clear(size)?;
+    let faces = priced.graph.faces() as usize;
+    work.to_end.clear(faces)?;
+    work.to_start.clear(faces)?;
     let mut least = u64::MAX;
     work.to_end
         .start_at(priced, &work.to_start.heights, &mut least, v)?;
@@ -48,7 +49,7 @@ fn start_both<W: FaceGraph, F: PriceFn>(
     Ok(least)
 }
 
-/// Spreads from both ends until no dart that waits can be on a route that is cheaper than the cheapest
+/// Spreads from both ends until no face that waits can be on a route that is cheaper than the cheapest
 /// found, or until one end has nothing left. The end for which fewer wait goes on. The answer is how high
 /// the darts are that the target's end has taken. What is known does not rest on it: whatever the number,
 /// what is left to do from there is done.
@@ -60,8 +61,8 @@ fn spread_both<W: FaceGraph, F: PriceFn>(
     v: u32,
 ) -> Result<u64, AllocError>
     requires right { ArePrices (prices_of (F.may_return priced.now.tariff.now)) (W.named priced.now.graph.now) priced.now.prices.items }
-    requires both { SpreadsBoth (prices_of (F.may_return priced.now.tariff.now)) (W.named priced.now.graph.now) u v work.old.to_end.heights work.old.to_end.waiting work.old.to_start.heights work.old.to_start.waiting least.old }
-    ensures { IfOk result (λ _. SpreadsBoth (prices_of (F.may_return priced.now.tariff.now)) (W.named priced.now.graph.now) u v work.new.to_end.heights work.new.to_end.waiting work.new.to_start.heights work.new.to_start.waiting least.new) }
+    requires both { SpreadsBoth (prices_of (F.may_return priced.now.tariff.now)) (W.named priced.now.graph.now) (W.face_of priced.now.graph.now) (W.face_bound priced.now.graph.now) u v work.old.to_end.heights work.old.to_end.names.items work.old.to_end.waiting work.old.to_start.heights work.old.to_start.names.items work.old.to_start.waiting least.old }
+    ensures { IfOk result (λ _. SpreadsBoth (prices_of (F.may_return priced.now.tariff.now)) (W.named priced.now.graph.now) (W.face_of priced.now.graph.now) (W.face_bound priced.now.graph.now) u v work.new.to_end.heights work.new.to_end.names.items work.new.to_end.waiting work.new.to_start.heights work.new.to_start.names.items work.new.to_start.waiting least.new) }
 {
     let mut level = 0;
     let mut far = 0u64;
@@ -101,11 +102,12 @@ fn finish<W: FaceGraph, F: PriceFn>(
 ) -> Result<Stop, AllocError>
     requires right { ArePrices (prices_of (F.may_return priced.now.tariff.now)) (W.named priced.now.graph.now) priced.now.prices.items }
     requires some { 0 < length (darts (W.named priced.now.graph.now).rows) }
-    requires both { SpreadsBoth (prices_of (F.may_return priced.now.tariff.now)) (W.named priced.now.graph.now) u v work.old.to_end.heights work.old.to_end.waiting work.old.to_start.heights work.old.to_start.waiting least }
-    ensures heights { OnOk result (AreHeightsFor (prices_of (F.may_return priced.now.tariff.now)) (W.named priced.now.graph.now) u v work.new.to_end.heights) }
-    ensures met { IfOk result (λ stop. HasMet (prices_of (F.may_return priced.now.tariff.now)) (W.named priced.now.graph.now) u v work.new.to_end.heights work.new.to_start.heights stop.level stop.least) }
+    requires both { SpreadsBoth (prices_of (F.may_return priced.now.tariff.now)) (W.named priced.now.graph.now) (W.face_of priced.now.graph.now) (W.face_bound priced.now.graph.now) u v work.old.to_end.heights work.old.to_end.names.items work.old.to_end.waiting work.old.to_start.heights work.old.to_start.names.items work.old.to_start.waiting least }
+    ensures heights { OnOk result (AreHeightsFor (prices_of (F.may_return priced.now.tariff.now)) (W.named priced.now.graph.now) u v (dart_heights (W.named priced.now.graph.now) (W.face_of priced.now.graph.now) work.new.to_end.heights)) }
+    ensures met { IfOk result (λ stop. HasMet (prices_of (F.may_return priced.now.tariff.now)) (W.named priced.now.graph.now) u v (dart_heights (W.named priced.now.graph.now) (W.face_of priced.now.graph.now) work.new.to_end.heights) (dart_heights (W.named priced.now.graph.now) (W.face_of priced.now.graph.now) work.new.to_start.heights) stop.level stop.least) }
+    ensures to_end { OnOk result (AreLabelled (W.named priced.now.graph.now) (W.face_of priced.now.graph.now) (W.face_bound priced.now.graph.now) work.new.to_end.heights work.new.to_end.names.items) }
+    ensures to_start { OnOk result (AreLabelled (W.named priced.now.graph.now) (W.face_of priced.now.graph.now) (W.face_bound priced.now.graph.now) work.new.to_start.heights work.new.to_start.names.items) }
 {
-    let _darts = priced.graph.size();
     let reach = least.saturating_add(1);
     let level = level.clamp(1, least.clamp(1, MAX_HEIGHT_SUM));
     work.to_start.spread(
@@ -140,8 +142,10 @@ pub(crate) fn heights_for<W: FaceGraph, F: PriceFn>(
 ) -> Result<Stop, AllocError>
     requires right { ArePrices (prices_of (F.may_return priced.now.tariff.now)) (W.named priced.now.graph.now) priced.now.prices.items }
     requires some { 0 < length (darts (W.named priced.now.graph.now).rows) }
-    ensures heights { OnOk result (AreHeightsFor (prices_of (F.may_return priced.now.tariff.now)) (W.named priced.now.graph.now) u v work.new.to_end.heights) }
-    ensures met { IfOk result (λ stop. HasMet (prices_of (F.may_return priced.now.tariff.now)) (W.named priced.now.graph.now) u v work.new.to_end.heights work.new.to_start.heights stop.level stop.least) }
+    ensures heights { OnOk result (AreHeightsFor (prices_of (F.may_return priced.now.tariff.now)) (W.named priced.now.graph.now) u v (dart_heights (W.named priced.now.graph.now) (W.face_of priced.now.graph.now) work.new.to_end.heights)) }
+    ensures met { IfOk result (λ stop. HasMet (prices_of (F.may_return priced.now.tariff.now)) (W.named priced.now.graph.now) u v (dart_heights (W.named priced.now.graph.now) (W.face_of priced.now.graph.now) work.new.to_end.heights) (dart_heights (W.named priced.now.graph.now) (W.face_of priced.now.graph.now) work.new.to_start.heights) stop.level stop.least) }
+    ensures to_end { OnOk result (AreLabelled (W.named priced.now.graph.now) (W.face_of priced.now.graph.now) (W.face_bound priced.now.graph.now) work.new.to_end.heights work.new.to_end.names.items) }
+    ensures to_start { OnOk result (AreLabelled (W.named priced.now.graph.now) (W.face_of priced.now.graph.now) (W.face_bound priced.now.graph.now) work.new.to_start.heights work.new.to_start.names.items) }
 {
     let mut least = start_both(priced, work, u, v)?;
     let level = spread_both(priced, work, &mut least, u, v)?;
@@ -157,11 +161,12 @@ pub(crate) fn least_heights<W: FaceGraph, F: PriceFn>(
     requires right { ArePrices (prices_of (F.may_return priced.now.tariff.now)) (W.named priced.now.graph.now) priced.now.prices.items }
     requires some { 0 < length (darts (W.named priced.now.graph.now).rows) }
     requires alone { work.old.to_start.heights ≡ [] }
-    ensures are_heights { OnOk result (AreHeights (prices_of (F.may_return priced.now.tariff.now)) (W.named priced.now.graph.now) v work.new.to_end.heights) }
-    ensures in_range { OnOk result ((k : ℕ) → slice_index work.new.to_end.heights k ≤ unreached) }
+    ensures are_heights { OnOk result (AreHeights (prices_of (F.may_return priced.now.tariff.now)) (W.named priced.now.graph.now) v (dart_heights (W.named priced.now.graph.now) (W.face_of priced.now.graph.now) work.new.to_end.heights)) }
+    ensures in_range { OnOk result ((k : ℕ) → slice_index (dart_heights (W.named priced.now.graph.now) (W.face_of priced.now.graph.now) work.new.to_end.heights) k ≤ unreached) }
+    ensures one_each { OnOk result (length work.new.to_end.heights ≡ W.face_bound priced.now.graph.now) }
 {
-    let size = priced.graph.size();
-    work.to_end.clear(size as usize)?;
+    let faces = priced.graph.faces();
+    work.to_end.clear(faces as usize)?;
     let mut least = u64::MAX;
     work.to_end
         .start_at(priced, &work.to_start.heights, &mut least, v)?;

@@ -1,4 +1,4 @@
-//! The items that wait: darts that spread the heights that were written for them.
+//! The items that wait: darts whose faces spread the heights that were written for them.
 
 ghost use Rattle.std.specs.Prelude.{◌≡◌, ℕ, ◌+◌, ◌/◌, ◌^◌, ◌<◌, ◌≤◌, ◌==◌, ◌||◌, MatchOption, IfOk, length, [], slice_index};
 ghost use Rattle.topo_route.specs.Settling.{dart_of_item, is_waiting, item_of};
@@ -130,8 +130,8 @@ fn full_between(heads: &[usize], from: usize, to: usize) -> Option<usize>
     None
 }
 
-/// What waits when a dart is given a height: the dart, and the low half of the height above it. Who
-/// takes it out sees by it whether the dart has been given another height since.
+/// What waits when a face is given a height: a dart of it, and the low half of the height above it. Who
+/// takes it out sees by it whether the face has been given another height since.
 pub(crate) fn item_of(dart: u32, height: u64) -> u64
     ensures { result ≡ item_of dart height }
 {

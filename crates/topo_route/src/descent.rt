@@ -7,6 +7,7 @@ ghost use Rattle.topo_core.specs.RouteLaws.{IsTight};
 ghost use Rattle.topo_core.specs.Routes.{unreached};
 ghost use Rattle.topo_price.specs.Prices.{prices_of};
 ghost use Rattle.topo_route.specs.Descents.{AreHeightsUpTo, HasNoEnd, HasNoStart, IsDescent, IsEnd, IsFirstOf, IsFirstTight, IsStart};
+ghost use Rattle.topo_route.specs.FaceHeights.{dart_heights};
 ghost use Rattle.topo_route.specs.Names.{IsName, dart_named, height_of};
 ghost use Rattle.topo_route.specs.Plans.{HasNoneBefore, IsLeastAt};
 ghost use Rattle.topo_route.specs.Settling.{ArePrices};
@@ -14,7 +15,7 @@ ghost use Rattle.topo_route.specs.Settling.{ArePrices};
 use crate::face_graph::FaceGraph;
 use crate::priced_graph::PricedGraph;
 use crate::stamped_array::StampedArray;
-use crate::steps::{across, corner_at, next_along};
+use crate::steps::{across, corner_at, height_at, next_along, same_face};
 use std::alloc::{AllocError, Global};
 use topo_core::darts::Dart;
 use topo_price::tariff::PriceFn;
@@ -22,14 +23,14 @@ use topo_price::tariff::PriceFn;
 /// The least height of a corner, and the greatest number where there is none. No corner is asked after
 /// one of height 0.
 pub(crate) fn least_corner<W: FaceGraph>(graph: &W, u: u32, heights: &StampedArray) -> u64
-    requires { length heights.now ≡ (W.named graph.now).size }
-    ensures low { (p : ℕ) → (c : Dart) → corner (W.named graph.now).rows u p ≡ Some c → result ≤ height_of (W.named graph.now) heights.now c }
-    ensures attained { result ≢ unreached → IsLeastAt (W.named graph.now).rows u (height_of (W.named graph.now) heights.now) result }
+    requires { length heights.now ≡ W.face_bound graph.now }
+    ensures low { (p : ℕ) → (c : Dart) → corner (W.named graph.now).rows u p ≡ Some c → result ≤ height_of (W.named graph.now) (dart_heights (W.named graph.now) (W.face_of graph.now) heights.now) c }
+    ensures attained { result ≢ unreached → IsLeastAt (W.named graph.now).rows u (height_of (W.named graph.now) (dart_heights (W.named graph.now) (W.face_of graph.now) heights.now)) result }
 {
     let mut least = u64::MAX;
     for position in 0..graph.degree(u) {
         if let Some(corner) = corner_at(graph, u, position) {
-            let height = heights.get(corner);
+            let height = height_at(graph, heights, corner);
             if height == 0 {
                 return 0;
             }
@@ -48,14 +49,14 @@ fn corner_of_height<W: FaceGraph>(
     heights: &StampedArray,
     height: u64,
 ) -> Option<(u32, u32)>
-    requires { length heights.now ≡ (W.named graph.now).size }
-    ensures { MatchOption result ((p : ℕ) → (c : Dart) → corner (W.named graph.now).rows u p ≡ Some c → height_of (W.named graph.now) heights.now c ≢ height)
+    requires { length heights.now ≡ W.face_bound graph.now }
+    ensures { MatchOption result ((p : ℕ) → (c : Dart) → corner (W.named graph.now).rows u p ≡ Some c → height_of (W.named graph.now) (dart_heights (W.named graph.now) (W.face_of graph.now) heights.now) c ≢ height)
         (λ r. IsName (W.named graph.now) r.1 × (corner (W.named graph.now).rows u r.0 ≡ Some (dart_named (W.named graph.now) r.1))
-        × (height_of (W.named graph.now) heights.now (dart_named (W.named graph.now) r.1) ≡ height) × HasNoneBefore (W.named graph.now).rows u (height_of (W.named graph.now) heights.now) r.0 height) }
+        × (height_of (W.named graph.now) (dart_heights (W.named graph.now) (W.face_of graph.now) heights.now) (dart_named (W.named graph.now) r.1) ≡ height) × HasNoneBefore (W.named graph.now).rows u (height_of (W.named graph.now) (dart_heights (W.named graph.now) (W.face_of graph.now) heights.now)) r.0 height) }
 {
     for position in 0..graph.degree(u) {
         if let Some(corner) = corner_at(graph, u, position) {
-            if heights.get(corner) == height {
+            if height_at(graph, heights, corner) == height {
                 return Some((position, corner));
             }
         }
@@ -69,8 +70,8 @@ pub(crate) fn start_corner<W: FaceGraph>(
     u: u32,
     heights: &StampedArray,
 ) -> Option<(u32, u32)>
-    requires { length heights.now ≡ (W.named graph.now).size }
-    ensures { MatchOption result (HasNoStart (W.named graph.now) u heights.now) (λ r. IsStart (W.named graph.now) u heights.now r.0 r.1) }
+    requires { length heights.now ≡ W.face_bound graph.now }
+    ensures { MatchOption result (HasNoStart (W.named graph.now) u (dart_heights (W.named graph.now) (W.face_of graph.now) heights.now)) (λ r. IsStart (W.named graph.now) u (dart_heights (W.named graph.now) (W.face_of graph.now) heights.now) r.0 r.1) }
 {
     let least = least_corner(graph, u, heights);
     if least == u64::MAX {
@@ -88,7 +89,7 @@ pub(crate) fn end_corner<W: FaceGraph>(graph: &W, v: u32, last: u32) -> Option<u
 {
     for position in 0..graph.degree(v) {
         if let Some(corner) = corner_at(graph, v, position) {
-            if graph.same_face(last, corner) {
+            if same_face(graph, last, corner) {
                 return Some(position);
             }
         }
@@ -103,12 +104,13 @@ fn is_tight<W: FaceGraph, F: PriceFn>(
     dart: u32,
 ) -> bool
     requires right { ArePrices (prices_of (F.may_return priced.now.tariff.now)) (W.named priced.now.graph.now) priced.now.prices.items }
-    requires one_each { length heights.now ≡ (W.named priced.now.graph.now).size }
+    requires one_each { length heights.now ≡ W.face_bound priced.now.graph.now }
     requires name { IsName (W.named priced.now.graph.now) dart }
-    ensures { IsTrue result ↔ IsTight (prices_of (F.may_return priced.now.tariff.now)) (W.named priced.now.graph.now).rows (height_of (W.named priced.now.graph.now) heights.now) (dart_named (W.named priced.now.graph.now) dart) }
+    ensures { IsTrue result ↔ IsTight (prices_of (F.may_return priced.now.tariff.now)) (W.named priced.now.graph.now).rows (height_of (W.named priced.now.graph.now) (dart_heights (W.named priced.now.graph.now) (W.face_of priced.now.graph.now) heights.now)) (dart_named (W.named priced.now.graph.now) dart) }
 {
-    let other = heights.get(across(priced.graph, dart));
-    let height = heights.get(dart);
+    let twin = across(priced.graph, dart);
+    let other = height_at(priced.graph, heights, twin);
+    let height = height_at(priced.graph, heights, dart);
     if height <= other {
         return false;
     }
@@ -127,10 +129,10 @@ fn first_of<W: FaceGraph, F: PriceFn>(
     dart: u32,
 ) -> Option<u32>
     requires right { ArePrices (prices_of (F.may_return priced.now.tariff.now)) (W.named priced.now.graph.now) priced.now.prices.items }
-    requires one_each { length heights.now ≡ (W.named priced.now.graph.now).size }
+    requires one_each { length heights.now ≡ W.face_bound priced.now.graph.now }
     requires first_there { IfSome first (IsName (W.named priced.now.graph.now)) }
     requires name { IsName (W.named priced.now.graph.now) dart }
-    ensures { IsFirstOf (prices_of (F.may_return priced.now.tariff.now)) (W.named priced.now.graph.now) heights.now first dart result }
+    ensures { IsFirstOf (prices_of (F.may_return priced.now.tariff.now)) (W.named priced.now.graph.now) (dart_heights (W.named priced.now.graph.now) (W.face_of priced.now.graph.now) heights.now) first dart result }
 {
     if !is_tight(priced, heights, dart) {
         return first;
@@ -155,10 +157,11 @@ fn first_tight<W: FaceGraph, F: PriceFn>(
     at: u32,
 ) -> Option<u32>
     requires right { ArePrices (prices_of (F.may_return priced.now.tariff.now)) (W.named priced.now.graph.now) priced.now.prices.items }
-    requires known { AreHeightsUpTo (prices_of (F.may_return priced.now.tariff.now)) (W.named priced.now.graph.now) v heights.now at }
+    requires known { AreHeightsUpTo (prices_of (F.may_return priced.now.tariff.now)) (W.named priced.now.graph.now) v (dart_heights (W.named priced.now.graph.now) (W.face_of priced.now.graph.now) heights.now) at }
+    requires one_each { length heights.now ≡ W.face_bound priced.now.graph.now }
     requires name { IsName (W.named priced.now.graph.now) at }
-    requires above { 0 < height_of (W.named priced.now.graph.now) heights.now (dart_named (W.named priced.now.graph.now) at) }
-    ensures { IsSomeAnd result (IsFirstTight (prices_of (F.may_return priced.now.tariff.now)) (W.named priced.now.graph.now) heights.now at) }
+    requires above { 0 < height_of (W.named priced.now.graph.now) (dart_heights (W.named priced.now.graph.now) (W.face_of priced.now.graph.now) heights.now) (dart_named (W.named priced.now.graph.now) at) }
+    ensures { IsSomeAnd result (IsFirstTight (prices_of (F.may_return priced.now.tariff.now)) (W.named priced.now.graph.now) (dart_heights (W.named priced.now.graph.now) (W.face_of priced.now.graph.now) heights.now) at) }
 {
     let mut dart = at;
     let mut first = None;
@@ -182,13 +185,14 @@ pub(crate) fn descend<W: FaceGraph, F: PriceFn>(
     from: u32,
 ) -> Result<(Vec<Dart>, u32), AllocError>
     requires right { ArePrices (prices_of (F.may_return priced.now.tariff.now)) (W.named priced.now.graph.now) priced.now.prices.items }
-    requires known { AreHeightsUpTo (prices_of (F.may_return priced.now.tariff.now)) (W.named priced.now.graph.now) v heights.now from }
+    requires known { AreHeightsUpTo (prices_of (F.may_return priced.now.tariff.now)) (W.named priced.now.graph.now) v (dart_heights (W.named priced.now.graph.now) (W.face_of priced.now.graph.now) heights.now) from }
+    requires one_each { length heights.now ≡ W.face_bound priced.now.graph.now }
     requires name { IsName (W.named priced.now.graph.now) from }
-    ensures { IfOk result (λ r. IsDescent (prices_of (F.may_return priced.now.tariff.now)) (W.named priced.now.graph.now) heights.now from r.0.items r.1) }
+    ensures { IfOk result (λ r. IsDescent (prices_of (F.may_return priced.now.tariff.now)) (W.named priced.now.graph.now) (dart_heights (W.named priced.now.graph.now) (W.face_of priced.now.graph.now) heights.now) from r.0.items r.1) }
 {
     let mut crossed = Vec::new(alloc);
     let mut at = from;
-    while heights.get(at) > 0 {
+    while height_at(priced.graph, heights, at) > 0 {
         match first_tight(priced, heights, v, at) {
             Some(dart) => {
                 crossed.push(priced.graph.dart(dart))?;

@@ -76,5 +76,5 @@ pub(crate) fn same_face<D: Dual>(dual: &D, a: u32, b: u32) -> bool
     requires b_within { b < length (darts (D.shows dual.now)) }
     ensures { IsTrue result ↔ SameCycle (next_of (D.shows dual.now)) a b }
 {
-    dual.same_face(a, b)
+    steps::same_face(dual, a, b)
 }

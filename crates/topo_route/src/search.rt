@@ -1,13 +1,14 @@
 //! The search for the first of the least routes.
 
-ghost use Rattle.std.specs.Prelude.{◌≢◌, ◌<◌, IfOk, IfSome, MatchOption, length};
+ghost use Rattle.std.specs.Prelude.{◌≡◌, ◌≢◌, ◌<◌, IfOk, IfSome, MatchOption, length};
 ghost use Rattle.topo_core.specs.Picture.{darts};
 ghost use Rattle.topo_core.specs.Routes.{HasNoRoute, IsFirst, KeepsPromise};
 ghost use Rattle.topo_price.specs.Prices.{prices_of};
 ghost use Rattle.topo_route.specs.Descents.{AreHeightsFor, IsFirstRoute};
+ghost use Rattle.topo_route.specs.FaceHeights.{dart_heights};
 ghost use Rattle.topo_route.specs.Plans.{IsPlan};
 ghost use Rattle.topo_route.specs.Regions.{IsFirstWhileKept, IsRegionOf};
-ghost use Rattle.topo_route.specs.Seen.{RestsOn};
+ghost use Rattle.topo_route.specs.Seen.{HasSeen, RestsOn};
 ghost use Rattle.topo_route.specs.Settling.{ArePrices};
 
 use crate::both_ends::{Stop, heights_for, least_heights};
@@ -15,10 +16,12 @@ use crate::descent::{descend, end_corner, start_corner};
 use crate::direct::direct_route;
 use crate::dual::Dual;
 use crate::face_graph::FaceGraph;
+use crate::faces::dart_count;
 use crate::plan::{Plan, PricedRoute, SeenRoute};
 use crate::priced_graph::{PricedGraph, segment_prices};
 use crate::seen::seen_region;
 use crate::stamped_array::StampedArray;
+use crate::steps::height_at;
 use crate::workspace::Workspace;
 use std::alloc::{AllocError, Global};
 use topo_core::listed::Listed;
@@ -34,15 +37,16 @@ fn route_by_heights<W: FaceGraph, F: PriceFn>(
     heights: &StampedArray,
 ) -> Result<Option<PricedRoute>, AllocError>
     requires right { ArePrices (prices_of (F.may_return priced.now.tariff.now)) (W.named priced.now.graph.now) priced.now.prices.items }
-    requires known { AreHeightsFor (prices_of (F.may_return priced.now.tariff.now)) (W.named priced.now.graph.now) u v heights.now }
+    requires known { AreHeightsFor (prices_of (F.may_return priced.now.tariff.now)) (W.named priced.now.graph.now) u v (dart_heights (W.named priced.now.graph.now) (W.face_of priced.now.graph.now) heights.now) }
+    requires one_each { length heights.now ≡ W.face_bound priced.now.graph.now }
     requires some { 0 < length (darts (W.named priced.now.graph.now).rows) }
     ensures { IfOk result (λ found. MatchOption found
         (HasNoRoute (prices_of (F.may_return priced.now.tariff.now)) (W.named priced.now.graph.now).rows u v)
-        (IsFirstRoute (prices_of (F.may_return priced.now.tariff.now)) (W.named priced.now.graph.now) u v heights.now)) }
+        (IsFirstRoute (prices_of (F.may_return priced.now.tariff.now)) (W.named priced.now.graph.now) u v (dart_heights (W.named priced.now.graph.now) (W.face_of priced.now.graph.now) heights.now))) }
 {
     match start_corner(priced.graph, u, heights) {
         Some((start, from)) => {
-            let price = heights.get(from);
+            let price = height_at(priced.graph, heights, from);
             let (crossed, last) = descend(alloc, priced, heights, v, from)?;
             match end_corner(priced.graph, v, last) {
                 Some(end) => {
@@ -58,6 +62,23 @@ fn route_by_heights<W: FaceGraph, F: PriceFn>(
         }
         None => Ok(None),
     }
+}
+
+/// The height of each dart, in canonical order.
+fn numbers_of<D: Dual>(
+    alloc: Global,
+    dual: &D,
+    heights: &StampedArray,
+) -> Result<Vec<u64>, AllocError>
+    requires { length heights.now ≡ D.face_bound dual.now }
+    ensures { IfOk result (λ numbers. numbers.items ≡ dart_heights (D.named dual.now) (D.face_of dual.now) heights.now) }
+{
+    let darts = dart_count(dual);
+    let mut numbers = Vec::with_capacity(alloc, darts as usize)?;
+    for dart in 0..darts {
+        numbers.push(height_at(dual, heights, dart))?;
+    }
+    Ok(numbers)
 }
 
 /// The first of the least routes from `u` to `v`, two different vertices, with its price and for
@@ -85,7 +106,7 @@ pub fn search<D: Dual, F: PriceFn>(
     };
     let mut work = Workspace::with_room(alloc, dual.size() as usize)?;
     least_heights(&priced, v, &mut work)?;
-    let numbers = work.to_end.heights.numbers(alloc)?;
+    let numbers = numbers_of(alloc, dual, &work.to_end.heights)?;
     let found = route_by_heights(alloc, &priced, u, v, &work.to_end.heights)?;
     match found {
         Some(PricedRoute { route, price }) => Ok(Some(Plan {
@@ -120,7 +141,9 @@ fn find_route<W: FaceGraph, F: PriceFn>(
         (HasNoRoute (prices_of (F.may_return tariff.now)) (W.named graph.now).rows u v)
         (λ r. IsFirst (prices_of (F.may_return tariff.now)) (W.named graph.now).rows u v r.first.route r.first.price)) }
     ensures stop { IfOk result (λ found. IfSome found (λ r. IfSome r.stop (λ stop.
-        RestsOn (prices_of (F.may_return tariff.now)) (W.named graph.now) u v work.new.to_end.heights work.new.to_start.heights stop.level stop.least r.first.route r.first.price))) }
+        RestsOn (prices_of (F.may_return tariff.now)) (W.named graph.now) u v (dart_heights (W.named graph.now) (W.face_of graph.now) work.new.to_end.heights) (dart_heights (W.named graph.now) (W.face_of graph.now) work.new.to_start.heights) stop.level stop.least r.first.route r.first.price))) }
+    ensures seen { IfOk result (λ found. IfSome found (λ r. IfSome r.stop (λ stop.
+        HasSeen (W.named graph.now) (W.face_of graph.now) (W.face_bound graph.now) work.new.to_end.heights work.new.to_end.names.items work.new.to_start.heights work.new.to_start.names.items stop.level stop.least))) }
     ensures promise { KeepsPromise (prices_of (F.may_return tariff.now)) }
 {
     tariff.keeps_promise();
@@ -148,7 +171,7 @@ fn find_route<W: FaceGraph, F: PriceFn>(
 /// no route crosses only edges that have a price.
 ///
 /// As `search`, for a call that hands out no heights. It searches from both ends until the two searches
-/// meet, so its time follows the darts of two discs, one round each end, which together reach as far as
+/// meet, so its time follows the faces of two discs, one round each end, which together reach as far as
 /// the route is dear. What it writes on is handed in, and costs nothing for the rest of the picture. An
 /// edge is asked for its price each time that it is needed.
 ///
@@ -157,7 +180,7 @@ fn find_route<W: FaceGraph, F: PriceFn>(
 /// Shortest paths in the dual graph (Dijkstra 1959) from both ends (Nicholson 1966), by buckets of equal
 /// height (Dial 1969). What is spread from `u` says how high above `v` a dart may be that no spread from
 /// `v` has reached: the heights, cut off there, are a certificate. This is what proves the route, whatever
-/// the order in which darts were taken and wherever the two ends met.
+/// the order in which faces were taken and wherever the two ends met.
 pub fn first_route<W: FaceGraph, F: PriceFn>(
     alloc: Global,
     graph: &W,
@@ -183,7 +206,7 @@ pub fn first_route<W: FaceGraph, F: PriceFn>(
 /// As `first_route`, with what the search has seen: on each later picture that has kept that region, the
 /// route is still the first, at the same price. No region is handed out for a route that crosses nothing.
 ///
-/// What is seen are the darts that the two ends have settled, so to go through them takes less time than
+/// What is seen are the faces that the two ends have settled, so to go through them takes less time than
 /// the search did. The marks take a byte for each id up to the greatest that was seen.
 pub fn first_route_seen<W: FaceGraph, F: PriceFn>(
     alloc: Global,

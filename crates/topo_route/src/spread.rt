@@ -4,71 +4,84 @@ ghost use Rattle.std.specs.Prelude.{◌≡◌, ◌≢◌, ◌+◌, ◌<◌, ◌�
 ghost use Rattle.topo_core.specs.Picture.{darts};
 ghost use Rattle.topo_price.specs.Prices.{prices_of};
 ghost use Rattle.topo_core.specs.Routes.{unreached};
+ghost use Rattle.topo_route.specs.FaceHeights.{dart_heights};
 ghost use Rattle.topo_route.specs.Names.{IsName, height_of};
 ghost use Rattle.topo_route.specs.Plans.{AreHeights, IsZeroAt};
-ghost use Rattle.topo_route.specs.Settling.{AreCosts, AreLowered, ArePrices, AreSums, IsCrossed, IsReached, IsSettled, Relaxes, Spreads, SpreadsTo, dart_of_item, effort, is_pending, is_waiting, number_at, reach_of, top_of};
+ghost use Rattle.topo_route.specs.Settling.{AreCosts, AreFaceCosts, AreLowered, ArePrices, AreSums, IsCrossed, IsReached, IsSettled, Relaxes, Spreads, SpreadsTo, dart_of_item, effort, is_pending, is_waiting, number_at, reach_of, top_of};
 ghost use Rattle.topo_route.specs.StampedArrays.{span};
 
 use crate::bucket_queue::{BucketQueue, dart_of_item, item_of, least_height};
 use crate::face_graph::FaceGraph;
 use crate::priced_graph::PricedGraph;
 use crate::stamped_array::StampedArray;
-use crate::steps::{across, corner_at, next_along};
+use crate::steps::{across, corner_at, face_at, next_along};
 use std::alloc::{AllocError, Global};
 use topo_price::tariff::PriceFn;
 
-/// What a search knows of the darts from one of its ends: how high they lie above it, and those that wait.
+/// What a search knows of the faces from one of its ends: how high they lie above it, by their labels, a dart
+/// of each that it has reached, and the darts whose faces wait.
 #[derive(Drop)]
 pub(crate) struct Labels {
     pub heights: StampedArray,
+    pub names: Vec<u32>,
     pub waiting: BucketQueue,
 }
 
 impl Labels {
-    /// Those of a picture without darts, with room for so many that wait.
+    /// Those of a picture without faces, with room for so many that wait.
     pub(crate) fn new(alloc: Global, room: usize) -> Result<Self, AllocError>
         ensures { IfOk result (λ labels. (labels.heights ≡ []) × (labels.waiting ≡ [])) }
     {
         Ok(Labels {
             heights: StampedArray::new(alloc),
+            names: Vec::new(alloc),
             waiting: BucketQueue::new(alloc, room)?,
         })
     }
 
-    /// Reaches no dart, and none waits.
-    pub(crate) fn clear(&mut self, len: usize) -> Result<(), AllocError>
-        ensures heights { OnOk result (self.new.heights ≡ replicate len unreached) }
+    /// Reaches no face of so many, and none waits.
+    pub(crate) fn clear(&mut self, faces: usize) -> Result<(), AllocError>
+        ensures heights { OnOk result (self.new.heights ≡ replicate faces unreached) }
+        ensures names { OnOk result (faces ≤ length self.new.names.items) }
         ensures waiting { OnOk result (self.new.waiting ≡ []) }
     {
-        self.heights.clear(len)?;
+        self.heights.clear(faces)?;
+        if self.names.len() < faces {
+            self.names.resize(faces, 0)?;
+        }
         self.waiting.clear();
         Ok(())
     }
 
-    /// Gives a dart a height. With that above the other end it may be the least sum.
+    /// Gives a face a height, and names a dart of it. With the height above the other end it may be the
+    /// least sum.
     fn lower(
         &mut self,
         other: &StampedArray,
         least: &mut u64,
+        face: u32,
         dart: u32,
         height: u64,
     ) -> Result<(), AllocError>
-        requires within { dart < length self.old.heights }
+        requires within { face < length self.old.heights }
+        requires named { face < length self.old.names.items }
         requires fits { height < span }
-        ensures heights { OnOk result (self.new.heights ≡ slice_set self.old.heights dart height) }
+        ensures heights { OnOk result (self.new.heights ≡ slice_set self.old.heights face height) }
+        ensures names { OnOk result (self.new.names.items ≡ slice_set self.old.names.items face dart) }
         ensures waiting { OnOk result (self.new.waiting ≡ self.old.waiting) }
-        ensures least { OnOk result (least.new ≡ min least.old (height + number_at other.now dart)) }
+        ensures least { OnOk result (least.new ≡ min least.old (height + number_at other.now face)) }
     {
-        self.heights.set(dart, height)?;
-        let sum = height.saturating_add(other.number_at(dart));
+        self.heights.set(face, height)?;
+        self.names[face as usize] = dart;
+        let sum = height.saturating_add(other.number_at(face));
         if sum < *least {
             *least = sum;
         }
         Ok(())
     }
 
-    /// Crosses a dart backwards: its twin reaches the end over it. A height that this lowers, and brings
-    /// down to the least sum, waits. The price is not asked where not even 1 would do so.
+    /// Crosses a dart backwards: the face of its twin reaches the end over it. A height that this lowers, and
+    /// brings down to the least sum, waits. The price is not asked where not even 1 would do so.
     fn relax_twin<W: FaceGraph, F: PriceFn>(
         &mut self,
         priced: &PricedGraph<W, F>,
@@ -79,17 +92,17 @@ impl Labels {
         height: u64,
     ) -> Result<(), AllocError>
         requires right { ArePrices (prices_of (F.may_return priced.now.tariff.now)) (W.named priced.now.graph.now) priced.now.prices.items }
-        requires costs { AreCosts (prices_of (F.may_return priced.now.tariff.now)) (W.named priced.now.graph.now) v self.old.heights }
-        requires in_hand { IsReached (W.named priced.now.graph.now) self.old.heights dart }
-        requires height { height ≡ slice_index self.old.heights dart }
-        requires sums { AreSums (W.named priced.now.graph.now) self.old.heights other.now least.old }
-        ensures relaxes { IfOk result (λ _. Relaxes (prices_of (F.may_return priced.now.tariff.now)) (W.named priced.now.graph.now) v other.now self.old.heights self.old.waiting least.old dart self.new.heights self.new.waiting least.new dart) }
-        ensures crossed { IfOk result (λ _. IsCrossed (prices_of (F.may_return priced.now.tariff.now)) (W.named priced.now.graph.now) (reach_of least.new) self.new.heights dart) }
-        ensures same { IfOk result (λ _. slice_index self.new.heights dart ≡ height) }
+        requires costs { AreFaceCosts (prices_of (F.may_return priced.now.tariff.now)) (W.named priced.now.graph.now) (W.face_of priced.now.graph.now) (W.face_bound priced.now.graph.now) v self.old.heights self.old.names.items }
+        requires in_hand { IsReached (W.named priced.now.graph.now) (dart_heights (W.named priced.now.graph.now) (W.face_of priced.now.graph.now) self.old.heights) dart }
+        requires height { height ≡ slice_index (dart_heights (W.named priced.now.graph.now) (W.face_of priced.now.graph.now) self.old.heights) dart }
+        requires sums { AreSums (W.named priced.now.graph.now) (dart_heights (W.named priced.now.graph.now) (W.face_of priced.now.graph.now) self.old.heights) (dart_heights (W.named priced.now.graph.now) (W.face_of priced.now.graph.now) other.now) least.old }
+        ensures relaxes { IfOk result (λ _. Relaxes (prices_of (F.may_return priced.now.tariff.now)) (W.named priced.now.graph.now) (W.face_of priced.now.graph.now) (W.face_bound priced.now.graph.now) v other.now self.old.heights self.old.names.items self.old.waiting least.old dart self.new.heights self.new.names.items self.new.waiting least.new dart) }
+        ensures crossed { IfOk result (λ _. IsCrossed (prices_of (F.may_return priced.now.tariff.now)) (W.named priced.now.graph.now) (reach_of least.new) (dart_heights (W.named priced.now.graph.now) (W.face_of priced.now.graph.now) self.new.heights) dart) }
+        ensures same { IfOk result (λ _. slice_index (dart_heights (W.named priced.now.graph.now) (W.face_of priced.now.graph.now) self.new.heights) dart ≡ height) }
     {
-        let _darts = priced.graph.size();
         let twin = across(priced.graph, dart);
-        let high = self.heights.get(twin).min((*least).saturating_add(1));
+        let face = face_at(priced.graph, twin);
+        let high = self.heights.get(face).min((*least).saturating_add(1));
         if high.saturating_sub(height) <= 1 {
             return Ok(());
         }
@@ -98,7 +111,7 @@ impl Labels {
                 let price = price as u64;
                 if height < high.saturating_sub(price) {
                     let lowered = height + price;
-                    self.lower(other, least, twin, lowered)?;
+                    self.lower(other, least, face, twin, lowered)?;
                     self.waiting.push(lowered, item_of(twin, lowered))?;
                 }
                 Ok(())
@@ -107,8 +120,8 @@ impl Labels {
         }
     }
 
-    /// Spreads the height of one dart round its face and over the segments along it, as far as it lowers
-    /// what is there.
+    /// Spreads the height of a face over the segments round it, as far as it lowers what is there: one walk
+    /// round the face.
     fn relax_face<W: FaceGraph, F: PriceFn>(
         &mut self,
         priced: &PricedGraph<W, F>,
@@ -116,25 +129,24 @@ impl Labels {
         least: &mut u64,
         v: u32,
         dart: u32,
+        height: u64,
     ) -> Result<(), AllocError>
         requires right { ArePrices (prices_of (F.may_return priced.now.tariff.now)) (W.named priced.now.graph.now) priced.now.prices.items }
-        requires costs { AreCosts (prices_of (F.may_return priced.now.tariff.now)) (W.named priced.now.graph.now) v self.old.heights }
-        requires in_hand { IsReached (W.named priced.now.graph.now) self.old.heights dart }
-        requires sums { AreSums (W.named priced.now.graph.now) self.old.heights other.now least.old }
-        ensures relaxes { IfOk result (λ _. Relaxes (prices_of (F.may_return priced.now.tariff.now)) (W.named priced.now.graph.now) v other.now self.old.heights self.old.waiting least.old dart self.new.heights self.new.waiting least.new (W.named priced.now.graph.now).size) }
+        requires costs { AreFaceCosts (prices_of (F.may_return priced.now.tariff.now)) (W.named priced.now.graph.now) (W.face_of priced.now.graph.now) (W.face_bound priced.now.graph.now) v self.old.heights self.old.names.items }
+        requires in_hand { IsReached (W.named priced.now.graph.now) (dart_heights (W.named priced.now.graph.now) (W.face_of priced.now.graph.now) self.old.heights) dart }
+        requires height { height ≡ slice_index (dart_heights (W.named priced.now.graph.now) (W.face_of priced.now.graph.now) self.old.heights) dart }
+        requires sums { AreSums (W.named priced.now.graph.now) (dart_heights (W.named priced.now.graph.now) (W.face_of priced.now.graph.now) self.old.heights) (dart_heights (W.named priced.now.graph.now) (W.face_of priced.now.graph.now) other.now) least.old }
+        ensures { IfOk result (λ _. Relaxes (prices_of (F.may_return priced.now.tariff.now)) (W.named priced.now.graph.now) (W.face_of priced.now.graph.now) (W.face_bound priced.now.graph.now) v other.now self.old.heights self.old.names.items self.old.waiting least.old dart self.new.heights self.new.names.items self.new.waiting least.new (W.named priced.now.graph.now).size) }
     {
-        let _darts = priced.graph.size();
-        let height = self.heights.get(dart);
         let mut at = dart;
-        loop {
-            let next = next_along(priced.graph, at);
+        for _steps in 0..priced.graph.size() {
             self.relax_twin(priced, other, least, v, at, height)?;
-            if self.heights.get(next) <= height {
+            at = next_along(priced.graph, at);
+            if at == dart {
                 return Ok(());
             }
-            self.lower(other, least, next, height)?;
-            at = next;
         }
+        Ok(())
     }
 
     /// Spreads the heights of all that wait and are lower than the level, or whose sum with the height
@@ -149,23 +161,24 @@ impl Labels {
         most: u64,
     ) -> Result<(), AllocError>
         requires right { ArePrices (prices_of (F.may_return priced.now.tariff.now)) (W.named priced.now.graph.now) priced.now.prices.items }
-        requires spreads { Spreads (prices_of (F.may_return priced.now.tariff.now)) (W.named priced.now.graph.now) v (top_of level (min most least.old) other.now) (reach_of least.old) self.old.heights self.old.waiting (W.named priced.now.graph.now).size }
-        requires sums { AreSums (W.named priced.now.graph.now) self.old.heights other.now least.old }
-        ensures costs { IfOk result (λ _. AreCosts (prices_of (F.may_return priced.now.tariff.now)) (W.named priced.now.graph.now) v self.new.heights) }
-        ensures settled { IfOk result (λ _. (k : ℕ) → IsName (W.named priced.now.graph.now) k → slice_index self.new.heights k < top_of level (min most least.new) other.now k → IsSettled (prices_of (F.may_return priced.now.tariff.now)) (W.named priced.now.graph.now) (reach_of least.new) self.new.heights k) }
-        ensures sums { IfOk result (λ _. AreSums (W.named priced.now.graph.now) self.new.heights other.now least.new) }
+        requires spreads { Spreads (prices_of (F.may_return priced.now.tariff.now)) (W.named priced.now.graph.now) (W.face_of priced.now.graph.now) (W.face_bound priced.now.graph.now) v (top_of level (min most least.old) (dart_heights (W.named priced.now.graph.now) (W.face_of priced.now.graph.now) other.now)) (reach_of least.old) self.old.heights self.old.names.items self.old.waiting (W.named priced.now.graph.now).size }
+        requires sums { AreSums (W.named priced.now.graph.now) (dart_heights (W.named priced.now.graph.now) (W.face_of priced.now.graph.now) self.old.heights) (dart_heights (W.named priced.now.graph.now) (W.face_of priced.now.graph.now) other.now) least.old }
+        ensures costs { IfOk result (λ _. AreFaceCosts (prices_of (F.may_return priced.now.tariff.now)) (W.named priced.now.graph.now) (W.face_of priced.now.graph.now) (W.face_bound priced.now.graph.now) v self.new.heights self.new.names.items) }
+        ensures settled { IfOk result (λ _. (k : ℕ) → IsName (W.named priced.now.graph.now) k → slice_index (dart_heights (W.named priced.now.graph.now) (W.face_of priced.now.graph.now) self.new.heights) k < top_of level (min most least.new) (dart_heights (W.named priced.now.graph.now) (W.face_of priced.now.graph.now) other.now) k → IsSettled (prices_of (F.may_return priced.now.tariff.now)) (W.named priced.now.graph.now) (reach_of least.new) (dart_heights (W.named priced.now.graph.now) (W.face_of priced.now.graph.now) self.new.heights) k) }
+        ensures sums { IfOk result (λ _. AreSums (W.named priced.now.graph.now) (dart_heights (W.named priced.now.graph.now) (W.face_of priced.now.graph.now) self.new.heights) (dart_heights (W.named priced.now.graph.now) (W.face_of priced.now.graph.now) other.now) least.new) }
         ensures less { IfOk result (λ _. least.new ≤ least.old) }
-        ensures lower { IfOk result (λ _. AreLowered self.old.heights self.new.heights) }
+        ensures lower { IfOk result (λ _. AreLowered (dart_heights (W.named priced.now.graph.now) (W.face_of priced.now.graph.now) self.old.heights) (dart_heights (W.named priced.now.graph.now) (W.face_of priced.now.graph.now) self.new.heights)) }
     {
         let _darts = priced.graph.size();
-        while let Some(dart) = next_pending(
+        while let Some((dart, height)) = next_pending(
+            priced.graph,
             &self.heights,
             &mut self.waiting,
             other,
             level,
             most.min(*least),
         ) {
-            self.relax_face(priced, other, least, v, dart)?;
+            self.relax_face(priced, other, least, v, dart, height)?;
         }
         Ok(())
     }
@@ -179,27 +192,33 @@ impl Labels {
         v: u32,
     ) -> Result<Option<u64>, AllocError>
         requires right { ArePrices (prices_of (F.may_return priced.now.tariff.now)) (W.named priced.now.graph.now) priced.now.prices.items }
-        requires spreads { SpreadsTo (prices_of (F.may_return priced.now.tariff.now)) (W.named priced.now.graph.now) v (reach_of least.old) self.old.heights self.old.waiting }
-        requires sums { AreSums (W.named priced.now.graph.now) self.old.heights other.now least.old }
-        ensures spreads { IfOk result (λ _. SpreadsTo (prices_of (F.may_return priced.now.tariff.now)) (W.named priced.now.graph.now) v (reach_of least.new) self.new.heights self.new.waiting) }
-        ensures sums { IfOk result (λ _. AreSums (W.named priced.now.graph.now) self.new.heights other.now least.new) }
+        requires spreads { SpreadsTo (prices_of (F.may_return priced.now.tariff.now)) (W.named priced.now.graph.now) (W.face_of priced.now.graph.now) (W.face_bound priced.now.graph.now) v (reach_of least.old) self.old.heights self.old.names.items self.old.waiting }
+        requires sums { AreSums (W.named priced.now.graph.now) (dart_heights (W.named priced.now.graph.now) (W.face_of priced.now.graph.now) self.old.heights) (dart_heights (W.named priced.now.graph.now) (W.face_of priced.now.graph.now) other.now) least.old }
+        ensures spreads { IfOk result (λ _. SpreadsTo (prices_of (F.may_return priced.now.tariff.now)) (W.named priced.now.graph.now) (W.face_of priced.now.graph.now) (W.face_bound priced.now.graph.now) v (reach_of least.new) self.new.heights self.new.names.items self.new.waiting) }
+        ensures sums { IfOk result (λ _. AreSums (W.named priced.now.graph.now) (dart_heights (W.named priced.now.graph.now) (W.face_of priced.now.graph.now) self.new.heights) (dart_heights (W.named priced.now.graph.now) (W.face_of priced.now.graph.now) other.now) least.new) }
         ensures less { IfOk result (λ _. least.new ≤ least.old) }
         ensures falls { IfOk result (λ found. IfSome found (λ _. effort self.new.heights self.new.waiting < effort self.old.heights self.old.waiting)) }
-        ensures lower { IfOk result (λ _. AreLowered self.old.heights self.new.heights) }
+        ensures lower { IfOk result (λ _. AreLowered (dart_heights (W.named priced.now.graph.now) (W.face_of priced.now.graph.now) self.old.heights) (dart_heights (W.named priced.now.graph.now) (W.face_of priced.now.graph.now) self.new.heights)) }
     {
         let _darts = priced.graph.size();
         let reach = (*least).saturating_add(1);
-        match next_pending(&self.heights, &mut self.waiting, other, reach, 0) {
-            Some(dart) => {
-                let height = self.heights.get(dart);
-                self.relax_face(priced, other, least, v, dart)?;
+        match next_pending(
+            priced.graph,
+            &self.heights,
+            &mut self.waiting,
+            other,
+            reach,
+            0,
+        ) {
+            Some((dart, height)) => {
+                self.relax_face(priced, other, least, v, dart, height)?;
                 Ok(Some(height))
             }
             None => Ok(None),
         }
     }
 
-    /// Gives the corners of the end height 0, and puts them among the items that wait.
+    /// Gives the faces at the end height 0, and puts their corners among the items that wait.
     pub(crate) fn start_at<W: FaceGraph, F: PriceFn>(
         &mut self,
         priced: &PricedGraph<W, F>,
@@ -207,15 +226,16 @@ impl Labels {
         least: &mut u64,
         v: u32,
     ) -> Result<(), AllocError>
-        requires costs { AreCosts (prices_of (F.may_return priced.now.tariff.now)) (W.named priced.now.graph.now) v self.old.heights }
-        requires sums { AreSums (W.named priced.now.graph.now) self.old.heights other.now least.old }
-        ensures relaxes { IfOk result (λ _. Relaxes (prices_of (F.may_return priced.now.tariff.now)) (W.named priced.now.graph.now) v other.now self.old.heights self.old.waiting least.old (W.named priced.now.graph.now).size self.new.heights self.new.waiting least.new (W.named priced.now.graph.now).size) }
-        ensures ends { IfOk result (λ _. IsZeroAt (W.named priced.now.graph.now).rows v (height_of (W.named priced.now.graph.now) self.new.heights)) }
+        requires costs { AreFaceCosts (prices_of (F.may_return priced.now.tariff.now)) (W.named priced.now.graph.now) (W.face_of priced.now.graph.now) (W.face_bound priced.now.graph.now) v self.old.heights self.old.names.items }
+        requires sums { AreSums (W.named priced.now.graph.now) (dart_heights (W.named priced.now.graph.now) (W.face_of priced.now.graph.now) self.old.heights) (dart_heights (W.named priced.now.graph.now) (W.face_of priced.now.graph.now) other.now) least.old }
+        ensures relaxes { IfOk result (λ _. Relaxes (prices_of (F.may_return priced.now.tariff.now)) (W.named priced.now.graph.now) (W.face_of priced.now.graph.now) (W.face_bound priced.now.graph.now) v other.now self.old.heights self.old.names.items self.old.waiting least.old (W.named priced.now.graph.now).size self.new.heights self.new.names.items self.new.waiting least.new (W.named priced.now.graph.now).size) }
+        ensures ends { IfOk result (λ _. IsZeroAt (W.named priced.now.graph.now).rows v (height_of (W.named priced.now.graph.now) (dart_heights (W.named priced.now.graph.now) (W.face_of priced.now.graph.now) self.new.heights))) }
     {
         for position in 0..priced.graph.degree(v) {
             if let Some(corner) = corner_at(priced.graph, v, position) {
-                if self.heights.get(corner) > 0 {
-                    self.lower(other, least, corner, 0)?;
+                let face = face_at(priced.graph, corner);
+                if self.heights.get(face) > 0 {
+                    self.lower(other, least, face, corner, 0)?;
                     self.waiting.push(0, item_of(corner, 0))?;
                 }
             }
@@ -224,21 +244,25 @@ impl Labels {
     }
 }
 
-/// Takes out the next dart that waits with the height that it has, and that is lower than the level or
-/// makes up no more than `most` with its height above the other end. An item of another height is passed
-/// over: the dart was lowered since, and then a walk round its face spread its new height, or that waits
-/// too. No height is read for an item that says that it is too high.
-fn next_pending(
+/// Takes out the next dart that waits with the height of its face, which is lower than the level or makes
+/// up no more than `most` with the face's height above the other end: the dart and that height. An item of
+/// another height is passed over: the face was lowered since, and then its new height waits too or was spread.
+/// No height is read for an item that says that it is too high.
+fn next_pending<W: FaceGraph>(
+    graph: &W,
     heights: &StampedArray,
     waiting: &mut BucketQueue,
     other: &StampedArray,
     level: u64,
     most: u64,
-) -> Option<u32>
-    requires within { (item : ℕ) → is_waiting waiting.old item ≡ true → dart_of_item item < length heights.now }
-    ensures pending { IfSome result (λ dart. is_pending heights.now waiting.old dart ≡ true) }
-    ensures others { MatchOption result ((k : ℕ) → k < 2 ^ 32 → slice_index heights.now k < top_of level most other.now k → is_pending heights.now waiting.old k ≡ false)
-        (λ dart. (k : ℕ) → k < 2 ^ 32 → slice_index heights.now k < top_of level most other.now k → k ≢ dart → is_pending heights.now waiting.new k ≡ is_pending heights.now waiting.old k) }
+) -> Option<(u32, u64)>
+    requires one_each { length heights.now ≡ W.face_bound graph.now }
+    requires names { (item : ℕ) → is_waiting waiting.old item ≡ true → IsName (W.named graph.now) (dart_of_item item) }
+    ensures name { IfSome result (λ r. IsName (W.named graph.now) r.0) }
+    ensures pending { IfSome result (λ r. is_pending (dart_heights (W.named graph.now) (W.face_of graph.now) heights.now) waiting.old r.0 ≡ true) }
+    ensures height { IfSome result (λ r. r.1 ≡ slice_index (dart_heights (W.named graph.now) (W.face_of graph.now) heights.now) r.0) }
+    ensures others { MatchOption result ((k : ℕ) → k < 2 ^ 32 → IsName (W.named graph.now) k → slice_index (dart_heights (W.named graph.now) (W.face_of graph.now) heights.now) k < top_of level most (dart_heights (W.named graph.now) (W.face_of graph.now) other.now) k → is_pending (dart_heights (W.named graph.now) (W.face_of graph.now) heights.now) waiting.old k ≡ false)
+        (λ r. (k : ℕ) → k < 2 ^ 32 → IsName (W.named graph.now) k → slice_index (dart_heights (W.named graph.now) (W.face_of graph.now) heights.now) k < top_of level most (dart_heights (W.named graph.now) (W.face_of graph.now) other.now) k → k ≢ r.0 → is_pending (dart_heights (W.named graph.now) (W.face_of graph.now) heights.now) waiting.new k ≡ is_pending (dart_heights (W.named graph.now) (W.face_of graph.now) heights.now) waiting.old k) }
     ensures fewer { (item : ℕ) → is_waiting waiting.new item ≡ true → is_waiting waiting.old item ≡ true }
     ensures len { IfSome result (λ _. length waiting.new < length waiting.old) }
 {
@@ -246,10 +270,11 @@ fn next_pending(
     while let Some(item) = waiting.pop() {
         if least_height(item) < bound {
             let dart = dart_of_item(item);
-            let height = heights.get(dart);
-            let is_low = height < level || height.saturating_add(other.number_at(dart)) <= most;
+            let face = face_at(graph, dart);
+            let height = heights.get(face);
+            let is_low = height < level || height.saturating_add(other.number_at(face)) <= most;
             if is_low && item_of(dart, height) == item {
-                return Some(dart);
+                return Some((dart, height));
             }
         }
     }

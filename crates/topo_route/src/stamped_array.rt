@@ -9,7 +9,7 @@ ghost use Rattle.topo_route.specs.StampedArrays.{span};
 use std::alloc::{AllocError, Global};
 use std::marker::Model;
 
-/// How many numbers an epoch has: more than heights of darts that have a number of 32 bits, since no price is
+/// How many numbers an epoch has: more than heights of faces that have a label of 32 bits, since no price is
 /// above 1000.
 const SPAN: u64 = 1 << 42;
 
@@ -123,16 +123,5 @@ impl StampedArray {
         ensures all { (k : ℕ) → k < length self.now → slice_index self.now k ≢ unreached → has_id result.now k ≡ true }
     {
         self.written.as_slice()
-    }
-
-    /// The numbers.
-    pub(crate) fn numbers(&self, alloc: Global) -> Result<Vec<u64>, AllocError>
-        ensures { IfOk result (λ numbers. numbers.items ≡ self.now) }
-    {
-        let mut numbers = Vec::with_capacity(alloc, self.len)?;
-        for place in 0..self.len {
-            numbers.push(self.read(place))?;
-        }
-        Ok(numbers)
     }
 }

@@ -1,13 +1,16 @@
 //! Steps from dart to dart by their names.
 
-ghost use Rattle.std.specs.Prelude.{◌≡◌, ◌≤◌, Some, None, MatchOption, IfSome};
-ghost use Rattle.topo_core.specs.Picture.{corner};
+ghost use Rattle.std.specs.Prelude.{◌≡◌, ◌<◌, ◌≤◌, ◌↔◌, IsTrue, Some, None, MatchOption, IfSome, length, slice_index};
+ghost use Rattle.topo_core.specs.Picture.{corner, system};
 ghost use Rattle.topo_core.specs.Routes.{KeepsPromise};
+ghost use Rattle.topo_core.specs.Systems.{SameFace};
 ghost use Rattle.topo_price.specs.Prices.{prices_of};
+ghost use Rattle.topo_route.specs.FaceHeights.{dart_heights};
 ghost use Rattle.topo_route.specs.Names.{IsName, dart_named, next_name, twin_name};
 ghost use Rattle.topo_route.specs.Numbers.{IsPriceFor};
 
 use crate::face_graph::FaceGraph;
+use crate::stamped_array::StampedArray;
 use topo_price::tariff::{PriceFn, Tariff};
 
 /// The next dart along the face on the left.
@@ -26,6 +29,33 @@ pub(crate) fn across<W: FaceGraph>(graph: &W, dart: u32) -> u32
     ensures name { IsName (W.named graph.now) result }
 {
     graph.twin(dart)
+}
+
+/// The label of the face on the left of a dart.
+pub(crate) fn face_at<W: FaceGraph>(graph: &W, dart: u32) -> u32
+    requires { IsName (W.named graph.now) dart }
+    ensures face { result ≡ W.face_of graph.now dart }
+    ensures within { result < W.face_bound graph.now }
+{
+    graph.face(dart)
+}
+
+/// The height of the face on the left of a dart, in a list that has one for each label.
+pub(crate) fn height_at<W: FaceGraph>(graph: &W, heights: &StampedArray, dart: u32) -> u64
+    requires one_each { length heights.now ≡ W.face_bound graph.now }
+    requires name { IsName (W.named graph.now) dart }
+    ensures { result ≡ slice_index (dart_heights (W.named graph.now) (W.face_of graph.now) heights.now) dart }
+{
+    heights.get(face_at(graph, dart))
+}
+
+/// Whether two darts have one face on their left. It takes no longer where the face is large.
+pub(crate) fn same_face<W: FaceGraph>(graph: &W, dart: u32, other: u32) -> bool
+    requires dart_there { IsName (W.named graph.now) dart }
+    requires other_there { IsName (W.named graph.now) other }
+    ensures { IsTrue result ↔ SameFace (system (W.named graph.now).rows) (dart_named (W.named graph.now) dart) (dart_named (W.named graph.now) other) }
+{
+    graph.face(dart) == graph.face(other)
 }
 
 /// The dart that names a corner.

@@ -5,9 +5,9 @@ ghost use Rattle.std.specs.Prelude.{◌≡◌, [], IfOk};
 use crate::spread::Labels;
 use std::alloc::{AllocError, Global};
 
-/// What a search knows of the darts from both of its ends, kept for the next one. Each search begins
+/// What a search knows of the faces from both of its ends, kept for the next one. Each search begins
 /// with all of it blank, whatever the one before it left, and that takes no time that grows with the
-/// picture, but where the picture has more darts than any before.
+/// picture, but where the picture has more labels of faces than any before.
 pub struct Workspace {
     pub(crate) to_end: Labels,
     pub(crate) to_start: Labels,
@@ -28,7 +28,7 @@ impl Workspace {
         Workspace::with_room(alloc, 0)
     }
 
-    /// One with room for so many darts that wait for the target, before it asks for more.
+    /// One with room for so many faces that wait for the target, before it asks for more.
     pub(crate) fn with_room(alloc: Global, room: usize) -> Result<Self, AllocError>
         ensures { IfOk result (λ work. work.to_start.heights ≡ []) }
     {

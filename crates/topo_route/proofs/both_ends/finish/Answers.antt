@@ -2,61 +2,102 @@ use Rattle.std.proofs.Common.{◌-◌, ◌<◌, ◌^◌, ◌≡◌, ◌≤◌, a
 use Rattle.std.specs.Prelude.{max, min, slice_index}
 use Rattle.topo_core.specs.Routes.{unreached}
 use Rattle.topo_price.specs.Prices.{prices_of}
+use Rattle.topo_route.specs.FaceHeights.{dart_heights}
 use Rattle.topo_route.specs.Names.{IsName}
 use Rattle.topo_route.specs.Settling.{reach_of, top_of}
 use Rattle.topo_route.proofs.Ending.{back_sums, for_both, has_met}
+use Rattle.topo_route.proofs.FaceHeights.{one_for_each}
 use Rattle.topo_route.proofs.Settled.{meets_lower, narrowed}
 use Rattle.topo_route.proofs.Sums.{sums_swapped}
 use Rattle.topo_route.proofs.both_ends.finish.Goals as goal
 
 pub spread-requires-clause-spreads : goal.spread-requires-clause-spreads
 spread-requires-clause-spreads g c =
+    let price = prices_of (g.F.PriceFn.may_return c.args.priced.now.tariff.now) in
+    let graph = c.args.priced.now.graph.now in
+    let named = g.W.FaceGraph.named graph in
+    let lawful = g.met.W.FaceGraph.lawful graph in
+    let has = g.met.W.FaceGraph.has_names graph in
+    let face = g.W.FaceGraph.face_of graph in
+    let faces = g.W.FaceGraph.face_bound graph in
+    let has_faces = g.met.W.FaceGraph.has_faces graph in
     let reach = reach_of c.args.least in
-    narrowed (prices_of (g.F.PriceFn.may_return c.args.priced.now.tariff.now)) (g.W.FaceGraph.named c.args.priced.now.graph.now) c.args.u (λ k. reach) (top_of (c.saturating_add-reach.result - c.clamp-level.result) (min 0 c.args.least) c.args.work.now.to_end.heights) reach reach
-    c.args.work.now.to_start.heights c.args.work.now.to_start.waiting (g.W.FaceGraph.named c.args.priced.now.graph.now).size c.requires.both.back (λ k. omega (arith, c.saturating_add-reach.ensures)) (omega arith)
+    let back = c.args.work.now.to_start in
+    narrowed price named face faces c.args.u back.heights back.names.items back.waiting (λ k. reach) (top_of (c.saturating_add-reach.result - c.clamp-level.result) (min 0 c.args.least) (dart_heights named face c.args.work.now.to_end.heights)) reach reach
+    named.size c.requires.both.back (λ k. omega (arith, c.saturating_add-reach.ensures)) (omega arith)
 
 pub spread-requires-clause-sums : goal.spread-requires-clause-sums
 spread-requires-clause-sums g c =
-    back_sums (prices_of (g.F.PriceFn.may_return c.args.priced.now.tariff.now)) (g.W.FaceGraph.named c.args.priced.now.graph.now) (g.met.W.FaceGraph.lawful c.args.priced.now.graph.now) (g.met.W.FaceGraph.has_names c.args.priced.now.graph.now) c.args.u c.args.v
-    c.requires.both
+    let price = prices_of (g.F.PriceFn.may_return c.args.priced.now.tariff.now) in
+    let graph = c.args.priced.now.graph.now in
+    let named = g.W.FaceGraph.named graph in
+    let lawful = g.met.W.FaceGraph.lawful graph in
+    let has = g.met.W.FaceGraph.has_names graph in
+    let face = g.W.FaceGraph.face_of graph in
+    let faces = g.W.FaceGraph.face_bound graph in
+    let has_faces = g.met.W.FaceGraph.has_faces graph in
+    back_sums price named lawful has face faces has_faces c.args.u c.args.v c.requires.both
 
 pub spread-requires-2-clause-spreads : goal.spread-requires-2-clause-spreads
 spread-requires-2-clause-spreads g c =
-    narrowed (prices_of (g.F.PriceFn.may_return c.args.priced.now.tariff.now)) (g.W.FaceGraph.named c.args.priced.now.graph.now) c.args.v (λ k. reach_of c.args.least) (top_of c.min-level.result (min 18446744073709551614 c.spread.new.least) c.spread.new.self.heights) (reach_of c.args.least) (reach_of c.spread.new.least)
-    c.args.work.now.to_end.heights c.args.work.now.to_end.waiting (g.W.FaceGraph.named c.args.priced.now.graph.now).size c.requires.both.on (λ k. omega (arith, c.max.ensures, c.min-level.ensures, c.in_ok-spread.ensures.less)) (omega (arith, c.in_ok-spread.ensures.less))
+    let price = prices_of (g.F.PriceFn.may_return c.args.priced.now.tariff.now) in
+    let graph = c.args.priced.now.graph.now in
+    let named = g.W.FaceGraph.named graph in
+    let lawful = g.met.W.FaceGraph.lawful graph in
+    let has = g.met.W.FaceGraph.has_names graph in
+    let face = g.W.FaceGraph.face_of graph in
+    let faces = g.W.FaceGraph.face_bound graph in
+    let has_faces = g.met.W.FaceGraph.has_faces graph in
+    let on = c.args.work.now.to_end in
+    narrowed price named face faces c.args.v on.heights on.names.items on.waiting (λ k. reach_of c.args.least) (top_of c.min-level.result (min 18446744073709551614 c.spread.new.least) (dart_heights named face c.spread.new.self.heights))
+    (reach_of c.args.least) (reach_of c.spread.new.least) named.size c.requires.both.on (λ k. omega (arith, c.max.ensures, c.min-level.ensures, c.in_ok-spread.ensures.less)) (omega (arith, c.in_ok-spread.ensures.less))
 
 pub spread-requires-2-clause-sums : goal.spread-requires-2-clause-sums
 spread-requires-2-clause-sums g c =
-    sums_swapped (g.W.FaceGraph.named c.args.priced.now.graph.now) (g.met.W.FaceGraph.has_names c.args.priced.now.graph.now) c.spread.new.self.heights c.args.work.now.to_end.heights c.spread.new.least
-    c.in_ok-spread.ensures.costs.one_each c.requires.both.on.costs.one_each c.in_ok-spread.ensures.sums
+    let price = prices_of (g.F.PriceFn.may_return c.args.priced.now.tariff.now) in
+    let graph = c.args.priced.now.graph.now in
+    let named = g.W.FaceGraph.named graph in
+    let lawful = g.met.W.FaceGraph.lawful graph in
+    let has = g.met.W.FaceGraph.has_names graph in
+    let face = g.W.FaceGraph.face_of graph in
+    let faces = g.W.FaceGraph.face_bound graph in
+    let has_faces = g.met.W.FaceGraph.has_faces graph in
+    let distances = dart_heights named face c.spread.new.self.heights in
+    let heights = dart_heights named face c.args.work.now.to_end.heights in
+    sums_swapped named has distances heights c.spread.new.least (one_for_each named face c.spread.new.self.heights) (one_for_each named face c.args.work.now.to_end.heights) c.in_ok-spread.ensures.sums
 
 pub returns : goal.returns
 returns g c =
     let price = prices_of (g.F.PriceFn.may_return c.args.priced.now.tariff.now) in
-    let named = g.W.FaceGraph.named c.args.priced.now.graph.now in
-    let lawful = g.met.W.FaceGraph.lawful c.args.priced.now.graph.now in
-    let has = g.met.W.FaceGraph.has_names c.args.priced.now.graph.now in
+    let graph = c.args.priced.now.graph.now in
+    let named = g.W.FaceGraph.named graph in
+    let lawful = g.met.W.FaceGraph.lawful graph in
+    let has = g.met.W.FaceGraph.has_names graph in
+    let face = g.W.FaceGraph.face_of graph in
+    let faces = g.W.FaceGraph.face_bound graph in
+    let has_faces = g.met.W.FaceGraph.has_faces graph in
     let promise = c.requires.right.promise c.requires.some in
-    let small : named.size < 2 ^ 32 = omega (arith, c.size-darts.ensures, c.size-darts.type_inv) in
     let back = c.in_ok-spread.ensures in
     let on = c.in_ok-spread-2.ensures in
-    let heights = c.spread-2.new.self.heights in
-    let distances = c.spread.new.self.heights in
+    let heights = dart_heights named face c.spread-2.new.self.heights in
+    let distances = dart_heights named face c.spread.new.self.heights in
     let first = c.args.least in
     let second = c.spread.new.least in
     let least = c.spread-2.new.least in
     let level = c.clamp-level.result in
     let above = c.min-level.result in
-    let at_target = meets_lower named c.args.v c.args.work.now.to_end.heights heights on.lower c.requires.both.at_target in
-    let at_start = meets_lower named c.args.u c.args.work.now.to_start.heights distances back.lower c.requires.both.at_start in
+    let at_target = meets_lower named c.args.v (dart_heights named face c.args.work.now.to_end.heights) heights on.lower c.requires.both.at_target in
+    let at_start = meets_lower named c.args.u (dart_heights named face c.args.work.now.to_start.heights) distances back.lower c.requires.both.at_start in
     let positive : 0 < level = omega arith in
     let within : level ≤ max 1 (min first 18446744073709551614) = omega arith in
     let in_range : first ≤ unreached = omega arith in
     let is : above ≡ min level (max second 1) = omega (arith, c.max.ensures, c.min-level.ensures) in
     let near = λ (k : ℕ) (l : IsName named k) (low : slice_index distances k < reach_of first - level). back.settled k l (omega (arith, c.saturating_add-reach.ensures)) in
     record {
-      heights = for_both price named lawful has c.args.u c.args.v promise small heights distances first level second above least on.costs back.costs at_target at_start on.sums
+      heights = for_both price named lawful has c.args.u c.args.v promise heights distances first level second above least on.costs.costs back.costs.costs at_target at_start on.sums
           positive within back.less on.less in_range is near on.settled;
-      met = has_met price named lawful has c.args.u c.args.v promise small heights distances first level second above least on.costs back.costs at_target at_start on.sums
+      met = has_met price named lawful has c.args.u c.args.v promise heights distances first level second above least on.costs.costs back.costs.costs at_target at_start on.sums
           positive within back.less on.less in_range is near on.settled c.min.result (omega (arith, c.max-2.ensures, c.min.ensures));
+      to_end = on.costs.labelled;
+      to_start = back.costs.labelled;
     }

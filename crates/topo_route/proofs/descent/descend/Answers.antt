@@ -1,5 +1,6 @@
 use Rattle.std.proofs.Common.{arith, subst, sym}
 use Rattle.topo_price.specs.Prices.{prices_of}
+use Rattle.topo_route.specs.FaceHeights.{dart_heights}
 use Rattle.topo_route.specs.Descents.{Descends}
 use Rattle.topo_route.proofs.Descending.{at_start, at_target, below_on, descends_on, lower}
 use Rattle.topo_route.proofs.Names.{height_named, name_some}
@@ -10,7 +11,7 @@ loop-dart-init g c =
     let named = g.W.FaceGraph.named c.args.priced.now.graph.now in
     let price = prices_of (g.F.PriceFn.may_return c.args.priced.now.tariff.now) in
     record {
-      descends = subst (λ xs. Descends price named c.args.heights.now c.args.from xs c.args.from) (sym c.new-crossed.ensures.items) (at_start price named c.args.heights.now c.args.from c.requires.name);
+      descends = subst (λ xs. Descends price named (dart_heights (g.W.FaceGraph.named c.args.priced.now.graph.now) (g.W.FaceGraph.face_of c.args.priced.now.graph.now) c.args.heights.now) c.args.from xs c.args.from) (sym c.new-crossed.ensures.items) (at_start price named (dart_heights (g.W.FaceGraph.named c.args.priced.now.graph.now) (g.W.FaceGraph.face_of c.args.priced.now.graph.now) c.args.heights.now) c.args.from c.requires.name);
       known = c.requires.known;
     }
 
@@ -23,7 +24,7 @@ loop-dart-smaller g c =
     let lawful = g.met.W.FaceGraph.lawful c.args.priced.now.graph.now in
     let has = g.met.W.FaceGraph.has_names c.args.priced.now.graph.now in
     let price = prices_of (g.F.PriceFn.may_return c.args.priced.now.tariff.now) in
-    let heights = c.args.heights.now in
+    let heights = dart_heights (g.W.FaceGraph.named c.args.priced.now.graph.now) (g.W.FaceGraph.face_of c.args.priced.now.graph.now) c.args.heights.now in
     let promise = c.requires.right.promise (name_some named c.args.from c.requires.name) in
     let known = c.loop-dart.invariant.known in
     let less = lower price named lawful has c.args.v known.top heights known.known promise c.args.from c.loop-dart.at c.in-Some.dart c.across-at.result c.loop-dart.crossed.items c.dart.result
@@ -36,7 +37,7 @@ loop-dart-preserved g c =
     let lawful = g.met.W.FaceGraph.lawful c.args.priced.now.graph.now in
     let has = g.met.W.FaceGraph.has_names c.args.priced.now.graph.now in
     let price = prices_of (g.F.PriceFn.may_return c.args.priced.now.tariff.now) in
-    let heights = c.args.heights.now in
+    let heights = dart_heights (g.W.FaceGraph.named c.args.priced.now.graph.now) (g.W.FaceGraph.face_of c.args.priced.now.graph.now) c.args.heights.now in
     let promise = c.requires.right.promise (name_some named c.args.from c.requires.name) in
     let known = c.loop-dart.invariant.known in
     record {
@@ -55,5 +56,5 @@ pub returns : goal.returns
 returns g c =
     let named = g.W.FaceGraph.named c.args.priced.now.graph.now in
     let descends = c.loop-dart.invariant.descends in
-    let height = height_named named (g.met.W.FaceGraph.has_names c.args.priced.now.graph.now) c.args.heights.now c.loop-dart.at descends.name in
-    at_target (prices_of (g.F.PriceFn.may_return c.args.priced.now.tariff.now)) named c.args.heights.now c.args.from c.loop-dart.at c.loop-dart.crossed.items descends (omega arith)
+    let height = height_named named (g.met.W.FaceGraph.has_names c.args.priced.now.graph.now) (dart_heights (g.W.FaceGraph.named c.args.priced.now.graph.now) (g.W.FaceGraph.face_of c.args.priced.now.graph.now) c.args.heights.now) c.loop-dart.at descends.name in
+    at_target (prices_of (g.F.PriceFn.may_return c.args.priced.now.tariff.now)) named (dart_heights (g.W.FaceGraph.named c.args.priced.now.graph.now) (g.W.FaceGraph.face_of c.args.priced.now.graph.now) c.args.heights.now) c.args.from c.loop-dart.at c.loop-dart.crossed.items descends (omega arith)

@@ -1,6 +1,7 @@
 use Rattle.std.proofs.Common.{◌≡◌}
 use Rattle.topo_core.specs.Cycles.{after}
 use Rattle.topo_price.specs.Prices.{prices_of}
+use Rattle.topo_route.specs.FaceHeights.{dart_heights}
 use Rattle.topo_route.specs.Names.{IsName, next_name}
 use Rattle.topo_route.proofs.Descending.{FirstSoFar}
 use Rattle.topo_route.proofs.descent.first_tight.Given as goal
@@ -12,5 +13,5 @@ invariant-loop-steps g l =
     record {
       place : l.dart ≡ after (next_name named) l._steps l.at;
       name : IsName named l.dart;
-      so_far : FirstSoFar (prices_of (g.F.PriceFn.may_return l.priced.tariff.now)) named l.heights l.at l._steps l.first;
+      so_far : FirstSoFar (prices_of (g.F.PriceFn.may_return l.priced.tariff.now)) named (dart_heights named (g.W.FaceGraph.face_of l.priced.graph.now) l.heights) l.at l._steps l.first;
     }

@@ -1,13 +1,10 @@
 use Rattle.std.proofs.Common.{◌∙◌, arith, subst, sym}
 use Rattle.topo_price.specs.Prices.{prices_of}
 use Rattle.topo_route.specs.Descents.{IsDescent}
+use Rattle.topo_route.specs.FaceHeights.{dart_heights}
 use Rattle.topo_route.proofs.Descending.{has_end, is_first, start_below}
-use Rattle.topo_route.proofs.Names.{height_named, name_below}
+use Rattle.topo_route.proofs.Names.{height_named}
 use Rattle.topo_route.proofs.search.route_by_heights.Goals as goal
-
-pub get-price-requires : goal.get-price-requires
-get-price-requires g c =
-    omega (arith, c.requires.known.known.one_each, name_below (g.W.FaceGraph.named c.args.priced.now.graph.now) (g.met.W.FaceGraph.has_names c.args.priced.now.graph.now) c.in-Some.from c.in-Some.ensures.name)
 
 pub descend-requires-clause-known : goal.descend-requires-clause-known
 descend-requires-clause-known g c =
@@ -17,7 +14,7 @@ descend-requires-clause-known g c =
     record {
       top = known.top;
       known = known.known;
-      below = start_below (prices_of (g.F.PriceFn.may_return c.args.priced.now.tariff.now)) named (g.met.W.FaceGraph.lawful c.args.priced.now.graph.now) (g.met.W.FaceGraph.has_names c.args.priced.now.graph.now) c.args.v known.top c.args.heights.now known.known c.args.u c.in-Some.start c.in-Some.from start (known.start c.in-Some.start c.in-Some.from start);
+      below = start_below (prices_of (g.F.PriceFn.may_return c.args.priced.now.tariff.now)) named (g.met.W.FaceGraph.lawful c.args.priced.now.graph.now) (g.met.W.FaceGraph.has_names c.args.priced.now.graph.now) c.args.v known.top (dart_heights (g.W.FaceGraph.named c.args.priced.now.graph.now) (g.W.FaceGraph.face_of c.args.priced.now.graph.now) c.args.heights.now) known.known c.args.u c.in-Some.start c.in-Some.from start (known.start c.in-Some.start c.in-Some.from start);
     }
 
 pub unreachable-requires : goal.unreachable-requires
@@ -26,7 +23,7 @@ unreachable-requires g c =
     let lawful = g.met.W.FaceGraph.lawful c.args.priced.now.graph.now in
     let has = g.met.W.FaceGraph.has_names c.args.priced.now.graph.now in
     let price = prices_of (g.F.PriceFn.may_return c.args.priced.now.tariff.now) in
-    let heights = c.args.heights.now in
+    let heights = dart_heights (g.W.FaceGraph.named c.args.priced.now.graph.now) (g.W.FaceGraph.face_of c.args.priced.now.graph.now) c.args.heights.now in
     let known = c.requires.known in
     let start = c.in-Some.ensures in
     has_end price named lawful has c.args.v known.top heights known.known (c.requires.right.promise c.requires.some) c.in-Some.from c.in_ok-crossed-in-Some.last c.in_ok-crossed-in-Some.crossed.items start.name
@@ -39,13 +36,13 @@ returns-in-Some-end_corner g c =
     let lawful = g.met.W.FaceGraph.lawful c.args.priced.now.graph.now in
     let has = g.met.W.FaceGraph.has_names c.args.priced.now.graph.now in
     let price = prices_of (g.F.PriceFn.may_return c.args.priced.now.tariff.now) in
-    let heights = c.args.heights.now in
+    let heights = dart_heights (g.W.FaceGraph.named c.args.priced.now.graph.now) (g.W.FaceGraph.face_of c.args.priced.now.graph.now) c.args.heights.now in
     let known = c.requires.known in
     let start = c.in-Some.ensures in
     let descent = c.in_ok-crossed-in-Some.ensures in
     let here = height_named named has heights c.in-Some.from start.name in
     is_first price named lawful has c.args.v known.top heights known.known (c.requires.right.promise c.requires.some) c.args.u _ c.in-Some.from c.in_ok-crossed-in-Some.last
-    start (c.get-price.ensures ∙ sym here) (known.start c.in-Some.start c.in-Some.from start) (subst (λ xs. IsDescent price named heights c.in-Some.from xs c.in_ok-crossed-in-Some.last) (sym c.from_vec.ensures) descent)
+    start (c.height_at-price.ensures ∙ sym here) (known.start c.in-Some.start c.in-Some.from start) (subst (λ xs. IsDescent price named heights c.in-Some.from xs c.in_ok-crossed-in-Some.last) (sym c.from_vec.ensures) descent)
     c.in-Some-end_corner.ensures
 
 pub returns-in-None : goal.returns-in-None

@@ -4,6 +4,7 @@ use Rattle.topo_core.specs.Picture.{darts}
 use Rattle.topo_core.specs.Routes.{HasNoRoute}
 use Rattle.topo_price.specs.Prices.{prices_of}
 use Rattle.topo_route.specs.Descents.{IsFirstRoute}
+use Rattle.topo_route.specs.FaceHeights.{dart_heights}
 use Rattle.topo_route.specs.Names.{Named, canonical}
 use Rattle.topo_route.specs.Plans.{AreHeights}
 use Rattle.topo_route.proofs.Descending.{has_darts, is_plan}
@@ -27,14 +28,14 @@ pub route_by_heights-requires-clause-known : goal.route_by_heights-requires-clau
 route_by_heights-requires-clause-known g c =
     let dual = c.args.dual.now in
     let done = c.in_ok-least_heights.ensures in
-    for_all (prices_of (g.F.PriceFn.may_return c.args.tariff.now)) (g.D.FaceGraph.named dual) (g.met.D.FaceGraph.lawful dual) (g.met.D.FaceGraph.has_names dual) c.args.u c.args.v c.least_heights.new.work.to_end.heights done.in_range done.are_heights
+    for_all (prices_of (g.F.PriceFn.may_return c.args.tariff.now)) (g.D.FaceGraph.named dual) (g.met.D.FaceGraph.lawful dual) (g.met.D.FaceGraph.has_names dual) c.args.u c.args.v (dart_heights (g.D.FaceGraph.named c.args.dual.now) (g.D.FaceGraph.face_of c.args.dual.now) c.least_heights.new.work.to_end.heights) done.in_range done.are_heights
 
 pub returns-in-Some : goal.returns-in-Some
 returns-in-Some g c =
     let rows = g.D.Dual.shows c.args.dual.now in
     let numbered = g.met.D.Dual.numbered c.args.dual.now in
     let price = prices_of (g.F.PriceFn.may_return c.args.tariff.now) in
-    let heights = c.least_heights.new.work.to_end.heights in
+    let heights = dart_heights (g.D.FaceGraph.named c.args.dual.now) (g.D.FaceGraph.face_of c.args.dual.now) c.least_heights.new.work.to_end.heights in
     let by_numbers = subst (λ (n : Named). MatchOption c.in_ok-found.found (HasNoRoute price n.rows c.args.u c.args.v) (IsFirstRoute price n c.args.u c.args.v heights)) numbered c.in_ok-found.ensures in
     let found = subst (λ o. MatchOption o (HasNoRoute price rows c.args.u c.args.v) (IsFirstRoute price (canonical rows) c.args.u c.args.v heights)) c.in-Some.is by_numbers in
     is_plan price rows c.args.u c.args.v heights c.in-Some.field-0 _ (subst (λ (n : Named). AreHeights price n c.args.v heights) numbered c.in_ok-least_heights.ensures.are_heights) found refl refl (c.from_vec.ensures ∙ c.in_ok-numbers.ensures)
@@ -43,5 +44,5 @@ pub returns : goal.returns
 returns g c =
     let price = prices_of (g.F.PriceFn.may_return c.args.tariff.now) in
     let named = g.D.FaceGraph.named c.args.dual.now in
-    let found = subst (λ o. MatchOption o (HasNoRoute price named.rows c.args.u c.args.v) (IsFirstRoute price named c.args.u c.args.v c.least_heights.new.work.to_end.heights)) c.in-None.is c.in_ok-found.ensures in
+    let found = subst (λ o. MatchOption o (HasNoRoute price named.rows c.args.u c.args.v) (IsFirstRoute price named c.args.u c.args.v (dart_heights (g.D.FaceGraph.named c.args.dual.now) (g.D.FaceGraph.face_of c.args.dual.now) c.least_heights.new.work.to_end.heights))) c.in-None.is c.in_ok-found.ensures in
     subst (λ (n : Named). HasNoRoute price n.rows c.args.u c.args.v) (g.met.D.Dual.numbered c.args.dual.now) found

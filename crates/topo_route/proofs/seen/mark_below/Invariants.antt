@@ -9,5 +9,5 @@ invariant-loop-i g l =
     record {
       of_rows : IsRegionOf named.rows l.region;
       more : HoldsMore l.initial.region l.region;
-      first : HoldsFirst named l.heights l.bound l.places l.i l.region;
+      first : HoldsFirst named (g.W.FaceGraph.face_of l.graph) l.labels.heights l.bound l.places l.i l.region;
     }

@@ -1,68 +1,146 @@
-use Rattle.std.proofs.Common.{◌≡◌, ◌≢◌, ◌<◌, ◌^◌, ◌∙◌, ℕ, List, arith, ap, sym, subst, length}
-use Rattle.std.proofs.Math.ListN.{set}
+use Rattle.std.proofs.Common.{◌≡◌, ◌≢◌, ◌+◌, ◌<◌, ◌∙◌, ℕ, ap, arith, refl, sym}
 use Rattle.std.specs.Prelude.{slice_index}
+use Rattle.topo_core.specs.Cycles.{after}
 use Rattle.topo_core.specs.Routes.{unreached}
 use Rattle.topo_price.specs.Prices.{prices_of}
-use Rattle.topo_route.specs.Names.{next_name}
-use Rattle.topo_route.specs.Settling.{Relaxes}
-use Rattle.topo_route.proofs.Fits.{height_fits}
-use Rattle.topo_route.proofs.Relaxing.{both_steps, next_relaxes, put_down_relaxes}
-use Rattle.topo_route.proofs.Settled.{has_height, lowered_there}
+use Rattle.topo_route.specs.FaceHeights.{dart_heights}
+use Rattle.topo_route.specs.Names.{IsName, next_name}
+use Rattle.topo_route.specs.Settling.{IsCrossed, IsReached, reach_of}
+use Rattle.topo_route.proofs.FaceHeights.{one_height}
+use Rattle.topo_route.proofs.FaceWalks.{face_after, face_home, face_whole}
+use Rattle.topo_route.proofs.Relaxing.{at_height, both_steps, crossed_on, no_step, put_down_relaxes, same_hand}
+use Rattle.topo_route.proofs.Rounds.{after-one}
 use Rattle.topo_route.proofs.spread.Labels.relax_face.Goals as goal
 
-pub lower-requires-clause-fits : goal.lower-requires-clause-fits
-lower-requires-clause-fits g c =
-    let small : (g.W.FaceGraph.named c.args.priced.now.graph.now).size < 2 ^ 32 = omega (arith, c.size-darts.ensures, c.size-darts.type_inv) in
-    let fits = height_fits (prices_of (g.F.PriceFn.may_return c.args.priced.now.tariff.now)) (g.W.FaceGraph.named c.args.priced.now.graph.now) c.args.v c.args.self.now.heights c.args.dart c.requires.costs c.requires.in_hand small in
-    omega (arith, fits, c.get-height.ensures)
-
-pub returns-then-get-height : goal.returns-then-get-height
-returns-then-get-height g c =
+pub loop-steps-init : goal.loop-steps-init
+loop-steps-init g c =
     let price = prices_of (g.F.PriceFn.may_return c.args.priced.now.tariff.now) in
-    let named = g.W.FaceGraph.named c.args.priced.now.graph.now in
-    let lawful = g.met.W.FaceGraph.lawful c.args.priced.now.graph.now in
-    let has = g.met.W.FaceGraph.has_names c.args.priced.now.graph.now in
-    let hs = c.relax_twin.new.self.heights in
-    let at = c.loop-self.at in
-    let crossed = c.in_ok-relax_twin.ensures.relaxes in
-    let step : slice_index hs c.next_along-next.result ≡ slice_index hs (next_name named at) = ap (slice_index hs) c.next_along-next.ensures.next in
+    let graph = c.args.priced.now.graph.now in
+    let named = g.W.FaceGraph.named graph in
+    let lawful = g.met.W.FaceGraph.lawful graph in
+    let has = g.met.W.FaceGraph.has_names graph in
+    let face = g.W.FaceGraph.face_of graph in
+    let faces = g.W.FaceGraph.face_bound graph in
+    let has_faces = g.met.W.FaceGraph.has_faces graph in
     record {
-      relaxes = both_steps price named lawful has c.args.v c.args.other.now c.loop-self.invariant.relaxes
-          (both_steps price named lawful has c.args.v c.args.other.now crossed
-          (put_down_relaxes price named lawful has c.args.v c.args.other.now hs c.relax_twin.new.self.waiting c.relax_twin.new.least at crossed.costs crossed.sums
-          (omega (arith, c.in_ok-relax_twin.ensures.same, c.get.ensures), c.in_ok-relax_twin.ensures.crossed)));
+      relaxes = no_step price named lawful has face faces has_faces c.args.v c.args.other.now c.args.self.now.heights c.args.self.now.names.items c.args.self.now.waiting c.args.least.now c.args.dart c.requires.costs c.requires.sums;
+      place = refl;
+      name = c.requires.in_hand.0;
+      same = sym c.requires.height;
+      crossed = λ j less. absurd (omega arith);
     }
 
-pub loop-self-preserved : goal.loop-self-preserved
-loop-self-preserved g c =
+pub relax_twin-requires-clause-in_hand : goal.relax_twin-requires-clause-in_hand
+relax_twin-requires-clause-in_hand g c =
     let price = prices_of (g.F.PriceFn.may_return c.args.priced.now.tariff.now) in
-    let named = g.W.FaceGraph.named c.args.priced.now.graph.now in
-    let lawful = g.met.W.FaceGraph.lawful c.args.priced.now.graph.now in
-    let has = g.met.W.FaceGraph.has_names c.args.priced.now.graph.now in
+    let graph = c.args.priced.now.graph.now in
+    let named = g.W.FaceGraph.named graph in
+    let lawful = g.met.W.FaceGraph.lawful graph in
+    let has = g.met.W.FaceGraph.has_names graph in
+    let face = g.W.FaceGraph.face_of graph in
+    let faces = g.W.FaceGraph.face_bound graph in
+    let has_faces = g.met.W.FaceGraph.has_faces graph in
+    let was = c.loop-steps.invariant in
+    (was.name, λ e. c.requires.in_hand.1 (sym c.requires.height ∙ sym (at_height price named lawful has face faces has_faces c.args.v c.args.other.now c.loop-steps.self.heights c.loop-steps._steps c.args.dart c.loop-steps.at c.args.height c.requires.in_hand.0 was.name was.place was.same) ∙ e))
+
+pub relax_twin-requires-clause-height : goal.relax_twin-requires-clause-height
+relax_twin-requires-clause-height g c =
+    let price = prices_of (g.F.PriceFn.may_return c.args.priced.now.tariff.now) in
+    let graph = c.args.priced.now.graph.now in
+    let named = g.W.FaceGraph.named graph in
+    let lawful = g.met.W.FaceGraph.lawful graph in
+    let has = g.met.W.FaceGraph.has_names graph in
+    let face = g.W.FaceGraph.face_of graph in
+    let faces = g.W.FaceGraph.face_bound graph in
+    let has_faces = g.met.W.FaceGraph.has_faces graph in
+    let was = c.loop-steps.invariant in
+    sym (at_height price named lawful has face faces has_faces c.args.v c.args.other.now c.loop-steps.self.heights c.loop-steps._steps c.args.dart c.loop-steps.at c.args.height c.requires.in_hand.0 was.name was.place was.same)
+
+pub loop-steps-preserved : goal.loop-steps-preserved
+loop-steps-preserved g c =
+    let price = prices_of (g.F.PriceFn.may_return c.args.priced.now.tariff.now) in
+    let graph = c.args.priced.now.graph.now in
+    let named = g.W.FaceGraph.named graph in
+    let lawful = g.met.W.FaceGraph.lawful graph in
+    let has = g.met.W.FaceGraph.has_names graph in
+    let face = g.W.FaceGraph.face_of graph in
+    let faces = g.W.FaceGraph.face_bound graph in
+    let has_faces = g.met.W.FaceGraph.has_faces graph in
     let v = c.args.v in
     let others = c.args.other.now in
-    let hs = c.relax_twin.new.self.heights in
-    let ws = c.relax_twin.new.self.waiting in
-    let least = c.relax_twin.new.least in
-    let at = c.loop-self.at in
-    let next = c.next_along-next.result in
-    let x = c.get-height.result in
-    let crossed = c.in_ok-relax_twin.ensures.relaxes in
-    let here = c.loop-self.invariant.in_hand.0 in
-    let same : slice_index hs at ≡ x = c.in_ok-relax_twin.ensures.same in
-    let some : slice_index hs at ≢ unreached = λ e. c.loop-self.invariant.in_hand.1 (c.loop-self.invariant.same ∙ sym same ∙ e) in
-    let there = c.next_along-next.ensures.name in
-    let within : next < length hs = has_height price named has v hs crossed.costs next there in
-    let low : x < slice_index hs next = omega (arith, c.if-get-height.false, c.get.ensures) in
-    let is : c.lower.new.self.heights ≡ set hs next x = c.in_ok-lower.ensures.heights in
-    let now : slice_index c.lower.new.self.heights next ≡ x = ap (λ (xs : List ℕ). slice_index xs next) is ∙ lowered_there hs next x within in
-    let on = next_relaxes price named lawful has v others hs ws least c.lower.new.least at next x (sym same) crossed.sums crossed.costs (here, some) c.in_ok-relax_twin.ensures.crossed
-    c.next_along-next.ensures.next there low c.in_ok-lower.ensures.least in
+    let dart = c.args.dart in
+    let there = c.requires.in_hand.0 in
+    let i = c.loop-steps._steps in
+    let at = c.loop-steps.at in
+    let was = c.loop-steps.invariant in
+    let step = c.in_ok-relax_twin.ensures in
+    let hs = c.loop-steps.self.heights in
+    let hs' = c.relax_twin.new.self.heights in
+    let ns' = c.relax_twin.new.self.names.items in
+    let ws' = c.relax_twin.new.self.waiting in
+    let l' = c.relax_twin.new.least in
+    let inside : face at ≡ face dart = ap face was.place ∙ face_after named lawful has face faces has_faces i dart there in
+    let on = same_hand price named lawful has face faces has_faces v others dart at there was.name inside step.relaxes in
+    let place : c.next_along-at.result ≡ after (next_name named) (i + 1) dart = c.next_along-at.ensures.next ∙ ap (next_name named) was.place ∙ sym (after-one (next_name named) i dart) in
+    let crossed = crossed_on price named lawful has face faces has_faces v others hs hs' c.loop-steps.least l' i dart at there was.place step.relaxes.lower step.relaxes.less (step.same ∙ sym was.same) was.crossed step.crossed in
     record {
-      relaxes = both_steps price named lawful has v others c.loop-self.invariant.relaxes
-          (both_steps price named lawful has v others crossed
-          (subst (λ (xs : List ℕ). Relaxes price named v others hs ws least at xs c.lower.new.self.waiting c.lower.new.least next) (sym is)
-          (subst (λ (ys : List ℕ). Relaxes price named v others hs ws least at (set hs next x) ys c.lower.new.least next) (sym c.in_ok-lower.ensures.waiting) on)));
-      in_hand = (there, λ e. some (same ∙ sym now ∙ e));
-      same = now;
+      relaxes = both_steps price named lawful has face faces has_faces v others was.relaxes on;
+      place = place;
+      name = c.next_along-at.ensures.name;
+      same = one_height named face hs' has dart at there was.name (sym inside) ∙ step.same;
+      crossed = crossed;
     }
+
+pub returns-then-at-dart : goal.returns-then-at-dart
+returns-then-at-dart g c =
+    let price = prices_of (g.F.PriceFn.may_return c.args.priced.now.tariff.now) in
+    let graph = c.args.priced.now.graph.now in
+    let named = g.W.FaceGraph.named graph in
+    let lawful = g.met.W.FaceGraph.lawful graph in
+    let has = g.met.W.FaceGraph.has_names graph in
+    let face = g.W.FaceGraph.face_of graph in
+    let faces = g.W.FaceGraph.face_bound graph in
+    let has_faces = g.met.W.FaceGraph.has_faces graph in
+    let v = c.args.v in
+    let others = c.args.other.now in
+    let dart = c.args.dart in
+    let there = c.requires.in_hand.0 in
+    let i = c.loop-steps._steps in
+    let at = c.loop-steps.at in
+    let was = c.loop-steps.invariant in
+    let step = c.in_ok-relax_twin.ensures in
+    let hs = c.loop-steps.self.heights in
+    let hs' = c.relax_twin.new.self.heights in
+    let ns' = c.relax_twin.new.self.names.items in
+    let ws' = c.relax_twin.new.self.waiting in
+    let l' = c.relax_twin.new.least in
+    let inside : face at ≡ face dart = ap face was.place ∙ face_after named lawful has face faces has_faces i dart there in
+    let on = same_hand price named lawful has face faces has_faces v others dart at there was.name inside step.relaxes in
+    let place : c.next_along-at.result ≡ after (next_name named) (i + 1) dart = c.next_along-at.ensures.next ∙ ap (next_name named) was.place ∙ sym (after-one (next_name named) i dart) in
+    let crossed = crossed_on price named lawful has face faces has_faces v others hs hs' c.loop-steps.least l' i dart at there was.place step.relaxes.lower step.relaxes.less (step.same ∙ sym was.same) was.crossed step.crossed in
+    let home : after (next_name named) (i + 1) dart ≡ dart = sym place ∙ c.if-at-dart.true in
+    let P = λ (k : ℕ). IsCrossed price named (reach_of l') (dart_heights named face hs') k in
+    both_steps price named lawful has face faces has_faces v others was.relaxes
+    (both_steps price named lawful has face faces has_faces v others on
+    (put_down_relaxes price named lawful has face faces has_faces v others hs' ns' ws' l' dart there step.relaxes.costs step.relaxes.sums
+    (face_home named lawful has face faces has_faces P dart there (i + 1) crossed (omega arith) home)))
+
+pub returns : goal.returns
+returns g c =
+    let price = prices_of (g.F.PriceFn.may_return c.args.priced.now.tariff.now) in
+    let graph = c.args.priced.now.graph.now in
+    let named = g.W.FaceGraph.named graph in
+    let lawful = g.met.W.FaceGraph.lawful graph in
+    let has = g.met.W.FaceGraph.has_names graph in
+    let face = g.W.FaceGraph.face_of graph in
+    let faces = g.W.FaceGraph.face_bound graph in
+    let has_faces = g.met.W.FaceGraph.has_faces graph in
+    let v = c.args.v in
+    let others = c.args.other.now in
+    let dart = c.args.dart in
+    let was = c.loop-steps.invariant in
+    let hs = c.loop-steps.self.heights in
+    let P = λ (k : ℕ). IsCrossed price named (reach_of c.loop-steps.least) (dart_heights named face hs) k in
+    both_steps price named lawful has face faces has_faces v others was.relaxes
+    (put_down_relaxes price named lawful has face faces has_faces v others hs c.loop-steps.self.names.items c.loop-steps.self.waiting c.loop-steps.least dart c.requires.in_hand.0 was.relaxes.costs was.relaxes.sums
+    (face_whole named lawful has face faces has_faces P dart c.requires.in_hand.0 c.loop-steps._steps was.crossed (omega arith)))

@@ -2,51 +2,93 @@ use Rattle.std.proofs.Common.{◌≡◌, ◌+◌, ◌^◌, ◌<◌, ◌∙◌, �
 use Rattle.std.proofs.Math.ListN.{set}
 use Rattle.std.specs.Prelude.{slice_index}
 use Rattle.topo_price.specs.Prices.{prices_of}
-use Rattle.topo_route.specs.Settling.{IsCrossed, Relaxes, is_waiting, item_of, reach_of}
-use Rattle.topo_route.proofs.Crossings.{crossed_low, is_crossed}
+use Rattle.topo_route.specs.FaceHeights.{dart_heights}
+use Rattle.topo_route.specs.Settling.{IsCrossed, Relaxes, is_waiting, item_of, number_at, reach_of}
+use Rattle.topo_route.proofs.Crossings.{crossed_already, crossed_low, is_crossed, twin_same}
+use Rattle.topo_route.proofs.Names.{name_some}
 use Rattle.topo_route.proofs.Relaxing.{twin_relaxes}
-use Rattle.topo_route.proofs.Fits.{height_fits}
+use Rattle.topo_route.proofs.Settled.{of_face}
 use Rattle.topo_route.proofs.spread.Labels.relax_twin.Goals as goal
 
 pub lower-requires-clause-fits : goal.lower-requires-clause-fits
 lower-requires-clause-fits g c =
-    let small : (g.W.FaceGraph.named c.args.priced.now.graph.now).size < 2 ^ 32 = omega (arith, c.size-darts.ensures, c.size-darts.type_inv) in
-    let fits = height_fits (prices_of (g.F.PriceFn.may_return c.args.priced.now.tariff.now)) (g.W.FaceGraph.named c.args.priced.now.graph.now) c.args.v c.args.self.now.heights c.args.dart c.requires.costs c.requires.in_hand small in
+    let fits = c.requires.costs.costs.bounded c.args.dart c.requires.in_hand.0 c.requires.in_hand.1 in
     let asked = c.in-Some.ensures.price in
     omega (arith, fits, c.in-Some.ensures.promise.at_most asked.facts c.in-Some.price asked.asked, c.requires.height)
 
-pub returns-in_ok-push-in-Some-clause-relaxes : goal.returns-in_ok-push-in-Some-clause-relaxes
-returns-in_ok-push-in-Some-clause-relaxes g c =
+pub returns-in_ok-push-in-Some : goal.returns-in_ok-push-in-Some
+returns-in_ok-push-in-Some g c =
     let price = prices_of (g.F.PriceFn.may_return c.args.priced.now.tariff.now) in
-    let named = g.W.FaceGraph.named c.args.priced.now.graph.now in
+    let graph = c.args.priced.now.graph.now in
+    let named = g.W.FaceGraph.named graph in
+    let lawful = g.met.W.FaceGraph.lawful graph in
+    let has = g.met.W.FaceGraph.has_names graph in
+    let face = g.W.FaceGraph.face_of graph in
+    let faces = g.W.FaceGraph.face_bound graph in
+    let has_faces = g.met.W.FaceGraph.has_faces graph in
+    let v = c.args.v in
+    let others = c.args.other.now in
     let heights = c.args.self.now.heights in
+    let names = c.args.self.now.names.items in
     let waiting = c.args.self.now.waiting in
+    let dart = c.args.dart in
     let twin = c.across-twin.result in
-    let x : ℕ = slice_index heights c.args.dart + c.in-Some.price in
-    let is : c.lower.new.self.heights ≡ set heights twin x = c.in_ok-lower-in-Some.ensures.heights ∙ ap (λ (h : ℕ). set heights twin (h + c.in-Some.price)) c.requires.height in
+    let there = c.across-twin.ensures.name in
+    let label : c.face_at-face.result ≡ face twin = c.face_at-face.ensures.face in
+    let x : ℕ = slice_index (dart_heights named face heights) dart + c.in-Some.price in
+    let at : slice_index (dart_heights named face heights) twin ≡ slice_index heights c.face_at-face.result = of_face price named has face faces has_faces v heights names c.requires.costs twin there ∙ ap (slice_index heights) (sym label) in
+    let hs : c.lower.new.self.heights ≡ set heights (face twin) x =
+    c.in_ok-lower-in-Some.ensures.heights ∙ ap (λ (h : ℕ). set heights c.face_at-face.result (h + c.in-Some.price)) c.requires.height ∙ ap (λ (f : ℕ). set heights f x) label in
+    let ns : c.lower.new.self.names.items ≡ set names (face twin) twin = c.in_ok-lower-in-Some.ensures.names ∙ ap (λ (f : ℕ). set names f twin) label in
     let item : c.item_of.result ≡ item_of twin x = c.item_of.ensures ∙ ap (λ (h : ℕ). item_of twin (h + c.in-Some.price)) c.requires.height in
     let longer : length c.push.new.self ≡ length waiting + 1 = c.in_ok-push-in-Some.ensures.len ∙ ap (λ (ws : List ℕ). length ws + 1) c.in_ok-lower-in-Some.ensures.waiting in
-    subst (λ (hs : List ℕ). Relaxes price named c.args.v c.args.other.now heights waiting c.args.least.now c.args.dart hs c.push.new.self c.lower.new.least c.args.dart) (sym is)
-    (twin_relaxes price named (g.met.W.FaceGraph.lawful c.args.priced.now.graph.now) (g.met.W.FaceGraph.has_names c.args.priced.now.graph.now) c.args.v c.args.other.now heights waiting c.push.new.self
-    c.args.least.now c.lower.new.least c.args.dart twin c.in-Some.price c.requires.sums c.requires.costs c.requires.in_hand c.in-Some.ensures.promise c.in-Some.ensures.price c.across-twin.ensures.twin c.across-twin.ensures.name
-    (omega arith) c.across-twin.type_inv (omega (arith, c.in_ok-lower-in-Some.ensures.least))
-    (λ i. c.in_ok-push-in-Some.ensures.waits i ∙ ap (λ (j : ℕ). j == i || is_waiting c.lower.new.self.waiting i) item ∙ ap (λ (ws : List ℕ). item_of twin x == i || is_waiting ws i) c.in_ok-lower-in-Some.ensures.waiting)
-    longer)
-
-pub returns-in_ok-push-in-Some-clause-crossed : goal.returns-in_ok-push-in-Some-clause-crossed
-returns-in_ok-push-in-Some-clause-crossed g c =
-    let heights = c.args.self.now.heights in
-    let twin = c.across-twin.result in
-    let x : ℕ = slice_index heights c.args.dart + c.in-Some.price in
-    let is : c.lower.new.self.heights ≡ set heights twin x = c.in_ok-lower-in-Some.ensures.heights ∙ ap (λ (h : ℕ). set heights twin (h + c.in-Some.price)) c.requires.height in
-    subst (λ (hs : List ℕ). IsCrossed (prices_of (g.F.PriceFn.may_return c.args.priced.now.tariff.now)) (g.W.FaceGraph.named c.args.priced.now.graph.now) (reach_of c.lower.new.least) hs c.args.dart) (sym is)
-    (is_crossed (prices_of (g.F.PriceFn.may_return c.args.priced.now.tariff.now)) (g.W.FaceGraph.named c.args.priced.now.graph.now) (g.met.W.FaceGraph.lawful c.args.priced.now.graph.now) (g.met.W.FaceGraph.has_names c.args.priced.now.graph.now) c.args.v (reach_of c.args.least.now) heights c.args.self.now.waiting
-    c.args.dart twin c.in-Some.price c.requires.costs c.requires.in_hand c.in-Some.ensures.promise c.in-Some.ensures.price c.across-twin.ensures.twin c.across-twin.ensures.name (omega arith) (reach_of c.lower.new.least))
+    let number : number_at others c.face_at-face.result ≡ number_at others (face twin) = ap (number_at others) label in
+    record {
+      relaxes = subst (λ (xs : List ℕ). Relaxes price named face faces v others heights names waiting c.args.least.now dart xs c.lower.new.self.names.items c.push.new.self c.lower.new.least dart) (sym hs)
+          (subst (λ (xs : List ℕ). Relaxes price named face faces v others heights names waiting c.args.least.now dart (set heights (face twin) x) xs c.push.new.self c.lower.new.least dart) (sym ns)
+          (twin_relaxes price named lawful has face faces has_faces v others heights names waiting c.push.new.self c.args.least.now c.lower.new.least dart twin c.in-Some.price c.requires.sums c.requires.costs c.requires.in_hand
+          c.in-Some.ensures.promise c.in-Some.ensures.price c.across-twin.ensures.twin there (omega arith) c.across-twin.type_inv (omega (arith, c.in_ok-lower-in-Some.ensures.least))
+          (λ i. c.in_ok-push-in-Some.ensures.waits i ∙ ap (λ (j : ℕ). j == i || is_waiting c.lower.new.self.waiting i) item ∙ ap (λ (ws : List ℕ). item_of twin x == i || is_waiting ws i) c.in_ok-lower-in-Some.ensures.waiting)
+          longer));
+      crossed = subst (λ (xs : List ℕ). IsCrossed price named (reach_of c.lower.new.least) (dart_heights named face xs) dart) (sym hs)
+          (is_crossed price named lawful has face faces has_faces v (reach_of c.args.least.now) heights names waiting dart twin c.in-Some.price c.requires.costs c.requires.in_hand c.in-Some.ensures.promise c.in-Some.ensures.price
+          c.across-twin.ensures.twin there (omega arith) (reach_of c.lower.new.least));
+      same = subst (λ (xs : List ℕ). slice_index (dart_heights named face xs) dart ≡ c.args.height) (sym hs)
+          (twin_same price named lawful has face faces has_faces v (reach_of c.args.least.now) heights names waiting dart twin c.in-Some.price c.requires.costs c.requires.in_hand c.in-Some.ensures.promise c.in-Some.ensures.price
+          c.across-twin.ensures.twin there (omega arith) ∙ sym c.requires.height);
+    }
 
 pub returns-else-height-saturating_sub-clause-crossed : goal.returns-else-height-saturating_sub-clause-crossed
 returns-else-height-saturating_sub-clause-crossed g c =
-    crossed_low (prices_of (g.F.PriceFn.may_return c.args.priced.now.tariff.now)) (g.W.FaceGraph.named c.args.priced.now.graph.now) (reach_of c.args.least.now) c.args.self.now.heights c.args.dart c.across-twin.result c.in-Some.price
-    c.in-Some.ensures.promise c.in-Some.ensures.price c.across-twin.ensures.twin (omega arith)
+    let price = prices_of (g.F.PriceFn.may_return c.args.priced.now.tariff.now) in
+    let graph = c.args.priced.now.graph.now in
+    let named = g.W.FaceGraph.named graph in
+    let lawful = g.met.W.FaceGraph.lawful graph in
+    let has = g.met.W.FaceGraph.has_names graph in
+    let face = g.W.FaceGraph.face_of graph in
+    let faces = g.W.FaceGraph.face_bound graph in
+    let has_faces = g.met.W.FaceGraph.has_faces graph in
+    let heights = c.args.self.now.heights in
+    let twin = c.across-twin.result in
+    let at : slice_index (dart_heights named face heights) twin ≡ slice_index heights c.face_at-face.result =
+    of_face price named has face faces has_faces c.args.v heights c.args.self.now.names.items c.requires.costs twin c.across-twin.ensures.name ∙ ap (slice_index heights) (sym c.face_at-face.ensures.face) in
+    crossed_low price named (reach_of c.args.least.now) (dart_heights named face heights) c.args.dart twin c.in-Some.price c.in-Some.ensures.promise c.in-Some.ensures.price c.across-twin.ensures.twin (omega arith)
 
 pub returns-in-None-clause-crossed : goal.returns-in-None-clause-crossed
 returns-in-None-clause-crossed g c p asked = absurd (c.in-None.ensures.price p asked)
+
+pub returns-then-saturating_sub-le1-clause-crossed : goal.returns-then-saturating_sub-le1-clause-crossed
+returns-then-saturating_sub-le1-clause-crossed g c =
+    let price = prices_of (g.F.PriceFn.may_return c.args.priced.now.tariff.now) in
+    let graph = c.args.priced.now.graph.now in
+    let named = g.W.FaceGraph.named graph in
+    let lawful = g.met.W.FaceGraph.lawful graph in
+    let has = g.met.W.FaceGraph.has_names graph in
+    let face = g.W.FaceGraph.face_of graph in
+    let faces = g.W.FaceGraph.face_bound graph in
+    let has_faces = g.met.W.FaceGraph.has_faces graph in
+    let heights = c.args.self.now.heights in
+    let twin = c.across-twin.result in
+    let at : slice_index (dart_heights named face heights) twin ≡ slice_index heights c.face_at-face.result =
+    of_face price named has face faces has_faces c.args.v heights c.args.self.now.names.items c.requires.costs twin c.across-twin.ensures.name ∙ ap (slice_index heights) (sym c.face_at-face.ensures.face) in
+    crossed_already price named (reach_of c.args.least.now) (dart_heights named face heights) c.args.dart twin (c.requires.right.promise (name_some named c.args.dart c.requires.in_hand.0)) c.across-twin.ensures.twin (omega arith)
