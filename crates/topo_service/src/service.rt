@@ -9,6 +9,7 @@ ghost use Rattle.topo_versions.specs.Names.{prices_named};
 ghost use Rattle.topo_versions.specs.Versions.{AreLegal};
 ghost use Rattle.topo_service.specs.Answers.{HasSeenOwn, IsDueAfter};
 ghost use Rattle.topo_service.specs.Passes.{receipt_of};
+ghost use Rattle.topo_service.specs.declared.service.TheConstants.{MAX_PASSES};
 
 use crate::faults::ServiceFault;
 use crate::found::{Brought, FoundRoute};
@@ -26,6 +27,9 @@ use topo_route::plan::Plan;
 use topo_versions::{
     LogPrefix, ReaderFactory, ServiceBrand, VersionReader, VersionWriter, wait_forever,
 };
+
+/// A service has at most so many passes.
+pub const MAX_PASSES: u32 = 16;
 
 /// One lock round a book, with the passes that were given out. Contracts see what answers its prices, how
 /// many passes it gives out at most, and how many it has given out.
@@ -45,12 +49,13 @@ impl<F: PriceFn, K: ServiceBrand<F>, W: VersionWriter<F, K>> Model for ServiceOv
     ghost use Rattle.std.specs.Prelude.{◌≡◌, ◌≤◌, [], Some};
     ghost use Rattle.std.specs.Arc.{arc_value};
     ghost use Rattle.topo_service.specs.Passes.{ServiceState};
+    ghost use Rattle.topo_service.specs.declared.service.TheConstants.{MAX_PASSES};
 
     ghost Value = { ServiceState F };
 
     ghost view = { λ s. record { tariff = arc_value s.tariff; places = s.places; given = s.given } };
 
-    ghost invariant = { λ s. (K.closure ≡ Some (arc_value s.tariff)) × (K.parts ≡ 16) × (s.places ≤ 16) × (s.nothing ≡ []) };
+    ghost invariant = { λ s. (K.closure ≡ Some (arc_value s.tariff)) × (K.parts ≡ MAX_PASSES) × (s.places ≤ MAX_PASSES) × (s.nothing ≡ []) };
 }
 
 impl<F: PriceFn, K: ServiceBrand<F>, W: VersionWriter<F, K>> ServiceOver<F, K, W> {
@@ -72,7 +77,7 @@ impl<F: PriceFn, K: ServiceBrand<F>, W: VersionWriter<F, K>> ServiceOver<F, K, W
         ensures seen { IfOk result (λ p. p.seen ≡ []) }
         ensures given { IfOk result (λ p. (self.old.given < self.old.places) × (self.new.given ≡ self.old.given + 1)) }
         ensures refused { OnErr result (self.new.given ≡ self.old.given) }
-        ensures at_most { self.old.places ≤ 16 }
+        ensures at_most { self.old.places ≤ MAX_PASSES }
         ensures same { (self.new.tariff ≡ self.old.tariff) × (self.new.places ≡ self.old.places) }
     {
         if self.given >= self.places {
