@@ -16,7 +16,7 @@ use topo_book::Book;
 use topo_core::calls::Refusal;
 use topo_picture::Picture;
 use topo_price::tariff::{PriceFn, Tariff};
-use topo_route::plan::{Plan, PricedRoute, SeenRoute};
+use topo_route::plan::{PricedRoute, SeenRoute};
 use topo_route::region::Region;
 use topo_route::search::first_route_seen;
 use topo_route::workspace::Workspace;
@@ -186,17 +186,6 @@ fn first_on<A: PriceFn>(
         Ok(None) => Err(Refusal::NoRoute),
         Err(_) => Err(Refusal::Memory),
     }
-}
-
-/// What a call brings along that may spare its search.
-#[derive(Drop)]
-pub enum Brought<'a, F: PriceFn, K: ServiceBrand<F>> {
-    /// Nothing.
-    Nothing,
-    /// A plan that is to be checked.
-    Plan(&'a Plan),
-    /// A route that was found on some version.
-    Found(&'a FoundRoute<F, K>),
 }
 
 impl<F: PriceFn, K: ServiceBrand<F>, G: VersionReader<F, K>> PassOver<F, K, G> {
