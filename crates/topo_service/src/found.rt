@@ -9,7 +9,7 @@ ghost use Rattle.topo_service.specs.Faults.{HasVertices, IsPlanFault, IsPlanRefu
 ghost use Rattle.topo_service.specs.Found.{IsFoundRoute, IsHeldBy};
 
 use crate::faults::PassFault;
-use crate::pass::PassOver;
+use crate::pass::{PassOver, admit_ends};
 use std::alloc::Global;
 use std::marker::Model;
 use topo_book::Book;
@@ -151,6 +151,7 @@ impl<F: PriceFn, K: ServiceBrand<F>> FoundRoute<F, K> {
 
 /// The first of the cheapest routes on a picture, or the first reason why there is none. What the search
 /// writes on is made where there is none yet, and kept.
+#[tactic(auto, using(crate::proofs::Refusals::ends_refused))]
 fn first_on<A: PriceFn>(
     alloc: Global,
     picture: &Picture,
@@ -165,13 +166,7 @@ fn first_on<A: PriceFn>(
     ensures there { OnOk result (HasVertices picture.now.rows u v) }
     ensures apart { OnOk result (u ≢ v) }
 {
-    let vertices = picture.counts().vertices;
-    if u >= vertices || v >= vertices {
-        return Err(Refusal::NoVertex);
-    }
-    if u == v {
-        return Err(Refusal::SameEnds);
-    }
+    admit_ends(picture, u, v)?;
     let mut sheet = match work.take() {
         Some(sheet) => sheet,
         None => match Workspace::new(alloc) {
