@@ -183,6 +183,7 @@ pub(crate) fn apply_entry<F: PriceFn>(
             }
         }
         (Call::Insert { u, v, kind }, Reply::Inserted(made)) => {
+            // For the proof: what the type keeps.
             tariff.keeps_promise();
             match picture.apply_route(alloc, u, v, kind, &made.route) {
                 Ok(_) => Ok(()),

@@ -72,6 +72,7 @@ impl<F: PriceFn, K: ServiceBrand<F>> FoundRoute<F, K> {
         ensures price { result.now.price ≡ self.now.price }
         ensures found { IsFoundRoute (prices_named F.may_return K.closure) K.start self.now }
     {
+        // For the proof: what the type keeps.
         self.version.picture();
         &self.first
     }
@@ -107,6 +108,7 @@ impl<F: PriceFn, K: ServiceBrand<F>> FoundRoute<F, K> {
         requires entries { prefix.now ≡ versions book.now.history }
         ensures { result ≡ true → IsFirst (prices_of (F.may_return book.now.tariff)) book.now.picture.rows self.now.u self.now.v self.now.route self.now.price }
     {
+        // For the proof: what the type keeps.
         book.history();
         self.version.picture();
         let Some(region) = &self.region else {
@@ -209,6 +211,7 @@ impl<F: PriceFn, K: ServiceBrand<F>, G: VersionReader<F, K>> PassOver<F, K, G> {
             Ok(found) => found,
             Err(why) => return Err(PassFault::Refused(why)),
         };
+        // For the proof: what the type keeps.
         found.first();
         Ok(found)
     }

@@ -73,6 +73,7 @@ fn prepare_call<F: PriceFn>(
     ensures same_limits { book.old.picture.limits ≡ book.old.start.limits }
     ensures room { length book.old.history + 1 < 2 ^ 64 }
 {
+    // For the proof: what the type keeps.
     let _more = book.history().len() + 1;
     book.picture();
     book.prepare_from(alloc, caller, call, source)
@@ -161,6 +162,7 @@ impl<F: PriceFn, K: ServiceBrand<F>, W: VersionWriter<F, K>> LockedState<F, K, W
     fn stands(&self, found: &FoundRoute<F, K>, u: u32, v: u32) -> bool
         ensures { result ≡ true → IsFirst (prices_of (F.may_return self.now.tariff)) self.now.picture.rows u v found.now.route found.now.price }
     {
+        // For the proof: what the type keeps.
         self.book.history();
         found.first();
         found.is_between(u, v)
@@ -208,6 +210,7 @@ impl<F: PriceFn, K: ServiceBrand<F>, W: VersionWriter<F, K>> LockedState<F, K, W
         let known = self.known(call, source);
         self.was_known = matches!(known, RouteSource::Found(_));
         let next = prepare_call(&mut self.book, alloc, caller, call, known)?;
+        // For the proof: what the type keeps.
         next.picture();
         let pair = answer_ready::<F, K, W, R>(
             rt,
@@ -227,6 +230,7 @@ impl<F: PriceFn, K: ServiceBrand<F>, W: VersionWriter<F, K>> LockedState<F, K, W
         ensures now { result.now ≡ versions self.now.history }
         ensures replayed { IsVersion (prices_named F.may_return K.closure) K.start.limits K.start.rows result.now self.now.picture.rows }
     {
+        // For the proof: what the type keeps.
         self.book.history();
         &self.prefix
     }
@@ -264,6 +268,7 @@ impl<F: PriceFn, K: ServiceBrand<F>, W: VersionWriter<F, K>> LockedState<F, K, W
             was_known: _was_known,
         } = self;
         writer.end(rt);
+        // For the proof: what the type keeps.
         book.history();
         book.picture();
         book

@@ -168,6 +168,7 @@ impl<F: PriceFn, K: ServiceBrand<F>, G: VersionReader<F, K>> PassOver<F, K, G> {
             return Err(PassFault::NoView);
         }
         self.prefix = version.prefix().share();
+        // For the proof: what the type keeps.
         version.picture();
         Ok(version)
     }

@@ -234,6 +234,7 @@ impl<F: PriceFn, K: ServiceBrand<F>, W: VersionWriter<F, K>> ServiceOver<F, K, W
         ensures no_memory { IfOk result (λ reply. reply ≢ Refused Memory) }
         ensures unchanged { OnErr result (pass.new ≡ pass.old) }
     {
+        // For the proof: what the type keeps.
         pass.seen();
         pass.receipts.reserve(1)?;
         let is_found = matches!(source, RouteSource::Found(_));

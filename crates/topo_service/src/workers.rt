@@ -157,6 +157,7 @@ fn run_each<
             ensures legal { AreLegal (prices_named F.may_return K.closure) K.start pass.exit.now.seen }
         {
             work(rt, alloc, service, pass, i, lists[i].as_slice(), gate);
+            // For the proof: what the type keeps.
             pass.seen();
         },
     );
