@@ -1,6 +1,6 @@
-pub mod Histories
-pub mod Wrong
-pub mod ReplicaLaws
 pub mod Due
-pub mod Hinting
+pub mod Histories
 pub mod Outliving
+pub mod ReplicaLaws
+pub mod SourceLaws
+pub mod Wrong

@@ -1,6 +1,6 @@
 pub mod Books
 pub mod FaultTexts
 pub mod Faults
-pub mod Hints
 pub mod Replicas
+pub mod RouteSources
 pub mod Sparing

@@ -3,9 +3,9 @@
 ghost use Rattle.std.specs.Prelude.{◌≡◌, IfOk, []};
 ghost use Rattle.std.specs.Arc.{arc_value};
 
-use crate::hint::Hint;
 use crate::next::Next;
 use crate::replicas::{Replica, Replicas};
+use crate::route_source::RouteSource;
 use crate::scratch::Scratch;
 use crate::sparing::have_spared;
 use crate::steps::{apply_entry, apply_entry_unshared, decide};
@@ -69,8 +69,8 @@ fn begun(alloc: Global, start: &Picture) -> Result<(Arc<Picture>, Replicas, Scra
 }
 
 /// Whether a call is an insertion whose route has to be looked for.
-fn is_search(call: Call, hint: Hint) -> bool {
-    matches!((call, hint), (Call::Insert { .. }, Hint::Nothing))
+fn is_search(call: Call, source: RouteSource<PricedRoute>) -> bool {
+    matches!((call, source), (Call::Insert { .. }, RouteSource::Search))
 }
 
 impl<F: PriceFn> Model for Book<F> {
@@ -96,7 +96,6 @@ impl<F: PriceFn> Model for Book<F> {
 impl<F: PriceFn> Book<F> {
     ghost use Rattle.std.specs.Prelude.{◌≡◌, ◌≢◌, ◌<◌, true, IfOk, IfSome, OnOk, OnErr, [], ◌∷◌, ◌++◌};
     ghost use Rattle.topo_core.specs.History.{Replays, is_accepted};
-    ghost use Rattle.topo_core.specs.Routes.{IsFirst};
     ghost use Rattle.topo_core.specs.Steps.{Step};
     ghost use Rattle.topo_core.specs.declared.calls.Call.TheVariants.{Grow, Insert, Delete};
     ghost use Rattle.topo_core.specs.declared.calls.Refusal.TheVariants.{Memory};
@@ -104,7 +103,7 @@ impl<F: PriceFn> Book<F> {
     ghost use Rattle.topo_rows.specs.Shown.{IsPicture};
     ghost use Rattle.topo_price.specs.Prices.{prices_of};
     ghost use Rattle.topo_book.specs.Books.{CanFollow, IsDue, IsReplica, IsSameBook, IsUnchanged, ReplaysLawfully, picture_after};
-    ghost use Rattle.topo_book.specs.Hints.{IsHintFor};
+    ghost use Rattle.topo_book.specs.RouteSources.{IsSourceFor};
     ghost use Rattle.topo_book.specs.Sparing.{HaveSpared};
 
     /// The book that begins with this picture and no entry.
@@ -222,7 +221,8 @@ impl<F: PriceFn> Book<F> {
         ensures unchanged { OnErr result (IsUnchanged self.old self.new) }
         ensures same_book { IsSameBook self.old self.new }
     {
-        self.call_in_place(alloc, caller, Call::Insert { u, v, kind }, Hint::Nothing)
+        let source = RouteSource::Search;
+        self.call_in_place(alloc, caller, Call::Insert { u, v, kind }, source)
     }
 
     /// As `insert`, whatever the plan: its route is taken where the plan passes the check on the
@@ -242,7 +242,8 @@ impl<F: PriceFn> Book<F> {
         ensures unchanged { OnErr result (IsUnchanged self.old self.new) }
         ensures same_book { IsSameBook self.old self.new }
     {
-        self.call_in_place(alloc, caller, Call::Insert { u, v, kind }, Hint::Plan(plan))
+        let planned = RouteSource::Plan(plan);
+        self.call_in_place(alloc, caller, Call::Insert { u, v, kind }, planned)
     }
 
     /// Takes an edge out, or answers why not. Both are entered. Out of memory may stand in place of
@@ -254,7 +255,7 @@ impl<F: PriceFn> Book<F> {
         ensures unchanged { OnErr result (IsUnchanged self.old self.new) }
         ensures same_book { IsSameBook self.old self.new }
     {
-        self.call_in_place(alloc, caller, Call::Delete { edge }, Hint::Nothing)
+        self.call_in_place(alloc, caller, Call::Delete { edge }, RouteSource::Search)
     }
 
     /// Puts a new vertex on a new edge of this kind into the corner at `position` of `u`, or answers
@@ -278,13 +279,13 @@ impl<F: PriceFn> Book<F> {
             alloc,
             caller,
             Call::Grow { u, position, kind },
-            Hint::Nothing,
+            RouteSource::Search,
         )
     }
 
     /// Makes a call ready to be entered, on a picture of its own, with the place of its entry
     /// reserved. The book is as it was, whatever the answer.
-    #[tactic(auto, using(crate::proofs::Hinting::nothing_is_owed))]
+    #[tactic(auto, using(crate::proofs::SourceLaws::nothing_is_owed))]
     pub fn prepare(&mut self, alloc: Global, caller: u32, call: Call) -> Result<Next, AllocError>
         ensures caller { IfOk result (λ n. n.entry.caller ≡ caller) }
         ensures call { IfOk result (λ n. n.entry.call ≡ call) }
@@ -292,7 +293,7 @@ impl<F: PriceFn> Book<F> {
         ensures unchanged { IsUnchanged self.old self.new }
         ensures same_book { IsSameBook self.old self.new }
     {
-        self.prepare_from(alloc, caller, call, Hint::Nothing)
+        self.prepare_from(alloc, caller, call, RouteSource::Search)
     }
 
     /// As `prepare` of an insertion, whatever the plan: its route is taken where the plan passes the
@@ -312,33 +313,8 @@ impl<F: PriceFn> Book<F> {
         ensures unchanged { IsUnchanged self.old self.new }
         ensures same_book { IsSameBook self.old self.new }
     {
-        self.prepare_from(alloc, caller, Call::Insert { u, v, kind }, Hint::Plan(plan))
-    }
-
-    /// As `prepare` of an insertion whose first route is known: nothing is searched, and nothing of the
-    /// route is checked.
-    pub fn prepare_first(
-        &mut self,
-        alloc: Global,
-        caller: u32,
-        u: u32,
-        v: u32,
-        kind: u32,
-        first: &PricedRoute,
-    ) -> Result<Next, AllocError>
-        requires first { IsFirst (prices_of (F.may_return self.old.tariff)) self.old.picture.rows u v first.now.route first.now.price }
-        ensures caller { IfOk result (λ n. n.entry.caller ≡ caller) }
-        ensures call { IfOk result (λ n. n.entry.call ≡ Insert u v kind) }
-        ensures ready { IfOk result (CanFollow (prices_of (F.may_return self.new.tariff)) self.new) }
-        ensures unchanged { IsUnchanged self.old self.new }
-        ensures same_book { IsSameBook self.old self.new }
-    {
-        self.prepare_from(
-            alloc,
-            caller,
-            Call::Insert { u, v, kind },
-            Hint::First(first),
-        )
+        let planned = RouteSource::Plan(plan);
+        self.prepare_from(alloc, caller, Call::Insert { u, v, kind }, planned)
     }
 
     /// Enters what was made ready. It takes no memory.
@@ -448,18 +424,18 @@ impl<F: PriceFn> Book<F> {
         &mut self,
         alloc: Global,
         call: Call,
-        hint: Hint,
+        source: RouteSource<PricedRoute>,
     ) -> Result<Reply, AllocError>
-        requires { IsHintFor (prices_of (F.may_return self.old.tariff)) self.old.picture.rows call hint }
+        requires { IsSourceFor (prices_of (F.may_return self.old.tariff)) self.old.picture.rows call source }
         ensures due { IfOk result (IsDue (prices_of (F.may_return self.old.tariff)) self.old.picture.limits self.old.picture.rows call) }
         ensures no_memory { IfOk result (λ reply. reply ≢ Refused Memory) }
         ensures unchanged { IsUnchanged self.old self.new }
         ensures same_book { IsSameBook self.old self.new }
         ensures same_room { self.new.spare ≡ self.old.spare }
     {
-        if self.search_on_replica && is_search(call, hint) {
+        if self.search_on_replica && is_search(call, source) {
             if let Some(first) = self.take_current_replica(alloc)? {
-                return self.decide_on_replica(alloc, first, call, hint);
+                return self.decide_on_replica(alloc, first, call, source);
             }
         }
         decide(
@@ -467,7 +443,7 @@ impl<F: PriceFn> Book<F> {
             &self.picture,
             &self.tariff,
             call,
-            hint,
+            source,
             &mut self.scratch,
         )
     }
@@ -478,11 +454,11 @@ impl<F: PriceFn> Book<F> {
         alloc: Global,
         replica: Replica,
         call: Call,
-        hint: Hint,
+        source: RouteSource<PricedRoute>,
     ) -> Result<Reply, AllocError>
         requires stands { IsReplica (prices_of (F.may_return self.old.tariff)) self.old.start self.old.history replica.entries (arc_value replica.picture) }
         requires equal { arc_value replica.picture ≡ self.old.picture }
-        requires known { IsHintFor (prices_of (F.may_return self.old.tariff)) self.old.picture.rows call hint }
+        requires known { IsSourceFor (prices_of (F.may_return self.old.tariff)) self.old.picture.rows call source }
         ensures due { IfOk result (IsDue (prices_of (F.may_return self.old.tariff)) self.old.picture.limits self.old.picture.rows call) }
         ensures no_memory { IfOk result (λ reply. reply ≢ Refused Memory) }
         ensures unchanged { IsUnchanged self.old self.new }
@@ -494,7 +470,7 @@ impl<F: PriceFn> Book<F> {
             &replica.picture,
             &self.tariff,
             call,
-            hint,
+            source,
             &mut self.scratch,
         );
         self.replicas.keep(replica);
@@ -523,16 +499,16 @@ impl<F: PriceFn> Book<F> {
         Ok(Next::accepted(entry, unshared))
     }
 
-    /// As `prepare`, with what is known of the route of an insertion. A refused call takes no other
-    /// picture.
+    /// As `prepare`, with what is known of the route of an insertion: of a route that was found nothing is
+    /// searched, and nothing is checked. A refused call takes no other picture.
     pub fn prepare_from(
         &mut self,
         alloc: Global,
         caller: u32,
         call: Call,
-        hint: Hint,
+        source: RouteSource<PricedRoute>,
     ) -> Result<Next, AllocError>
-        requires { IsHintFor (prices_of (F.may_return self.old.tariff)) self.old.picture.rows call hint }
+        requires { IsSourceFor (prices_of (F.may_return self.old.tariff)) self.old.picture.rows call source }
         ensures caller { IfOk result (λ n. n.entry.caller ≡ caller) }
         ensures call { IfOk result (λ n. n.entry.call ≡ call) }
         ensures ready { IfOk result (CanFollow (prices_of (F.may_return self.new.tariff)) self.new) }
@@ -540,7 +516,7 @@ impl<F: PriceFn> Book<F> {
         ensures same_book { IsSameBook self.old self.new }
     {
         self.history.reserve(1)?;
-        let reply = self.decide_where_cached(alloc, call, hint)?;
+        let reply = self.decide_where_cached(alloc, call, source)?;
         let entry = Entry {
             caller,
             call,
@@ -558,9 +534,9 @@ impl<F: PriceFn> Book<F> {
         alloc: Global,
         caller: u32,
         call: Call,
-        hint: Hint,
+        source: RouteSource<PricedRoute>,
     ) -> Result<Reply, AllocError>
-        requires { IsHintFor (prices_of (F.may_return self.old.tariff)) self.old.picture.rows call hint }
+        requires { IsSourceFor (prices_of (F.may_return self.old.tariff)) self.old.picture.rows call source }
         ensures step { IfOk result (λ reply. Step (prices_of (F.may_return self.old.tariff)) self.old.picture.limits self.old.picture.rows call reply self.new.picture.rows) }
         ensures entered { IfOk result (λ reply. self.new.history ≡ self.old.history ++ record { caller = caller; call = call; reply = reply } ∷ []) }
         ensures no_memory { IfOk result (λ reply. reply ≢ Refused Memory) }
@@ -568,10 +544,17 @@ impl<F: PriceFn> Book<F> {
         ensures same_book { IsSameBook self.old self.new }
     {
         let Some(picture) = Arc::get_mut(&mut self.picture) else {
-            return self.call_on_copy(alloc, caller, call, hint);
+            return self.call_on_copy(alloc, caller, call, source);
         };
         self.history.reserve(1)?;
-        let reply = decide(alloc, picture, &self.tariff, call, hint, &mut self.scratch)?;
+        let reply = decide(
+            alloc,
+            picture,
+            &self.tariff,
+            call,
+            source,
+            &mut self.scratch,
+        )?;
         let entry = Entry {
             caller,
             call,
@@ -590,16 +573,16 @@ impl<F: PriceFn> Book<F> {
         alloc: Global,
         caller: u32,
         call: Call,
-        hint: Hint,
+        source: RouteSource<PricedRoute>,
     ) -> Result<Reply, AllocError>
-        requires { IsHintFor (prices_of (F.may_return self.old.tariff)) self.old.picture.rows call hint }
+        requires { IsSourceFor (prices_of (F.may_return self.old.tariff)) self.old.picture.rows call source }
         ensures step { IfOk result (λ reply. Step (prices_of (F.may_return self.old.tariff)) self.old.picture.limits self.old.picture.rows call reply self.new.picture.rows) }
         ensures entered { IfOk result (λ reply. self.new.history ≡ self.old.history ++ record { caller = caller; call = call; reply = reply } ∷ []) }
         ensures no_memory { IfOk result (λ reply. reply ≢ Refused Memory) }
         ensures unchanged { OnErr result (IsUnchanged self.old self.new) }
         ensures same_book { IsSameBook self.old self.new }
     {
-        let next = self.prepare_from(alloc, caller, call, hint)?;
+        let next = self.prepare_from(alloc, caller, call, source)?;
         let reply = next.entry().reply.copy(alloc)?;
         self.commit(next);
         Ok(reply)

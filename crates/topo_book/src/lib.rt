@@ -25,15 +25,15 @@
 #![tactic(auto)]
 
 mod book;
-mod hint;
 mod next;
 mod replaying;
 mod replicas;
+mod route_source;
 mod scratch;
 mod sparing;
 mod steps;
 
 pub use book::Book;
-pub use hint::Hint;
 pub use next::Next;
 pub use replaying::{ReplayFault, replay};
+pub use route_source::RouteSource;

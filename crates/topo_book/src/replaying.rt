@@ -8,7 +8,7 @@ ghost use Rattle.topo_price.specs.Prices.{prices_of};
 ghost use Rattle.topo_book.specs.Books.{IsDue};
 ghost use Rattle.topo_book.specs.Faults.{IsFaultOf, IsIllegalAt};
 
-use crate::hint::Hint;
+use crate::route_source::RouteSource;
 use crate::scratch::Scratch;
 use crate::steps::{apply_entry, decide};
 use std::alloc::{AllocError, Global};
@@ -69,7 +69,7 @@ impl fmt::Display for ReplayFault {
 }
 
 /// Carries an entry out where its reply is the one due, and answers whether it is.
-#[tactic(auto, using(crate::proofs::Hinting::nothing_is_owed))]
+#[tactic(auto, using(crate::proofs::SourceLaws::nothing_is_owed))]
 fn replay_entry<F: PriceFn>(
     alloc: Global,
     picture: &mut Picture,
@@ -83,7 +83,14 @@ fn replay_entry<F: PriceFn>(
     ensures same_limits { picture.new.limits ≡ picture.old.limits }
     ensures lawful { IsPicture picture.new.limits picture.new.rows }
 {
-    let reply = decide(alloc, picture, tariff, entry.call, Hint::Nothing, scratch)?;
+    let reply = decide(
+        alloc,
+        picture,
+        tariff,
+        entry.call,
+        RouteSource::Search,
+        scratch,
+    )?;
     if !reply.equals(&entry.reply) {
         return Ok(false);
     }

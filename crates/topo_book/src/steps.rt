@@ -10,9 +10,9 @@ ghost use Rattle.topo_core.specs.declared.calls.Reply.TheVariants.{Refused};
 ghost use Rattle.topo_price.specs.Prices.{prices_of};
 ghost use Rattle.topo_rows.specs.Shown.{IsPicture};
 ghost use Rattle.topo_book.specs.Books.{IsDue};
-ghost use Rattle.topo_book.specs.Hints.{IsHintFor, IsTrueOf};
+ghost use Rattle.topo_book.specs.RouteSources.{IsSourceFor, IsTrueOf};
 
-use crate::hint::Hint;
+use crate::route_source::RouteSource;
 use crate::scratch::Scratch;
 use std::alloc::{AllocError, Global};
 use std::sync::Arc;
@@ -74,10 +74,10 @@ fn find_first<F: PriceFn>(
     tariff: &Tariff<F>,
     u: u32,
     v: u32,
-    hint: Hint,
+    source: RouteSource<PricedRoute>,
     scratch: &mut Scratch,
 ) -> Result<Option<PricedRoute>, AllocError>
-    requires known { IsTrueOf (prices_of (F.may_return tariff.now)) picture.now.rows u v hint }
+    requires known { IsTrueOf (prices_of (F.may_return tariff.now)) picture.now.rows u v source }
     requires u_there { u < length picture.now.rows.rotations }
     requires v_there { v < length picture.now.rows.rotations }
     requires apart { u ≢ v }
@@ -85,14 +85,14 @@ fn find_first<F: PriceFn>(
         (HasNoRoute (prices_of (F.may_return tariff.now)) picture.now.rows u v)
         (λ r. IsFirst (prices_of (F.may_return tariff.now)) picture.now.rows u v r.route r.price)) }
 {
-    match hint {
-        Hint::Nothing => {}
-        Hint::Plan(plan) => {
+    match source {
+        RouteSource::Search => {}
+        RouteSource::Plan(plan) => {
             if passes(picture, tariff, (u, v), plan, &mut scratch.lists)? {
                 return Ok(Some(route_of(alloc, &plan.route, plan.price)?));
             }
         }
-        Hint::First(first) => {
+        RouteSource::Found(first) => {
             return Ok(Some(route_of(alloc, &first.route, first.price)?));
         }
     }
@@ -107,17 +107,17 @@ fn decide_insertion<F: PriceFn>(
     tariff: &Tariff<F>,
     ends: (u32, u32),
     kind: u32,
-    hint: Hint,
+    source: RouteSource<PricedRoute>,
     scratch: &mut Scratch,
 ) -> Result<Reply, AllocError>
-    requires { IsTrueOf (prices_of (F.may_return tariff.now)) picture.now.rows ends.0 ends.1 hint }
+    requires { IsTrueOf (prices_of (F.may_return tariff.now)) picture.now.rows ends.0 ends.1 source }
     ensures { IfOk result (IsDue (prices_of (F.may_return tariff.now)) picture.now.limits picture.now.rows (Insert ends.0 ends.1 kind)) }
 {
     let (u, v) = ends;
     if let Err(why) = picture.admit(u, v, kind) {
         return Ok(Reply::Refused(why));
     }
-    let Some(first) = find_first(alloc, picture, tariff, u, v, hint, scratch)? else {
+    let Some(first) = find_first(alloc, picture, tariff, u, v, source, scratch)? else {
         return Ok(Reply::Refused(Refusal::NoRoute));
     };
     match picture.admit_route(&first.route) {
@@ -138,10 +138,10 @@ pub(crate) fn decide<F: PriceFn>(
     picture: &Picture,
     tariff: &Tariff<F>,
     call: Call,
-    hint: Hint,
+    source: RouteSource<PricedRoute>,
     scratch: &mut Scratch,
 ) -> Result<Reply, AllocError>
-    requires { IsHintFor (prices_of (F.may_return tariff.now)) picture.now.rows call hint }
+    requires { IsSourceFor (prices_of (F.may_return tariff.now)) picture.now.rows call source }
     ensures due { IfOk result (IsDue (prices_of (F.may_return tariff.now)) picture.now.limits picture.now.rows call) }
     ensures no_memory { IfOk result (λ reply. reply ≢ Refused Memory) }
 {
@@ -151,7 +151,7 @@ pub(crate) fn decide<F: PriceFn>(
             Err(why) => Ok(Reply::Refused(why)),
         },
         Call::Insert { u, v, kind } => {
-            decide_insertion(alloc, picture, tariff, (u, v), kind, hint, scratch)
+            decide_insertion(alloc, picture, tariff, (u, v), kind, source, scratch)
         }
         Call::Delete { edge } => match picture.admit_deletion(edge) {
             Ok(()) => Ok(Reply::Deleted(EdgeId::new(edge))),
@@ -183,6 +183,7 @@ pub(crate) fn apply_entry<F: PriceFn>(
             }
         }
         (Call::Insert { u, v, kind }, Reply::Inserted(made)) => {
+            // For the proof: what the type keeps.
             tariff.keeps_promise();
             match picture.apply_route(alloc, u, v, kind, &made.route) {
                 Ok(_) => Ok(()),

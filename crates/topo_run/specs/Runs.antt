@@ -5,6 +5,7 @@ use Rattle.topo_core.specs.declared.rows.Facts.{Facts}
 use Rattle.topo_core.specs.declared.rows.Rows.{Rows}
 use Rattle.topo_core.specs.declared.limits.Limits.{Limits}
 use Rattle.topo_core.specs.History.{IsRun}
+use Rattle.topo_forms.specs.declared.script_forms.TheConstants.{MAX_SCRIPT_BYTES}
 use Rattle.topo_forms.specs.declared.scripts.Script.{Script}
 use Rattle.topo_forms.specs.declared.reports.Report.{Report}
 use Rattle.topo_forms.specs.Reads.{IsFirstFault}
@@ -102,7 +103,7 @@ IsFaultOfBytes bytes WriteFault = ⊥
 
 -- what was read is this script
 abbrev pub SpellsScript : Option (List ℕ) → Option (List ℕ) → Script → Type 0
-SpellsScript = Spells script_of 1048576
+SpellsScript = Spells script_of MAX_SCRIPT_BYTES
 
 -- what was read is a script whose run has this fault
 pub record AsksInVain (old_left new_left : Option (List ℕ)) (fault : RunFault) : Type 0 where
@@ -130,7 +131,7 @@ pub record IsPartlyDone (old_left new_left old_held new_held : Option (List ℕ)
 -- read has no fault.
 abbrev pub FailsBy : RunFault → Option (List ℕ) → Option (List ℕ) → Option (List ℕ) → Option (List ℕ) → Type 0
 FailsBy Memory old_left new_left old_held new_held = Keeps old_held new_held
-FailsBy (OfScript fault) old_left new_left old_held new_held = SpellsNone script_of 1048576 old_left new_left fault × Keeps old_held new_held
+FailsBy (OfScript fault) old_left new_left old_held new_held = SpellsNone script_of MAX_SCRIPT_BYTES old_left new_left fault × Keeps old_held new_held
 FailsBy BadLimits old_left new_left old_held new_held = AsksInVain old_left new_left BadLimits × Keeps old_held new_held
 FailsBy (Price fault) old_left new_left old_held new_held = AsksInVain old_left new_left (Price fault) × Keeps old_held new_held
 FailsBy (Load fault) old_left new_left old_held new_held = AsksInVain old_left new_left (Load fault) × Keeps old_held new_held

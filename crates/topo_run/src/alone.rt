@@ -72,6 +72,7 @@ pub(crate) fn outcome_alone<F: PriceFn + Drop, T: Gate>(
         return Err(RunFault::Memory);
     };
     if carry_out(alloc, &mut book, list, gate) {
+        // For the proof: what the type keeps.
         book.history();
         outcome_of(alloc, book)
     } else {

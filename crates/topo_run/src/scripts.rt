@@ -3,6 +3,7 @@
 ghost use Rattle.std.specs.Prelude.{◌≡◌, IfErr, IfOk, IfSome, None, Some, ◌≤◌, slice_get};
 ghost use Rattle.std.specs.Arc.{arc_value};
 ghost use Rattle.topo_price.specs.Prices.{IsPromise, first_bad};
+ghost use Rattle.topo_price.specs.declared.table.TheConstants.{MAX_PRICE};
 ghost use Rattle.topo_run.specs.Runs.{AnswersPrices, FailsRun, IsReportFrom, IsReportOf};
 ghost use Rattle.topo_run.specs.Working.{IsOfService};
 ghost use Rattle.topo_settings.specs.Limiting.{AreLimits};
@@ -153,7 +154,7 @@ pub(crate) fn priced_report<R: Threads + Wait + Sync, T: Gate>(
         start,
         |facts: &Facts| -> Option<u32>
             ensures entry { slice_get table.entry.now facts.now.kind ≡ Some result }
-            ensures in_range { IfSome result (λ n. (1 ≤ n) × (n ≤ 1000)) }
+            ensures in_range { IfSome result (λ n. (1 ≤ n) × (n ≤ MAX_PRICE)) }
         { table.price(facts.kind) },
         gate,
     )

@@ -6,6 +6,7 @@ ghost use Rattle.topo_core.specs.History.{IsRun};
 ghost use Rattle.topo_price.specs.Prices.{prices_of};
 ghost use Rattle.topo_run.specs.Working.{AreOpened, HaveWorked, IsOfService};
 ghost use Rattle.topo_service.specs.Commands.{commands};
+ghost use Rattle.topo_service.specs.declared.service.TheConstants.{MAX_PASSES};
 
 use crate::alone::outcome_alone;
 use crate::outcome::{RunOutcome, outcome_of};
@@ -136,7 +137,7 @@ fn serve<
     gate: &T,
 ) -> Result<RunOutcome, RunFault>
     requires ledger { (fresh.blank.name ≡ K.name) × (fresh.blank.parts ≡ K.parts) }
-    requires parts { K.parts ≡ 16 }
+    requires parts { K.parts ≡ MAX_PASSES }
     requires list { fresh.log.seen.book ≡ K.book }
     requires start { start ≡ K.start }
     requires prices { K.closure ≡ Some (arc_value tariff) }

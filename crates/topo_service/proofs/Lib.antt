@@ -1,6 +1,7 @@
 pub mod FoundRoutes
 pub mod Matching
 pub mod Numbers
+pub mod Refusals
 pub mod Versions
 pub mod Wholeness
 pub mod Working

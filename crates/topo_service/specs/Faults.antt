@@ -42,6 +42,18 @@ IsEndFault given history passes (Mismatch n k) = ((m : ℕ) → m < given → Ha
 abbrev pub HasVertices : Rows → ℕ → ℕ → Type 0
 HasVertices rows u v = (u < length rows.rotations) × (v < length rows.rotations)
 
+-- why no route is looked for between these: one is no vertex, or they are the same
+abbrev pub IsEndsRefusal : Rows → ℕ → ℕ → Refusal → Type 0
+IsEndsRefusal rows u v NoVertex = HasVertices rows u v → ⊥
+IsEndsRefusal rows u v SameEnds = HasVertices rows u v × (u ≡ v)
+IsEndsRefusal rows u v NoRoute = ⊥
+IsEndsRefusal rows u v Memory = ⊥
+IsEndsRefusal rows u v NoPosition = ⊥
+IsEndsRefusal rows u v NoEdge = ⊥
+IsEndsRefusal rows u v BadKind = ⊥
+IsEndsRefusal rows u v (Cut segment) = ⊥
+IsEndsRefusal rows u v Full = ⊥
+
 -- why no plan was made on these rows: the first cause that holds, but memory may be wanted in the search
 abbrev pub IsPlanRefusal : Pricing → Rows → ℕ → ℕ → Refusal → Type 0
 IsPlanRefusal price rows u v NoVertex = HasVertices rows u v → ⊥

@@ -8,13 +8,14 @@ ghost use Rattle.topo_price.specs.Prices.{prices_of};
 ghost use Rattle.topo_versions.specs.Versions.{entries_shown};
 ghost use Rattle.topo_service.specs.Faults.{IsEndFault};
 ghost use Rattle.topo_service.specs.Receipts.{AllAgree, AreWhole, HasNumber, receipt_count};
+ghost use Rattle.topo_service.specs.declared.service.TheConstants.{MAX_PASSES};
 
 use crate::checks::{first_fault, gather};
 use crate::faults::EndFault;
 use crate::locked_state::LockedState;
 use crate::pass::PassOver;
-use crate::service::ServiceOver;
-use crate::share_pool::{MAX_PASSES, SharePool};
+use crate::service::{MAX_PASSES, ServiceOver};
+use crate::share_pool::SharePool;
 use std::alloc::{AllocError, Global};
 use std::sync::ledger::{Blank, Book as Tally};
 use std::sync::{Arc, Mutex, Wait};
@@ -42,7 +43,7 @@ pub struct FreshService {
 
 impl FreshService {
     pub fn new() -> FreshService
-        ensures { result.blank.parts ≡ 16 }
+        ensures { result.blank.parts ≡ MAX_PASSES }
     {
         FreshService {
             blank: Blank::new(MAX_PASSES as u64),
@@ -127,7 +128,7 @@ fn state_of<F: PriceFn + Drop, K: ServiceBrand<F>>(
 pub type Service<F, K> = ServiceOver<F, K, StoreWriter<F, K>>;
 
 impl<F: PriceFn + Drop, K: ServiceBrand<F>> Service<F, K> {
-    /// Begins a service of 16 passes at most, at the start and with the closure that K names, with no entry
+    /// Begins a service of `MAX_PASSES` passes at most, at the start and with the closure that K names, with no entry
     /// and no pass.
     pub fn new(
         alloc: Global,
@@ -136,12 +137,12 @@ impl<F: PriceFn + Drop, K: ServiceBrand<F>> Service<F, K> {
         tariff: Arc<Tariff<F>>,
     ) -> Result<Service<F, K>, AllocError>
         requires ledger { (fresh.blank.name ≡ K.name) × (fresh.blank.parts ≡ K.parts) }
-        requires parts { K.parts ≡ 16 }
+        requires parts { K.parts ≡ MAX_PASSES }
         requires list { fresh.log.seen.book ≡ K.book }
         requires start { start ≡ K.start }
         requires prices { K.closure ≡ Some (arc_value tariff) }
         ensures tariff { IfOk result (λ s. s.tariff ≡ arc_value tariff) }
-        ensures places { IfOk result (λ s. s.places ≡ 16) }
+        ensures places { IfOk result (λ s. s.places ≡ MAX_PASSES) }
         ensures no_pass { IfOk result (λ s. s.given ≡ 0) }
     {
         Self::with_places(alloc, fresh, start, tariff, MAX_PASSES)
@@ -157,11 +158,11 @@ impl<F: PriceFn + Drop, K: ServiceBrand<F>> Service<F, K> {
         places: u32,
     ) -> Result<Service<F, K>, AllocError>
         requires ledger { (fresh.blank.name ≡ K.name) × (fresh.blank.parts ≡ K.parts) }
-        requires parts { K.parts ≡ 16 }
+        requires parts { K.parts ≡ MAX_PASSES }
         requires list { fresh.log.seen.book ≡ K.book }
         requires start { start ≡ K.start }
         requires prices { K.closure ≡ Some (arc_value tariff) }
-        requires places { (0 < places) × (places ≤ 16) }
+        requires places { (0 < places) × (places ≤ MAX_PASSES) }
         ensures tariff { IfOk result (λ s. s.tariff ≡ arc_value tariff) }
         ensures places { IfOk result (λ s. s.places ≡ places) }
         ensures no_pass { IfOk result (λ s. s.given ≡ 0) }

@@ -9,14 +9,14 @@ ghost use Rattle.topo_service.specs.Faults.{HasVertices, IsPlanFault, IsPlanRefu
 ghost use Rattle.topo_service.specs.Found.{IsFoundRoute, IsHeldBy};
 
 use crate::faults::PassFault;
-use crate::pass::PassOver;
+use crate::pass::{PassOver, admit_ends};
 use std::alloc::Global;
 use std::marker::Model;
 use topo_book::Book;
 use topo_core::calls::Refusal;
 use topo_picture::Picture;
 use topo_price::tariff::{PriceFn, Tariff};
-use topo_route::plan::{Plan, PricedRoute, SeenRoute};
+use topo_route::plan::{PricedRoute, SeenRoute};
 use topo_route::region::Region;
 use topo_route::search::first_route_seen;
 use topo_route::workspace::Workspace;
@@ -72,6 +72,7 @@ impl<F: PriceFn, K: ServiceBrand<F>> FoundRoute<F, K> {
         ensures price { result.now.price ≡ self.now.price }
         ensures found { IsFoundRoute (prices_named F.may_return K.closure) K.start self.now }
     {
+        // For the proof: what the type keeps.
         self.version.picture();
         &self.first
     }
@@ -107,6 +108,7 @@ impl<F: PriceFn, K: ServiceBrand<F>> FoundRoute<F, K> {
         requires entries { prefix.now ≡ versions book.now.history }
         ensures { result ≡ true → IsFirst (prices_of (F.may_return book.now.tariff)) book.now.picture.rows self.now.u self.now.v self.now.route self.now.price }
     {
+        // For the proof: what the type keeps.
         book.history();
         self.version.picture();
         let Some(region) = &self.region else {
@@ -151,6 +153,7 @@ impl<F: PriceFn, K: ServiceBrand<F>> FoundRoute<F, K> {
 
 /// The first of the cheapest routes on a picture, or the first reason why there is none. What the search
 /// writes on is made where there is none yet, and kept.
+#[tactic(auto, using(crate::proofs::Refusals::ends_refused))]
 fn first_on<A: PriceFn>(
     alloc: Global,
     picture: &Picture,
@@ -165,13 +168,7 @@ fn first_on<A: PriceFn>(
     ensures there { OnOk result (HasVertices picture.now.rows u v) }
     ensures apart { OnOk result (u ≢ v) }
 {
-    let vertices = picture.counts().vertices;
-    if u >= vertices || v >= vertices {
-        return Err(Refusal::NoVertex);
-    }
-    if u == v {
-        return Err(Refusal::SameEnds);
-    }
+    admit_ends(picture, u, v)?;
     let mut sheet = match work.take() {
         Some(sheet) => sheet,
         None => match Workspace::new(alloc) {
@@ -186,17 +183,6 @@ fn first_on<A: PriceFn>(
         Ok(None) => Err(Refusal::NoRoute),
         Err(_) => Err(Refusal::Memory),
     }
-}
-
-/// What a call brings along that may spare its search.
-#[derive(Drop)]
-pub enum Brought<'a, F: PriceFn, K: ServiceBrand<F>> {
-    /// Nothing.
-    Nothing,
-    /// A plan that is to be checked.
-    Plan(&'a Plan),
-    /// A route that was found on some version.
-    Found(&'a FoundRoute<F, K>),
 }
 
 impl<F: PriceFn, K: ServiceBrand<F>, G: VersionReader<F, K>> PassOver<F, K, G> {
@@ -225,6 +211,7 @@ impl<F: PriceFn, K: ServiceBrand<F>, G: VersionReader<F, K>> PassOver<F, K, G> {
             Ok(found) => found,
             Err(why) => return Err(PassFault::Refused(why)),
         };
+        // For the proof: what the type keeps.
         found.first();
         Ok(found)
     }

@@ -43,6 +43,5 @@ pub use close::{CloseFault, FreshService, Service};
 pub use faults::{EndFault, PassFault, ServiceFault};
 pub use found::FoundRoute;
 pub use pass::{Pass, PassOver, Receipt, View};
-pub use service::ServiceOver;
-pub use share_pool::MAX_PASSES;
+pub use service::{MAX_PASSES, ServiceOver};
 pub use workers::{Gate, WorkerEnd, run_workers};

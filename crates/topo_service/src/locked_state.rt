@@ -7,21 +7,22 @@ ghost use Rattle.topo_core.specs.Steps.{Step};
 ghost use Rattle.topo_core.specs.declared.calls.Refusal.TheVariants.{Memory};
 ghost use Rattle.topo_core.specs.declared.calls.Reply.TheVariants.{Refused};
 ghost use Rattle.topo_book.specs.Books.{CanFollow, IsSameBook, IsUnchanged, ReplaysLawfully};
-ghost use Rattle.topo_book.specs.Hints.{IsHintFor};
+ghost use Rattle.topo_book.specs.RouteSources.{IsSourceFor};
 ghost use Rattle.topo_price.specs.Prices.{prices_of};
 ghost use Rattle.topo_versions.specs.Names.{prices_named};
 ghost use Rattle.topo_versions.specs.Versions.{IsVersionFrom};
 ghost use Rattle.topo_service.specs.Passes.{entry_of};
 
-use crate::found::{Brought, FoundRoute};
+use crate::found::FoundRoute;
 use crate::reply_pair::ReplyPair;
 use std::alloc::{AllocError, Global};
 use std::marker::Model;
 use std::sync::ledger::{Book as Tally, Share};
 use std::sync::{Arc, Wait};
-use topo_book::{Book, Hint, Next};
+use topo_book::{Book, Next, RouteSource};
 use topo_core::calls::{Call, Entry};
 use topo_price::tariff::PriceFn;
+use topo_route::plan::PricedRoute;
 use topo_versions::{
     LogLength, LogPrefix, ReaderFactory, ServiceBrand, VersionReader, VersionWriter, wait_forever,
 };
@@ -54,16 +55,15 @@ impl<F: PriceFn, K: ServiceBrand<F>, W: VersionWriter<F, K>> Model for LockedSta
         × (d.prefix ≡ versions d.book.history) × (W.published d.writer ≡ Some (versions d.book.history)) };
 }
 
-/// Makes a call ready, with what is known of its route. The two calls before are for the proof: they give
-/// what is true of every book.
+/// Makes a call ready, with what is known of its route.
 fn prepare_call<F: PriceFn>(
     book: &mut Book<F>,
     alloc: Global,
     caller: u32,
     call: Call,
-    hint: Hint,
+    source: RouteSource<PricedRoute>,
 ) -> Result<Next, AllocError>
-    requires { IsHintFor (prices_of (F.may_return book.old.tariff)) book.old.picture.rows call hint }
+    requires { IsSourceFor (prices_of (F.may_return book.old.tariff)) book.old.picture.rows call source }
     ensures caller { IfOk result (λ n. n.entry.caller ≡ caller) }
     ensures call { IfOk result (λ n. n.entry.call ≡ call) }
     ensures ready { IfOk result (CanFollow (prices_of (F.may_return book.new.tariff)) book.new) }
@@ -73,9 +73,10 @@ fn prepare_call<F: PriceFn>(
     ensures same_limits { book.old.picture.limits ≡ book.old.start.limits }
     ensures room { length book.old.history + 1 < 2 ^ 64 }
 {
+    // For the proof: what the type keeps.
     let _more = book.history().len() + 1;
     book.picture();
-    book.prepare_from(alloc, caller, call, hint)
+    book.prepare_from(alloc, caller, call, source)
 }
 
 /// Adds a call that was made ready to the accepted entries, and publishes the version after it, where it is
@@ -161,22 +162,28 @@ impl<F: PriceFn, K: ServiceBrand<F>, W: VersionWriter<F, K>> LockedState<F, K, W
     fn stands(&self, found: &FoundRoute<F, K>, u: u32, v: u32) -> bool
         ensures { result ≡ true → IsFirst (prices_of (F.may_return self.now.tariff)) self.now.picture.rows u v found.now.route found.now.price }
     {
+        // For the proof: what the type keeps.
         self.book.history();
         found.first();
         found.is_between(u, v)
             && (found.is_of(&self.prefix) || found.outlives(&self.book, &self.prefix))
     }
 
-    /// What is known of the route of a call, by what the call brings along.
-    fn hint<'a>(&self, call: Call, brought: Brought<'a, F, K>) -> Hint<'a>
-        ensures { IsHintFor (prices_of (F.may_return self.now.tariff)) self.now.picture.rows call result }
+    /// What is known of the route of a call now, by what the caller hands over: a route that was found counts
+    /// only while it stands.
+    fn known<'a>(
+        &self,
+        call: Call,
+        source: RouteSource<'a, FoundRoute<F, K>>,
+    ) -> RouteSource<'a, PricedRoute>
+        ensures { IsSourceFor (prices_of (F.may_return self.now.tariff)) self.now.picture.rows call result }
     {
-        match (call, brought) {
-            (Call::Insert { .. }, Brought::Plan(plan)) => Hint::Plan(plan),
-            (Call::Insert { u, v, .. }, Brought::Found(found)) if self.stands(found, u, v) => {
-                Hint::First(found.first())
+        match (call, source) {
+            (Call::Insert { .. }, RouteSource::Plan(plan)) => RouteSource::Plan(plan),
+            (Call::Insert { u, v, .. }, RouteSource::Found(found)) if self.stands(found, u, v) => {
+                RouteSource::Found(found.first())
             }
-            _ => Hint::Nothing,
+            _ => RouteSource::Search,
         }
     }
 
@@ -189,7 +196,7 @@ impl<F: PriceFn, K: ServiceBrand<F>, W: VersionWriter<F, K>> LockedState<F, K, W
         mine: &mut Share<K>,
         caller: u32,
         call: Call,
-        brought: Brought<F, K>,
+        source: RouteSource<FoundRoute<F, K>>,
     ) -> Result<ReplyPair, AllocError>
         requires { 0 < mine.old.parts }
         ensures parts { mine.new.parts ≡ mine.old.parts }
@@ -200,9 +207,10 @@ impl<F: PriceFn, K: ServiceBrand<F>, W: VersionWriter<F, K>> LockedState<F, K, W
         ensures no_memory { IfOk result (λ pair. pair.reply ≢ Refused Memory) }
         ensures unchanged { OnErr result (IsUnchanged self.old self.new) }
     {
-        let hint = self.hint(call, brought);
-        self.was_known = matches!(hint, Hint::First(_));
-        let next = prepare_call(&mut self.book, alloc, caller, call, hint)?;
+        let known = self.known(call, source);
+        self.was_known = matches!(known, RouteSource::Found(_));
+        let next = prepare_call(&mut self.book, alloc, caller, call, known)?;
+        // For the proof: what the type keeps.
         next.picture();
         let pair = answer_ready::<F, K, W, R>(
             rt,
@@ -222,6 +230,7 @@ impl<F: PriceFn, K: ServiceBrand<F>, W: VersionWriter<F, K>> LockedState<F, K, W
         ensures now { result.now ≡ versions self.now.history }
         ensures replayed { IsVersion (prices_named F.may_return K.closure) K.start.limits K.start.rows result.now self.now.picture.rows }
     {
+        // For the proof: what the type keeps.
         self.book.history();
         &self.prefix
     }
@@ -259,6 +268,7 @@ impl<F: PriceFn, K: ServiceBrand<F>, W: VersionWriter<F, K>> LockedState<F, K, W
             was_known: _was_known,
         } = self;
         writer.end(rt);
+        // For the proof: what the type keeps.
         book.history();
         book.picture();
         book

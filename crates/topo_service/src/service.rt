@@ -9,9 +9,10 @@ ghost use Rattle.topo_versions.specs.Names.{prices_named};
 ghost use Rattle.topo_versions.specs.Versions.{AreLegal};
 ghost use Rattle.topo_service.specs.Answers.{HasSeenOwn, IsDueAfter};
 ghost use Rattle.topo_service.specs.Passes.{receipt_of};
+ghost use Rattle.topo_service.specs.declared.service.TheConstants.{MAX_PASSES};
 
 use crate::faults::ServiceFault;
-use crate::found::{Brought, FoundRoute};
+use crate::found::FoundRoute;
 use crate::locked_state::LockedState;
 use crate::lookahead::Lookahead;
 use crate::pass::{PassOver, Receipt};
@@ -20,12 +21,16 @@ use crate::share_pool::SharePool;
 use std::alloc::{AllocError, Global};
 use std::marker::{Model, PhantomData};
 use std::sync::{Arc, Mutex, Wait};
+use topo_book::RouteSource;
 use topo_core::calls::{Call, Reply};
 use topo_price::tariff::{PriceFn, Tariff};
 use topo_route::plan::Plan;
 use topo_versions::{
     LogPrefix, ReaderFactory, ServiceBrand, VersionReader, VersionWriter, wait_forever,
 };
+
+/// A service has at most so many passes.
+pub const MAX_PASSES: u32 = 16;
 
 /// One lock round a book, with the passes that were given out. Contracts see what answers its prices, how
 /// many passes it gives out at most, and how many it has given out.
@@ -45,12 +50,13 @@ impl<F: PriceFn, K: ServiceBrand<F>, W: VersionWriter<F, K>> Model for ServiceOv
     ghost use Rattle.std.specs.Prelude.{◌≡◌, ◌≤◌, [], Some};
     ghost use Rattle.std.specs.Arc.{arc_value};
     ghost use Rattle.topo_service.specs.Passes.{ServiceState};
+    ghost use Rattle.topo_service.specs.declared.service.TheConstants.{MAX_PASSES};
 
     ghost Value = { ServiceState F };
 
     ghost view = { λ s. record { tariff = arc_value s.tariff; places = s.places; given = s.given } };
 
-    ghost invariant = { λ s. (K.closure ≡ Some (arc_value s.tariff)) × (K.parts ≡ 16) × (s.places ≤ 16) × (s.nothing ≡ []) };
+    ghost invariant = { λ s. (K.closure ≡ Some (arc_value s.tariff)) × (K.parts ≡ MAX_PASSES) × (s.places ≤ MAX_PASSES) × (s.nothing ≡ []) };
 }
 
 impl<F: PriceFn, K: ServiceBrand<F>, W: VersionWriter<F, K>> ServiceOver<F, K, W> {
@@ -72,7 +78,7 @@ impl<F: PriceFn, K: ServiceBrand<F>, W: VersionWriter<F, K>> ServiceOver<F, K, W
         ensures seen { IfOk result (λ p. p.seen ≡ []) }
         ensures given { IfOk result (λ p. (self.old.given < self.old.places) × (self.new.given ≡ self.old.given + 1)) }
         ensures refused { OnErr result (self.new.given ≡ self.old.given) }
-        ensures at_most { self.old.places ≤ 16 }
+        ensures at_most { self.old.places ≤ MAX_PASSES }
         ensures same { (self.new.tariff ≡ self.old.tariff) × (self.new.places ≡ self.old.places) }
     {
         if self.given >= self.places {
@@ -119,7 +125,7 @@ impl<F: PriceFn, K: ServiceBrand<F>, W: VersionWriter<F, K>> ServiceOver<F, K, W
         ensures no_memory { IfOk result (λ reply. reply ≢ Refused Memory) }
         ensures unchanged { OnErr result (pass.new ≡ pass.old) }
     {
-        self.call(rt, pass, Call::Insert { u, v, kind }, Brought::Nothing)
+        self.call(rt, pass, Call::Insert { u, v, kind }, RouteSource::Search)
     }
 
     /// As `insert`, whatever the plan: its route is taken where the plan passes the check on the picture
@@ -142,7 +148,8 @@ impl<F: PriceFn, K: ServiceBrand<F>, W: VersionWriter<F, K>> ServiceOver<F, K, W
         ensures no_memory { IfOk result (λ reply. reply ≢ Refused Memory) }
         ensures unchanged { OnErr result (pass.new ≡ pass.old) }
     {
-        self.call(rt, pass, Call::Insert { u, v, kind }, Brought::Plan(plan))
+        let planned = RouteSource::Plan(plan);
+        self.call(rt, pass, Call::Insert { u, v, kind }, planned)
     }
 
     /// As `insert` between the ends of a route that was found: the route is taken as it is where it was
@@ -164,7 +171,8 @@ impl<F: PriceFn, K: ServiceBrand<F>, W: VersionWriter<F, K>> ServiceOver<F, K, W
         ensures unchanged { OnErr result (pass.new ≡ pass.old) }
     {
         let (u, v) = found.ends();
-        self.call(rt, pass, Call::Insert { u, v, kind }, Brought::Found(found))
+        let source = RouteSource::Found(found);
+        self.call(rt, pass, Call::Insert { u, v, kind }, source)
     }
 
     /// Takes an edge out, or answers why not; in all else as `insert`.
@@ -183,7 +191,7 @@ impl<F: PriceFn, K: ServiceBrand<F>, W: VersionWriter<F, K>> ServiceOver<F, K, W
         ensures no_memory { IfOk result (λ reply. reply ≢ Refused Memory) }
         ensures unchanged { OnErr result (pass.new ≡ pass.old) }
     {
-        self.call(rt, pass, Call::Delete { edge }, Brought::Nothing)
+        self.call(rt, pass, Call::Delete { edge }, RouteSource::Search)
     }
 
     /// Puts a new vertex on a new edge of this kind into the corner at `position` of `u`, or answers the
@@ -205,7 +213,8 @@ impl<F: PriceFn, K: ServiceBrand<F>, W: VersionWriter<F, K>> ServiceOver<F, K, W
         ensures no_memory { IfOk result (λ reply. reply ≢ Refused Memory) }
         ensures unchanged { OnErr result (pass.new ≡ pass.old) }
     {
-        self.call(rt, pass, Call::Grow { u, position, kind }, Brought::Nothing)
+        let growth = Call::Grow { u, position, kind };
+        self.call(rt, pass, growth, RouteSource::Search)
     }
 
     /// One call under the lock. The place of its receipt is taken first.
@@ -214,7 +223,7 @@ impl<F: PriceFn, K: ServiceBrand<F>, W: VersionWriter<F, K>> ServiceOver<F, K, W
         rt: &R,
         pass: &mut PassOver<F, K, G>,
         call: Call,
-        brought: Brought<'a, F, K>,
+        source: RouteSource<'a, FoundRoute<F, K>>,
     ) -> Result<Reply, AllocError>
         ensures number { pass.new.number ≡ pass.old.number }
         ensures receipt { IfOk result (λ reply. pass.new.receipts ≡ pass.old.receipts ++ receipt_of call reply ∷ []) }
@@ -225,15 +234,16 @@ impl<F: PriceFn, K: ServiceBrand<F>, W: VersionWriter<F, K>> ServiceOver<F, K, W
         ensures no_memory { IfOk result (λ reply. reply ≢ Refused Memory) }
         ensures unchanged { OnErr result (pass.new ≡ pass.old) }
     {
+        // For the proof: what the type keeps.
         pass.seen();
         pass.receipts.reserve(1)?;
-        let is_found = matches!(brought, Brought::Found(_));
+        let is_found = matches!(source, RouteSource::Found(_));
         let mut guard = self.state.lock(rt);
         let state = &mut *guard;
         if !pass.prefix.is_prefix_of(state.prefix()) {
             wait_forever(rt);
         }
-        let made = state.call(rt, self.alloc, &mut pass.share, pass.number, call, brought);
+        let made = state.call(rt, self.alloc, &mut pass.share, pass.number, call, source);
         let ReplyPair { reply, receipt } = made?;
         pass.lookahead.note(is_found, state.was_known());
         pass.receipts.push_reserved(Receipt {

@@ -1,13 +1,13 @@
 //! The parts of the ledger that were not given out.
-ghost use Rattle.std.specs.Prelude.{◌≡◌, ◌+◌, ◌<◌, IfSome};
 
+ghost use Rattle.std.specs.Prelude.{◌≡◌, ◌+◌, IfSome};
+ghost use Rattle.topo_service.specs.declared.service.TheConstants.{MAX_PASSES};
+
+use crate::service::MAX_PASSES;
 use std::marker::Model;
 use std::sync::Mutex;
 use std::sync::ledger::Share;
 use topo_versions::LogBrand;
-
-/// A service has at most so many passes.
-pub const MAX_PASSES: u32 = 16;
 
 /// What is left, and how many parts were given out.
 #[derive(Drop)]
@@ -18,18 +18,19 @@ struct Rest<K: LogBrand> {
 
 impl<K: LogBrand> Model for Rest<K> {
     ghost use Rattle.std.specs.Prelude.{◌≡◌, ◌+◌, ℕ};
+    ghost use Rattle.topo_service.specs.declared.service.TheConstants.{MAX_PASSES};
 
     ghost Value = { ℕ };
 
     ghost view = { λ r. r.given };
 
-    ghost invariant = { λ r. (r.share.parts + r.given ≡ 16) × (r.share.amount ≡ 0) };
+    ghost invariant = { λ r. (r.share.parts + r.given ≡ MAX_PASSES) × (r.share.amount ≡ 0) };
 }
 
 impl<K: LogBrand> Rest<K> {
     /// None was given out.
     fn new(share: Share<K>) -> Rest<K>
-        requires { (share.parts ≡ 16) × (share.amount ≡ 0) }
+        requires { (share.parts ≡ MAX_PASSES) × (share.amount ≡ 0) }
         ensures { result ≡ 0 }
     {
         Rest { share, given: 0 }
@@ -48,7 +49,7 @@ impl<K: LogBrand> Rest<K> {
 
     /// How many were given out, and what is left.
     fn into_parts(self) -> (u32, Share<K>)
-        ensures { (result.1.parts + result.0 ≡ 16) × (result.1.amount ≡ 0) }
+        ensures { (result.1.parts + result.0 ≡ MAX_PASSES) × (result.1.amount ≡ 0) }
     {
         let Rest { share, given } = self;
         (given, share)
@@ -66,7 +67,7 @@ pub struct SharePool<K: LogBrand> {
 impl<K: LogBrand> SharePool<K> {
     /// None was given out.
     pub fn new(share: Share<K>) -> SharePool<K>
-        requires { (share.parts ≡ 16) × (share.amount ≡ 0) }
+        requires { (share.parts ≡ MAX_PASSES) × (share.amount ≡ 0) }
     {
         SharePool {
             rest: Mutex::new(Rest::new(share)),
@@ -82,7 +83,7 @@ impl<K: LogBrand> SharePool<K> {
 
     /// How many were given out, and all that is left.
     pub fn into_parts(self) -> (u32, Share<K>)
-        ensures { (result.1.parts + result.0 ≡ 16) × (result.1.amount ≡ 0) }
+        ensures { (result.1.parts + result.0 ≡ MAX_PASSES) × (result.1.amount ≡ 0) }
     {
         let SharePool { rest } = self;
         rest.into_inner().into_parts()

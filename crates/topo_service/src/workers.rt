@@ -8,13 +8,13 @@ ghost use Rattle.topo_service.specs.Passes.{PassState, receipt_of};
 ghost use Rattle.topo_versions.specs.Names.{prices_named};
 ghost use Rattle.topo_versions.specs.Versions.{AreLegal};
 
-use crate::found::Brought;
 use crate::pass::PassOver;
 use crate::service::ServiceOver;
 use std::alloc::{AllocError, Global};
 use std::sync::Wait;
 use std::thread;
 use std::thread::Threads;
+use topo_book::RouteSource;
 use topo_core::calls::{Command, Reply};
 use topo_price::tariff::PriceFn;
 use topo_versions::{ServiceBrand, VersionReader, VersionWriter};
@@ -84,7 +84,7 @@ fn carry_out<
     ensures unchanged { OnErr result (pass.new.receipts ≡ pass.old.receipts) }
 {
     match command {
-        Command::Plain(call) => service.call(rt, pass, call, Brought::Nothing),
+        Command::Plain(call) => service.call(rt, pass, call, RouteSource::Search),
         Command::Planned { u, v, kind } => {
             if pass.looks_ahead() {
                 return insert_ahead(rt, alloc, service, pass, u, v, kind);
@@ -157,6 +157,7 @@ fn run_each<
             ensures legal { AreLegal (prices_named F.may_return K.closure) K.start pass.exit.now.seen }
         {
             work(rt, alloc, service, pass, i, lists[i].as_slice(), gate);
+            // For the proof: what the type keeps.
             pass.seen();
         },
     );

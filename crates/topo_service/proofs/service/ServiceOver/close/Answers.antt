@@ -2,6 +2,7 @@ use Rattle.std.proofs.Common.{◌≡◌, ◌≤◌, ◌<◌, ◌+◌, ℕ, lengt
 use Rattle.std.specs.Prelude.{vec_len}
 use Rattle.topo_core.specs.declared.calls.Entry.{Entry}
 use Rattle.topo_core.specs.History.{IsPrefix, versions}
+use Rattle.topo_service.specs.declared.service.TheConstants.{MAX_PASSES}
 use Rattle.topo_service.specs.Passes.{PassState}
 use Rattle.topo_service.specs.Receipts.{AllAgree, AreFirst, AreWhole, HasNumber, receipt_count}
 use Rattle.topo_service.proofs.Matching.{first_agree}
@@ -12,11 +13,11 @@ use Rattle.topo_service.proofs.service.ServiceOver.close.Goals as goal
 pub audit-requires : goal.audit-requires
 audit-requires g c =
     let given = c.self.inside.given in
-    let sum : c.into_parts-parts.result.1.parts + given ≡ 16 = search rules in
+    let sum : c.into_parts-parts.result.1.parts + given ≡ MAX_PASSES = search rules in
     let s = c.gather-all.ensures in
     let there : (n : ℕ) → n < given → HasNumber n c.args.passes.items = rw (← c.as_slice.ensures.value) c.in_default.ensures.all_there in
     let len : vec_len c.args.passes ≡ length c.args.passes.items = search rules in
-    (all_parts c.into_parts-parts.result.1.parts given _ _ _ sum c.self.invariant.1 s.parts s.apart (rw len (enough given c.args.passes.items there))).0
+    (all_parts MAX_PASSES c.into_parts-parts.result.1.parts given _ _ _ sum c.self.invariant.1 s.parts s.apart (rw len (enough given c.args.passes.items there))).0
 
 pub returns-clause-all_there : goal.returns-clause-all_there
 returns-clause-all_there g c = rw (← c.self.view_is, ← c.as_slice.ensures.value) c.in_default.ensures.all_there
@@ -34,12 +35,12 @@ returns-clause-whole g c =
     let history = c.into_inner-state.result.history in
     let passes : List PassState = c.args.passes.items in
     let rest = c.into_parts-parts.result.1 in
-    let sum : rest.parts + given ≡ 16 = search rules in
+    let sum : rest.parts + given ≡ MAX_PASSES = search rules in
     let none : rest.amount ≡ 0 = search rules in
     let s = c.gather-all.ensures in
     let there : (n : ℕ) → n < given → HasNumber n passes = rw (← c.as_slice.ensures.value) c.in_default.ensures.all_there in
     let len : vec_len c.args.passes ≡ length passes = search rules in
-    let few : vec_len c.args.passes ≤ given = (all_parts rest.parts given _ _ _ sum c.self.invariant.1 s.parts s.apart (rw len (enough given passes there))).1 in
+    let few : vec_len c.args.passes ≤ given = (all_parts MAX_PASSES rest.parts given _ _ _ sum c.self.invariant.1 s.parts s.apart (rw len (enough given passes there))).1 in
     let firsts : All (λ (p : PassState). AreFirst history p.number p.receipts) passes = rw (← c.as_slice.ensures.value, ← c.history.ensures) c.in_default.ensures.agree in
     let count : length history ≡ receipt_count passes =
     omega (arith, ap (λ b. length b.history) c.audit.ensures.same, c.audit.ensures.counted, s.amount, none) in
