@@ -23,9 +23,9 @@ use Rattle.topo_core.proofs.Renumbering.{darts_connected, numbers_connected}
 use Rattle.topo_perm.specs.Cuts.{IsElsewhere}
 use Rattle.topo_perm.specs.Edits.{IsApart}
 use Rattle.topo_perm.specs.Joins.{IsConnectedAmong}
-use Rattle.topo_perm.proofs.Collapses.{Collapses, collapsed_back, collapsed_connected, collapsed_faces}
+use Rattle.topo_perm.proofs.Smoothings.{SmoothsTo, smoothed_out_back, smoothed_connected, smoothed_faces}
 use Rattle.topo_perm.proofs.Faces.{twin-twin}
-use Rattle.topo_perm.proofs.Stages.{HaveTwoFaces, IsOpening, Stage, left_after, parted, put_back, stage}
+use Rattle.topo_perm.proofs.DeletionSteps.{HaveTwoFaces, IsOpening, DeletionStep, left_after, parted, put_back, deletion_step}
 use Rattle.topo_perm.proofs.Walks.{face_next-permutation, twin-within}
 use Rattle.topo_changes.proofs.DeletedOpening.{back_alone, left_dart, count, faces_shut, first_half, forward_alone, is_opening, left_turn, off_left, off_segment, opened_by, other_half, segment_in, turns_on}
 use Rattle.topo_changes.proofs.InsertedNumbers.{number_less}
@@ -47,7 +47,7 @@ pub record EndFacts (q : Rows) (e : ℕ) (row : EdgeRow) (p : Rows) : Type 0 whe
 
 module _ (q : Rows) (e : ℕ) (row : EdgeRow) (good : IsWellFormed q) (known : edge_row q e ≡ Some row) (p : Rows) (good_p : IsWellFormed p) (hides : HidesTurns q e p) (ends : EndFacts q e row p)
     (connected : Connected (system q)) (genus : cycle_count (map_of (turn_images q)) (length (turn_images q)) + cycle_count (face_next (map_of (turn_images q))) (length (turn_images q)) ≡ length (turn_images q) / 2 + 2)
-    (name onto : ℕ → ℕ) (c : Collapses (opened_by q e row good known p hides (count q e row good known p hides)) (length (turn_images q)) (left_after (first_half q e row good known p hides) (count q e row good known p hides)) (map_of (turn_images p)) (length (turn_images p)) name onto) where
+    (name onto : ℕ → ℕ) (c : SmoothsTo (opened_by q e row good known p hides (count q e row good known p hides)) (length (turn_images q)) (left_after (first_half q e row good known p hides) (count q e row good known p hides)) (map_of (turn_images p)) (length (turn_images p)) name onto) where
   abbrev final : ℕ
   final = length (edge_at q e).crossings
 
@@ -122,7 +122,7 @@ module _ (q : Rows) (e : ℕ) (row : EdgeRow) (good : IsWellFormed q) (known : e
   pub whole : ((i : ℕ) → i ≤ final → HasOneFace q e i → ⊥) → Whole
   whole none =
       let two : HaveTwoFaces at half (final + 1) = λ j lj s. none j (let k = lj in omega arith) (has_one_face j (let k = lj in omega arith) s) in
-      let st : Stage at size half (final + 1) = stage at size half (final + 1) o (final + 1) (omega arith) two in
+      let st : DeletionStep at size half (final + 1) = deletion_step at size half (final + 1) o (final + 1) (omega arith) two in
       let others : (v : ℕ) → v < length q.rotations → rotation q v ≢ e ∷ [] = λ v lv w. elim (ends.only v lv w).0 [
         | inl same ↦ none 0 (omega arith) (only_first v lv w same)
         | inr same ↦ none final (omega arith) (only_last v lv w same)
@@ -130,9 +130,9 @@ module _ (q : Rows) (e : ℕ) (row : EdgeRow) (good : IsWellFormed q) (known : e
       record {
         connected_without = record {
           no_bare_point = bare_points p ∙ ends.full_without full others;
-          joined = darts_connected p good_p.paths good_p.crossings good_p.rotations (collapsed_connected c st.connected);
+          joined = darts_connected p good_p.paths good_p.crossings good_p.rotations (smoothed_connected c st.connected);
         };
-        faces = (let below = collapsed_faces c in
+        faces = (let below = smoothed_faces c in
             let shut = faces_shut q e row good known p hides in let f = st.faces in omega arith);
       }
 
@@ -153,7 +153,7 @@ module _ (q : Rows) (e : ℕ) (row : EdgeRow) (good : IsWellFormed q) (known : e
 
   one_face_parts : (i : ℕ) → i ≤ final → HasOneFace q e i → ((j : ℕ) → j < i → HasOneFace q e j → ⊥) → IsBareOrParted i
   one_face_parts i hi one before =
-      let st : Stage at size half i = stage at size half (final + 1) o i (omega (arith, hi)) (λ j lj s. before j lj (has_one_face j (omega (arith, hi, lj)) s)) in
+      let st : DeletionStep at size half i = deletion_step at size half (final + 1) o i (omega (arith, hi)) (λ j lj s. before j lj (has_one_face j (omega (arith, hi, lj)) s)) in
       elim (turns_on q e row good known p hides i Forward hi) [
         | inr alone ↦
             let zero_is : i ≡ 0 = forward_alone q e row good known p hides i hi alone in
@@ -217,7 +217,7 @@ module _ (q : Rows) (e : ℕ) (row : EdgeRow) (good : IsWellFormed q) (known : e
   falls_apart : (i : ℕ) → i ≤ final → IsBareOrParted i → Connected (system p) → ⊥
   falls_apart i hi (inl (v, lv, only, out)) whole_p = false≢true (sym whole_p.no_bare_point ∙ bare_points p ∙ ends.bare_without v lv only)
   falls_apart i hi (inr (b, d, hb, nb, hd, nd, parts)) whole_p =
-      let above : IsConnectedAmong (left_after half (final + 1)) (at (final + 1)) size = collapsed_back c
+      let above : IsConnectedAmong (left_after half (final + 1)) (at (final + 1)) size = smoothed_out_back c
       (numbers_connected p good_p.paths good_p.crossings good_p.rotations whole_p.joined) in
       let all : final + 1 ≤ final + 1 = omega arith in
       let joined : Joined (at (final + 1)) twin (index_of q b) (index_of q d) = above (index_of q b) (index_of q d) (number_less q good b hb) (number_less q good d hd)
@@ -228,7 +228,7 @@ module _ (q : Rows) (e : ℕ) (row : EdgeRow) (good : IsWellFormed q) (known : e
   -- before that it is whole
   whole_before : (i : ℕ) → i ≤ final → ((j : ℕ) → j < i → HasOneFace q e j → ⊥) → (j : ℕ) → j < i → Connected (opened q e (j + 1))
   whole_before i hi before j lj =
-      let st : Stage at size half (j + 1) = stage at size half (final + 1) o (j + 1) (omega (arith, hi, lj)) (λ k lk s. before k (omega (arith, lj, lk)) (has_one_face k (omega (arith, hi, lj, lk)) s)) in
+      let st : DeletionStep at size half (j + 1) = deletion_step at size half (final + 1) o (j + 1) (omega (arith, hi, lj)) (λ k lk s. before k (omega (arith, lj, lk)) (has_one_face k (omega (arith, hi, lj, lk)) s)) in
       record {
         no_bare_point = (bares q good.crossings good.rotations e (j + 1)).kept full (λ v lv only. elim (ends.only v lv only).0 [
           | inl same ↦ absurd (before 0 (omega (arith, lj)) (only_first v lv only same))

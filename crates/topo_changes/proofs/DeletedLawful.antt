@@ -17,13 +17,13 @@ use Rattle.topo_core.specs.Insertions.{lifted}
 use Rattle.topo_core.proofs.SystemDarts.{edge_at_row, path_facts, row_in}
 use Rattle.topo_core.proofs.WithoutForm.{without_well_formed}
 use Rattle.topo_core.proofs.WithoutTurns.{hides_turns}
-use Rattle.topo_perm.proofs.Collapses.{Collapses}
-use Rattle.topo_perm.proofs.Stages.{left_after}
+use Rattle.topo_perm.proofs.Smoothings.{SmoothsTo}
+use Rattle.topo_perm.proofs.DeletionSteps.{left_after}
 use Rattle.topo_changes.proofs.AlonePoints.{end_there, only_edge, only_ends, only_turn}
-use Rattle.topo_changes.proofs.DeletedCollapse.{collapse}
+use Rattle.topo_changes.proofs.DeletedSmoothing.{smoothing}
 use Rattle.topo_changes.proofs.DeletedCuts.{EndFacts, Whole, local_or_none, local_cut_is_cut, whole}
 use Rattle.topo_changes.proofs.DeletedOpening.{count, first_half, opened_by, slab_all}
-use Rattle.topo_changes.proofs.DeletedSegments.{collapsed}
+use Rattle.topo_changes.proofs.DeletedSegments.{smoothed_dart}
 use Rattle.topo_changes.proofs.InsertedNumbers.{dart_of}
 use Rattle.topo_changes.proofs.PointCycles.{points_are_cycles}
 use Rattle.topo_changes.proofs.Totals.{segments_total}
@@ -80,19 +80,19 @@ module _ (rows : Rows) (good : IsWellFormed rows) (e : ℕ) (row : EdgeRow) (kno
     name a = index_of rows (lifted (without rows e) rows (dart_of (without rows e) good_p a))
 
     abbrev onto : ℕ → ℕ
-    onto b = index_of (without rows e) (collapsed rows (without rows e) (dart_of rows good b))
+    onto b = index_of (without rows e) (smoothed_dart rows (without rows e) (dart_of rows good b))
 
-    collapses : Collapses (opened_by rows e row good known (without rows e) hides (count rows e row good known (without rows e) hides)) (length (turn_images rows)) (left_after (first_half rows e row good known (without rows e) hides) (count rows e row good known (without rows e) hides)) (map_of (turn_images (without rows e))) (length (turn_images (without rows e))) name onto
-    collapses = collapse rows e (without rows e) good good_p there hides (slab_all rows e row good known (without rows e) hides)
+    is_smoothed : SmoothsTo (opened_by rows e row good known (without rows e) hides (count rows e row good known (without rows e) hides)) (length (turn_images rows)) (left_after (first_half rows e row good known (without rows e) hides) (count rows e row good known (without rows e) hides)) (map_of (turn_images (without rows e))) (length (turn_images (without rows e))) name onto
+    is_smoothed = smoothing rows e (without rows e) good good_p there hides (slab_all rows e row good known (without rows e) hides)
 
     -- the cut by faces is the cut by connectedness
     pub cut_by_faces : (i : ℕ) → IsLocalCut rows e i → IsCut rows e i
-    cut_by_faces i cut = local_cut_is_cut rows e row good known (without rows e) good_p hides ends connected genus name onto collapses i (λ w. w) cut
+    cut_by_faces i cut = local_cut_is_cut rows e row good known (without rows e) good_p hides ends connected genus name onto is_smoothed i (λ w. w) cut
 
     -- without such a cut the picture without the edge is lawful, and there is no cut at all
     pub whole_without : rows.next_crossing ≤ 4294967296 → ((i : ℕ) → i ≤ length (edge_at rows e).crossings → HasOneFace rows e i → ⊥) → Lawful (without rows e)
     whole_without small none =
-        let w : Whole rows e row good known (without rows e) good_p hides ends connected genus name onto collapses = whole rows e row good known (without rows e) good_p hides ends connected genus name onto collapses none in
+        let w : Whole rows e row good known (without rows e) good_p hides ends connected genus name onto is_smoothed = whole rows e row good known (without rows e) good_p hides ends connected genus name onto is_smoothed none in
         let before : sum_by segment_count rows.edges ≡ length rows.edges + 2 * length rows.crossings = segments_total rows good small in
         let after : sum_by segment_count (without rows e).edges ≡ length (without rows e).edges + 2 * length (without rows e).crossings = segments_total (without rows e) good_p small in
         let edges = edges_without rows good e row known in
@@ -100,7 +100,7 @@ module _ (rows : Rows) (good : IsWellFormed rows) (e : ℕ) (row : EdgeRow) (kno
         grind (arith, vertices_without, edge_at_row, good_p)
 
     pub no_cut : ((i : ℕ) → i ≤ length (edge_at rows e).crossings → HasOneFace rows e i → ⊥) → (i : ℕ) → IsCut rows e i → ⊥
-    no_cut none i cut = cut.falls_apart (whole rows e row good known (without rows e) good_p hides ends connected genus name onto collapses none).connected_without
+    no_cut none i cut = cut.falls_apart (whole rows e row good known (without rows e) good_p hides ends connected genus name onto is_smoothed none).connected_without
 
     -- the first segment without which it falls apart is determined
     one_cut : (i j : ℕ) → IsCut rows e i → IsCut rows e j → i ≡ j
@@ -118,7 +118,7 @@ module _ (rows : Rows) (good : IsWellFormed rows) (e : ℕ) (row : EdgeRow) (kno
       less_or_more (suc i) (suc j) ne = elim (less_or_more i j (λ w. ne (ap suc w))) [ inl l ↦ inl (omega (arith, l)) | inr l ↦ inr (omega (arith, l)) ]
 
     pub cut_is_by_faces : (i : ℕ) → IsCut rows e i → IsLocalCut rows e i
-    cut_is_by_faces i cut = elim (local_or_none rows e row good known (without rows e) good_p hides ends connected genus name onto collapses) [
+    cut_is_by_faces i cut = elim (local_or_none rows e row good known (without rows e) good_p hides ends connected genus name onto is_smoothed) [
       | inl w ↦ subst (IsLocalCut rows e) (one_cut w.0 i (cut_by_faces w.0 w.1) cut) w.1
       | inr none ↦ absurd (no_cut none i cut)
     ]

@@ -28,7 +28,7 @@ use Rattle.topo_perm.specs.Live.{IsSlab}
 use Rattle.topo_perm.proofs.Connecting.{walked_by}
 use Rattle.topo_perm.proofs.Faces.{twin-other}
 use Rattle.topo_perm.proofs.Points.{cycle_count-same}
-use Rattle.topo_perm.proofs.Stages.{IsOpening, left_after, left_of, left_twin, out_of}
+use Rattle.topo_perm.proofs.DeletionSteps.{IsOpening, left_after, left_of, left_twin, out_of}
 use Rattle.topo_perm.proofs.Walks.{Joined-refl, Joined-turned, face_next-permutation, twin-within}
 use Rattle.topo_changes.proofs.InsertedNumbers.{even_count, number_less, segment_apart, turn_number}
 

@@ -66,8 +66,8 @@ abbrev pub segment_over : Rows → Rows → ℕ → ℕ → ℕ
 segment_over q p c k = count_below (λ i. nat_lt (stands_in q p c i) k) (length (edge_at p c).crossings)
 
 -- the dart of p that a dart of q is a part of, where q has more crossings on its edges
-abbrev pub collapsed : Rows → Rows → Dart → Dart
-collapsed q p d = record { edge = d.edge; seg = segment_over q p d.edge d.seg; way = d.way }
+abbrev pub smoothed_dart : Rows → Rows → Dart → Dart
+smoothed_dart q p d = record { edge = d.edge; seg = segment_over q p d.edge d.seg; way = d.way }
 
 module _ (q : Rows) (e : ℕ) (p : Rows) (hp : IsWellFormed p) (s : HidesTurns q e p) where
   abbrev pub Was : Dart → Type 0
@@ -122,30 +122,30 @@ module _ (q : Rows) (e : ℕ) (p : Rows) (hp : IsWellFormed p) (s : HidesTurns q
       let at : ends c k ≡ stands c k = ends_at c k (omega arith) in
       let high : stands c k ≤ stands c i = stands_ordered c there k i more less in not_less (stands c i) z (omega arith))
 
-  -- ---- Collapsed darts
+  -- ---- Smoothed darts
 
-  pub collapsed_lifted : (d : Dart) → Was d → collapsed q p (lifted p q d) ≡ d
-  collapsed_lifted d was = by_way d.edge d.seg d.way (edge_of_dart p hp d was) (segment_of_dart p hp d was) where
-    by_way : (c k : ℕ) (w : Way) → is_some (edge_row p c) ≡ true → k ≤ length (path c) → collapsed q p (lifted p q (record { edge = c; seg = k; way = w })) ≡ record { edge = c; seg = k; way = w }
-    by_way c k Forward there inside = ap (collapsed q p) (lifted_forward p q c k) ∙ ap (forward c) (over c k (begins c k) there inside (omega arith) (span c k there inside).0)
-    by_way c k Back there inside = ap (collapsed q p) (lifted_back p q c k) ∙ ap (back c) (over c k (ends c k) there inside (span c k there inside).0 (omega arith))
+  pub smoothed_lifted : (d : Dart) → Was d → smoothed_dart q p (lifted p q d) ≡ d
+  smoothed_lifted d was = by_way d.edge d.seg d.way (edge_of_dart p hp d was) (segment_of_dart p hp d was) where
+    by_way : (c k : ℕ) (w : Way) → is_some (edge_row p c) ≡ true → k ≤ length (path c) → smoothed_dart q p (lifted p q (record { edge = c; seg = k; way = w })) ≡ record { edge = c; seg = k; way = w }
+    by_way c k Forward there inside = ap (smoothed_dart q p) (lifted_forward p q c k) ∙ ap (forward c) (over c k (begins c k) there inside (omega arith) (span c k there inside).0)
+    by_way c k Back there inside = ap (smoothed_dart q p) (lifted_back p q c k) ∙ ap (back c) (over c k (ends c k) there inside (span c k there inside).0 (omega arith))
 
-  collapsed_at : (c k i : ℕ) (w : Way) → is_some (edge_row p c) ≡ true → k ≤ length (path c) → IsIn i (crossings_between q e c k) → collapsed q p (onward_by q i c w) ≡ record { edge = c; seg = k; way = w }
-  collapsed_at c k i Forward there inside between =
+  smoothed_at : (c k i : ℕ) (w : Way) → is_some (edge_row p c) ≡ true → k ≤ length (path c) → IsIn i (crossings_between q e c k) → smoothed_dart q p (onward_by q i c w) ≡ record { edge = c; seg = k; way = w }
+  smoothed_at c k i Forward there inside between =
       let (from, to) : (begins c k ≤ place_on q c i) × (place_on q c i + 1 ≤ ends c k) = (span c k there inside).1 i between in
       ap (forward c) (over c k (place_on q c i + 1) there inside (omega arith) to)
-  collapsed_at c k i Back there inside between =
+  smoothed_at c k i Back there inside between =
       let (from, to) : (begins c k ≤ place_on q c i) × (place_on q c i + 1 ≤ ends c k) = (span c k there inside).1 i between in
       ap (back c) (over c k (place_on q c i) there inside from (omega arith))
 
   -- a dart at a crossing gone from the segment of d
-  pub collapsed_onward : (d : Dart) (i : ℕ) → Was d → IsIn i (crossings_between q e d.edge d.seg) → collapsed q p (onward_by q i d.edge d.way) ≡ d
-  collapsed_onward d i was between = collapsed_at d.edge d.seg i d.way (edge_of_dart p hp d was) (segment_of_dart p hp d was) between
+  pub smoothed_onward : (d : Dart) (i : ℕ) → Was d → IsIn i (crossings_between q e d.edge d.seg) → smoothed_dart q p (onward_by q i d.edge d.way) ≡ d
+  smoothed_onward d i was between = smoothed_at d.edge d.seg i d.way (edge_of_dart p hp d was) (segment_of_dart p hp d was) between
 
   -- the dart y of q is a part of the dart d of p: its first one, or one that starts at a crossing of e
   pub record IsPart (y d : Dart) : Type 0 where
     pub was : Was d
-    pub at : collapsed q p y ≡ d
+    pub at : smoothed_dart q p y ≡ d
     pub on : (y ≡ lifted p q d) ⊎ ((x : CrossRow) × IsCrossingOf q e d.edge x × IsIn x.id (crossings_between q e d.edge d.seg) × (y ≡ onward_by q x.id d.edge d.way))
 
   part_at : (c : ℕ) (x : CrossRow) (w : Way) (y : Dart) → IsCrossingOf q e c x → y ≡ onward_by q x.id c w → (d : Dart) × IsPart y d
@@ -156,7 +156,7 @@ module _ (q : Rows) (e : ℕ) (p : Rows) (hp : IsWellFormed p) (s : HidesTurns q
         record { edge = c; seg = k; way = w },
         record {
           was = dart_of_segment p hp c k w there inside;
-          at = ap (collapsed q p) at ∙ collapsed_at c k x.id w there inside between;
+          at = ap (smoothed_dart q p) at ∙ smoothed_at c k x.id w there inside between;
           on = inr (x, is, between, at);
         },
       )
@@ -166,7 +166,7 @@ module _ (q : Rows) (e : ℕ) (p : Rows) (hp : IsWellFormed p) (s : HidesTurns q
   part_of y here other = elim (s.no_others y here) [
     | inl on_e ↦ absurd (other on_e.0)
     | inr w ↦ elim w [
-      | inl v ↦ (v.0, record { was = v.1; at = ap (collapsed q p) v.2 ∙ collapsed_lifted v.0 v.1; on = inl v.2 })
+      | inl v ↦ (v.0, record { was = v.1; at = ap (smoothed_dart q p) v.2 ∙ smoothed_lifted v.0 v.1; on = inl v.2 })
       | inr v ↦ elim v.3 [
         | inl at ↦ part_at v.0 v.1 Forward y v.2 at
         | inr at ↦ part_at v.0 v.1 Back y v.2 at

@@ -19,11 +19,11 @@ use Rattle.topo_perm.specs.Runs.{Turning, IsRun}
 use Rattle.topo_perm.proofs.Composing.{slab_of_turn}
 use Rattle.topo_perm.proofs.DeletionNumbers.{AreMids, IsSmoothedUnder, opened_numbers, smoothed_numbers, smooths_of, unchords_of}
 use Rattle.topo_perm.proofs.Midpoints.{AreMidway}
-use Rattle.topo_perm.proofs.Stages.{IsOpening, left_after}
-use Rattle.topo_changes.proofs.DeletedCollapse.{IsAheadOfCrossing, midway_here, place}
+use Rattle.topo_perm.proofs.DeletionSteps.{IsOpening, left_after}
+use Rattle.topo_changes.proofs.DeletedSmoothing.{IsAheadOfCrossing, midway_here, place}
 use Rattle.topo_changes.proofs.DeletedLawful.{genus, good_p, hides, there}
 use Rattle.topo_changes.proofs.DeletedOpening.{count, first_half, is_opening, opened_by, permutes, shut, slab_all}
-use Rattle.topo_changes.proofs.DeletedSegments.{collapsed}
+use Rattle.topo_changes.proofs.DeletedSegments.{smoothed_dart}
 use Rattle.topo_changes.proofs.InsertedNumbers.{dart_of, even_count}
 
 module _ (rows : Rows) (good : IsWellFormed rows) (e : ℕ) (row : EdgeRow) (known : edge_row rows e ≡ Some row) (connected : Connected (system rows)) (zero_genus : HasGenusZero rows) where
@@ -55,7 +55,7 @@ module _ (rows : Rows) (good : IsWellFormed rows) (e : ℕ) (row : EdgeRow) (kno
   name a = index_of rows (lifted after rows (dart_of after (good_p rows good e row known) a))
 
   abbrev pub onto : ℕ → ℕ
-  onto b = index_of after (collapsed rows after (dart_of rows good b))
+  onto b = index_of after (smoothed_dart rows after (dart_of rows good b))
 
   -- the darts ahead of the edge's crossings
   abbrev pub Middle : ℕ → Type 0

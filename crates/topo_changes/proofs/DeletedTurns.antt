@@ -5,7 +5,7 @@ use Rattle.topo_core.specs.Rotations.{twin}
 use Rattle.topo_core.specs.Edits.{IsUnchord}
 use Rattle.topo_core.proofs.Members.{left_true, right_true}
 use Rattle.topo_perm.proofs.Faces.{twin-other}
-use Rattle.topo_perm.proofs.Stages.{left_after}
+use Rattle.topo_perm.proofs.DeletionSteps.{left_after}
 
 -- a dart that is left is on none of the segments
 pub left_away : (h : ℕ → ℕ) (i a : ℕ) → left_after h i a ≡ true → (j : ℕ) → j < i → (a ≢ h j) × (a ≢ twin (h j))

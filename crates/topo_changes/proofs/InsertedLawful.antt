@@ -27,10 +27,10 @@ use Rattle.topo_core.proofs.ShownTurns.{shows_turns}
 use Rattle.topo_core.proofs.SimpleRoutes.{simple_is_insertable}
 use Rattle.topo_core.proofs.SystemDarts.{vertex_in}
 use Rattle.topo_core.proofs.Turning.{IsDistinct, distinct_left}
-use Rattle.topo_perm.proofs.Links.{Link}
-use Rattle.topo_perm.proofs.Passages.{IsPassage}
+use Rattle.topo_perm.proofs.Chords.{NewChord}
+use Rattle.topo_perm.proofs.InsertionPaths.{IsInsertionPath}
 use Rattle.topo_perm.proofs.Passing.{Passed, passed}
-use Rattle.topo_changes.proofs.InsertedPassage.{IsPath, is_passage, links_of, name, path_bends, path_links, path_of}
+use Rattle.topo_changes.proofs.InsertedPath.{IsPath, is_insertion_path, new_chords_of, name, path_subdivisions, path_chords, path_of}
 use Rattle.topo_changes.proofs.Totals.{segments_total}
 use Rattle.topo_rows.proofs.Verdicts.{bare_points}
 
@@ -70,12 +70,12 @@ corners_apart rows good u v i j c d lu lv apart at_u at_v same =
 
 -- ---- The counts
 
-links_count : (p q : Rows) (f u v : ℕ) (r : Route) (hp : IsWellFormed p) (hq : IsWellFormed q) (s : ShowsTurns p f u v r q) (x z : ℕ) (ds : List Dart) (e : ℕ) → length (links_of p q f u v r hp hq s x z ds e) ≡ length ds + 1
-links_count p q f u v r hp hq s x z [] e = refl
-links_count p q f u v r hp hq s x z (d ∷ ds) e = omega (arith, links_count p q f u v r hp hq s (x + 1) (index_of q (backward q x d)) ds e)
+chords_count : (p q : Rows) (f u v : ℕ) (r : Route) (hp : IsWellFormed p) (hq : IsWellFormed q) (s : ShowsTurns p f u v r q) (x z : ℕ) (ds : List Dart) (e : ℕ) → length (new_chords_of p q f u v r hp hq s x z ds e) ≡ length ds + 1
+chords_count p q f u v r hp hq s x z [] e = refl
+chords_count p q f u v r hp hq s x z (d ∷ ds) e = omega (arith, chords_count p q f u v r hp hq s (x + 1) (index_of q (backward q x d)) ds e)
 
--- the new edge is a passage, from the corner of the dart `from` to that of the dart `to`
-pub record HasPassage (rows : Rows) (u v kind : ℕ) (r : Route) (good : IsWellFormed rows) : Type 0 where
+-- the new edge is an insertion path, from the corner of the dart `from` to that of the dart `to`
+pub record HasInsertionPath (rows : Rows) (u v kind : ℕ) (r : Route) (good : IsWellFormed rows) : Type 0 where
   pub form : IsWellFormed (shown rows u v kind r)
   pub turns : ShowsTurns rows rows.next_edge u v r (shown rows u v kind r)
   pub from : Dart
@@ -83,13 +83,13 @@ pub record HasPassage (rows : Rows) (u v kind : ℕ) (r : Route) (good : IsWellF
   pub starts : corner rows u r.start ≡ Some from
   pub ends : corner rows v r.end ≡ Some to
   pub path : IsPath rows (shown rows u v kind r) rows.next_edge u v r good form turns (lifted rows (shown rows u v kind r) from) (lifted rows (shown rows u v kind r) to)
-  pub passage : IsPassage (map_of (turn_images (shown rows u v kind r))) (length (turn_images (shown rows u v kind r))) (map_of (turn_images rows)) (length (turn_images rows))
+  pub insertion_path : IsInsertionPath (map_of (turn_images (shown rows u v kind r))) (length (turn_images (shown rows u v kind r))) (map_of (turn_images rows)) (length (turn_images rows))
       (name rows (shown rows u v kind r) rows.next_edge u v r good form turns) (index_of rows from)
-      (path_bends rows (shown rows u v kind r) rows.next_edge u v r good form turns (lifted rows (shown rows u v kind r) from) (lifted rows (shown rows u v kind r) to) path) (index_of rows to)
-      (path_links rows (shown rows u v kind r) rows.next_edge u v r good form turns (lifted rows (shown rows u v kind r) from) (lifted rows (shown rows u v kind r) to))
+      (path_subdivisions rows (shown rows u v kind r) rows.next_edge u v r good form turns (lifted rows (shown rows u v kind r) from) (lifted rows (shown rows u v kind r) to) path) (index_of rows to)
+      (path_chords rows (shown rows u v kind r) rows.next_edge u v r good form turns (lifted rows (shown rows u v kind r) from) (lifted rows (shown rows u v kind r) to))
 
-pub has_passage : (rows : Rows) (u v kind : ℕ) (r : Route) (good : IsWellFormed rows) → u < length rows.rotations → v < length rows.rotations → u ≢ v → kind < 64 → IsSimpleRoute rows u v r → HasPassage rows u v kind r good
-has_passage rows u v kind r good lu lv apart known simple =
+pub has_insertion_path : (rows : Rows) (u v kind : ℕ) (r : Route) (good : IsWellFormed rows) → u < length rows.rotations → v < length rows.rotations → u ≢ v → kind < 64 → IsSimpleRoute rows u v r → HasInsertionPath rows u v kind r good
+has_insertion_path rows u v kind r good lu lv apart known simple =
     let q : Rows = shown rows u v kind r in
     let may : IsInsertable rows u v kind r = simple_is_insertable rows u v kind r good lu lv apart known simple in
     let form : IsWellFormed q = shown_well_formed rows u v kind r good may in
@@ -108,7 +108,7 @@ has_passage rows u v kind r good lu lv apart known simple =
       starts = simple.route.starts;
       ends = simple.route.ends;
       path = path;
-      passage = is_passage rows q rows.next_edge u v r good form s (lifted rows q from) (lifted rows q to) path from to from_was to_was refl refl simple.route.walk simple.once;
+      insertion_path = is_insertion_path rows q rows.next_edge u v r good form s (lifted rows q from) (lifted rows q to) path from to from_was to_was refl refl simple.route.walk simple.once;
     }
 
 -- what is gained: as many points as crossings, and one face more than that
@@ -121,15 +121,15 @@ pub gains : (rows : Rows) (u v kind : ℕ) (r : Route) → IsWellFormed rows →
 gains rows u v kind r good lu lv apart known simple =
     let q : Rows = shown rows u v kind r in
     let may : IsInsertable rows u v kind r = simple_is_insertable rows u v kind r good lu lv apart known simple in
-    let h : HasPassage rows u v kind r good = has_passage rows u v kind r good lu lv apart known simple in
+    let h : HasInsertionPath rows u v kind r good = has_insertion_path rows u v kind r good lu lv apart known simple in
     let z : Dart = lifted rows q h.from in
     let e : Dart = lifted rows q h.to in
-    let links : List Link = path_links rows q rows.next_edge u v r good h.form h.turns z e in
-    let done : Passed (map_of (turn_images q)) (length (turn_images q)) (map_of (turn_images rows)) (length (turn_images rows)) links = passed (map_of (turn_images q)) (length (turn_images q)) (map_of (turn_images rows)) (length (turn_images rows))
-    (name rows q rows.next_edge u v r good h.form h.turns) (index_of rows h.from) (path_bends rows q rows.next_edge u v r good h.form h.turns z e h.path) (index_of rows h.to) links h.passage in
+    let new_chords : List NewChord = path_chords rows q rows.next_edge u v r good h.form h.turns z e in
+    let done : Passed (map_of (turn_images q)) (length (turn_images q)) (map_of (turn_images rows)) (length (turn_images rows)) new_chords = passed (map_of (turn_images q)) (length (turn_images q)) (map_of (turn_images rows)) (length (turn_images rows))
+    (name rows q rows.next_edge u v r good h.form h.turns) (index_of rows h.from) (path_subdivisions rows q rows.next_edge u v r good h.form h.turns z e h.path) (index_of rows h.to) new_chords h.insertion_path in
     record {
       form = h.form;
-      faces = done.faces ∙ ap (λ (k : ℕ). face_count rows + k) (links_count rows q rows.next_edge u v r good h.form h.turns rows.next_crossing (index_of q z) r.crossed (index_of q e));
+      faces = done.faces ∙ ap (λ (k : ℕ). face_count rows + k) (chords_count rows q rows.next_edge u v r good h.form h.turns rows.next_crossing (index_of q z) r.crossed (index_of q e));
       connected = λ c. record {
         no_bare_point = bare_points q ∙ shown_not_bare rows u v kind r may (sym (bare_points rows) ∙ c.no_bare_point);
         joined = darts_connected q h.form.paths h.form.crossings h.form.rotations (done.connected (numbers_connected rows good.paths good.crossings good.rotations c.joined));

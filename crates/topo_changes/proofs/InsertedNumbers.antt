@@ -1,4 +1,4 @@
--- Darts before and after an insertion as numbers: the new edge is a passage through the old system.
+-- Darts before and after an insertion as numbers: the new edge is an insertion path through the old system.
 use Rattle.std.proofs.Common.{◌≡◌, ◌≢◌, ℕ, ◌%◌, ◌<◌, true, length, sym, ◌∙◌, ap, subst}
 use Rattle.std.specs.Prelude.{Option, Some, slice_get, unwrap_or}
 use Rattle.topo_core.specs.declared.darts.Dart.{Dart}

@@ -9,7 +9,7 @@ pub mod Keeping
 pub mod Inserting
 pub mod Totals
 pub mod InsertedNumbers
-pub mod InsertedPassage
+pub mod InsertedPath
 pub mod InsertedLawful
 pub mod InsertedSlab
 pub mod GrownSlab
@@ -18,12 +18,12 @@ pub mod WithoutCounts
 pub mod PointCycles
 pub mod DeletedTurns
 pub mod DeletedSegments
-pub mod DeletedCollapse
+pub mod DeletedSmoothing
 pub mod DeletedOpening
 pub mod DeletedCuts
 pub mod DeletedLawful
 pub mod DeletedSlab
 pub mod DeletedMids
-pub mod DeletedStages
+pub mod DeletedSteps
 pub mod Skipping
 pub mod OpenedFaces

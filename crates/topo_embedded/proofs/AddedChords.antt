@@ -14,12 +14,12 @@ use Rattle.topo_core.specs.Picture.{darts, index_of}
 use Rattle.topo_core.specs.Rotations.{twin}
 use Rattle.topo_core.specs.Systems.{has_dart}
 use Rattle.topo_core.proofs.Numbering.{index_apart, index_twin, twin_in}
-use Rattle.topo_perm.proofs.PassageNumbers.{bent_number}
-use Rattle.topo_perm.proofs.Passages.{AreAlong}
+use Rattle.topo_perm.proofs.InsertionPathNumbers.{subdivided_number}
+use Rattle.topo_perm.proofs.InsertionPaths.{AreAlong}
 use Rattle.topo_map.specs.Rotation.{AddsLabel, Grows, IsEmbedding, Rotation, edge_of, half_limit, is_live, turn, turning_of}
 use Rattle.topo_map.proofs.EditSteps.{chord_step}
 use Rattle.topo_embedded.specs.declared.padding.Crossed.{Crossed}
-use Rattle.topo_embedded.specs.Crossing.{AreChordsAdded, AreChordsAddedFrom, AreSplit, HaveLabel, IsMarked, bends_of, bent_half}
+use Rattle.topo_embedded.specs.Crossing.{AreChordsAdded, AreChordsAddedFrom, AreSplit, HaveLabel, IsMarked, subdivisions_of, subdivided_half}
 use Rattle.topo_embedded.specs.Halves.{RowsWithPaths, ShowsRows, half_at, half_in}
 use Rattle.topo_embedded.proofs.Apart.{halves_apart, twin_in_path}
 use Rattle.topo_embedded.proofs.InsertedLabels.{label_kept, label_new, labels_kept}
@@ -39,8 +39,8 @@ module _ (before now now' : Rotation) (cs : List Crossed) (end edge : ℕ) (line
       record {
         within = omega (arith, less);
         many = length-set line (n + 1) x ∙ from.many;
-        links = record { from = twin c.near; to = to; half = x } ∷ from.links;
-        along = λ rows name e z y is. subst (λ (rest : List Crossed). AreAlong name z (bends_of rows rest) e (record { from = z; to = c.beyond; half = y } ∷ record { from = twin c.near; to = to; half = x } ∷ from.links)) (sym dropped)
+        new_chords = record { from = twin c.near; to = to; half = x } ∷ from.new_chords;
+        along = λ rows name e z y is. subst (λ (rest : List Crossed). AreAlong name z (subdivisions_of rows rest) e (record { from = z; to = c.beyond; half = y } ∷ record { from = twin c.near; to = to; half = x } ∷ from.new_chords)) (sym dropped)
             (refl, refl, from.along rows name e (twin c.near) x is);
         run = (turning_of now, from.run, chord_step now now' (twin c.near) to x from.whole (from.stays (twin c.near) near_alive) from.to_alive edit grows);
         whole = grows.embedding;
@@ -59,8 +59,8 @@ module _ (before now now' : Rotation) (cs : List Crossed) (end edge : ℕ) (line
       let written : set line 0 x ≡ x ∷ drop 1 line = drop-set line 0 x inside in
       let first : n + 1 ≡ 1 = omega (arith, none) in
       record {
-        links = record { from = start; to = to; half = x } ∷ from.links;
-        along = λ rows name e is. subst (λ (k : ℕ). AreAlong name start (bends_of rows (drop k cs)) e (record { from = start; to = to; half = x } ∷ from.links)) none (from.along rows name e start x is);
+        new_chords = record { from = start; to = to; half = x } ∷ from.new_chords;
+        along = λ rows name e is. subst (λ (k : ℕ). AreAlong name start (subdivisions_of rows (drop k cs)) e (record { from = start; to = to; half = x } ∷ from.new_chords)) none (from.along rows name e start x is);
         run = (turning_of now, from.run, chord_step now now' start to x from.whole (from.stays start start_alive) from.to_alive edit grows);
         halves = written ∙ ap (λ (hs : List ℕ). x ∷ hs) (ap (λ (k : ℕ). drop k line) (sym first) ∙ from.halves);
         labels = subst (HaveLabel now' edge) (sym written) (label_new now now' x edge grows adds, labels_kept now now' x edge grows adds edge (drop 1 line) (subst (λ (k : ℕ). HaveLabel now edge (drop k line)) first from.labels));
@@ -72,15 +72,15 @@ chords_none before cs end edge line whole alive room many = grind (arith, drop_a
 
 -- ---- The corners
 
-pub bent_alive : (now : Rotation) (cs : List Crossed) (h : ℕ) → AllByRecursion (λ c. (is_live now c.beyond ≡ true) × (is_live now (twin c.beyond) ≡ true)) cs → is_live now h ≡ true → is_live now (bent_half cs h) ≡ true
-bent_alive now [] h all alive = alive
-bent_alive now (c ∷ cs) h all alive = grind (arith, cases_eq, cond-true, eq-eqb, cond-false, ne_eqb, bent_alive now cs h all.1 alive)
+pub subdivided_alive : (now : Rotation) (cs : List Crossed) (h : ℕ) → AllByRecursion (λ c. (is_live now c.beyond ≡ true) × (is_live now (twin c.beyond) ≡ true)) cs → is_live now h ≡ true → is_live now (subdivided_half cs h) ≡ true
+subdivided_alive now [] h all alive = alive
+subdivided_alive now (c ∷ cs) h all alive = grind (arith, cases_eq, cond-true, eq-eqb, cond-false, ne_eqb, subdivided_alive now cs h all.1 alive)
 
 module _ (p : RowsWithPaths) (good : IsWellFormed p.rows) (r : Rotation) (s : ShowsRows p r) where
   -- the half of a dart once the segments are split
-  pub bent_is : (d : Dart) → has_dart (darts p.rows) d ≡ true → (cs : List Crossed) → AllByRecursion (IsMarked p) cs → bent_half cs (half_in p d) ≡ bent_number (half_at p) (bends_of p.rows cs) (index_of p.rows d)
-  bent_is d h [] all = sym (half_of_number p good d h)
-  bent_is d h (c ∷ cs) all =
+  pub subdivided_is : (d : Dart) → has_dart (darts p.rows) d ≡ true → (cs : List Crossed) → AllByRecursion (IsMarked p) cs → subdivided_half cs (half_in p d) ≡ subdivided_number (half_at p) (subdivisions_of p.rows cs) (index_of p.rows d)
+  subdivided_is d h [] all = sym (half_of_number p good d h)
+  subdivided_is d h (c ∷ cs) all =
       let back : Dart = dart_twin c.dart in
       let there : has_dart (darts p.rows) back ≡ true = twin_in p.rows c.dart all.0.there in
       let near : twin c.near ≡ half_in p back = ap twin all.0.near ∙ twin_in_path p c.dart in
@@ -90,7 +90,7 @@ module _ (p : RowsWithPaths) (good : IsWellFormed p.rows) (r : Rotation) (s : Sh
             let same : d ≡ back = halves_apart p good r s d back h there (e ∙ near) in
             cond-true _ _ _ (eq-eqb (half_in p d) (twin c.near) e) ∙ sym (cond-true _ _ _ (eq-eqb (index_of p.rows d) (twin (index_of p.rows c.dart)) (ap (index_of p.rows) same ∙ number)))
         | inr ne ↦
-            cond-false _ _ _ (ne_eqb (half_in p d) (twin c.near) ne) ∙ bent_is d h cs all.1
+            cond-false _ _ _ (ne_eqb (half_in p d) (twin c.near) ne) ∙ subdivided_is d h cs all.1
             ∙ sym (cond-false _ _ _ (ne_eqb (index_of p.rows d) (twin (index_of p.rows c.dart)) (λ w. ne (ap (half_in p) (index_apart p.rows good.paths d back h there (w ∙ sym number)) ∙ sym near))))
       ]
 
@@ -100,6 +100,6 @@ module _ (p : RowsWithPaths) (good : IsWellFormed p.rows) (r : Rotation) (s : Sh
       let c : Crossed = slice_index_or cs k d in
       let is : IsMarked p c = all k d less in
       let back : Dart = dart_twin c.dart in (
-        alive_still r now (bends_of p.rows cs) (twin c.near) whole sp.run (half_alive p good r s (twin c.near) (record { dart = back; there = twin_in p.rows c.dart is.there; is = sym (ap twin is.near ∙ twin_in_path p c.dart) })),
+        alive_still r now (subdivisions_of p.rows cs) (twin c.near) whole sp.run (half_alive p good r s (twin c.near) (record { dart = back; there = twin_in p.rows c.dart is.there; is = sym (ap twin is.near ∙ twin_in_path p c.dart) })),
         (All-from_recursion (λ b. (is_live now b.beyond ≡ true) × (is_live now (twin b.beyond) ≡ true)) cs sp.alive k d less).0,
       )

@@ -22,8 +22,8 @@ use Rattle.topo_core.specs.Systems.{has_dart}
 use Rattle.topo_core.proofs.ShownPlaces.{lifted_edge}
 use Rattle.topo_core.proofs.ShownRows.{edge_below, newcomer_row}
 use Rattle.topo_core.proofs.SystemDarts.{eqb_self}
-use Rattle.topo_perm.proofs.Bends.{Bend}
-use Rattle.topo_perm.proofs.PassageNumbers.{bent_number}
+use Rattle.topo_perm.proofs.Subdivisions.{Subdivision}
+use Rattle.topo_perm.proofs.InsertionPathNumbers.{subdivided_number}
 use Rattle.topo_map.specs.Rotation.{Rotation}
 use Rattle.topo_rows.proofs.Rounds.{got_within}
 use Rattle.topo_embedded.specs.Crossing.{AreCrossedAt}
@@ -58,16 +58,16 @@ module _ (rows : Rows) (r : Route) (e : ℕ) where
 
 -- ---- The numbers of the darts of the rows with the new edge
 
--- a lifted dart has the half of the first part of its segment, the darts at crossings those of the bends, and the darts of the new edge those of a line
-pub record AreInserted (p : RowsWithPaths) (u v kind : ℕ) (route : Route) (js : List Bend) (line : List ℕ) (number : ℕ → ℕ) : Type 0 where
-  pub names : (c : Dart) → has_dart (darts p.rows) c ≡ true → number (index_of (shown p.rows u v kind route) (lifted p.rows (shown p.rows u v kind route) c)) ≡ bent_number (half_at p) js (index_of p.rows c)
-  pub met : (x : ℕ) (d : Dart) (j : Bend) → AreAt x d j p.rows.next_crossing route.crossed js
+-- a lifted dart has the half of the first part of its segment, the darts at crossings those of the subdivision vertices, and the darts of the new edge those of a line
+pub record AreInserted (p : RowsWithPaths) (u v kind : ℕ) (route : Route) (js : List Subdivision) (line : List ℕ) (number : ℕ → ℕ) : Type 0 where
+  pub names : (c : Dart) → has_dart (darts p.rows) c ≡ true → number (index_of (shown p.rows u v kind route) (lifted p.rows (shown p.rows u v kind route) c)) ≡ subdivided_number (half_at p) js (index_of p.rows c)
+  pub met : (x : ℕ) (d : Dart) (j : Subdivision) → AreAt x d j p.rows.next_crossing route.crossed js
       → (number (index_of (shown p.rows u v kind route) (onward (shown p.rows u v kind route) x d)) ≡ j.beyond) × (number (index_of (shown p.rows u v kind route) (backward (shown p.rows u v kind route) x d)) ≡ twin j.near)
   pub line_there : (i : ℕ) → i ≤ length route.crossed → number (index_of (shown p.rows u v kind route) (forward p.rows.next_edge i)) ≡ slice_index_or line i 0
   pub line_back : (i : ℕ) → i ≤ length route.crossed → number (index_of (shown p.rows u v kind route) (back p.rows.next_edge i)) ≡ twin (slice_index_or line i 0)
 
 module _ (p : RowsWithPaths) (good : IsWellFormed p.rows) (r : Rotation) (s : ShowsRows p r) (u v kind : ℕ) (route : Route) (once : CrossesOnce route.crossed) (now : IsWellFormed (shown p.rows u v kind route))
-    (turns : ShowsTurns p.rows p.rows.next_edge u v route (shown p.rows u v kind route)) (js : List Bend) (all : AreCrossedAt p r route.crossed js) (line : List ℕ) where
+    (turns : ShowsTurns p.rows p.rows.next_edge u v route (shown p.rows u v kind route)) (js : List Subdivision) (all : AreCrossedAt p r route.crossed js) (line : List ℕ) where
   abbrev q : Rows
   q = shown p.rows u v kind route
 
@@ -83,14 +83,14 @@ module _ (p : RowsWithPaths) (good : IsWellFormed p.rows) (r : Rotation) (s : Sh
   pub path_new : path_of inserted p.rows.next_edge ≡ line
   path_new = grind (arith, place_new, newcomer_row, ne_eqb, edge_below, eqb_self, length-map, get_or_at)
 
-  -- the bend of a crossed dart
-  bend_for : (n x : ℕ) (d : Dart) (ds : List Dart) (ks : List Bend) → AreCrossedAt p r ds ks → IsIn (x, d) (enumerate_from n ds) → (j : Bend) × (has_dart (darts p.rows) d ≡ true) × AreAt x d j n ds ks
-  bend_for n x d [] ks a i = absurd i
-  bend_for n x d (c ∷ ds) [] a i = absurd a
-  bend_for n x d (c ∷ ds) (k ∷ ks) a (inl same) =
+  -- the subdivision vertex of a crossed dart
+  subdivision_for : (n x : ℕ) (d : Dart) (ds : List Dart) (ks : List Subdivision) → AreCrossedAt p r ds ks → IsIn (x, d) (enumerate_from n ds) → (j : Subdivision) × (has_dart (darts p.rows) d ≡ true) × AreAt x d j n ds ks
+  subdivision_for n x d [] ks a i = absurd i
+  subdivision_for n x d (c ∷ ds) [] a i = absurd a
+  subdivision_for n x d (c ∷ ds) (k ∷ ks) a (inl same) =
       let dart : d ≡ c = ap (λ (y : ℕ × Dart). y.1) same in
       (k, subst (λ (b : Dart). has_dart (darts p.rows) b ≡ true) (sym dart) a.0.there, inl (ap (λ (y : ℕ × Dart). y.0) same, dart, refl))
-  bend_for n x d (c ∷ ds) (k ∷ ks) a (inr i) = (let (j, there, at) = bend_for (n + 1) x d ds ks a.1 i in (j, there, inr at))
+  subdivision_for n x d (c ∷ ds) (k ∷ ks) a (inr i) = (let (j, there, at) = subdivision_for (n + 1) x d ds ks a.1 i in (j, there, inr at))
 
   -- the half of a dart of an old edge
   half_old : (d : Dart) (e : ℕ) (row : EdgeRow) → d.edge ≡ e → edge_row p.rows e ≡ Some row → half_in inserted d ≡ put d
@@ -100,7 +100,7 @@ module _ (p : RowsWithPaths) (good : IsWellFormed p.rows) (r : Rotation) (s : Sh
     many : (c : Dart) (st : StandsAt p.rows c) → c.seg < length (path_of p c.edge)
     many c st = (let long = s.along (position_or_len (λ (x : EdgeRow). x.id == c.edge) p.rows.edges) st.row st.at in omega (arith, long, st.on_path))
 
-    lifted_put : (e g : ℕ) (w : Way) (row : EdgeRow) → edge_row p.rows e ≡ Some row → g < length (path_of p e) → put (lifted p.rows q (record { edge = e; seg = g; way = w })) ≡ bent_number (half_at p) js (index_of p.rows (record { edge = e; seg = g; way = w }))
+    lifted_put : (e g : ℕ) (w : Way) (row : EdgeRow) → edge_row p.rows e ≡ Some row → g < length (path_of p e) → put (lifted p.rows q (record { edge = e; seg = g; way = w })) ≡ subdivided_number (half_at p) js (index_of p.rows (record { edge = e; seg = g; way = w }))
     lifted_put e g Forward row found less = forward_put p good r s u v kind route once now js all e row found g less
     lifted_put e g Back row found less = back_put p good r s u v kind route once now js all e row found g less
 
@@ -113,7 +113,7 @@ module _ (p : RowsWithPaths) (good : IsWellFormed p.rows) (r : Rotation) (s : Sh
     by_edge x e Forward = refl
     by_edge x e Back = refl
 
-    onward_has : (x : ℕ) (d : Dart) (j : Bend) → has_dart (darts p.rows) d ≡ true → AreAt x d j p.rows.next_crossing route.crossed js → half_in inserted (onward q x d) ≡ number (index_of q (onward q x d))
+    onward_has : (x : ℕ) (d : Dart) (j : Subdivision) → has_dart (darts p.rows) d ≡ true → AreAt x d j p.rows.next_crossing route.crossed js → half_in inserted (onward q x d) ≡ number (index_of q (onward q x d))
     onward_has x d j h at =
         let st : StandsAt p.rows d = stands_at p.rows good d h in
         let less = many d st in
@@ -122,7 +122,7 @@ module _ (p : RowsWithPaths) (good : IsWellFormed p.rows) (r : Rotation) (s : Sh
         (crossed_there p good r s d.edge d.seg (here p good r s u v kind route once now js all d.edge st.row st.found d.seg less) x d.way j p.rows.next_crossing route.crossed js all once at)
         ∙ sym (n.met x d j at).0
 
-    backward_has : (x : ℕ) (d : Dart) (j : Bend) → has_dart (darts p.rows) d ≡ true → AreAt x d j p.rows.next_crossing route.crossed js → half_in inserted (backward q x d) ≡ number (index_of q (backward q x d))
+    backward_has : (x : ℕ) (d : Dart) (j : Subdivision) → has_dart (darts p.rows) d ≡ true → AreAt x d j p.rows.next_crossing route.crossed js → half_in inserted (backward q x d) ≡ number (index_of q (backward q x d))
     backward_has x d j h at =
         let st : StandsAt p.rows d = stands_at p.rows good d h in
         let less = many d st in
@@ -144,7 +144,7 @@ module _ (p : RowsWithPaths) (good : IsWellFormed p.rows) (r : Rotation) (s : Sh
       | inr w ↦ elim w [
         | inl old ↦ ap (half_in inserted) old.2 ∙ lifted_has old.0 old.1 ∙ ap (λ (c : Dart). number (index_of q c)) (sym old.2)
         | inr y ↦ (
-            let (j, there, at) = bend_for p.rows.next_crossing y.0 y.1 route.crossed js all y.2 in
+            let (j, there, at) = subdivision_for p.rows.next_crossing y.0 y.1 route.crossed js all y.2 in
             grind (arith, onward_has, backward_has))
       ]
     ]

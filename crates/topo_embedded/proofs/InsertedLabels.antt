@@ -10,7 +10,7 @@ use Rattle.topo_core.specs.declared.rows.Rows.{Rows}
 use Rattle.topo_core.specs.declared.routes.Route.{Route}
 use Rattle.topo_core.specs.Changes.{crossed_row, shown}
 use Rattle.topo_core.specs.Rotations.{twin}
-use Rattle.topo_perm.proofs.Bends.{Bend}
+use Rattle.topo_perm.proofs.Subdivisions.{Subdivision}
 use Rattle.topo_perm.proofs.Faces.{twin-twin}
 use Rattle.topo_map.specs.Rotation.{AddsLabel, Grows, Rotation, edge_of, is_live}
 use Rattle.topo_rows.proofs.Rounds.{got_within}
@@ -38,7 +38,7 @@ module _ (r r' : Rotation) (x label : ℕ) (grows : Grows r r' x) (adds : AddsLa
   label_turned = record { alive = grows.live.here_twin; alive_back = ap (is_live r') (twin-twin x) ∙ grows.live.here; here = adds.here_twin; behind = ap (edge_of r') (twin-twin x) ∙ adds.here }
 
   -- a path keeps its label, where the new segment has that of the half that was split
-  module _ (j : Bend) (is : j.beyond ≡ x) (split : label ≡ edge_of r j.near) where
+  module _ (j : Subdivision) (is : j.beyond ≡ x) (split : label ≡ edge_of r j.near) where
     labels_append : (id : ℕ) (xs ys : List ℕ) → HaveLabel r' id xs → HaveLabel r' id ys → HaveLabel r' id (xs ++ ys)
     labels_append id [] ys a b = b
     labels_append id (h ∷ xs) ys a b = (a.0, labels_append id xs ys a.1 b)
@@ -50,7 +50,7 @@ module _ (r r' : Rotation) (x label : ℕ) (grows : Grows r r' x) (adds : AddsLa
     path_labels id [] a = tt
     path_labels id (h ∷ path) a = labels_append id (piece j h) (flat_map (piece j) path) (piece_labels id h a.0) (path_labels id path a.1)
 
-    pub split_labels : (edges : List EdgeRow) (js : List Bend) (paths : List (List ℕ)) → HaveLabels r edges (map (put_halves js) paths) → HaveLabels r' edges (map (put_halves (j ∷ js)) paths)
+    pub split_labels : (edges : List EdgeRow) (js : List Subdivision) (paths : List (List ℕ)) → HaveLabels r edges (map (put_halves js) paths) → HaveLabels r' edges (map (put_halves (j ∷ js)) paths)
     split_labels edges js paths a k row got = grind (arith, got_map, put_none, path_labels)
 
 -- ---- In the end
@@ -71,6 +71,6 @@ got_shown rows route [] y row (suc k) h = absurd (none h) where
 got_shown rows route (x ∷ edges) y row zero h = (let same : crossed_row rows route x ≡ row = cc in inl (x, refl, sym (ap (λ (e : EdgeRow). e.id) same)))
 got_shown rows route (x ∷ edges) y row (suc k) h = grind (arith, got_shown rows route edges y row k h)
 
-pub shown_labels : (rows : Rows) (u v kind : ℕ) (route : Route) (paths : List (List ℕ)) (js : List Bend) (line : List ℕ) (r : Rotation) → length paths ≡ length rows.edges → HaveLabels r rows.edges (map (put_halves js) paths) → HaveLabel r rows.next_edge line
+pub shown_labels : (rows : Rows) (u v kind : ℕ) (route : Route) (paths : List (List ℕ)) (js : List Subdivision) (line : List ℕ) (r : Rotation) → length paths ≡ length rows.edges → HaveLabels r rows.edges (map (put_halves js) paths) → HaveLabel r rows.next_edge line
     → AreLabelledPaths (edge_of r) (shown rows u v kind route).edges (map (put_halves js) paths ++ line ∷ [])
 shown_labels rows u v kind route paths js line r as_many old new = grind (arith, got_shown, got_within, length-map, get_or_append_left, labelled_path, get_or_at)

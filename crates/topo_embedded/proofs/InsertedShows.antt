@@ -20,7 +20,7 @@ use Rattle.topo_core.proofs.Numbering.{has_at, images_length, index_of_get}
 use Rattle.topo_core.proofs.ShownRows.{newcomer_row, shown_edges}
 use Rattle.topo_core.proofs.SystemDarts.{edge_at_row, get_there}
 use Rattle.topo_perm.specs.Renumbering.{RenumbersTurn}
-use Rattle.topo_perm.proofs.Bends.{Bend}
+use Rattle.topo_perm.proofs.Subdivisions.{Subdivision}
 use Rattle.topo_map.specs.Rotation.{Rotation, edge_of, half_limit, is_live, turn}
 use Rattle.topo_rows.specs.Ids.{IsPlaceOf}
 use Rattle.topo_rows.proofs.Finding.{edges_rise, placed_here}
@@ -40,7 +40,7 @@ pub record AreLabelledPaths (label : ℕ → ℕ) (edges : List EdgeRow) (paths 
   pub each : (k : ℕ) (row : EdgeRow) → slice_get edges k ≡ Some row → IsLabelledPath label row.id (slice_index_or paths k [])
 
 module _ (p : RowsWithPaths) (good : IsWellFormed p.rows) (r : Rotation) (s : ShowsRows p r) (u v kind : ℕ) (route : Route) (once : CrossesOnce route.crossed) (now : IsWellFormed (shown p.rows u v kind route))
-    (turns : ShowsTurns p.rows p.rows.next_edge u v route (shown p.rows u v kind route)) (js : List Bend) (all : AreCrossedAt p r route.crossed js) (line : List ℕ) (long : length line ≡ length route.crossed + 1) where
+    (turns : ShowsTurns p.rows p.rows.next_edge u v route (shown p.rows u v kind route)) (js : List Subdivision) (all : AreCrossedAt p r route.crossed js) (line : List ℕ) (long : length line ≡ length route.crossed + 1) where
   abbrev q : Rows
   q = shown p.rows u v kind route
 

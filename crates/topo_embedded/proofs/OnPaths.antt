@@ -21,7 +21,7 @@ use Rattle.topo_core.specs.Rotations.{twin}
 use Rattle.topo_core.specs.Systems.{has_dart}
 use Rattle.topo_core.proofs.Numbering.{twin_in}
 use Rattle.topo_core.proofs.SystemDarts.{eqb_self}
-use Rattle.topo_perm.proofs.Bends.{Bend}
+use Rattle.topo_perm.proofs.Subdivisions.{Subdivision}
 use Rattle.topo_perm.proofs.Faces.{twin-twin}
 use Rattle.topo_map.specs.Rotation.{Rotation, is_live}
 use Rattle.topo_rows.proofs.Finding.{edges_rise, placed_here}
@@ -36,44 +36,44 @@ use Rattle.topo_embedded.proofs.Pieces.{put_append}
 -- ---- Lists
 
 -- a half that is off a split one stays alone
-piece_off : (j : Bend) (h : ℕ) → IsOff j.near h → piece j h ≡ h ∷ []
+piece_off : (j : Subdivision) (h : ℕ) → IsOff j.near h → piece j h ≡ h ∷ []
 piece_off j h off = cond-false _ _ _ (ne_eqb h j.near off.0) ∙ cond-false _ _ _ (ne_eqb h (twin j.near) off.1)
 
-pieces_off : (j : Bend) (hs : List ℕ) → AllByRecursion (IsOff j.near) hs → flat_map (piece j) hs ≡ hs
+pieces_off : (j : Subdivision) (hs : List ℕ) → AllByRecursion (IsOff j.near) hs → flat_map (piece j) hs ≡ hs
 pieces_off j [] off = refl
 pieces_off j (h ∷ hs) off = ap (λ (xs : List ℕ). xs ++ flat_map (piece j) hs) (piece_off j h off.0) ∙ ap (λ (xs : List ℕ). h ∷ xs) (pieces_off j hs off.1)
 
-pub pieces_stay : (j : Bend) (hs : List ℕ) → AreOff j.near hs → flat_map (piece j) hs ≡ hs
+pub pieces_stay : (j : Subdivision) (hs : List ℕ) → AreOff j.near hs → flat_map (piece j) hs ≡ hs
 pieces_stay j hs off = pieces_off j hs (recursion_from_All (IsOff j.near) hs off)
 
 -- what the splits put in is off a half
-abbrev pub NewOff : ℕ → List Bend → Type 0
+abbrev pub NewOff : ℕ → List Subdivision → Type 0
 NewOff near js = AllByRecursion (λ j. IsOff near j.beyond × IsOff near (twin j.beyond)) js
 
 append_off : (near : ℕ) (xs ys : List ℕ) → AllByRecursion (IsOff near) xs → AllByRecursion (IsOff near) ys → AllByRecursion (IsOff near) (xs ++ ys)
 append_off near [] ys a b = b
 append_off near (x ∷ xs) ys a b = (a.0, append_off near xs ys a.1 b)
 
-piece_is_off : (near : ℕ) (j : Bend) (h : ℕ) → IsOff near h → IsOff near j.beyond → IsOff near (twin j.beyond) → AllByRecursion (IsOff near) (piece j h)
+piece_is_off : (near : ℕ) (j : Subdivision) (h : ℕ) → IsOff near h → IsOff near j.beyond → IsOff near (twin j.beyond) → AllByRecursion (IsOff near) (piece j h)
 piece_is_off near j h off new back = by_tests (h == j.near) (h == twin j.near) where
   by_tests : (a b : Bool) → AllByRecursion (IsOff near) (cond {A = List ℕ} a (h ∷ j.beyond ∷ []) (cond b (twin j.beyond ∷ h ∷ []) (h ∷ [])))
   by_tests true b = (off, (new, tt))
   by_tests false true = (back, (off, tt))
   by_tests false false = (off, tt)
 
-pieces_are_off : (near : ℕ) (j : Bend) (hs : List ℕ) → AllByRecursion (IsOff near) hs → IsOff near j.beyond → IsOff near (twin j.beyond) → AllByRecursion (IsOff near) (flat_map (piece j) hs)
+pieces_are_off : (near : ℕ) (j : Subdivision) (hs : List ℕ) → AllByRecursion (IsOff near) hs → IsOff near j.beyond → IsOff near (twin j.beyond) → AllByRecursion (IsOff near) (flat_map (piece j) hs)
 pieces_are_off near j [] off new back = tt
 pieces_are_off near j (h ∷ hs) off new back = append_off near (piece j h) (flat_map (piece j) hs) (piece_is_off near j h off.0 new back) (pieces_are_off near j hs off.1 new back)
 
-put_are_off : (near : ℕ) (js : List Bend) (hs : List ℕ) → AllByRecursion (IsOff near) hs → NewOff near js → AllByRecursion (IsOff near) (put_halves js hs)
+put_are_off : (near : ℕ) (js : List Subdivision) (hs : List ℕ) → AllByRecursion (IsOff near) hs → NewOff near js → AllByRecursion (IsOff near) (put_halves js hs)
 put_are_off near [] hs off new = off
 put_are_off near (j ∷ js) hs off new = pieces_are_off near j (put_halves js hs) (put_are_off near js hs off new.1) new.0.0 new.0.1
 
-pub put_off : (near : ℕ) (js : List Bend) (hs : List ℕ) → AreOff near hs → NewOff near js → AreOff near (put_halves js hs)
+pub put_off : (near : ℕ) (js : List Subdivision) (hs : List ℕ) → AreOff near hs → NewOff near js → AreOff near (put_halves js hs)
 put_off near js hs off new = All-from_recursion (IsOff near) (put_halves js hs) (put_are_off near js hs (recursion_from_All (IsOff near) hs off) new)
 
 -- a half off all that are split
-put_one : (js : List Bend) (h : ℕ) → AllByRecursion (λ j. IsOff j.near h) js → put_halves js (h ∷ []) ≡ h ∷ []
+put_one : (js : List Subdivision) (h : ℕ) → AllByRecursion (λ j. IsOff j.near h) js → put_halves js (h ∷ []) ≡ h ∷ []
 put_one [] h off = refl
 put_one (j ∷ js) h off = ap (flat_map (piece j)) (put_one js h off.1) ∙ pieces_off j (h ∷ []) (off.0, tt)
 
@@ -88,7 +88,7 @@ pub record IsAmong (near : ℕ) (hs : List ℕ) : Type 0 where
   pub behind_off : AreOff near behind
 
 -- it stays so
-pub still_among : (near : ℕ) (js : List Bend) (hs : List ℕ) → NewOff near js → (a : IsAmong near hs) → AllByRecursion (λ j. IsOff j.near a.half) js → IsAmong near (put_halves js hs)
+pub still_among : (near : ℕ) (js : List Subdivision) (hs : List ℕ) → NewOff near js → (a : IsAmong near hs) → AllByRecursion (λ j. IsOff j.near a.half) js → IsAmong near (put_halves js hs)
 still_among near js hs new a alone = record {
   before = put_halves js a.before;
   half = a.half;
@@ -101,7 +101,7 @@ still_among near js hs new a alone = record {
 }
 
 -- and gets a neighbour
-pub among_split : (j : Bend) (hs : List ℕ) (a : IsAmong j.near hs) → flat_map (piece j) hs ≡ a.before ++ (piece j a.half ++ a.behind)
+pub among_split : (j : Subdivision) (hs : List ℕ) (a : IsAmong j.near hs) → flat_map (piece j) hs ≡ a.before ++ (piece j a.half ++ a.behind)
 among_split j hs a = grind (arith, flat_map-append, pieces_stay)
 
 -- ---- Halves of darts

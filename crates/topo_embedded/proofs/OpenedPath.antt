@@ -29,7 +29,7 @@ use Rattle.topo_map.specs.Rotation.{KeepsLabels, Rotation, Shrinks, edge_of, hal
 use Rattle.topo_perm.proofs.EditNumbers.{alive_turn, still_alive}
 use Rattle.topo_map.proofs.EditSteps.{live_half, unchord_step}
 use Rattle.topo_changes.proofs.DeletedMids.{across, in_place, is_even}
-use Rattle.topo_changes.proofs.DeletedStages.{back_alive, forward_alive, mid_found, over_dart, over_off, over_turn, segment_alive}
+use Rattle.topo_changes.proofs.DeletedSteps.{back_alive, forward_alive, mid_found, over_dart, over_off, over_turn, segment_alive}
 use Rattle.topo_embedded.specs.Halves.{RowsWithPaths, ShowsRows, half_at, half_in, path_of}
 use Rattle.topo_embedded.specs.Opening.{IsOpenTo, IsSetOut, leads_in, mid_at}
 use Rattle.topo_embedded.proofs.Apart.{halves_apart}

@@ -6,7 +6,7 @@ use Rattle.std.proofs.lemmas.Grind.{flat_map-append}
 use Rattle.std.proofs.lemmas.List.{ext_get_or, get_or-set_other, get_or-set_same, length-set, take_more}
 use Rattle.std.proofs.Math.Seq.{drop-append_seam, take-append_seam}
 use Rattle.topo_core.specs.Rotations.{twin}
-use Rattle.topo_perm.proofs.Bends.{Bend}
+use Rattle.topo_perm.proofs.Subdivisions.{Subdivision}
 use Rattle.topo_embedded.specs.declared.padding.Crossed.{Crossed}
 use Rattle.topo_embedded.specs.Inserting.{piece}
 use Rattle.topo_embedded.specs.Padding.{ArePadded, IsOn, pads, shifted}
@@ -28,10 +28,10 @@ drop_past (x ∷ xs) ys h = drop_past xs ys h
 -- ---- The half beyond it put next to it
 
 module _ (near beyond : ℕ) where
-  abbrev pub bend : Bend
-  bend = record { dart = 0; near = near; beyond = beyond }
+  abbrev pub subdivision : Subdivision
+  subdivision = record { dart = 0; near = near; beyond = beyond }
 
-  pub put_ahead : (path xs ys now : List ℕ) (h last at : ℕ) → path ≡ xs ++ h ∷ (ys ++ last ∷ []) → at ≡ length xs → h ≡ near → now ≡ take (at + 1) path ++ shifted beyond (drop (at + 1) path) → now ≡ xs ++ (piece bend h ++ ys)
+  pub put_ahead : (path xs ys now : List ℕ) (h last at : ℕ) → path ≡ xs ++ h ∷ (ys ++ last ∷ []) → at ≡ length xs → h ≡ near → now ≡ take (at + 1) path ++ shifted beyond (drop (at + 1) path) → now ≡ xs ++ (piece subdivision h ++ ys)
   put_ahead path xs ys now h last at is place here moved =
       let next : at + 1 ≡ suc (length xs) = omega (arith, place) in
       moved ∙ ap (λ (k : ℕ). take k path ++ shifted beyond (drop k path)) next
@@ -42,7 +42,7 @@ module _ (near beyond : ℕ) where
       ∙ append_assoc xs (h ∷ []) (beyond ∷ ys)
       ∙ ap (λ (zs : List ℕ). xs ++ (zs ++ ys)) (sym (cond-true _ _ _ (eq-eqb h near here)))
 
-  pub put_behind : (path xs ys now : List ℕ) (h last at : ℕ) → path ≡ xs ++ h ∷ (ys ++ last ∷ []) → at ≡ length xs → h ≢ near → IsOn near h → now ≡ take at path ++ shifted (twin beyond) (drop at path) → now ≡ xs ++ (piece bend h ++ ys)
+  pub put_behind : (path xs ys now : List ℕ) (h last at : ℕ) → path ≡ xs ++ h ∷ (ys ++ last ∷ []) → at ≡ length xs → h ≢ near → IsOn near h → now ≡ take at path ++ shifted (twin beyond) (drop at path) → now ≡ xs ++ (piece subdivision h ++ ys)
   put_behind path xs ys now h last at is place other on moved =
       moved ∙ ap (λ (k : ℕ). take k path ++ shifted (twin beyond) (drop k path)) place
       ∙ ap (λ (p : List ℕ). take (length xs) p ++ shifted (twin beyond) (drop (length xs) p)) is

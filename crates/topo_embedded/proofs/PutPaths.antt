@@ -20,9 +20,9 @@ use Rattle.topo_core.specs.Systems.{has_dart}
 use Rattle.topo_core.proofs.ShownPlaces.{SegmentParts, lifted_back, lifted_forward, segment_parts}
 use Rattle.topo_core.proofs.SystemDarts.{edge_at_row}
 use Rattle.topo_core.proofs.WovenPaths.{first_part, last_part, place_of}
-use Rattle.topo_perm.proofs.Bends.{Bend}
+use Rattle.topo_perm.proofs.Subdivisions.{Subdivision}
 use Rattle.topo_perm.proofs.Faces.{twin-twin}
-use Rattle.topo_perm.proofs.PassageNumbers.{bent_number}
+use Rattle.topo_perm.proofs.InsertionPathNumbers.{subdivided_number}
 use Rattle.topo_map.specs.Rotation.{Rotation}
 use Rattle.topo_embedded.specs.Crossing.{AreCrossedAt}
 use Rattle.topo_embedded.specs.Halves.{RowsWithPaths, ShowsRows, by_way, half_at, path_of}
@@ -38,7 +38,7 @@ last_then_first path whole g less = grind (arith, cond-false, ne_eqb, place_of)
 
 -- ---- The halves before and at a place
 
-module _ (js : List Bend) (hs : List ℕ) where
+module _ (js : List Subdivision) (hs : List ℕ) where
   abbrev before : ℕ → ℕ
   before g = length (put_halves js (take g hs))
 
@@ -60,7 +60,7 @@ module _ (js : List Bend) (hs : List ℕ) where
       ∙ get_or_append_left (put_halves js (slice_index_or hs g 0 ∷ [])) (put_halves js (drop (suc g) hs)) 0 i inside
 
 module _ (p : RowsWithPaths) (good : IsWellFormed p.rows) (r : Rotation) (s : ShowsRows p r) (u v kind : ℕ) (route : Route) (once : CrossesOnce route.crossed) (now : IsWellFormed (shown p.rows u v kind route))
-    (js : List Bend) (all : AreCrossedAt p r route.crossed js) where
+    (js : List Subdivision) (all : AreCrossedAt p r route.crossed js) where
   abbrev q : Rows
   q = shown p.rows u v kind route
 
@@ -144,23 +144,23 @@ module _ (p : RowsWithPaths) (good : IsWellFormed p.rows) (r : Rotation) (s : Sh
         grind (arith, last_part, cond-true, eq-eqb, take_all, path_long)
 
     module _ (g : ℕ) (less : g < length hs) where
-      pub forward_put : put_in (lifted p.rows q (forward e g)) ≡ bent_number (half_at p) js (index_of p.rows (forward e g))
+      pub forward_put : put_in (lifted p.rows q (forward e g)) ≡ subdivided_number (half_at p) js (index_of p.rows (forward e g))
       forward_put = ap put_in (lifted_forward p.rows q e g) ∙ at_first g less ∙ elim (crossing g less) [
         | inl n ↦ ap (λ (xs : List ℕ). slice_index_or xs 0 0) n.one ∙ sym n.first
         | inr y ↦ ap (λ (xs : List ℕ). slice_index_or xs 0 0) y.3.two ∙ sym y.3.first
       ]
 
-      pub back_put : put_in (lifted p.rows q (back e g)) ≡ bent_number (half_at p) js (index_of p.rows (back e g))
+      pub back_put : put_in (lifted p.rows q (back e g)) ≡ subdivided_number (half_at p) js (index_of p.rows (back e g))
       back_put =
           let long = bits_long g less in
-          ap put_in (lifted_back p.rows q e g ∙ ap (back e) (last_is g less)) ∙ ap twin (at g (length (new g)) less (omega (arith, long)) ∙ elim (crossing g less) as (λ _. slice_index_or (bits g) (length (new g)) 0 ≡ twin (bent_number (half_at p) js (index_of p.rows (back e g)))) [
+          ap put_in (lifted_back p.rows q e g ∙ ap (back e) (last_is g less)) ∙ ap twin (at g (length (new g)) less (omega (arith, long)) ∙ elim (crossing g less) as (λ _. slice_index_or (bits g) (length (new g)) 0 ≡ twin (subdivided_number (half_at p) js (index_of p.rows (back e g)))) [
             | inl n ↦
                 ap (λ (k : ℕ). slice_index_or (bits g) k 0) (ap (λ (xs : List ℕ). length xs) n.ids) ∙ ap (λ (xs : List ℕ). slice_index_or xs 0 0) n.one ∙ sym (ap twin n.last ∙ twin-twin (slice_index_or hs g 0))
             | inr y ↦
                 ap (λ (k : ℕ). slice_index_or (bits g) k 0) (ap (λ (xs : List ℕ). length xs) y.3.ids) ∙ ap (λ (xs : List ℕ). slice_index_or xs 1 0) y.3.two ∙ sym (ap twin y.3.last ∙ twin-twin (last_of y.1 y.2 (slice_index_or hs g 0)))
-          ]) ∙ twin-twin (bent_number (half_at p) js (index_of p.rows (back e g)))
+          ]) ∙ twin-twin (subdivided_number (half_at p) js (index_of p.rows (back e g)))
 
-      module _ (x : ℕ) (j : Bend) where
+      module _ (x : ℕ) (j : Subdivision) where
         place_is : (w : Way) → IsCrossed p good r s e g (here g less) x w j p.rows.next_crossing route.crossed js → place_on q e x ≡ first g
         place_is w c = (parts g less).crossing x c.ids ∙ first_is g less
 

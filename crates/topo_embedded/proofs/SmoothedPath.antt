@@ -32,7 +32,7 @@ use Rattle.topo_map.proofs.EditSteps.{live_half, smooth_step}
 use Rattle.topo_rows.specs.Ids.{IsPlaceOf}
 use Rattle.topo_rows.proofs.Finding.{edges_rise, placed_here}
 use Rattle.topo_changes.proofs.DeletedMids.{first_of, in_place, mid_is}
-use Rattle.topo_changes.proofs.DeletedStages.{smoothable_along}
+use Rattle.topo_changes.proofs.DeletedSteps.{smoothable_along}
 use Rattle.topo_changes.proofs.Deleting.{rest_is}
 use Rattle.topo_changes.proofs.Leaving.{filter_alike, filter_twice}
 use Rattle.topo_embedded.specs.Deleting.{ArePathsLeft, spared}

@@ -19,15 +19,15 @@ use Rattle.topo_core.specs.Systems.{has_dart}
 use Rattle.topo_core.proofs.Counting.{eqb_symm}
 use Rattle.topo_core.proofs.Numbering.{twin_in}
 use Rattle.topo_perm.specs.Runs.{IsRun}
-use Rattle.topo_perm.proofs.Bends.{Bend, splits_of}
-use Rattle.topo_perm.proofs.Links.{all_map}
+use Rattle.topo_perm.proofs.Subdivisions.{Subdivision, splits_of}
+use Rattle.topo_perm.proofs.Chords.{all_map}
 use Rattle.topo_perm.proofs.RunNumbers.{kept_alive}
-use Rattle.topo_perm.proofs.PassageNumbers.{splits_add}
+use Rattle.topo_perm.proofs.InsertionPathNumbers.{splits_add}
 use Rattle.topo_map.specs.Rotation.{AddsLabel, Grows, IsEmbedding, Rotation, edge_of, half_limit, is_live, turn, turning_of}
 use Rattle.topo_map.proofs.EditSteps.{live_half, split_step}
 use Rattle.topo_rows.proofs.Rounds.{got_within}
 use Rattle.topo_embedded.specs.declared.padding.Crossed.{Crossed}
-use Rattle.topo_embedded.specs.Crossing.{AreCrossedAt, AreSplit, AreSplitFrom, HasLabel, HaveLabel, IsMarked, bends_of, crossed_darts}
+use Rattle.topo_embedded.specs.Crossing.{AreCrossedAt, AreSplit, AreSplitFrom, HasLabel, HaveLabel, IsMarked, subdivisions_of, crossed_darts}
 use Rattle.topo_embedded.specs.Halves.{RowsWithPaths, ShowsRows, half_in}
 use Rattle.topo_embedded.specs.Inserting.{piece, put_halves}
 use Rattle.topo_embedded.specs.Padding.{AreOff, ArePadded, ArePlaced, IsOff, IsOn, pads}
@@ -36,7 +36,7 @@ use Rattle.topo_embedded.proofs.Inserted.{got_map}
 use Rattle.topo_embedded.proofs.InsertedLabels.{split_labels}
 use Rattle.topo_embedded.proofs.Numbers.{StandsAt, half_alive, stands_at}
 use Rattle.topo_embedded.proofs.OnPaths.{IsAmong, NewOff, along_there, among_split, darts_off, dead_off, off_by_way, other_paths, own_half, own_path, pieces_stay, put_off, still_among}
-use Rattle.topo_embedded.proofs.Pads.{bend, one_changed, pads_fewer, pads_here, pads_same}
+use Rattle.topo_embedded.proofs.Pads.{subdivision, one_changed, pads_fewer, pads_here, pads_same}
 use Rattle.topo_embedded.proofs.Pieces.{put_none}
 
 -- as many darts
@@ -46,11 +46,11 @@ same_many cs was same = sym (length-map cs (λ c. c.dart)) ∙ ap (λ (ds : List
 -- ---- Runs of splits
 
 -- what was live is
-pub alive_still : (before now : Rotation) (js : List Bend) (h : ℕ) → IsEmbedding before → IsRun half_limit (turning_of before) (splits_of js) (turning_of now) → is_live before h ≡ true → is_live now h ≡ true
+pub alive_still : (before now : Rotation) (js : List Subdivision) (h : ℕ) → IsEmbedding before → IsRun half_limit (turning_of before) (splits_of js) (turning_of now) → is_live before h ≡ true → is_live now h ≡ true
 alive_still before now js h whole run alive = (kept_alive half_limit (turning_of before) (turning_of now) (splits_of js) h (splits_add js) run (live_half before h whole alive)).alive
 
 -- with no room more the lists are the changed ones
-put_everywhere : (js : List Bend) (was now : List (List ℕ)) → ArePadded (put_halves js) was [] now → now ≡ map (put_halves js) was
+put_everywhere : (js : List Subdivision) (was now : List (List ℕ)) → ArePadded (put_halves js) was [] now → now ≡ map (put_halves js) was
 put_everywhere js was now p =
     let long = length-map was (put_halves js) in
     ext_get_or [] now (map (put_halves js) was) (p.as_many ∙ sym long) (λ k less. p.each k (omega (arith, p.as_many, less)) ∙ append-nil (put_halves js (slice_index_or was k [])) ∙ sym (got_map (put_halves js) (put_none js) was k))
@@ -80,13 +80,13 @@ module _ (p : RowsWithPaths) (good : IsWellFormed p.rows) (r : Rotation) (s : Sh
   abbrev Is : Dart → Type 0
   Is d = has_dart (darts p.rows) d ≡ true
 
-  new_off : (d : Dart) → Is d → (ds : List Dart) (js : List Bend) → AreCrossedAt p r ds js → NewOff (half_in p d) js
+  new_off : (d : Dart) → Is d → (ds : List Dart) (js : List Subdivision) → AreCrossedAt p r ds js → NewOff (half_in p d) js
   new_off d h [] [] a = tt
   new_off d h [] (j ∷ js) a = absurd a
   new_off d h (c ∷ ds) [] a = absurd a
   new_off d h (c ∷ ds) (j ∷ js) a = ((dead_off p good r s d j.beyond h a.0.new, dead_off p good r s d (twin j.beyond) h a.0.new_back), new_off d h ds js a.1)
 
-  alone : (d : Dart) (h : Is d) (ds : List Dart) (js : List Bend) → AreCrossedAt p r ds js → AllByRecursion (λ c. same_segment d c ≡ false) ds → AllByRecursion (λ j. IsOff j.near (half_in p (forward d.edge d.seg))) js
+  alone : (d : Dart) (h : Is d) (ds : List Dart) (js : List Subdivision) → AreCrossedAt p r ds js → AllByRecursion (λ c. same_segment d c ≡ false) ds → AllByRecursion (λ j. IsOff j.near (half_in p (forward d.edge d.seg))) js
   alone d h [] [] a off = tt
   alone d h [] (j ∷ js) a off = absurd a
   alone d h (c ∷ ds) [] a off = absurd a
@@ -100,10 +100,10 @@ module _ (p : RowsWithPaths) (good : IsWellFormed p.rows) (r : Rotation) (s : Sh
     abbrev c' : Crossed
     c' = record { dart = c.dart; place = c.place; near = c.near; beyond = x }
 
-    abbrev js : List Bend
-    js = bends_of p.rows cs
+    abbrev js : List Subdivision
+    js = subdivisions_of p.rows cs
 
-    abbrev j : Bend
+    abbrev j : Subdivision
     j = record { dart = index_of p.rows c.dart; near = c.near; beyond = x }
 
     near_alive : is_live r c.near ≡ true
@@ -141,7 +141,7 @@ module _ (p : RowsWithPaths) (good : IsWellFormed p.rows) (r : Rotation) (s : Sh
         (subst (λ (near : ℕ). AreOff near (put_halves js (slice_index_or p.paths k []))) (sym is.near) (put_off (half_in p c.dart) js (slice_index_or p.paths k []) off (new_off c.dart is.there (crossed_darts cs) js sp.crossed)))
 
     pub one_put : (all : List Crossed) (n : ℕ) (paths : List (List ℕ)) (list : List ℕ) → n < length all → c ≡ get_or all n c → c.place < length p.paths → ArePadded (put_halves js) p.paths (take (n + 1) all) paths
-        → ((xs ys : List ℕ) (h last : ℕ) → get_or paths c.place [] ≡ xs ++ h ∷ (ys ++ last ∷ []) → AreOff c.near xs → IsOn c.near h → list ≡ xs ++ (piece (bend c.near x) h ++ ys))
+        → ((xs ys : List ℕ) (h last : ℕ) → get_or paths c.place [] ≡ xs ++ h ∷ (ys ++ last ∷ []) → AreOff c.near xs → IsOn c.near h → list ≡ xs ++ (piece (subdivision c.near x) h ++ ys))
         → ArePadded (put_halves (j ∷ js)) p.paths (take n all) (set paths c.place list)
     one_put all n paths list less at placed pad put =
         let hs : List ℕ = slice_index_or p.paths c.place [] in
@@ -159,7 +159,7 @@ module _ (p : RowsWithPaths) (good : IsWellFormed p.rows) (r : Rotation) (s : Sh
   -- one step of the loop
   pub split_more : (was cs : List Crossed) (n : ℕ) (c : Crossed) (now now' : Rotation) (x : ℕ) (paths : List (List ℕ)) (list : List ℕ) → CrossesOnce (crossed_darts was) → n < length cs → c ≡ get_or cs n c → c.place < length p.paths → AreSplitFrom p r now was cs (n + 1) paths
       → IsSplit (turn now) (turn now') half_limit c.near x → Grows now now' x → AddsLabel (is_live now) (edge_of now) (edge_of now') x (edge_of now c.near)
-      → ((xs ys : List ℕ) (h last : ℕ) → get_or paths c.place [] ≡ xs ++ h ∷ (ys ++ last ∷ []) → AreOff c.near xs → IsOn c.near h → list ≡ xs ++ (piece (bend c.near x) h ++ ys))
+      → ((xs ys : List ℕ) (h last : ℕ) → get_or paths c.place [] ≡ xs ++ h ∷ (ys ++ last ∷ []) → AreOff c.near xs → IsOn c.near h → list ≡ xs ++ (piece (subdivision c.near x) h ++ ys))
       → AreSplitFrom p r now' was (set cs n (record { dart = c.dart; place = c.place; near = c.near; beyond = x })) n (set paths c.place list)
   split_more was cs n c now now' x paths list once less at placed from edit grows adds put =
       let new : Crossed = record { dart = c.dart; place = c.place; near = c.near; beyond = x } in
@@ -171,20 +171,20 @@ module _ (p : RowsWithPaths) (good : IsWellFormed p.rows) (r : Rotation) (s : Sh
       let dropped : drop n (set cs n new) ≡ new ∷ rest = drop-set cs n new less in
       let taken : take n (set cs n new) ≡ take n cs = take-set cs n new in
       let split : AreSplit p r now' (new ∷ rest) = one_split now now' x c rest from.split is once_here edit grows adds in
-      let put_now : ArePadded (put_halves (bends_of p.rows (new ∷ rest))) p.paths (take n cs) (set paths c.place list) = one_put now now' x c rest from.split is once_here edit grows adds cs n paths list less at placed from.padded put in
+      let put_now : ArePadded (put_halves (subdivisions_of p.rows (new ∷ rest))) p.paths (take n cs) (set paths c.place list) = one_put now now' x c rest from.split is once_here edit grows adds cs n paths list less at placed from.padded put in
       let long = length-set cs n new in
       record {
         within = omega (arith, less, long);
         darts = map-set_same (λ (b : Crossed). b.dart) cs n new c (ap (λ (b : Crossed). b.dart) at) ∙ from.darts;
         marked = All-set (IsMarked p) cs n new (record { there = is.there; near = is.near; place = is.place }) from.marked;
         split = subst (AreSplit p r now') (sym dropped) split;
-        padded = subst (λ (xs : List Crossed). ArePadded (put_halves (bends_of p.rows xs)) p.paths (take n (set cs n new)) (set paths c.place list)) (sym dropped)
-            (subst (λ (xs : List Crossed). ArePadded (put_halves (bends_of p.rows (new ∷ rest))) p.paths xs (set paths c.place list)) (sym taken) put_now);
+        padded = subst (λ (xs : List Crossed). ArePadded (put_halves (subdivisions_of p.rows xs)) p.paths (take n (set cs n new)) (set paths c.place list)) (sym dropped)
+            (subst (λ (xs : List Crossed). ArePadded (put_halves (subdivisions_of p.rows (new ∷ rest))) p.paths xs (set paths c.place list)) (sym taken) put_now);
         room = (let less_room = grows.room_less in let so_far = from.room in omega (arith, less_room, so_far, long));
       }
 
   pub marked_alive : (now : Rotation) (was cs : List Crossed) (n : ℕ) (c : Crossed) (paths : List (List ℕ)) → AreSplitFrom p r now was cs n paths → IsMarked p c → is_live now c.near ≡ true
-  marked_alive now was cs n c paths from is = alive_still r now (bends_of p.rows (drop n cs)) c.near whole from.split.run (half_alive p good r s c.near (record { dart = c.dart; there = is.there; is = sym is.near }))
+  marked_alive now was cs n c paths from is = alive_still r now (subdivisions_of p.rows (drop n cs)) c.near whole from.split.run (half_alive p good r s c.near (record { dart = c.dart; there = is.there; is = sym is.near }))
 
   -- before and behind the loop
   pub split_none : (cs : List Crossed) (paths : List (List ℕ)) → All (IsMarked p) cs → ArePadded (λ hs. hs) p.paths cs paths → AreSplitFrom p r r cs cs (length cs) paths
@@ -202,7 +202,7 @@ module _ (p : RowsWithPaths) (good : IsWellFormed p.rows) (r : Rotation) (s : Sh
           alive = tt;
           labels = λ k row at. subst (HaveLabel r row.id) (sym (got_map (put_halves []) refl p.paths k)) (path_labels k row at);
         });
-        padded = subst (λ (xs : List Crossed). ArePadded (put_halves (bends_of p.rows xs)) p.paths (take (length cs) cs) paths) (sym none) (subst (λ (xs : List Crossed). ArePadded (λ hs. hs) p.paths xs paths) (sym every) pad);
+        padded = subst (λ (xs : List Crossed). ArePadded (put_halves (subdivisions_of p.rows xs)) p.paths (take (length cs) cs) paths) (sym none) (subst (λ (xs : List Crossed). ArePadded (λ hs. hs) p.paths xs paths) (sym every) pad);
         room = refl;
       }
     where
@@ -215,5 +215,5 @@ module _ (p : RowsWithPaths) (good : IsWellFormed p.rows) (r : Rotation) (s : Sh
       path_labels : (k : ℕ) (row : EdgeRow) → slice_get p.rows.edges k ≡ Some row → HaveLabel r row.id (slice_index_or p.paths k [])
       path_labels k row at = recursion_from_All (HasLabel r row.id) (slice_index_or p.paths k []) (All-from_get_or (HasLabel r row.id) (slice_index_or p.paths k []) 0 (label_at k row at))
 
-  pub split_all : (now : Rotation) (was cs : List Crossed) (n : ℕ) (paths : List (List ℕ)) → n ≡ 0 → AreSplitFrom p r now was cs n paths → AreSplit p r now cs × (paths ≡ map (put_halves (bends_of p.rows cs)) p.paths)
+  pub split_all : (now : Rotation) (was cs : List Crossed) (n : ℕ) (paths : List (List ℕ)) → n ≡ 0 → AreSplitFrom p r now was cs n paths → AreSplit p r now cs × (paths ≡ map (put_halves (subdivisions_of p.rows cs)) p.paths)
   split_all now was cs n paths none from = grind (arith, put_everywhere)

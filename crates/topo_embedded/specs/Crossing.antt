@@ -12,26 +12,26 @@ use Rattle.topo_core.specs.Rotations.{twin}
 use Rattle.topo_core.specs.Routes.{IsSimpleRoute}
 use Rattle.topo_core.specs.Systems.{has_dart}
 use Rattle.topo_perm.specs.Runs.{IsRun}
-use Rattle.topo_perm.proofs.Bends.{Bend, splits_of}
-use Rattle.topo_perm.proofs.Links.{Link, chords_of}
-use Rattle.topo_perm.proofs.Passages.{AreAlong}
+use Rattle.topo_perm.proofs.Subdivisions.{Subdivision, splits_of}
+use Rattle.topo_perm.proofs.Chords.{NewChord, chords_of}
+use Rattle.topo_perm.proofs.InsertionPaths.{AreAlong}
 use Rattle.topo_map.specs.Rotation.{IsEmbedding, Rotation, edge_of, half_limit, is_live, turning_of}
 use Rattle.topo_embedded.specs.declared.padding.Crossed.{Crossed}
 use Rattle.topo_embedded.specs.Halves.{RowsWithPaths, ShowsRows, half_in}
 use Rattle.topo_embedded.specs.Inserting.{put_halves}
 use Rattle.topo_embedded.specs.Padding.{ArePadded}
 
--- ---- Halves, bends and links
+-- ---- Halves, subdivision vertices and chords
 
--- the bend is on the half of the dart, and the half beyond it is new
-pub record IsCrossedAt (p : RowsWithPaths) (r : Rotation) (d : Dart) (j : Bend) : Type 0 where
+-- the subdivision vertex is on the half of the dart, and the half beyond it is new
+pub record IsCrossedAt (p : RowsWithPaths) (r : Rotation) (d : Dart) (j : Subdivision) : Type 0 where
   pub there : has_dart (darts p.rows) d ≡ true
   pub dart : j.dart ≡ index_of p.rows d
   pub near : j.near ≡ half_in p d
   pub new : is_live r j.beyond ≡ false
   pub new_back : is_live r (twin j.beyond) ≡ false
 
-abbrev pub AreCrossedAt : RowsWithPaths → Rotation → List Dart → List Bend → Type 0
+abbrev pub AreCrossedAt : RowsWithPaths → Rotation → List Dart → List Subdivision → Type 0
 AreCrossedAt p r [] [] = Unit {0}
 AreCrossedAt p r [] (j ∷ js) = ⊥
 AreCrossedAt p r (d ∷ ds) [] = ⊥
@@ -50,8 +50,8 @@ HaveLabel r id path = AllByRecursion (HasLabel r id) path
 abbrev pub HaveLabels : Rotation → List EdgeRow → List (List ℕ) → Type 0
 HaveLabels r edges paths = (k : ℕ) (row : EdgeRow) → slice_get edges k ≡ Some row → HaveLabel r row.id (slice_index_or paths k [])
 
--- the halves of a line of links
-abbrev pub halves_of : List Link → List ℕ
+-- the halves of a line of chords
+abbrev pub halves_of : List NewChord → List ℕ
 halves_of is = map (λ l. l.half) is
 
 -- ---- Crossed darts
@@ -59,14 +59,14 @@ halves_of is = map (λ l. l.half) is
 abbrev pub crossed_darts : List Crossed → List Dart
 crossed_darts cs = map (λ c. c.dart) cs
 
--- the bends at crossed darts
-abbrev pub bends_of : Rows → List Crossed → List Bend
-bends_of rows cs = map (λ c. record { dart = index_of rows c.dart; near = c.near; beyond = c.beyond }) cs
+-- the subdivision vertices at crossed darts
+abbrev pub subdivisions_of : Rows → List Crossed → List Subdivision
+subdivisions_of rows cs = map (λ c. record { dart = index_of rows c.dart; near = c.near; beyond = c.beyond }) cs
 
 -- the half that starts where a half started before the splits
-abbrev pub bent_half : List Crossed → ℕ → ℕ
-bent_half [] h = h
-bent_half (c ∷ cs) h = cond (h == twin c.near) (twin c.beyond) (bent_half cs h)
+abbrev pub subdivided_half : List Crossed → ℕ → ℕ
+subdivided_half [] h = h
+subdivided_half (c ∷ cs) h = cond (h == twin c.near) (twin c.beyond) (subdivided_half cs h)
 
 -- the dart is there, with its half, and its edge at this place
 pub record IsMarked (p : RowsWithPaths) (c : Crossed) : Type 0 where
@@ -99,11 +99,11 @@ pub record IsReadyFor (p : RowsWithPaths) (r : Rotation) (cs : List Crossed) (u 
 
 -- the segments of these darts are split, and each path keeps its label
 pub record AreSplit (p : RowsWithPaths) (before now : Rotation) (cs : List Crossed) : Type 0 where
-  pub crossed : AreCrossedAt p before (crossed_darts cs) (bends_of p.rows cs)
-  pub run : IsRun half_limit (turning_of before) (splits_of (bends_of p.rows cs)) (turning_of now)
+  pub crossed : AreCrossedAt p before (crossed_darts cs) (subdivisions_of p.rows cs)
+  pub run : IsRun half_limit (turning_of before) (splits_of (subdivisions_of p.rows cs)) (turning_of now)
   pub whole : IsEmbedding now
   pub alive : AllByRecursion (λ c. (is_live now c.beyond ≡ true) × (is_live now (twin c.beyond) ≡ true)) cs
-  pub labels : HaveLabels now p.rows.edges (map (put_halves (bends_of p.rows cs)) p.paths)
+  pub labels : HaveLabels now p.rows.edges (map (put_halves (subdivisions_of p.rows cs)) p.paths)
 
 -- those from place n on are split
 pub record AreSplitFrom (p : RowsWithPaths) (before now : Rotation) (was cs : List Crossed) (n : ℕ) (paths : List (List ℕ)) : Type 0 where
@@ -111,17 +111,17 @@ pub record AreSplitFrom (p : RowsWithPaths) (before now : Rotation) (was cs : Li
   pub darts : crossed_darts cs ≡ crossed_darts was
   pub marked : All (IsMarked p) cs
   pub split : AreSplit p before now (drop n cs)
-  pub padded : ArePadded (put_halves (bends_of p.rows (drop n cs))) p.paths (take n cs) paths
+  pub padded : ArePadded (put_halves (subdivisions_of p.rows (drop n cs))) p.paths (take n cs) paths
   pub room : now.room + length cs ≡ before.room + n
 
 -- ---- The new edge
 
 -- the segments of the new edge lead from one corner over the crossings to the other
 pub record AreChordsAdded (before now : Rotation) (cs : List Crossed) (start end edge : ℕ) (line : List ℕ) : Type 0 where
-  pub links : List Link
-  pub along : (rows : Rows) (name : ℕ → ℕ) (e : ℕ) → end ≡ name e → AreAlong name start (bends_of rows cs) e links
-  pub run : IsRun half_limit (turning_of before) (chords_of links) (turning_of now)
-  pub halves : line ≡ halves_of links
+  pub new_chords : List NewChord
+  pub along : (rows : Rows) (name : ℕ → ℕ) (e : ℕ) → end ≡ name e → AreAlong name start (subdivisions_of rows cs) e new_chords
+  pub run : IsRun half_limit (turning_of before) (chords_of new_chords) (turning_of now)
+  pub halves : line ≡ halves_of new_chords
   pub labels : HaveLabel now edge line
   pub keeps : (id h : ℕ) → HasLabel before id h → HasLabel now id h
 
@@ -129,11 +129,11 @@ pub record AreChordsAdded (before now : Rotation) (cs : List Crossed) (start end
 pub record AreChordsAddedFrom (before now : Rotation) (cs : List Crossed) (n to end edge : ℕ) (line : List ℕ) : Type 0 where
   pub within : n ≤ length cs
   pub many : length line ≡ length cs + 1
-  pub links : List Link
-  pub along : (rows : Rows) (name : ℕ → ℕ) (e z x : ℕ) → end ≡ name e → AreAlong name z (bends_of rows (drop n cs)) e (record { from = z; to = to; half = x } ∷ links)
-  pub run : IsRun half_limit (turning_of before) (chords_of links) (turning_of now)
+  pub new_chords : List NewChord
+  pub along : (rows : Rows) (name : ℕ → ℕ) (e z x : ℕ) → end ≡ name e → AreAlong name z (subdivisions_of rows (drop n cs)) e (record { from = z; to = to; half = x } ∷ new_chords)
+  pub run : IsRun half_limit (turning_of before) (chords_of new_chords) (turning_of now)
   pub whole : IsEmbedding now
-  pub halves : drop (n + 1) line ≡ halves_of links
+  pub halves : drop (n + 1) line ≡ halves_of new_chords
   pub labels : HaveLabel now edge (drop (n + 1) line)
   pub keeps : (id h : ℕ) → HasLabel before id h → HasLabel now id h
   pub stays : (h : ℕ) → is_live before h ≡ true → is_live now h ≡ true
@@ -146,4 +146,4 @@ pub record AreChordsAddedFrom (before now : Rotation) (cs : List Crossed) (n to 
 pub record IsRouted (p : RowsWithPaths) (before now : Rotation) (cs : List Crossed) (start end edge : ℕ) (line : List ℕ) : Type 0 where
   pub middle : Rotation
   pub split : AreSplit p before middle cs
-  pub added : AreChordsAdded middle now cs (bent_half cs start) (bent_half cs end) edge line
+  pub added : AreChordsAdded middle now cs (subdivided_half cs start) (subdivided_half cs end) edge line

@@ -7,7 +7,7 @@ ghost use Rattle.std.specs.Vec.{vec_capacity, vec_len};
 ghost use Rattle.topo_core.specs.Changes.{shown};
 ghost use Rattle.topo_core.specs.Rotations.{twin};
 ghost use Rattle.topo_map.specs.Rotation.{is_live};
-ghost use Rattle.topo_embedded.specs.Crossing.{AreChordsAdded, AreSplit, IsMarked, IsReady, IsReadyFor, IsRouted, bends_of, bent_half, crossed_darts};
+ghost use Rattle.topo_embedded.specs.Crossing.{AreChordsAdded, AreSplit, IsMarked, IsReady, IsReadyFor, IsRouted, subdivisions_of, subdivided_half, crossed_darts};
 ghost use Rattle.topo_embedded.specs.Halves.{RowsWithPaths};
 ghost use Rattle.topo_embedded.specs.Inserting.{put_halves};
 ghost use Rattle.topo_embedded.specs.Padding.{ArePadded, ArePlaced};
@@ -29,7 +29,7 @@ fn split_crossed(paths: &mut [Path], segments: &mut Embedding, crossed: &mut [Cr
     ensures darts { crossed_darts crossed.new ≡ crossed_darts crossed.old }
     ensures marked { All (IsMarked p) crossed.new }
     ensures split { AreSplit p segments.old segments.new crossed.new }
-    ensures paths { paths.new ≡ map (put_halves (bends_of p.rows crossed.new)) p.paths }
+    ensures paths { paths.new ≡ map (put_halves (subdivisions_of p.rows crossed.new)) p.paths }
     ensures room { segments.new.room + length crossed.old ≡ segments.old.room }
 {
     segments.laws();
@@ -44,8 +44,8 @@ fn split_crossed(paths: &mut [Path], segments: &mut Embedding, crossed: &mut [Cr
 }
 
 /// The half that starts where a half started before the crossed segments were split.
-fn bent(crossed: &[Crossed], half: Half) -> Half
-    ensures { result ≡ bent_half crossed.now half }
+fn subdivided(crossed: &[Crossed], half: Half) -> Half
+    ensures { result ≡ subdivided_half crossed.now half }
 {
     for i in 0..crossed.len() {
         if half == crossed[i].near.twin() {
@@ -127,13 +127,13 @@ fn add_route(
     requires line { length line.old ≡ length crossed.old + 1 }
     ensures darts { crossed_darts crossed.new ≡ crossed_darts crossed.old }
     ensures marked { All (IsMarked p) crossed.new }
-    ensures paths { paths.new ≡ map (put_halves (bends_of p.rows crossed.new)) p.paths }
+    ensures paths { paths.new ≡ map (put_halves (subdivisions_of p.rows crossed.new)) p.paths }
     ensures routed { IsRouted p segments.old segments.new crossed.new corners.0 corners.1 edge line.new }
 {
     segments.laws();
     split_crossed(paths, segments, crossed);
-    let start = bent(crossed, corners.0);
-    let end = bent(crossed, corners.1);
+    let start = subdivided(crossed, corners.0);
+    let end = subdivided(crossed, corners.1);
     add_chords(segments, crossed, start, end, edge, line);
 }
 

@@ -64,7 +64,7 @@ pub Joined-more : (f : ℕ → ℕ) (s t : ℕ → Bool) (k a b : ℕ) → IsWit
 Joined-more f s t k a b w j = subst (λ v. Joined f (partly t) a v) j.leads (Joined-along f s t k w j.moves a)
 
 -- the labels of the components of the segments of s, with the bound
-pub record Stage (f : ℕ → ℕ) (n : ℕ) (s : ℕ → Bool) (l : ℕ → ℕ) : Type 0 where
+pub record CutStep (f : ℕ → ℕ) (n : ℕ) (s : ℕ → Bool) (l : ℕ → ℕ) : Type 0 where
   pub turned : (a : ℕ) → a < n → l a ≡ l (f a)
   pub crossed : (a : ℕ) → a < n → l a ≡ l (partly s a)
   pub sound : (a b : ℕ) → a < n → b < n → l a ≡ l b → Joined f (partly s) a b
@@ -76,23 +76,23 @@ along-within f s n h even [] a la = la
 along-within f s n h even (Turn ∷ ms) a la = h.within _ (along-within f s n h even ms a la)
 along-within f s n h even (Cross ∷ ms) a la = partly-within s n _ even (along-within f s n h even ms a la)
 
-stage_along : (f : ℕ → ℕ) (n : ℕ) (s : ℕ → Bool) (l : ℕ → ℕ) → IsPermutation f n → n % 2 ≡ 0 → Stage f n s l → (ms : List Move) (a : ℕ) → a < n → l a ≡ l (along f (partly s) ms a)
-stage_along f n s l h even t [] a la = refl
-stage_along f n s l h even t (Turn ∷ ms) a la =
-    stage_along f n s l h even t ms a la ∙ t.turned _ (along-within f s n h even ms a la)
-stage_along f n s l h even t (Cross ∷ ms) a la =
-    stage_along f n s l h even t ms a la ∙ t.crossed _ (along-within f s n h even ms a la)
+cut_step_along : (f : ℕ → ℕ) (n : ℕ) (s : ℕ → Bool) (l : ℕ → ℕ) → IsPermutation f n → n % 2 ≡ 0 → CutStep f n s l → (ms : List Move) (a : ℕ) → a < n → l a ≡ l (along f (partly s) ms a)
+cut_step_along f n s l h even t [] a la = refl
+cut_step_along f n s l h even t (Turn ∷ ms) a la =
+    cut_step_along f n s l h even t ms a la ∙ t.turned _ (along-within f s n h even ms a la)
+cut_step_along f n s l h even t (Cross ∷ ms) a la =
+    cut_step_along f n s l h even t ms a la ∙ t.crossed _ (along-within f s n h even ms a la)
 
-pub stage_complete : {f : ℕ → ℕ} {n : ℕ} {s : ℕ → Bool} {l : ℕ → ℕ} → IsPermutation f n → n % 2 ≡ 0 → Stage f n s l → {a b : ℕ} → a < n → Joined f (partly s) a b → l a ≡ l b
-stage_complete {f} {n} {s} {l} h even t {a} la j = stage_along f n s l h even t j.moves a la ∙ ap l j.leads
+pub cut_step_complete : {f : ℕ → ℕ} {n : ℕ} {s : ℕ → Bool} {l : ℕ → ℕ} → IsPermutation f n → n % 2 ≡ 0 → CutStep f n s l → {a b : ℕ} → a < n → Joined f (partly s) a b → l a ≡ l b
+cut_step_complete {f} {n} {s} {l} h even t {a} la j = cut_step_along f n s l h even t j.moves a la ∙ ap l j.leads
 
 -- no segment
 none_below : (n : ℕ) → count_below (λ _. false) n ≡ 0
 none_below zero = refl
 none_below (suc n) = omega (arith, none_below n)
 
-pub stage_none : (f : ℕ → ℕ) (n : ℕ) → IsPermutation f n → Stage f n (λ _. false) (leader (is_met f n))
-stage_none f n h =
+pub cut_step_none : (f : ℕ → ℕ) (n : ℕ) → IsPermutation f n → CutStep f n (λ _. false) (leader (is_met f n))
+cut_step_none f n h =
     let r = is_met-equivalence f n h in
     let l : ℕ → ℕ = leader (is_met f n) in
     let met : (a b : ℕ) → a < n → b < n → l a ≡ l b → SameCycle f a b =
@@ -127,12 +127,12 @@ unfolding relabelled
 relabelled-is l n i j = record { each = λ a la. refl }
 
 -- a step round a face keeps the label
-face_keeps : (f : ℕ → ℕ) (n : ℕ) (s : ℕ → Bool) (l : ℕ → ℕ) → n % 2 ≡ 0 → Stage f n s l → (a : ℕ) → a < n → l a ≡ l (face_by f s a)
+face_keeps : (f : ℕ → ℕ) (n : ℕ) (s : ℕ → Bool) (l : ℕ → ℕ) → n % 2 ≡ 0 → CutStep f n s l → (a : ℕ) → a < n → l a ≡ l (face_by f s a)
 face_keeps f n s l even t a la = t.crossed a la ∙ t.turned (partly s a) (partly-within s n a even la)
 
 -- one segment more
-pub stage_more : {f : ℕ → ℕ} {n : ℕ} {s t : ℕ → Bool} {k : ℕ} {l : ℕ → ℕ} → IsPermutation f n → n % 2 ≡ 0 → 2 * k + 1 < n → IsWithout s t k → Stage f n s l → Stage f n t (relabelled l (2 * k) (2 * k + 1))
-stage_more {f} {n} {s} {t} {k} {l} h even lk w st = record {
+pub cut_step_more : {f : ℕ → ℕ} {n : ℕ} {s t : ℕ → Bool} {k : ℕ} {l : ℕ → ℕ} → IsPermutation f n → n % 2 ≡ 0 → 2 * k + 1 < n → IsWithout s t k → CutStep f n s l → CutStep f n t (relabelled l (2 * k) (2 * k + 1))
+cut_step_more {f} {n} {s} {t} {k} {l} h even lk w st = record {
   turned = λ a la. relabel-keeps a (f a) r la (h.within a la) (st.turned a la);
   crossed = λ a la. elim (cases_eq a i) [
     | inl e ↦ ap m e ∙ relabel-meets l m n i j r li lk ∙ ap m (sym (ap (partly t) e ∙ low))
@@ -212,28 +212,28 @@ below : (ℕ → Bool) → ℕ → ℕ → Bool
 below s k i = s i && ltb i k
 
 -- sets of segments that agree below n / 2 are as good
-stage_same : (f : ℕ → ℕ) (n : ℕ) (s t : ℕ → Bool) (l : ℕ → ℕ) → ((i : ℕ) → s i ≡ t i) → Stage f n s l → Stage f n t l
-stage_same f n s t l e st = subst (λ u. Stage f n u l) (fun_ext e) st
+cut_step_same : (f : ℕ → ℕ) (n : ℕ) (s t : ℕ → Bool) (l : ℕ → ℕ) → ((i : ℕ) → s i ≡ t i) → CutStep f n s l → CutStep f n t l
+cut_step_same f n s t l e st = subst (λ u. CutStep f n u l) (fun_ext e) st
 
-pub record HasStage (f : ℕ → ℕ) (n : ℕ) (s : ℕ → Bool) : Type 0 where
+pub record HasCutStep (f : ℕ → ℕ) (n : ℕ) (s : ℕ → Bool) : Type 0 where
   pub labels : ℕ → ℕ
-  pub stage : Stage f n s labels
+  pub cut_step : CutStep f n s labels
 
-stage_below : (f : ℕ → ℕ) (n : ℕ) (s : ℕ → Bool) → IsPermutation f n → n % 2 ≡ 0 → (k : ℕ) → 2 * k ≤ n → HasStage f n (below s k)
+cut_step_below : (f : ℕ → ℕ) (n : ℕ) (s : ℕ → Bool) → IsPermutation f n → n % 2 ≡ 0 → (k : ℕ) → 2 * k ≤ n → HasCutStep f n (below s k)
 unfolding below
-stage_below f n s h even zero l =
-    record { labels = leader (is_met f n); stage = stage_same f n (λ _. false) (below s 0) _ (λ i. sym (and_right (s i) (ltb i 0) (le-ltb i 0 (omega arith)))) (stage_none f n h) }
-stage_below f n s h even (suc k) l =
-    let before : HasStage f n (below s k) = stage_below f n s h even k (omega arith) in
+cut_step_below f n s h even zero l =
+    record { labels = leader (is_met f n); cut_step = cut_step_same f n (λ _. false) (below s 0) _ (λ i. sym (and_right (s i) (ltb i 0) (le-ltb i 0 (omega arith)))) (cut_step_none f n h) }
+cut_step_below f n s h even (suc k) l =
+    let before : HasCutStep f n (below s k) = cut_step_below f n s h even k (omega arith) in
     elim (cases_Bool (s k)) [
       | inr out ↦ record {
         labels = before.labels;
-        stage = stage_same f n (below s k) (below s (suc k)) _ (λ i. grind (arith, cases_eq, and_left)) before.stage;
+        cut_step = cut_step_same f n (below s k) (below s (suc k)) _ (λ i. grind (arith, cases_eq, and_left)) before.cut_step;
       }
       | inl here ↦ record {
         labels = relabelled before.labels (2 * k) (2 * k + 1);
-        stage = stage_more h even (omega arith)
-            (grind (arith, and_right, le-ltb, and_from, lt-ltb)) before.stage;
+        cut_step = cut_step_more h even (omega arith)
+            (grind (arith, and_right, le-ltb, and_from, lt-ltb)) before.cut_step;
       }
     ]
   where
@@ -250,22 +250,22 @@ pub record HasComponents (f : ℕ → ℕ) (n : ℕ) (s : ℕ → Bool) : Type 0
 pub components_of : (f : ℕ → ℕ) (n : ℕ) (s : ℕ → Bool) → IsPermutation f n → n % 2 ≡ 0 → HasComponents f n s
 unfolding below
 components_of f n s h even =
-    let last : HasStage f n (below s (n / 2)) = stage_below f n s h even (n / 2) (omega arith) in
+    let last : HasCutStep f n (below s (n / 2)) = cut_step_below f n s h even (n / 2) (omega arith) in
     let t : ℕ → Bool = below s (n / 2) in
     let part : (d : ℕ) → d < n → partly t d ≡ partly s d = λ d ld. ap (λ b. cond b (twin d) d) (within s (n / 2) (d / 2) (omega arith)) in
     let faces : cycle_count (face_by f t) n ≡ cycle_count (face_by f s) n =
-    cycle_count-same (face_by f t) (face_by f s) n last.stage.faces (λ a la. ap f (part a la)) in
+    cycle_count-same (face_by f t) (face_by f s) n last.cut_step.faces (λ a la. ap f (part a la)) in
     let size : count_below t (n / 2) ≡ count_below s (n / 2) = count_below-same t s (n / 2) (λ a la. within s (n / 2) a la) in
     record {
       count = class_count (same_label last.labels) n;
       components = record {
         test = same_label last.labels;
-        sound = λ a b la lb e. moved_to part a b la (last.stage.sound a b la lb (eqb-true _ _ e));
-        complete = λ a b la lb j. eq-eqb _ _ (stage_complete h even last.stage la (moved_back part a b la j));
+        sound = λ a b la lb e. moved_to part a b la (last.cut_step.sound a b la lb (eqb-true _ _ e));
+        complete = λ a b la lb j. eq-eqb _ _ (cut_step_complete h even last.cut_step la (moved_back part a b la j));
         count = refl;
       };
-      faces = IsPermutation-same (face_by f t) (face_by f s) n last.stage.faces (λ a la. ap f (part a la));
-      bound = omega (arith, last.stage.bound, faces, size);
+      faces = IsPermutation-same (face_by f t) (face_by f s) n last.cut_step.faces (λ a la. ap f (part a la));
+      bound = omega (arith, last.cut_step.bound, faces, size);
     }
   where
     within : (s : ℕ → Bool) (k i : ℕ) → i < k → below s k i ≡ s i

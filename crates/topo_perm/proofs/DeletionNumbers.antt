@@ -12,8 +12,8 @@ use Rattle.topo_perm.specs.Runs.Edit.{Unchord, Smooth}
 use Rattle.topo_perm.proofs.EditNumbers.{alive_turn, alive_twin, dead_apart, still_alive, unchord_numbers}
 use Rattle.topo_perm.proofs.SplitNumbers.{smooth_numbers}
 use Rattle.topo_perm.proofs.Composing.{composed_numbers, slab_of_turn, turn_of_slab}
-use Rattle.topo_perm.proofs.Stages.{IsOpening, left_after, segment_left, step_adds}
-use Rattle.topo_perm.proofs.Passages.{all_at}
+use Rattle.topo_perm.proofs.DeletionSteps.{IsOpening, left_after, segment_left, step_adds}
+use Rattle.topo_perm.proofs.InsertionPaths.{all_at}
 use Rattle.topo_perm.proofs.Midpoints.{AreMidway, IsMidpoint, can_smooth, even_not_odd, left_other, no_loop, odd_twin, smoothed_midway, smoothed_name, smoothed_name-other, taken, without_segment}
 
 -- ---- The segments of the edge

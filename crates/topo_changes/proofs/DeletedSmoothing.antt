@@ -27,15 +27,15 @@ use Rattle.topo_core.proofs.SystemDarts.{edge_at_row, some_of}
 use Rattle.topo_core.proofs.WithoutPlaces.{segment_of_dart}
 use Rattle.topo_perm.specs.Live.{IsSlab}
 use Rattle.topo_perm.specs.RenumberedEdits.{IsAlive}
-use Rattle.topo_perm.proofs.Collapses.{Collapses}
+use Rattle.topo_perm.proofs.Smoothings.{SmoothsTo}
 use Rattle.topo_perm.proofs.Faces.{twin-twin as nat_twin}
 use Rattle.topo_perm.proofs.Midpoints.{AreMidway, IsMidpoint, odd_twin}
 use Rattle.topo_perm.proofs.Walks.{twin-within}
-use Rattle.topo_perm.proofs.Stages.{left_after, left_of}
-use Rattle.topo_changes.proofs.DeletedSegments.{IsPart, collapsed, collapsed_lifted, collapsed_onward, part_of}
+use Rattle.topo_perm.proofs.DeletionSteps.{left_after, left_of}
+use Rattle.topo_changes.proofs.DeletedSegments.{IsPart, smoothed_dart, smoothed_lifted, smoothed_onward, part_of}
 use Rattle.topo_changes.proofs.DeletedTurns.{left_away, over, straight}
 use Rattle.topo_changes.proofs.InsertedNumbers.{dart_here, dart_of, dart_of_number, even_count, number_less, number_of, numbers_apart, turn_number, turned, twinned}
-use Rattle.topo_changes.proofs.InsertedPassage.{onward_edge}
+use Rattle.topo_changes.proofs.InsertedPath.{onward_edge}
 
 module _ (q : Rows) (e : ℕ) (p : Rows) (hq : IsWellFormed q) (hp : IsWellFormed p) (known : is_some (edge_row q e) ≡ true) (s : HidesTurns q e p) where
   abbrev pub Was : Dart → Type 0
@@ -72,13 +72,13 @@ module _ (q : Rows) (e : ℕ) (p : Rows) (hq : IsWellFormed q) (hp : IsWellForme
   name a = num (lifted p q (dart_of p hp a))
 
   abbrev pub onto : ℕ → ℕ
-  onto b = index_of p (collapsed q p (dart_of q hq b))
+  onto b = index_of p (smoothed_dart q p (dart_of q hq b))
 
   name_of : (d : Dart) → Was d → name (index_of p d) ≡ num (lifted p q d)
   name_of d w = ap (λ (c : Dart). num (lifted p q c)) (dart_of_number p hp d w)
 
-  onto_of : (d : Dart) → Is d → onto (num d) ≡ index_of p (collapsed q p d)
-  onto_of d h = ap (λ (c : Dart). index_of p (collapsed q p c)) (dart_of_number q hq d h)
+  onto_of : (d : Dart) → Is d → onto (num d) ≡ index_of p (smoothed_dart q p d)
+  onto_of d h = ap (λ (c : Dart). index_of p (smoothed_dart q p c)) (dart_of_number q hq d h)
 
   lifted_other : (d : Dart) → Was d → (lifted p q d).edge ≢ e
   lifted_other d w same = s.left_edges d w (sym (lifted_edge p q d) ∙ same)
@@ -308,15 +308,15 @@ module _ (q : Rows) (e : ℕ) (p : Rows) (hq : IsWellFormed q) (hp : IsWellForme
   onward_turn c x Forward is = let here : Passes c x.id = passes c x is in (here.from_ahead, here.behind_in)
   onward_turn c x Back is = let here : Passes c x.id = passes c x is in (here.from_behind, here.ahead_in)
 
-  onward_other : (y d : Dart) (x : CrossRow) → Was d → IsCrossingOf q e d.edge x → IsIn x.id (crossings_between q e d.edge d.seg) → collapsed q p (onward_by q x.id d.edge (reversed d.way)) ≡ dart_twin d
-  onward_other y d x was is between = collapsed_onward q e p hp s (dart_twin d) x.id (twin_in p d was) between
+  onward_other : (y d : Dart) (x : CrossRow) → Was d → IsCrossingOf q e d.edge x → IsIn x.id (crossings_between q e d.edge d.seg) → smoothed_dart q p (onward_by q x.id d.edge (reversed d.way)) ≡ dart_twin d
+  onward_other y d x was is between = smoothed_onward q e p hp s (dart_twin d) x.id (twin_in p d was) between
 
   part_turns : (y d : Dart) → IsPart q e p hp s y d → (onto (t (num y)) ≡ index_of p (turn (system p) d)) ⊎ (onto (t (num y)) ≡ index_of p (dart_twin d))
   part_turns y d part = elim part.on [
     | inl at ↦
         let next : Dart = turn (system p) d in
         let next_was : Was next = old_turn_in d part.was in
-        inl (ap (λ (z : Dart). onto (t (num z))) at ∙ ap onto (lifted_turn d part.was) ∙ onto_of (lifted p q next) (s.lifts next next_was) ∙ ap (index_of p) (collapsed_lifted q e p hp s next next_was))
+        inl (ap (λ (z : Dart). onto (t (num z))) at ∙ ap onto (lifted_turn d part.was) ∙ onto_of (lifted p q next) (s.lifts next next_was) ∙ ap (index_of p) (smoothed_lifted q e p hp s next next_was))
     | inr (x, is, between, at) ↦
         let (leads, here) = onward_turn d.edge x d.way is in
         inr (ap (λ (z : Dart). onto (t (num z))) at ∙ ap onto leads ∙ onto_of (onward_by q x.id d.edge (reversed d.way)) here ∙ ap (index_of p) (onward_other y d x part.was is between))
@@ -329,8 +329,8 @@ module _ (q : Rows) (e : ℕ) (p : Rows) (hq : IsWellFormed q) (hp : IsWellForme
   onto_part : (b : ℕ) (d : Dart) → IsPart q e p hp s (dart_of q hq b) d → onto b ≡ index_of p d
   onto_part b d part = ap (index_of p) part.at
 
-  pub collapse_here : IsSlab (left_after half count) t n → Collapses t n (left_after half count) old m name onto
-  collapse_here slab = record {
+  pub smoothing_here : IsSlab (left_after half count) t n → SmoothsTo t n (left_after half count) old m name onto
+  smoothing_here slab = record {
     slab = slab;
     turn = turn_permutes p hp.paths hp.crossings hp.rotations;
     even = even_count p hp;
@@ -342,10 +342,10 @@ module _ (q : Rows) (e : ℕ) (p : Rows) (hq : IsWellFormed q) (hp : IsWellForme
     returns = λ a la.
         let d : Dart = dart_of p hp a in
         let was : Was d = dart_here p hp a la in
-        onto_of (lifted p q d) (s.lifts d was) ∙ ap (index_of p) (collapsed_lifted q e p hp s d was) ∙ number_of p hp a la;
+        onto_of (lifted p q d) (s.lifts d was) ∙ ap (index_of p) (smoothed_lifted q e p hp s d was) ∙ number_of p hp a la;
     twins = λ b lb w.
         let (d, part) = part_there b lb w in
-        ap (λ (c : Dart). index_of p (collapsed q p c)) (twinned q hq b lb) ∙ ap (λ (c : Dart). index_of p (dart_twin c)) part.at ∙ index_twin p d part.was ∙ ap twin (sym (onto_part b d part));
+        ap (λ (c : Dart). index_of p (smoothed_dart q p c)) (twinned q hq b lb) ∙ ap (λ (c : Dart). index_of p (dart_twin c)) part.at ∙ index_twin p d part.was ∙ ap twin (sym (onto_part b d part));
     turns = λ b lb w.
         let (d, part) = part_there b lb w in
         let at : b ≡ num (dart_of q hq b) = sym (number_of q hq b lb) in
@@ -429,7 +429,7 @@ module _ (q : Rows) (e : ℕ) (p : Rows) (hq : IsWellFormed q) (hp : IsWellForme
 
   pub midway_here : IsSlab (left_after half count) t n → AreMidway IsAheadOfCrossing place (left_after half count) t n old m name onto
   midway_here slab =
-      let c : Collapses t n (left_after half count) old m name onto = collapse_here slab in
+      let c : SmoothsTo t n (left_after half count) old m name onto = smoothing_here slab in
       record {
         slab = slab;
         named = λ d ld. record { within = c.within d ld; alive = c.alive d ld };
@@ -447,9 +447,9 @@ module _ (q : Rows) (e : ℕ) (p : Rows) (hq : IsWellFormed q) (hp : IsWellForme
             ];
       }
 
--- the picture without edge e is what collapses out of the picture in which e is opened from end to end
-pub collapse : (q : Rows) (e : ℕ) (p : Rows) (hq : IsWellFormed q) (hp : IsWellFormed p) (known : is_some (edge_row q e) ≡ true) (s : HidesTurns q e p)
+-- the picture without edge e is the smoothing of the picture in which e is opened from end to end
+pub smoothing : (q : Rows) (e : ℕ) (p : Rows) (hq : IsWellFormed q) (hp : IsWellFormed p) (known : is_some (edge_row q e) ≡ true) (s : HidesTurns q e p)
     → IsSlab (left_after (λ i. index_of q (record { edge = e; seg = i; way = Forward })) (length (edge_at q e).crossings + 1)) (opened_turn q e (length (edge_at q e).crossings + 1)) (length (turn_images q))
-    → Collapses (opened_turn q e (length (edge_at q e).crossings + 1)) (length (turn_images q)) (left_after (λ i. index_of q (record { edge = e; seg = i; way = Forward })) (length (edge_at q e).crossings + 1))
-    (map_of (turn_images p)) (length (turn_images p)) (λ a. index_of q (lifted p q (dart_of p hp a))) (λ b. index_of p (collapsed q p (dart_of q hq b)))
-collapse q e p hq hp known s slab = collapse_here q e p hq hp known s slab
+    → SmoothsTo (opened_turn q e (length (edge_at q e).crossings + 1)) (length (turn_images q)) (left_after (λ i. index_of q (record { edge = e; seg = i; way = Forward })) (length (edge_at q e).crossings + 1))
+    (map_of (turn_images p)) (length (turn_images p)) (λ a. index_of q (lifted p q (dart_of p hp a))) (λ b. index_of p (smoothed_dart q p (dart_of q hq b)))
+smoothing q e p hq hp known s slab = smoothing_here q e p hq hp known s slab

@@ -20,7 +20,7 @@ use Rattle.topo_perm.specs.Renumbering.{RenumbersTurn}
 use Rattle.topo_perm.specs.RenumberedEdits.{IsAlive, RenumbersSlab}
 use Rattle.topo_perm.specs.Runs.{Turning, IsRun}
 use Rattle.topo_perm.proofs.DeletionNumbers.{IsSmoothable, opened_numbers, smoothable, smooths_of, unchords_of}
-use Rattle.topo_perm.proofs.Stages.{left_after, segment_left}
+use Rattle.topo_perm.proofs.DeletionSteps.{left_after, segment_left}
 use Rattle.topo_changes.proofs.DeletedLawful.{good_p, hides}
 use Rattle.topo_changes.proofs.DeletedOpening.{back_alone, left_dart, left_turn, turns_on}
 use Rattle.topo_changes.proofs.DeletedMids.{across, carried_across, crossings, first_of, is_even, mid, mid_opened, path_mids}
@@ -57,8 +57,8 @@ module _ (rows : Rows) (good : IsWellFormed rows) (e : ℕ) (row : EdgeRow) (kno
         not_less = grind (arith, cases_Bool, ltb-true)
 
   module _ (nu home : ℕ → ℕ) (limit : ℕ) (u : Turning) (r : RenumbersTurn nu home (map_of (turn_images rows)) u.turn many u.live limit) (slab : IsSlab u.live u.turn limit) where
-    pub stage_numbers : (i : ℕ) → i ≤ last + 1 → (w : Turning) → IsRun limit u (unchords_of (λ j. nu (num (forward e j))) i) w → RenumbersSlab nu home (left_after h i) (t i) many w.live w.turn limit
-    stage_numbers i li w run = opened_numbers (opening rows good e row known connected zero_genus) w (shut_slab rows good e row known connected zero_genus nu home limit u r slab) i li run
+    pub deletion_step_numbers : (i : ℕ) → i ≤ last + 1 → (w : Turning) → IsRun limit u (unchords_of (λ j. nu (num (forward e j))) i) w → RenumbersSlab nu home (left_after h i) (t i) many w.live w.turn limit
+    deletion_step_numbers i li w run = opened_numbers (opening rows good e row known connected zero_genus) w (shut_slab rows good e row known connected zero_genus nu home limit u r slab) i li run
 
     module _ (i : ℕ) (w : Turning) (run : IsRun limit u (unchords_of (λ j. nu (num (forward e j))) i) w) where
       there : (j : ℕ) → j ≤ last → num (forward e j) < many
@@ -66,7 +66,7 @@ module _ (rows : Rows) (good : IsWellFormed rows) (e : ℕ) (row : EdgeRow) (kno
 
       -- the next segment is there
       pub segment_alive : i ≤ last → IsAlive w.live limit (nu (num (forward e i)))
-      segment_alive li = (stage_numbers i (omega arith) w run).into.there (num (forward e i)) (record {
+      segment_alive li = (deletion_step_numbers i (omega arith) w run).into.there (num (forward e i)) (record {
         within = there i li;
         alive = (segment_left t many h (last + 1) (opening rows good e row known connected zero_genus) i (omega arith)).0;
       })
@@ -94,18 +94,18 @@ module _ (rows : Rows) (good : IsWellFormed rows) (e : ℕ) (row : EdgeRow) (kno
       forward_left li = grind (arith, there, left_at)
 
       pub back_alive : i < last → IsAlive w.live limit (nu (num (back e i)))
-      back_alive li = (stage_numbers i (omega arith) w run).into.there (num (back e i)) (back_left li)
+      back_alive li = (deletion_step_numbers i (omega arith) w run).into.there (num (back e i)) (back_left li)
 
       pub forward_alive : i < last → IsAlive w.live limit (nu (num (forward e (i + 1))))
-      forward_alive li = (stage_numbers i (omega arith) w run).into.there (num (forward e (i + 1))) (forward_left li)
+      forward_alive li = (deletion_step_numbers i (omega arith) w run).into.there (num (forward e (i + 1))) (forward_left li)
 
       pub over_turn : (li : i < last) → w.turn (nu (num (back e i))) ≡ nu (num (over_dart li))
-      over_turn li = (stage_numbers i (omega arith) w run).turns (num (back e i)) (back_left li) ∙ ap nu (over_number li)
+      over_turn li = (deletion_step_numbers i (omega arith) w run).turns (num (back e i)) (back_left li) ∙ ap nu (over_number li)
 
       -- so the midpoint behind the segment is found
       pub mid_found : (li : i < last) → (leads : ℕ → Bool) → leads (nu (num (over_dart li))) ≡ is_even (num (over_dart li)) → across leads w.turn (nu (num (back e i))) (nu (num (forward e (i + 1)))) ≡ nu (middle_at i)
       mid_found li leads same =
-          let s = stage_numbers i (omega arith) w run in
+          let s = deletion_step_numbers i (omega arith) w run in
           carried_across is_even leads nu (t i) w.turn (num (back e i)) (num (forward e (i + 1))) (s.turns (num (back e i)) (back_left li)) (s.turns (num (forward e (i + 1))) (forward_left li))
           (ap (λ k. leads (nu k)) (over_number li) ∙ same ∙ sym (ap is_even (over_number li)))
           ∙ ap nu (mid_opened rows good e row known i i (omega arith) li)
@@ -116,4 +116,4 @@ module _ (rows : Rows) (good : IsWellFormed rows) (e : ℕ) (row : EdgeRow) (kno
         let p : IsWellFormed (without rows e) = good_p rows good e row known in
         smoothable
         (midway rows good e row known connected zero_genus) (turn_permutes (without rows e) p.paths p.crossings p.rotations)
-        (even_count (without rows e) p) w (stage_numbers (last + 1) (omega arith) w run) (middle_at i) (first_of middle_at i) v (path_mids rows good e row known connected zero_genus (suc i) (omega (arith, li))) smooths
+        (even_count (without rows e) p) w (deletion_step_numbers (last + 1) (omega arith) w run) (middle_at i) (first_of middle_at i) v (path_mids rows good e row known connected zero_genus (suc i) (omega (arith, li))) smooths

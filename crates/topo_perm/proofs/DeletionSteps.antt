@@ -34,7 +34,7 @@ pub record IsOpening (t : ℕ → ℕ → ℕ) (n : ℕ) (h : ℕ → ℕ) (coun
   pub genus_zero : cycle_count (t 0) n + cycle_count (face_next (t 0)) n ≡ n / 2 + 2
 
 -- with i segments out all hangs together, Euler's formula holds, and there are i faces fewer
-pub record Stage (t : ℕ → ℕ → ℕ) (n : ℕ) (h : ℕ → ℕ) (i : ℕ) : Type 0 where
+pub record DeletionStep (t : ℕ → ℕ → ℕ) (n : ℕ) (h : ℕ → ℕ) (i : ℕ) : Type 0 where
   pub slab : IsSlab (left_after h i) (t i) n
   pub connected : IsConnectedAmong (left_after h i) (t i) n
   pub formula : live_cycle_count (left_after h i) (t i) n + live_cycle_count (left_after h i) (face_next (t i)) n ≡ live_segments (left_after h i) n + 2
@@ -77,8 +77,8 @@ step_adds t n h count o i li = record {
   others = λ a la nh nt. sym (left_stays h i a nh nt);
 }
 
-pub stage : (t : ℕ → ℕ → ℕ) (n : ℕ) (h : ℕ → ℕ) (count : ℕ) → IsOpening t n h count → (i : ℕ) → i ≤ count → HaveTwoFaces t h i → Stage t n h i
-stage t n h count o zero li two =
+pub deletion_step : (t : ℕ → ℕ → ℕ) (n : ℕ) (h : ℕ → ℕ) (count : ℕ) → IsOpening t n h count → (i : ℕ) → i ≤ count → HaveTwoFaces t h i → DeletionStep t n h i
+deletion_step t n h count o zero li two =
     let points : cycle_count (t 0) n ≡ live_cycle_count (λ a. true) (t 0) n = whole_count (t 0) n (λ a. true) (o.permutation 0) (λ a la. refl) in
     let faces : cycle_count (face_next (t 0)) n ≡ live_cycle_count (λ a. true) (face_next (t 0)) n = whole_count (face_next (t 0)) n (λ a. true) (face_next-permutation (t 0) n (o.permutation 0) o.even) (λ a la. refl) in
     record {
@@ -87,9 +87,9 @@ stage t n h count o zero li two =
       formula = omega (arith, points, faces, all_segments n, o.genus_zero);
       faces = omega (arith, faces);
     }
-stage t n h count o (suc i) li two =
+deletion_step t n h count o (suc i) li two =
     let lc : i < count = omega (arith, li) in
-    let before : Stage t n h i = stage t n h count o i (omega (arith, li)) (λ j lj. two j (omega (arith, lj))) in
+    let before : DeletionStep t n h i = deletion_step t n h count o i (omega (arith, li)) (λ j lj. two j (omega (arith, lj))) in
     let live : ℕ → Bool = left_after h i in
     let live' : ℕ → Bool = left_after h (suc i) in
     let adds : AddsSegment live' live n (h i) = step_adds t n h count o i lc in
@@ -110,7 +110,7 @@ stage t n h count o (suc i) li two =
 -- ---- A segment with one face
 
 -- with one face on both sides, the darts at its one end are parted from those at its other
-pub parted : {t : ℕ → ℕ → ℕ} {n : ℕ} {h : ℕ → ℕ} {count : ℕ} → IsOpening t n h count → {i : ℕ} → i < count → Stage t n h i → SameCycle (face_next (t i)) (h i) (twin (h i))
+pub parted : {t : ℕ → ℕ → ℕ} {n : ℕ} {h : ℕ → ℕ} {count : ℕ} → IsOpening t n h count → {i : ℕ} → i < count → DeletionStep t n h i → SameCycle (face_next (t i)) (h i) (twin (h i))
     → {a b : ℕ} → IsElsewhere n (h i) a → IsElsewhere n (h i) b → SameCycle (t i) (h i) a → SameCycle (t i) (twin (h i)) b → Joined (t (suc i)) twin a b → ⊥
 parted {t} {n} {h} {count} o {i} li s one {a} {b} ea eb at_a at_b =
     taken_out_parts (t i) (t (suc i)) n (h i) a b (record { permutation = o.permutation i; even = o.even; within = o.there i li }) (o.unchord i li)

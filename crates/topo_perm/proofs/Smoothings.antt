@@ -15,7 +15,7 @@ use Rattle.topo_perm.proofs.Walks.{Joined-crossed, Joined-refl, Joined-trans, Jo
 use Rattle.topo_perm.proofs.Exchange.{is_met-equivalence}
 
 -- the live darts of t are those of f under their names, and darts at points of degree two on the segments of f. `onto` gives each the dart of f that it is part of
-pub record Collapses (t : ℕ → ℕ) (n : ℕ) (live : ℕ → Bool) (f : ℕ → ℕ) (m : ℕ) (name onto : ℕ → ℕ) : Type 0 where
+pub record SmoothsTo (t : ℕ → ℕ) (n : ℕ) (live : ℕ → Bool) (f : ℕ → ℕ) (m : ℕ) (name onto : ℕ → ℕ) : Type 0 where
   pub slab : IsSlab live t n
   pub turn : IsPermutation f m
   pub even : m % 2 ≡ 0
@@ -31,7 +31,7 @@ pub record Collapses (t : ℕ → ℕ) (n : ℕ) (live : ℕ → Bool) (f : ℕ 
   pub parts : (y : ℕ) → y < n → live y ≡ true → SameCycle (face_next t) (name (onto y)) y
   pub forth : (d : ℕ) → d < m → SameCycle (face_next t) (name d) (name (face_next f d))
 
-module _ {t : ℕ → ℕ} {n : ℕ} {live : ℕ → Bool} {f : ℕ → ℕ} {m : ℕ} {name onto : ℕ → ℕ} (c : Collapses t n live f m name onto) where
+module _ {t : ℕ → ℕ} {n : ℕ} {live : ℕ → Bool} {f : ℕ → ℕ} {m : ℕ} {name onto : ℕ → ℕ} (c : SmoothsTo t n live f m name onto) where
   faces_t : IsPermutation (face_next t) n
   faces_t = face_next-permutation t n c.slab.permutation c.slab.even
 
@@ -100,8 +100,8 @@ module _ {t : ℕ → ℕ} {n : ℕ} {live : ℕ → Bool} {f : ℕ → ℕ} {m 
       let dt : live (twin z) ≡ false = c.slab.twins z l ∙ dead in
       (ap live (c.slab.free (twin z) lt dt) ∙ dt, faces_t.within z l)
 
-  pub collapsed_faces : cycle_count (face_next f) m ≡ live_cycle_count live (face_next t) n
-  collapsed_faces = live_class_count-carries name (is_met (face_next f) m) m live (is_met (face_next t) n) n (is_met-equivalence (face_next f) m faces_f) (is_met-equivalence (face_next t) n faces_t) (record {
+  pub smoothed_faces : cycle_count (face_next f) m ≡ live_cycle_count live (face_next t) n
+  smoothed_faces = live_class_count-carries name (is_met (face_next f) m) m live (is_met (face_next t) n) n (is_met-equivalence (face_next f) m faces_f) (is_met-equivalence (face_next t) n faces_t) (record {
     within = c.within;
     alive = c.alive;
     same = λ a b la lb. same_tests (is_met (face_next t) n (name a) (name b)) (is_met (face_next f) m a b)
@@ -144,8 +144,8 @@ module _ {t : ℕ → ℕ} {n : ℕ} {live : ℕ → Bool} {f : ℕ → ℕ} {m 
       }
 
   -- what hangs together above does so below
-  pub collapsed_connected : IsConnectedAmong live t n → (a b : ℕ) → a < m → b < m → Joined f twin a b
-  collapsed_connected h a b la lb =
+  pub smoothed_connected : IsConnectedAmong live t n → (a b : ℕ) → a < m → b < m → Joined f twin a b
+  smoothed_connected h a b la lb =
       let j : Joined t twin (name a) (name b) = h (name a) (name b) (c.within a la) (c.within b lb) (c.alive a la) (c.alive b lb) in
       let r : IsJoinedTo a (along t twin j.moves (name a)) = joined_along a j.moves (name a) (record { inside = c.within a la; alive = c.alive a la; joined = subst (λ (w : ℕ). Joined f twin a w) (sym (c.returns a la)) (Joined-refl f twin a) }) in
       subst (λ (w : ℕ). Joined f twin a w) (ap onto j.leads ∙ c.returns b lb) r.joined
@@ -182,8 +182,8 @@ module _ {t : ℕ → ℕ} {n : ℕ} {live : ℕ → Bool} {f : ℕ → ℕ} {m 
       (Joined-trans t twin (name a) (name z) (name (twin z)) j (twin_above z l), twin-within m z c.even l)
 
   -- what hangs together below does so above
-  pub collapsed_back : ((a b : ℕ) → a < m → b < m → Joined f twin a b) → IsConnectedAmong live t n
-  collapsed_back h y z ly lz wy wz =
+  pub smoothed_out_back : ((a b : ℕ) → a < m → b < m → Joined f twin a b) → IsConnectedAmong live t n
+  smoothed_out_back h y z ly lz wy wz =
       let ay : onto y < m = c.onto_within y ly wy in
       let az : onto z < m = c.onto_within z lz wz in
       let j : Joined f twin (onto y) (onto z) = h (onto y) (onto z) ay az in

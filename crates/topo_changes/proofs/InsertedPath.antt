@@ -1,4 +1,4 @@
--- A picture that shows a new edge, as numbers: the new edge is a passage through the old system.
+-- A picture that shows a new edge, as numbers: the new edge is an insertion path through the old system.
 use Rattle.std.proofs.Common.{◌≡◌, ◌≢◌, ℕ, suc, ◌+◌, ◌-◌, ◌<◌, ◌≤◌, ◌==◌, Bool, true, false, ◌&&◌, List, [], ◌∷◌, length, ◌⊎◌, inl, inr, refl, sym, ◌∙◌, ap, subst, arith}
 use Rattle.std.specs.Prelude.{Some}
 use Rattle.std.specs.List.{AllByRecursion, enumerate_from}
@@ -24,9 +24,9 @@ use Rattle.topo_core.proofs.ShownPlaces.{lifted_edge}
 use Rattle.topo_core.proofs.ShownRows.{number_below, number_from, numbered_in}
 use Rattle.topo_core.proofs.SimpleRoutes.{same_or_twins}
 use Rattle.topo_perm.specs.Edits.{IsApart}
-use Rattle.topo_perm.proofs.Links.{AreLinks, AreUnlinked, IsLink, IsUnlinked, Link, apart_back, without_links}
-use Rattle.topo_perm.proofs.Bends.{AreBends, AreOnOthers, Bend, IsBend, IsNamed, IsStraight, IsUnbent}
-use Rattle.topo_perm.proofs.Passages.{AreAlong, AreStrange, IsPassage, IsPlaced, MeetsOnce, Walks, all_at, all_of, links_permutation, over_link, over_link_back, past_links}
+use Rattle.topo_perm.proofs.Chords.{AreNewChords, AreApartChords, IsNewChord, IsOffChords, NewChord, apart_back, without_chords}
+use Rattle.topo_perm.proofs.Subdivisions.{AreSubdivisions, AreOnOthers, Subdivision, IsSubdivision, IsNamed, IsStraight, IsUndivided}
+use Rattle.topo_perm.proofs.InsertionPaths.{AreAlong, AreStrange, IsInsertionPath, IsPlaced, MeetsOnce, Walks, all_at, all_of, chords_permutation, over_chord, over_chord_back, past_chords}
 use Rattle.topo_changes.proofs.InsertedNumbers.{dart_here, dart_of, dart_of_number, even_count, face_same, number_less, number_of, numbers_apart, same_face, segment_apart, turn_number, turned, twinned}
 
 pub onward_edge : (q : Rows) (x e : ℕ) (way : Way) → (onward_by q x e way).edge ≡ e
@@ -91,21 +91,21 @@ module _ (p q : Rows) (f u v : ℕ) (r : Route) (hp : IsWellFormed p) (hq : IsWe
   backward_other : (x : ℕ) (d : Dart) → Was d → (backward q x d).edge ≢ f
   backward_other x d w e = s.old_edges d w (sym (onward_edge q x d.edge (reversed d.way)) ∙ e)
 
-  -- ---- The bends and the links
+  -- ---- The subdivision vertices and the chords
 
-  abbrev pub bend_of : ℕ → Dart → Bend
-  bend_of x d = record { dart = index_of p d; near = num (lifted p q d); beyond = num (onward q x d) }
+  abbrev pub subdivision_of : ℕ → Dart → Subdivision
+  subdivision_of x d = record { dart = index_of p d; near = num (lifted p q d); beyond = num (onward q x d) }
 
-  abbrev pub bends_of : ℕ → List Dart → List Bend
-  bends_of x [] = []
-  bends_of x (d ∷ ds) = bend_of x d ∷ bends_of (x + 1) ds
+  abbrev pub subdivisions_of : ℕ → List Dart → List Subdivision
+  subdivisions_of x [] = []
+  subdivisions_of x (d ∷ ds) = subdivision_of x d ∷ subdivisions_of (x + 1) ds
 
-  abbrev pub link_of : ℕ → ℕ → ℕ → Link
-  link_of x z e = record { from = z; to = e; half = num (newcomer (x - p.next_crossing) Forward) }
+  abbrev pub chord_of : ℕ → ℕ → ℕ → NewChord
+  chord_of x z e = record { from = z; to = e; half = num (newcomer (x - p.next_crossing) Forward) }
 
-  abbrev pub links_of : ℕ → ℕ → List Dart → ℕ → List Link
-  links_of x z [] e = link_of x z e ∷ []
-  links_of x z (d ∷ ds) e = link_of x z (num (onward q x d)) ∷ links_of (x + 1) (num (backward q x d)) ds e
+  abbrev pub new_chords_of : ℕ → ℕ → List Dart → ℕ → List NewChord
+  new_chords_of x z [] e = chord_of x z e ∷ []
+  new_chords_of x z (d ∷ ds) e = chord_of x z (num (onward q x d)) ∷ new_chords_of (x + 1) (num (backward q x d)) ds e
 
   -- the crossings from x on are those of the darts ds, the last of the route
   pub record IsRest (x : ℕ) (ds : List Dart) : Type 0 where
@@ -130,15 +130,15 @@ module _ (p q : Rows) (f u v : ℕ) (r : Route) (hp : IsWellFormed p) (hq : IsWe
   next_index : (x : ℕ) → p.next_crossing ≤ x → x + 1 - p.next_crossing ≡ x - p.next_crossing + 1
   next_index x h = omega arith
 
-  -- ---- The darts of other edges are on no link
+  -- ---- The darts of other edges are on no chord
 
-  unlinked : (a : Dart) → Is a → a.edge ≢ f → (x z : ℕ) (ds : List Dart) (e : ℕ) → IsRest x ds → IsUnlinked n (links_of x z ds e) (num a)
-  unlinked a h ne x z [] e rest = (strange a h ne (x - p.next_crossing) (index_least x [] rest), tt)
-  unlinked a h ne x z (d ∷ ds) e rest = (strange a h ne (x - p.next_crossing) (index_least x (d ∷ ds) rest), unlinked a h ne (x + 1) (num (backward q x d)) ds e (rest_of x d ds rest))
+  off_chords : (a : Dart) → Is a → a.edge ≢ f → (x z : ℕ) (ds : List Dart) (e : ℕ) → IsRest x ds → IsOffChords n (new_chords_of x z ds e) (num a)
+  off_chords a h ne x z [] e rest = (strange a h ne (x - p.next_crossing) (index_least x [] rest), tt)
+  off_chords a h ne x z (d ∷ ds) e rest = (strange a h ne (x - p.next_crossing) (index_least x (d ∷ ds) rest), off_chords a h ne (x + 1) (num (backward q x d)) ds e (rest_of x d ds rest))
 
-  -- ---- The links
+  -- ---- The chords
 
-  -- corner z, where the next link starts: it is none of the darts onward, nor where the new edge ends
+  -- corner z, where the next chord starts: it is none of the darts onward, nor where the new edge ends
   pub record IsStart (x : ℕ) (z e : Dart) : Type 0 where
     pub z_in : Is z
     pub z_other : z.edge ≢ f
@@ -165,14 +165,14 @@ module _ (p q : Rows) (f u v : ℕ) (r : Route) (hp : IsWellFormed p) (hq : IsWe
         end_new = t.end_new;
       }
 
-  last_link : (x : ℕ) (z e : Dart) → IsRest x [] → IsStart x z e → IsLink g n (link_of x (num z) (num e))
-  last_link x z e h t =
+  last_chord : (x : ℕ) (z e : Dart) → IsRest x [] → IsStart x z e → IsNewChord g n (chord_of x (num z) (num e))
+  last_chord x z e h t =
       let le : x - p.next_crossing ≤ length r.crossed = index_least x [] h in
       let at : x - p.next_crossing ≡ length r.crossed = (let k = h.from in let l : x + 0 ≡ p.next_crossing + length r.crossed = h.size in omega arith) in
       grind (arith, number_less, newcomer_in, strange, numbers_apart, turn_number, twin_half)
 
-  inner_link : (x : ℕ) (z e d : Dart) (ds : List Dart) → IsRest x (d ∷ ds) → IsStart x z e → IsLink g n (link_of x (num z) (num (onward q x d)))
-  inner_link x z e d ds h t =
+  inner_chord : (x : ℕ) (z e d : Dart) (ds : List Dart) → IsRest x (d ∷ ds) → IsStart x z e → IsNewChord g n (chord_of x (num z) (num (onward q x d)))
+  inner_chord x z e d ds h t =
       let i : IsIn (x, d) (numbered p r) = h.sub x d (inl refl) in
       let le : x - p.next_crossing ≤ length r.crossed = index_least x (d ∷ ds) h in
       let half : Dart = newcomer (x - p.next_crossing) Forward in
@@ -192,10 +192,10 @@ module _ (p q : Rows) (f u v : ℕ) (r : Route) (hp : IsWellFormed p) (hq : IsWe
   newcomers_apart i j hi hj ne = segment_apart q hq (newcomer j Forward) (newcomer i Forward) (newcomer_in j Forward hj) (newcomer_in i Forward hi)
       (λ e. ne (sym (ap (λ (c : Dart). c.seg) e))) (λ e. ne (sym (ap (λ (c : Dart). c.seg) e)))
 
-  -- a link before and the links from x on
-  unlinked_links : (i : ℕ) (a b : Dart) → Is a → a.edge ≢ f → Is b → b.edge ≢ f → i ≤ length r.crossed → (x : ℕ) (z e : Dart) (ds : List Dart) → IsRest x ds → IsStart x z e → i < x - p.next_crossing
-      → AllByRecursion (AreUnlinked n (record { from = num a; to = num b; half = num (newcomer i Forward) })) (links_of x (num z) ds (num e))
-  unlinked_links i a b ha na hb nb hi x z e [] h t less =
+  -- a chord before and the chords from x on
+  chords_off_chords : (i : ℕ) (a b : Dart) → Is a → a.edge ≢ f → Is b → b.edge ≢ f → i ≤ length r.crossed → (x : ℕ) (z e : Dart) (ds : List Dart) → IsRest x ds → IsStart x z e → i < x - p.next_crossing
+      → AllByRecursion (AreApartChords n (record { from = num a; to = num b; half = num (newcomer i Forward) })) (new_chords_of x (num z) ds (num e))
+  chords_off_chords i a b ha na hb nb hi x z e [] h t less =
       let le : x - p.next_crossing ≤ length r.crossed = index_least x [] h in (
         record {
           half = newcomers_apart i (x - p.next_crossing) hi le (λ w. (let k = less in omega arith));
@@ -206,7 +206,7 @@ module _ (p q : Rows) (f u v : ℕ) (r : Route) (hp : IsWellFormed p) (hq : IsWe
         },
         tt,
       )
-  unlinked_links i a b ha na hb nb hi x z e (d ∷ ds) h t less =
+  chords_off_chords i a b ha na hb nb hi x z e (d ∷ ds) h t less =
       let le : x - p.next_crossing ≤ length r.crossed = index_least x (d ∷ ds) h in
       let there : Is (onward q x d) = (s.crossed_there x d (h.sub x d (inl refl))).0 in (
         record {
@@ -216,45 +216,45 @@ module _ (p q : Rows) (f u v : ℕ) (r : Route) (hp : IsWellFormed p) (hq : IsWe
           from_back = strange z t.z_in t.z_other i hi;
           to_back = strange (onward q x d) there (onward_other x d h.was.0) i hi;
         },
-        unlinked_links i a b ha na hb nb hi (x + 1) (backward q x d) e ds (rest_of x d ds h) (next_start x z e d ds h t) (let k = h.from in omega arith),
+        chords_off_chords i a b ha na hb nb hi (x + 1) (backward q x d) e ds (rest_of x d ds h) (next_start x z e d ds h t) (let k = h.from in omega arith),
       )
 
-  are_links : (x : ℕ) (z e : Dart) (ds : List Dart) → IsRest x ds → IsStart x z e → AreLinks g n (links_of x (num z) ds (num e))
-  are_links x z e [] h t = (last_link x z e h t, tt, tt)
-  are_links x z e (d ∷ ds) h t =
+  are_chords : (x : ℕ) (z e : Dart) (ds : List Dart) → IsRest x ds → IsStart x z e → AreNewChords g n (new_chords_of x (num z) ds (num e))
+  are_chords x z e [] h t = (last_chord x z e h t, tt, tt)
+  are_chords x z e (d ∷ ds) h t =
       let there : Is (onward q x d) = (s.crossed_there x d (h.sub x d (inl refl))).0 in
       let t' : IsStart (x + 1) (backward q x d) e = next_start x z e d ds h t in
       let h' : IsRest (x + 1) ds = rest_of x d ds h in (
-        inner_link x z e d ds h t,
-        unlinked_links (x - p.next_crossing) z (onward q x d) t.z_in t.z_other there (onward_other x d h.was.0) (index_least x (d ∷ ds) h) (x + 1) (backward q x d) e ds h' t' (let k = h.from in omega arith),
-        are_links (x + 1) (backward q x d) e ds h' t',
+        inner_chord x z e d ds h t,
+        chords_off_chords (x - p.next_crossing) z (onward q x d) t.z_in t.z_other there (onward_other x d h.was.0) (index_least x (d ∷ ds) h) (x + 1) (backward q x d) e ds h' t' (let k = h.from in omega arith),
+        are_chords (x + 1) (backward q x d) e ds h' t',
       )
 
-  -- each segment of the new edge is a link
-  link_at : (x : ℕ) (z e : Dart) (ds : List Dart) → IsRest x ds → (i : ℕ) → x - p.next_crossing ≤ i → i ≤ length r.crossed → (l : Link) × IsIn l (links_of x (num z) ds (num e)) × (l.half ≡ num (newcomer i Forward))
-  link_at x z e [] h i low high =
-      (link_of x (num z) (num e), inl refl, ap (λ (j : ℕ). num (newcomer j Forward)) (let k = h.from in let l : x + 0 ≡ p.next_crossing + length r.crossed = h.size in omega arith))
-  link_at x z e (d ∷ ds) h i low high = elim (cases_eq (x - p.next_crossing) i) [
-    | inl same ↦ (link_of x (num z) (num (onward q x d)), inl refl, ap (λ (j : ℕ). num (newcomer j Forward)) same)
+  -- each segment of the new edge is a chord
+  chord_at : (x : ℕ) (z e : Dart) (ds : List Dart) → IsRest x ds → (i : ℕ) → x - p.next_crossing ≤ i → i ≤ length r.crossed → (l : NewChord) × IsIn l (new_chords_of x (num z) ds (num e)) × (l.half ≡ num (newcomer i Forward))
+  chord_at x z e [] h i low high =
+      (chord_of x (num z) (num e), inl refl, ap (λ (j : ℕ). num (newcomer j Forward)) (let k = h.from in let l : x + 0 ≡ p.next_crossing + length r.crossed = h.size in omega arith))
+  chord_at x z e (d ∷ ds) h i low high = elim (cases_eq (x - p.next_crossing) i) [
+    | inl same ↦ (chord_of x (num z) (num (onward q x d)), inl refl, ap (λ (j : ℕ). num (newcomer j Forward)) same)
     | inr ne ↦
-        let (l, at, half) = link_at (x + 1) (backward q x d) e ds (rest_of x d ds h) i (let k = h.from in omega arith) high in
+        let (l, at, half) = chord_at (x + 1) (backward q x d) e ds (rest_of x d ds h) i (let k = h.from in omega arith) high in
         (l, inr at, half)
   ]
 
-  -- ---- Over the links
+  -- ---- Over the chords
 
-  link_leaves : (ls : List Link) (l : Link) → AreLinks g n ls → IsIn l ls → g l.half ≡ l.from
-  link_leaves [] l h i = elim i [ ]
-  link_leaves (k ∷ ks) l h i = elim i [
-    | inl e ↦ subst (λ (v : Link). g v.half ≡ v.from) (sym e) h.0.leaves
-    | inr j ↦ link_leaves ks l h.2 j
+  chord_leaves : (ls : List NewChord) (l : NewChord) → AreNewChords g n ls → IsIn l ls → g l.half ≡ l.from
+  chord_leaves [] l h i = elim i [ ]
+  chord_leaves (k ∷ ks) l h i = elim i [
+    | inl e ↦ subst (λ (v : NewChord). g v.half ≡ v.from) (sym e) h.0.leaves
+    | inr j ↦ chord_leaves ks l h.2 j
   ]
 
-  link_arrives : (ls : List Link) (l : Link) → AreLinks g n ls → IsIn l ls → g (twin l.half) ≡ l.to
-  link_arrives [] l h i = elim i [ ]
-  link_arrives (k ∷ ks) l h i = elim i [
-    | inl e ↦ subst (λ (v : Link). g (twin v.half) ≡ v.to) (sym e) h.0.arrives
-    | inr j ↦ link_arrives ks l h.2 j
+  chord_arrives : (ls : List NewChord) (l : NewChord) → AreNewChords g n ls → IsIn l ls → g (twin l.half) ≡ l.to
+  chord_arrives [] l h i = elim i [ ]
+  chord_arrives (k ∷ ks) l h i = elim i [
+    | inl e ↦ subst (λ (v : NewChord). g (twin v.half) ≡ v.to) (sym e) h.0.arrives
+    | inr j ↦ chord_arrives ks l h.2 j
   ]
 
   -- the path of the whole route, from the corner of z to that of e
@@ -279,33 +279,33 @@ module _ (p q : Rows) (f u v : ℕ) (r : Route) (hp : IsWellFormed p) (hq : IsWe
     };
   }
 
-  abbrev pub path_links : Dart → Dart → List Link
-  path_links z e = links_of p.next_crossing (num z) r.crossed (num e)
+  abbrev pub path_chords : Dart → Dart → List NewChord
+  path_chords z e = new_chords_of p.next_crossing (num z) r.crossed (num e)
 
   abbrev pub below : Dart → Dart → ℕ → ℕ
-  below z e = without_links g (path_links z e)
+  below z e = without_chords g (path_chords z e)
 
-  off_path : (z e : Dart) → IsPath z e → (a : Dart) → Is a → a.edge ≢ f → IsUnlinked n (path_links z e) (num a)
-  off_path z e h a ha na = unlinked a ha na p.next_crossing (num z) r.crossed (num e) h.rest
+  off_path : (z e : Dart) → IsPath z e → (a : Dart) → Is a → a.edge ≢ f → IsOffChords n (path_chords z e) (num a)
+  off_path z e h a ha na = off_chords a ha na p.next_crossing (num z) r.crossed (num e) h.rest
 
-  path_are_links : (z e : Dart) → IsPath z e → AreLinks g n (path_links z e)
-  path_are_links z e h = are_links p.next_crossing z e r.crossed h.rest h.start
+  path_are_chords : (z e : Dart) → IsPath z e → AreNewChords g n (path_chords z e)
+  path_are_chords z e h = are_chords p.next_crossing z e r.crossed h.rest h.start
 
   -- what turns to a dart of the new edge turns, without it, to what follows that
   over_newcomer : (z e : Dart) → IsPath z e → (a : Dart) → Is a → a.edge ≢ f → (i : ℕ) → (way : Way) → i ≤ length r.crossed → turn (system q) a ≡ newcomer i way → below z e (num a) ≡ num (turn (system q) (newcomer i way))
   over_newcomer z e h a ha na i Forward hi at =
-      let (l, l_in, half) = link_at p.next_crossing z e r.crossed h.rest i (omega arith) hi in
-      let links : AreLinks g n (path_links z e) = path_are_links z e h in
-      over_link g n (path_links z e) l (num a) (even_count q hq) links l_in (off_path z e h a ha na) (turn_number q hq a ha ∙ ap num at ∙ sym half)
-      ∙ sym (link_leaves (path_links z e) l links l_in) ∙ ap g half ∙ turn_number q hq (newcomer i Forward) (newcomer_in i Forward hi)
+      let (l, l_in, half) = chord_at p.next_crossing z e r.crossed h.rest i (omega arith) hi in
+      let new_chords : AreNewChords g n (path_chords z e) = path_are_chords z e h in
+      over_chord g n (path_chords z e) l (num a) (even_count q hq) new_chords l_in (off_path z e h a ha na) (turn_number q hq a ha ∙ ap num at ∙ sym half)
+      ∙ sym (chord_leaves (path_chords z e) l new_chords l_in) ∙ ap g half ∙ turn_number q hq (newcomer i Forward) (newcomer_in i Forward hi)
   over_newcomer z e h a ha na i Back hi at =
-      let (l, l_in, half) = link_at p.next_crossing z e r.crossed h.rest i (omega arith) hi in
-      let links : AreLinks g n (path_links z e) = path_are_links z e h in
+      let (l, l_in, half) = chord_at p.next_crossing z e r.crossed h.rest i (omega arith) hi in
+      let new_chords : AreNewChords g n (path_chords z e) = path_are_chords z e h in
       let other : twin l.half ≡ num (newcomer i Back) = ap twin half ∙ twin_half i hi in
-      over_link_back g n (path_links z e) l (num a) (even_count q hq) links l_in (off_path z e h a ha na) (turn_number q hq a ha ∙ ap num at ∙ sym other)
-      ∙ sym (link_arrives (path_links z e) l links l_in) ∙ ap g other ∙ turn_number q hq (newcomer i Back) (newcomer_in i Back hi)
+      over_chord_back g n (path_chords z e) l (num a) (even_count q hq) new_chords l_in (off_path z e h a ha na) (turn_number q hq a ha ∙ ap num at ∙ sym other)
+      ∙ sym (chord_arrives (path_chords z e) l new_chords l_in) ∙ ap g other ∙ turn_number q hq (newcomer i Back) (newcomer_in i Back hi)
 
-  -- ---- The bends
+  -- ---- The subdivision vertices
 
   module _ (z e : Dart) (h : IsPath z e) where
     record IsCrossed (x : ℕ) (d : Dart) : Type 0 where
@@ -317,8 +317,8 @@ module _ (p q : Rows) (f u v : ℕ) (r : Route) (hp : IsWellFormed p) (hq : IsWe
     back_number : (x : ℕ) (d : Dart) → IsCrossed x d → twin (num (lifted p q d)) ≡ num (backward q x d)
     back_number x d c = sym (index_twin q (lifted p q d) (lifted_there d c.was)) ∙ ap num (s.before_crossing x d c.at)
 
-    is_bend : (x : ℕ) (d : Dart) → IsCrossed x d → IsBend (below z e) n m name (bend_of x d)
-    is_bend x d c =
+    is_subdivision : (x : ℕ) (d : Dart) → IsCrossed x d → IsSubdivision (below z e) n m name (subdivision_of x d)
+    is_subdivision x d c =
         let on : Dart = onward q x d in
         let back : Dart = backward q x d in
         let on_in : Is on = (s.crossed_there x d c.at).0 in
@@ -342,7 +342,7 @@ module _ (p q : Rows) (f u v : ℕ) (r : Route) (hp : IsWellFormed p) (hq : IsWe
           new_back = λ a la w. numbers_apart q hq (lifted p q (dart_of p hp a)) back (lifted_there (dart_of p hp a) (dart_here p hp a la)) back_in ((s.new_points x d (dart_of p hp a) c.at (dart_here p hp a la)).1) (w ∙ at_back);
         }
 
-    on_others : (x y : ℕ) (c d : Dart) → IsCrossed x c → IsCrossed y d → x ≢ y → same_segment c d ≡ false → AreOnOthers m (bend_of x c) (bend_of y d)
+    on_others : (x y : ℕ) (c d : Dart) → IsCrossed x c → IsCrossed y d → x ≢ y → same_segment c d ≡ false → AreOnOthers m (subdivision_of x c) (subdivision_of y d)
     on_others x y c d hc hd ne apart =
         let on_c : Is (onward q x c) = (s.crossed_there x c hc.at).0 in
         let on_d : Is (onward q y d) = (s.crossed_there y d hd.at).0 in
@@ -366,13 +366,13 @@ module _ (p q : Rows) (f u v : ℕ) (r : Route) (hp : IsWellFormed p) (hq : IsWe
       high = (let l : x + suc (length ds) ≡ p.next_crossing + length r.crossed = k.size in omega arith);
     }
 
-    later_bends : (x : ℕ) (c : Dart) → IsCrossed x c → (y : ℕ) (ds : List Dart) → IsRest y ds → x < y → AllByRecursion (λ d. same_segment c d ≡ false) ds → AllByRecursion (AreOnOthers m (bend_of x c)) (bends_of y ds)
-    later_bends x c hc y [] k less apart = tt
-    later_bends x c hc y (d ∷ ds) k less apart = (on_others x y c d hc (crossed_at y d ds k) (λ w. (let l = less in omega arith)) apart.0, later_bends x c hc (y + 1) ds (rest_of y d ds k) (omega (arith, less)) apart.1)
+    later_subdivisions : (x : ℕ) (c : Dart) → IsCrossed x c → (y : ℕ) (ds : List Dart) → IsRest y ds → x < y → AllByRecursion (λ d. same_segment c d ≡ false) ds → AllByRecursion (AreOnOthers m (subdivision_of x c)) (subdivisions_of y ds)
+    later_subdivisions x c hc y [] k less apart = tt
+    later_subdivisions x c hc y (d ∷ ds) k less apart = (on_others x y c d hc (crossed_at y d ds k) (λ w. (let l = less in omega arith)) apart.0, later_subdivisions x c hc (y + 1) ds (rest_of y d ds k) (omega (arith, less)) apart.1)
 
-    are_bends : (x : ℕ) (ds : List Dart) → IsRest x ds → AreBends (below z e) n m name (bends_of x ds)
-    are_bends x [] k = tt
-    are_bends x (d ∷ ds) k = (is_bend x d (crossed_at x d ds k), later_bends x d (crossed_at x d ds k) (x + 1) ds (rest_of x d ds k) (omega arith) k.once.0, are_bends (x + 1) ds (rest_of x d ds k), sym (name_of d k.was.0))
+    are_subdivisions : (x : ℕ) (ds : List Dart) → IsRest x ds → AreSubdivisions (below z e) n m name (subdivisions_of x ds)
+    are_subdivisions x [] k = tt
+    are_subdivisions x (d ∷ ds) k = (is_subdivision x d (crossed_at x d ds k), later_subdivisions x d (crossed_at x d ds k) (x + 1) ds (rest_of x d ds k) (omega arith) k.once.0, are_subdivisions (x + 1) ds (rest_of x d ds k), sym (name_of d k.was.0))
 
     -- ---- The old system under its numbers in q
 
@@ -403,7 +403,7 @@ module _ (p q : Rows) (f u v : ℕ) (r : Route) (hp : IsWellFormed p) (hq : IsWe
         let after_was : Was (turn (system p) d) = turn_stays p hp.paths hp.crossings hp.rotations d was in
         let goal : num after ≡ name (old a) = ap (λ (c : Dart). num (lifted p q c)) (sym (turned p hp a la)) in
         elim (s.turns d was) [
-          | inl straight ↦ past_links g n (path_links z e) (num up) (num after) (off_path z e h up up_in (lifted_other d was)) (off_path z e h after (lifted_there (turn (system p) d) after_was) (lifted_other (turn (system p) d) after_was))
+          | inl straight ↦ past_chords g n (path_chords z e) (num up) (num after) (off_path z e h up up_in (lifted_other d was)) (off_path z e h after (lifted_there (turn (system p) d) after_was) (lifted_other (turn (system p) d) after_was))
               (turn_number q hq up up_in ∙ ap num straight) ∙ goal
           | inr over ↦
               let t : Dart = turn (system q) up in
@@ -415,7 +415,7 @@ module _ (p q : Rows) (f u v : ℕ) (r : Route) (hp : IsWellFormed p) (hq : IsWe
 
     named : IsNamed (below z e) n old m name
     named = record {
-      permutation = links_permutation g n (path_links z e) (turn_permutes q hq.paths hq.crossings hq.rotations) (even_count q hq) (path_are_links z e h);
+      permutation = chords_permutation g n (path_chords z e) (turn_permutes q hq.paths hq.crossings hq.rotations) (even_count q hq) (path_are_chords z e h);
       even = even_count q hq;
       turn = turn_permutes p hp.paths hp.crossings hp.rotations;
       turn_even = even_count p hp;
@@ -428,86 +428,86 @@ module _ (p q : Rows) (f u v : ℕ) (r : Route) (hp : IsWellFormed p) (hq : IsWe
       turns = turns_below;
     }
 
-    -- no crossed dart is on the segment of d where no bend is
-    unbent_segments : (a : ℕ) → a < m → (x : ℕ) (ds : List Dart) → AllByRecursion (λ d. has_dart (darts p) d ≡ true) ds → IsUnbent m (bends_of x ds) a → AllByRecursion (λ c. same_segment c (dart_of p hp a) ≡ false) ds
-    unbent_segments a la x [] was u = tt
-    unbent_segments a la x (c ∷ cs) was u = (
+    -- no crossed dart is on the segment of d where no subdivision vertex is
+    undivided_segments : (a : ℕ) → a < m → (x : ℕ) (ds : List Dart) → AllByRecursion (λ d. has_dart (darts p) d ≡ true) ds → IsUndivided m (subdivisions_of x ds) a → AllByRecursion (λ c. same_segment c (dart_of p hp a) ≡ false) ds
+    undivided_segments a la x [] was u = tt
+    undivided_segments a la x (c ∷ cs) was u = (
       elim (cases_Bool (same_segment c (dart_of p hp a))) [
         | inr apart ↦ apart
         | inl one ↦ absurd (grind (arith, same_or_twins, dart_of, number_of, twin-twin, index_twin))
       ],
-      unbent_segments a la (x + 1) cs was.1 u.1,
+      undivided_segments a la (x + 1) cs was.1 u.1,
     )
 
-    abbrev pub path_bends : List Bend
-    path_bends = bends_of p.next_crossing r.crossed
+    abbrev pub path_subdivisions : List Subdivision
+    path_subdivisions = subdivisions_of p.next_crossing r.crossed
 
-    straight : IsStraight m name path_bends
+    straight : IsStraight m name path_subdivisions
     straight a la u =
         let d : Dart = dart_of p hp a in
         let was : Was d = dart_here p hp a la in
-        ap (λ (c : Dart). num (lifted p q c)) (twinned p hp a la) ∙ ap num (s.uncrossed d was (unbent_segments a la p.next_crossing r.crossed h.rest.was u)) ∙ index_twin q (lifted p q d) (lifted_there d was)
+        ap (λ (c : Dart). num (lifted p q c)) (twinned p hp a la) ∙ ap num (s.uncrossed d was (undivided_segments a la p.next_crossing r.crossed h.rest.was u)) ∙ index_twin q (lifted p q d) (lifted_there d was)
 
-    -- ---- The path along its bends
+    -- ---- The path along its subdivision vertices
 
-    along : (to : Dart) → Was to → num e ≡ num (lifted p q to) → (x : ℕ) (y : ℕ) (ds : List Dart) → IsRest x ds → AreAlong name y (bends_of x ds) (index_of p to) (links_of x y ds (num e))
+    along : (to : Dart) → Was to → num e ≡ num (lifted p q to) → (x : ℕ) (y : ℕ) (ds : List Dart) → IsRest x ds → AreAlong name y (subdivisions_of x ds) (index_of p to) (new_chords_of x y ds (num e))
     along to was at x y [] k = (refl, at ∙ sym (name_of to was))
     along to was at x y (d ∷ ds) k = (
       refl,
       refl,
-      subst (λ (w : ℕ). AreAlong name w (bends_of (x + 1) ds) (index_of p to) (links_of (x + 1) (num (backward q x d)) ds (num e))) (sym (back_number x d (crossed_at x d ds k)))
+      subst (λ (w : ℕ). AreAlong name w (subdivisions_of (x + 1) ds) (index_of p to) (new_chords_of (x + 1) (num (backward q x d)) ds (num e))) (sym (back_number x d (crossed_at x d ds k)))
           (along to was at (x + 1) (num (backward q x d)) ds (rest_of x d ds k)),
     )
 
-    walks : (to c : Dart) → Was c → (x : ℕ) (ds : List Dart) → IsRest x ds → Crosses (system p) c ds to → Walks old (index_of p c) (bends_of x ds) (index_of p to)
+    walks : (to c : Dart) → Was c → (x : ℕ) (ds : List Dart) → IsRest x ds → Crosses (system p) c ds to → Walks old (index_of p c) (subdivisions_of x ds) (index_of p to)
     walks to c was x [] k walk = same_face p hp c to was walk
     walks to c was x (d ∷ ds) k walk = (
       same_face p hp c d was walk.0,
-      subst (λ (w : ℕ). Walks old w (bends_of (x + 1) ds) (index_of p to)) (index_twin p d k.was.0)
+      subst (λ (w : ℕ). Walks old w (subdivisions_of (x + 1) ds) (index_of p to)) (index_twin p d k.was.0)
           (walks to (dart_twin d) (twin_in p d k.was.0) (x + 1) ds (rest_of x d ds k) walk.1),
     )
 
     never : (c : Dart) → Was c → (x : ℕ) (ds : List Dart) → AllByRecursion (λ d. has_dart (darts p) d ≡ true) ds → AllByRecursion (λ y. SameFace (system p) c (dart_twin y) → ⊥) ds
-        → AllByRecursion (λ j. SameCycle (face_next old) (index_of p c) (twin j.dart) → ⊥) (bends_of x ds)
+        → AllByRecursion (λ j. SameCycle (face_next old) (index_of p c) (twin j.dart) → ⊥) (subdivisions_of x ds)
     never c was x [] here out = tt
     never c was x (d ∷ ds) here out = (
       λ w. out.0 (face_same p hp c (dart_twin d) was (twin_in p d here.0) (subst (λ (v : ℕ). SameCycle (face_next old) (index_of p c) v) (sym (index_twin p d here.0)) w)),
       never c was (x + 1) ds here.1 out.1,
     )
 
-    meets_once : (c : Dart) → Was c → (x : ℕ) (ds : List Dart) → IsRest x ds → MeetsFacesOnce (system p) c ds → MeetsOnce old (index_of p c) (bends_of x ds)
+    meets_once : (c : Dart) → Was c → (x : ℕ) (ds : List Dart) → IsRest x ds → MeetsFacesOnce (system p) c ds → MeetsOnce old (index_of p c) (subdivisions_of x ds)
     meets_once c was x [] k once = tt
     meets_once c was x (d ∷ ds) k once = (
       never c was x (d ∷ ds) k.was once.0,
-      subst (λ (w : ℕ). MeetsOnce old w (bends_of (x + 1) ds)) (index_twin p d k.was.0)
+      subst (λ (w : ℕ). MeetsOnce old w (subdivisions_of (x + 1) ds)) (index_twin p d k.was.0)
           (meets_once (dart_twin d) (twin_in p d k.was.0) (x + 1) ds (rest_of x d ds k) once.1),
     )
 
     -- ---- Every dart has its place
 
-    bend_at : (x y : ℕ) (d : Dart) (ds : List Dart) → IsIn (y, d) (enumerate_from x ds) → IsIn (bend_of y d) (bends_of x ds)
-    bend_at x y d [] i = elim i [ ]
-    bend_at x y d (c ∷ cs) i = elim i [
-      | inl same ↦ inl (ap (λ (w : ℕ × Dart). bend_of w.0 w.1) same)
-      | inr j ↦ inr (bend_at (x + 1) y d cs j)
+    subdivision_at : (x y : ℕ) (d : Dart) (ds : List Dart) → IsIn (y, d) (enumerate_from x ds) → IsIn (subdivision_of y d) (subdivisions_of x ds)
+    subdivision_at x y d [] i = elim i [ ]
+    subdivision_at x y d (c ∷ cs) i = elim i [
+      | inl same ↦ inl (ap (λ (w : ℕ × Dart). subdivision_of w.0 w.1) same)
+      | inr j ↦ inr (subdivision_at (x + 1) y d cs j)
     ]
 
-    placed : (a : ℕ) → a < n → IsPlaced m name path_bends (path_links z e) a
+    placed : (a : ℕ) → a < n → IsPlaced m name path_subdivisions (path_chords z e) a
     placed a la =
         let d : Dart = dart_of q hq a in
         let d_in : Is d = dart_here q hq a la in
         let at : a ≡ num d = sym (number_of q hq a la) in
         elim (s.no_others d d_in) [
           | inl w ↦
-              let (l, l_in, half) = link_at p.next_crossing z e r.crossed h.rest d.seg (omega arith) w.1 in
+              let (l, l_in, half) = chord_at p.next_crossing z e r.crossed h.rest d.seg (omega arith) w.1 in
               let same : d ≡ newcomer d.seg d.way = ap (λ (i : ℕ). (let c : Dart = record { edge = i; seg = d.seg; way = d.way } in c)) w.0 in
               inr (inr (l, l_in, half_or_twin d.seg d.way w.1 l half a (at ∙ ap num same)))
           | inr w ↦ elim w [
             | inl v ↦ inl (index_of p v.0, number_less p hp v.0 v.1, at ∙ ap num v.2 ∙ sym (name_of v.0 v.1))
             | inr v ↦
-                let k : IsIn (bend_of v.0 v.1) path_bends = bend_at p.next_crossing v.0 v.1 r.crossed v.2 in
+                let k : IsIn (subdivision_of v.0 v.1) path_subdivisions = subdivision_at p.next_crossing v.0 v.1 r.crossed v.2 in
                 inr (inl (
-                  bend_of v.0 v.1,
+                  subdivision_of v.0 v.1,
                   k,
                   elim v.3 [
                     | inl on ↦ inl (at ∙ ap num on)
@@ -516,47 +516,47 @@ module _ (p q : Rows) (f u v : ℕ) (r : Route) (hp : IsWellFormed p) (hq : IsWe
                 ))
           ]
         ] where
-          half_or_twin : (i : ℕ) (way : Way) → i ≤ length r.crossed → (l : Link) → l.half ≡ num (newcomer i Forward) → (a : ℕ) → a ≡ num (newcomer i way) → (a ≡ l.half) ⊎ (a ≡ twin l.half)
+          half_or_twin : (i : ℕ) (way : Way) → i ≤ length r.crossed → (l : NewChord) → l.half ≡ num (newcomer i Forward) → (a : ℕ) → a ≡ num (newcomer i way) → (a ≡ l.half) ⊎ (a ≡ twin l.half)
           half_or_twin i Forward hi l half a at = inl (at ∙ sym half)
           half_or_twin i Back hi l half a at = inr (at ∙ sym (twin_half i hi) ∙ ap twin (sym half))
 
-    pub is_passage : (from to : Dart) → Was from → Was to → num z ≡ num (lifted p q from) → num e ≡ num (lifted p q to) → Crosses (system p) from r.crossed to → MeetsFacesOnce (system p) from r.crossed
-        → IsPassage g n old m name (index_of p from) path_bends (index_of p to) (path_links z e)
-    is_passage from to from_was to_was z_is e_is walk once =
-        let links : AreLinks g n (path_links z e) = path_are_links z e h in
+    pub is_insertion_path : (from to : Dart) → Was from → Was to → num z ≡ num (lifted p q from) → num e ≡ num (lifted p q to) → Crosses (system p) from r.crossed to → MeetsFacesOnce (system p) from r.crossed
+        → IsInsertionPath g n old m name (index_of p from) path_subdivisions (index_of p to) (path_chords z e)
+    is_insertion_path from to from_was to_was z_is e_is walk once =
+        let new_chords : AreNewChords g n (path_chords z e) = path_are_chords z e h in
         record {
           permutation = turn_permutes q hq.paths hq.crossings hq.rotations;
           named = named;
-          bends = are_bends p.next_crossing r.crossed h.rest;
+          subdivisions = are_subdivisions p.next_crossing r.crossed h.rest;
           straight = straight;
-          links = links;
-          along = subst (λ (w : ℕ). AreAlong name w path_bends (index_of p to) (path_links z e)) (z_is ∙ sym (name_of from from_was)) (along to to_was e_is p.next_crossing (num z) r.crossed h.rest);
+          new_chords = new_chords;
+          along = subst (λ (w : ℕ). AreAlong name w path_subdivisions (index_of p to) (path_chords z e)) (z_is ∙ sym (name_of from from_was)) (along to to_was e_is p.next_crossing (num z) r.crossed h.rest);
           from_there = number_less p hp from from_was;
           to_there = number_less p hp to to_was;
           walk = walks to from from_was p.next_crossing r.crossed h.rest walk;
           once = meets_once from from_was p.next_crossing r.crossed h.rest once;
-          new = all_of (λ l. (d : ℕ) → d < m → IsApart n (name d) l.half) (path_links z e) (λ l i d ld.
+          new = all_of (λ l. (d : ℕ) → d < m → IsApart n (name d) l.half) (path_chords z e) (λ l i d ld.
               let was : Was (dart_of p hp d) = dart_here p hp d ld in
-              all_at (λ k. IsApart n (name d) k.half) l (path_links z e) (off_path z e h (lifted p q (dart_of p hp d)) (lifted_there (dart_of p hp d) was) (lifted_other (dart_of p hp d) was)) i);
-          strange = all_of (λ l. AllByRecursion (AreStrange n name l) path_bends) (path_links z e) (λ l i. strange_bends l i (link_there (path_links z e) l links i) p.next_crossing r.crossed h.rest);
+              all_at (λ k. IsApart n (name d) k.half) l (path_chords z e) (off_path z e h (lifted p q (dart_of p hp d)) (lifted_there (dart_of p hp d) was) (lifted_other (dart_of p hp d) was)) i);
+          strange = all_of (λ l. AllByRecursion (AreStrange n name l) path_subdivisions) (path_chords z e) (λ l i. strange_subdivisions l i (chord_there (path_chords z e) l new_chords i) p.next_crossing r.crossed h.rest);
           placed = placed;
         } where
-          link_there : (ls : List Link) (l : Link) → AreLinks g n ls → IsIn l ls → l.half < n
-          link_there [] l k i = elim i [ ]
-          link_there (j ∷ js) l k i = elim i [
-            | inl same ↦ subst (λ (w : Link). w.half < n) (sym same) k.0.there
-            | inr later ↦ link_there js l k.2 later
+          chord_there : (ls : List NewChord) (l : NewChord) → AreNewChords g n ls → IsIn l ls → l.half < n
+          chord_there [] l k i = elim i [ ]
+          chord_there (j ∷ js) l k i = elim i [
+            | inl same ↦ subst (λ (w : NewChord). w.half < n) (sym same) k.0.there
+            | inr later ↦ chord_there js l k.2 later
           ]
 
-          strange_bends : (l : Link) → IsIn l (path_links z e) → l.half < n → (x : ℕ) (ds : List Dart) → IsRest x ds → AllByRecursion (AreStrange n name l) (bends_of x ds)
-          strange_bends l i there x [] k = tt
-          strange_bends l i there x (d ∷ ds) k =
+          strange_subdivisions : (l : NewChord) → IsIn l (path_chords z e) → l.half < n → (x : ℕ) (ds : List Dart) → IsRest x ds → AllByRecursion (AreStrange n name l) (subdivisions_of x ds)
+          strange_subdivisions l i there x [] k = tt
+          strange_subdivisions l i there x (d ∷ ds) k =
               let c : IsCrossed x d = crossed_at x d ds k in
-              let on : IsApart n (num (onward q x d)) l.half = all_at (λ j. IsApart n (num (onward q x d)) j.half) l (path_links z e) (off_path z e h (onward q x d) (s.crossed_there x d c.at).0 (onward_other x d c.was)) i in
-              let back : IsApart n (num (backward q x d)) l.half = all_at (λ j. IsApart n (num (backward q x d)) j.half) l (path_links z e) (off_path z e h (backward q x d) (s.crossed_there x d c.at).1 (backward_other x d c.was)) i in (
+              let on : IsApart n (num (onward q x d)) l.half = all_at (λ j. IsApart n (num (onward q x d)) j.half) l (path_chords z e) (off_path z e h (onward q x d) (s.crossed_there x d c.at).0 (onward_other x d c.was)) i in
+              let back : IsApart n (num (backward q x d)) l.half = all_at (λ j. IsApart n (num (backward q x d)) j.half) l (path_chords z e) (off_path z e h (backward q x d) (s.crossed_there x d c.at).1 (backward_other x d c.was)) i in (
                 record {
                   beyond = apart_back n l.half (num (onward q x d)) there on;
                   back = subst (λ (w : ℕ). IsApart n l.half w) (sym (back_number x d c)) (apart_back n l.half (num (backward q x d)) there back);
                 },
-                strange_bends l i there (x + 1) ds (rest_of x d ds k),
+                strange_subdivisions l i there (x + 1) ds (rest_of x d ds k),
               )
