@@ -7,8 +7,8 @@ use Rattle.topo_core.specs.declared.calls.Entry.{Entry}
 use Rattle.topo_core.specs.Routes.{Pricing}
 use Rattle.topo_core.specs.Steps.{Step}
 use Rattle.topo_core.specs.History.{IsLegal, Replays}
-use Rattle.topo_core.proofs.Determined.{one_step}
-use Rattle.topo_core.proofs.Replaying.{replays_on}
+use Rattle.topo_core.proofs.stepping.Determined.{one_step}
+use Rattle.topo_core.proofs.stepping.Replaying.{replays_on}
 use Rattle.topo_book.specs.Books.{IsDue}
 use Rattle.topo_book.specs.Faults.{IsFirstWrong}
 

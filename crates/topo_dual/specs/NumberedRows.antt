@@ -8,7 +8,7 @@ use Rattle.topo_core.specs.Systems.{has_dart}
 use Rattle.topo_embedded.specs.Halves.{RowsWithPaths, half_in}
 use Rattle.topo_embedded.specs.KnownFaces.{faces_known}
 use Rattle.topo_route.specs.Names.{HasFaces, IsNamed, canonical, next_name}
-use Rattle.topo_route.proofs.Canonical.{canonical_named}
+use Rattle.topo_route.proofs.names.Canonical.{canonical_named}
 use Rattle.topo_rows.specs.Recovering.{lawful_again}
 
 -- rows of which it is known that they are lawful, and a label of the face of each dart by its number

@@ -7,14 +7,14 @@ use Rattle.std.proofs.lemmas.Option.{get_or_from_slice_get}
 use Rattle.topo_core.specs.declared.darts.Dart.{Dart}
 use Rattle.topo_core.specs.Lawful.{IsWellFormed}
 use Rattle.topo_core.specs.Picture.{darts, index_of}
-use Rattle.topo_core.proofs.Numbering.{get_index, has_at, place_less}
-use Rattle.topo_core.proofs.SystemDarts.{get_there}
+use Rattle.topo_core.proofs.numbering.Numbering.{get_index, has_at, place_less}
+use Rattle.topo_core.proofs.systems.SystemDarts.{get_there}
 use Rattle.topo_map.specs.Rotation.{Rotation, TellsFaces, face_of, is_live}
 use Rattle.topo_route.specs.Names.{HasFaces, IsName, Named, canonical, dart_named}
 use Rattle.topo_embedded.specs.Halves.{RowsWithPaths, ShowsRows, half_in}
 use Rattle.topo_embedded.specs.Walking.{AreLive, named_in}
-use Rattle.topo_embedded.proofs.Numbers.{half_alive}
-use Rattle.topo_embedded.proofs.SameFaces.{same_faces}
+use Rattle.topo_embedded.proofs.halves.Numbers.{half_alive}
+use Rattle.topo_embedded.proofs.halves.SameFaces.{same_faces}
 
 module _ (p : RowsWithPaths) (good : IsWellFormed p.rows) (r : Rotation) (s : ShowsRows p r) where
   pub are_live : AreLive p r

@@ -5,8 +5,8 @@ use Rattle.topo_perm.specs.Edits.{IsAllowedHang, IsAllowedChord, IsAllowedUnchor
 use Rattle.topo_perm.specs.Joins.{AddsSegment, IsConnectedAmong}
 use Rattle.topo_perm.specs.Live.{IsSlab, live_cycle_count}
 use Rattle.topo_perm.specs.LiveEdits.{GrowsSlab, ShrinksSlab}
-use Rattle.topo_perm.proofs.Connecting.{hang_connects, chord_connects, split_connects, unchord_connects, smooth_connects}
-use Rattle.topo_perm.proofs.SlabEdits.{hang_keeps_slab, hang_live_points, hang_live_faces, chord_keeps_slab, chord_live_points, chord_live_faces, split_keeps_slab, split_live_points, split_live_faces, unchord_keeps_slab, unchord_live_points, unchord_live_faces, smooth_keeps_slab, smooth_live_points, smooth_live_faces}
+use Rattle.topo_perm.proofs.edits.Connecting.{hang_connects, chord_connects, split_connects, unchord_connects, smooth_connects}
+use Rattle.topo_perm.proofs.edits.SlabEdits.{hang_keeps_slab, hang_live_points, hang_live_faces, chord_keeps_slab, chord_live_points, chord_live_faces, split_keeps_slab, split_live_points, split_live_faces, unchord_keeps_slab, unchord_live_points, unchord_live_faces, smooth_keeps_slab, smooth_live_points, smooth_live_faces}
 use Rattle.topo_map.specs.Rotation.{IsWhole, half_limit}
 
 -- so many points and faces more

@@ -3,11 +3,11 @@ use Rattle.std.proofs.Common.{◌≡◌, ◌≢◌, ℕ, ◌+◌, ◌<◌, Bool,
 use Rattle.std.proofs.lemmas.Bool.{cases_Bool, cases_eq, cond-true, cond-false, eq-eqb, ne_eqb, false≢true, or_left}
 use Rattle.topo_core.specs.Cycles.{IsPermutation, SameCycle, after, is_met}
 use Rattle.topo_core.specs.Rotations.{twin, face_next}
-use Rattle.topo_core.proofs.Orbits.{SameCycle-refl, SameCycle-trans, SameCycle-sym, SameCycle-is_met, is_met-SameCycle}
+use Rattle.topo_core.proofs.systems.Orbits.{SameCycle-refl, SameCycle-trans, SameCycle-sym, SameCycle-is_met, is_met-SameCycle}
 use Rattle.topo_perm.specs.FaceLabels.{LabelsFaces}
-use Rattle.topo_perm.proofs.Exchange.{IsExchange, IsExchange-back, IsExchange-permutation, Together, exchange_parts, kept, spread}
-use Rattle.topo_perm.proofs.Faces.{twin-twin}
-use Rattle.topo_perm.proofs.Lists.{is_met_more, is_met-period}
+use Rattle.topo_perm.proofs.permutations.Exchange.{IsExchange, IsExchange-back, IsExchange-permutation, Together, exchange_parts, kept, spread}
+use Rattle.topo_perm.proofs.permutations.Faces.{twin-twin}
+use Rattle.topo_perm.proofs.permutations.Lists.{is_met_more, is_met-period}
 use Rattle.topo_map.specs.Segments.{written, put, without, AreInverse}
 use Rattle.topo_map.specs.Labels.{painted}
 use Rattle.topo_map.proofs.Maps.{IsLone, funext}

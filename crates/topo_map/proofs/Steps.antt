@@ -6,12 +6,12 @@ use Rattle.topo_core.specs.Rotations.{twin}
 use Rattle.topo_core.specs.Edits.{IsIsolated, IsUnchord}
 use Rattle.topo_perm.specs.Edits.{IsApart, IsAllowedHang, IsAllowedUnchord, IsAllowedSplit, IsAllowedSmooth}
 use Rattle.topo_perm.specs.Joins.{AddsSegment}
-use Rattle.topo_perm.proofs.Faces.{twin-twin, twin-other}
-use Rattle.topo_perm.proofs.Splitting.{without-self, without-elsewhere}
-use Rattle.topo_perm.proofs.EditCounts.{put-elsewhere}
-use Rattle.topo_perm.proofs.Allowed.{AreDarts, IsChordPut, hang_allowed, chord_allowed, chord_put, unchord_allowed, unchord_made, split_allowed, smooth_allowed}
-use Rattle.topo_perm.proofs.SlabEdits.{segments_grow}
-use Rattle.topo_perm.proofs.Bypassing.{twin-half}
+use Rattle.topo_perm.proofs.permutations.Faces.{twin-twin, twin-other}
+use Rattle.topo_perm.proofs.permutations.Splitting.{without-self, without-elsewhere}
+use Rattle.topo_perm.proofs.edits.EditCounts.{put-elsewhere}
+use Rattle.topo_perm.proofs.edits.Allowed.{AreDarts, IsChordPut, hang_allowed, chord_allowed, chord_put, unchord_allowed, unchord_made, split_allowed, smooth_allowed}
+use Rattle.topo_perm.proofs.edits.SlabEdits.{segments_grow}
+use Rattle.topo_perm.proofs.edits.Bypassing.{twin-half}
 use Rattle.topo_map.specs.Rotation.{half_limit, AddsLabel, CountsFewer, CountsMore, IsOneFace, IsWhole, KeepsLabels, Grows, PartsFaces, Shrinks}
 use Rattle.topo_map.specs.Segments.{put, without, holds, next_in, nexts, label_in, limit_of, room_of, view_of, IsKept, IsTurned, IsInserted, IsRemoved}
 use Rattle.topo_map.specs.declared.segments.Segment.{Segment}

@@ -9,8 +9,8 @@ use Rattle.topo_core.specs.Pictures.{seed}
 use Rattle.topo_core.specs.Changes.{grown}
 use Rattle.topo_core.specs.Steps.{grow_refusal}
 use Rattle.topo_rows.specs.Shown.{IsPicture}
-use Rattle.topo_core.proofs.Connection.{seed_is_embedding}
-use Rattle.topo_core.proofs.GrownFaces.{growth_keeps_lawful}
+use Rattle.topo_core.proofs.systems.Connection.{seed_is_embedding}
+use Rattle.topo_core.proofs.growing.GrownFaces.{growth_keeps_lawful}
 
 pub seed_is_picture : (limits : Limits) → IsPicture limits seed
 seed_is_picture limits = grind (arith, seed_is_embedding)

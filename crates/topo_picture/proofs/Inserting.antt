@@ -10,10 +10,10 @@ use Rattle.topo_core.specs.Routes.{IsSimpleRoute}
 use Rattle.topo_core.specs.Steps.{HasRoomFor, insert_refusal}
 use Rattle.topo_core.specs.Changes.{shown}
 use Rattle.topo_core.specs.Insertions.{IsInsertable}
-use Rattle.topo_core.proofs.ShownRows.{shown_vertices}
-use Rattle.topo_core.proofs.SimpleRoutes.{simple_is_insertable}
+use Rattle.topo_core.proofs.inserting.ShownRows.{shown_vertices}
+use Rattle.topo_core.proofs.routing.SimpleRoutes.{simple_is_insertable}
 use Rattle.topo_rows.specs.Shown.{IsPicture}
-use Rattle.topo_changes.proofs.InsertedLawful.{insertion_keeps_lawful}
+use Rattle.topo_changes.proofs.inserting.InsertedLawful.{insertion_keeps_lawful}
 
 -- what holds where an insertion is not refused before a route is looked for
 pub record IsAdmitted (limits : Limits) (rows : Rows) (u v kind : ℕ) : Type 0 where

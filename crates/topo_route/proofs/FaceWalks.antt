@@ -8,8 +8,8 @@ use Rattle.topo_core.specs.Routes.{Crosses}
 use Rattle.topo_core.specs.Systems.{SameFace, face_step}
 use Rattle.topo_core.specs.Lawful.{Lawful}
 use Rattle.topo_route.specs.Names.{HasFaces, IsName, IsNamed, Named, dart_named, next_name}
-use Rattle.topo_route.proofs.Names.{after_is, back_round, face_of_names, names_of_face, next_is, round_names}
-use Rattle.topo_route.proofs.Rounds.{round_home}
+use Rattle.topo_route.proofs.names.Names.{after_is, back_round, face_of_names, names_of_face, next_is, round_names}
+use Rattle.topo_route.proofs.names.Rounds.{round_home}
 
 after_sum : {X : Type 0} (f : X → X) (k m : ℕ) (a : X) → after f (k + m) a ≡ after f k (after f m a)
 after_sum f zero m a = let e : 0 + m ≡ m = omega arith in ap (λ n. after f n a) e

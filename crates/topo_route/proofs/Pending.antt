@@ -4,7 +4,7 @@ use Rattle.std.specs.Prelude.{max, min, slice_index}
 use Rattle.std.proofs.lemmas.Bool.{ne_eqb}
 use Rattle.topo_core.specs.Routes.{unreached}
 use Rattle.topo_route.specs.Settling.{dart_of_item, is_pending, is_waiting, item_of, number_at, top_of}
-use Rattle.topo_route.proofs.Settled.{dart_of_own}
+use Rattle.topo_route.proofs.spreading.Settled.{dart_of_own}
 
 -- a height of an item is no less than its low half
 high_item : (k h item bound : ℕ) → k < 2 ^ 32 → bound ≤ item / 2 ^ 32 → item ≡ item_of k h → bound ≤ h

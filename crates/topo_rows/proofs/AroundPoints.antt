@@ -11,15 +11,15 @@ use Rattle.topo_core.specs.Items.{has_id, IsIn}
 use Rattle.topo_core.specs.Lawful.{IsWellFormed}
 use Rattle.topo_core.specs.Picture.{around_vertex, end_dart, rotation, system}
 use Rattle.topo_core.specs.Systems.{darts_in, follower, has_dart, turn}
-use Rattle.topo_core.proofs.DartLaws.{same_dart_self, same_dart_true}
-use Rattle.topo_core.proofs.Members.{in_map, or_second}
-use Rattle.topo_core.proofs.Numbering.{distinct_system}
-use Rattle.topo_core.proofs.Points.{turn_at_point}
-use Rattle.topo_core.proofs.Turning.{distinct_tail, head_not_later, IsDistinct, next_around}
-use Rattle.topo_core.proofs.WithoutRows.{in_has_id}
-use Rattle.topo_core.proofs.RouteDarts.{has_item}
-use Rattle.topo_core.proofs.Bypassing.{point_distinct}
-use Rattle.topo_core.proofs.SystemDarts.{vertex_in, vertex_point}
+use Rattle.topo_core.proofs.numbering.DartLaws.{same_dart_self, same_dart_true}
+use Rattle.topo_core.proofs.numbering.Members.{in_map, or_second}
+use Rattle.topo_core.proofs.numbering.Numbering.{distinct_system}
+use Rattle.topo_core.proofs.systems.Points.{turn_at_point}
+use Rattle.topo_core.proofs.systems.Turning.{distinct_tail, head_not_later, IsDistinct, next_around}
+use Rattle.topo_core.proofs.deleting.WithoutRows.{in_has_id}
+use Rattle.topo_core.proofs.routing.RouteDarts.{has_item}
+use Rattle.topo_core.proofs.systems.Bypassing.{point_distinct}
+use Rattle.topo_core.proofs.systems.SystemDarts.{vertex_in, vertex_point}
 use Rattle.topo_rows.specs.Around.{entry_after}
 
 -- ---- Round a list

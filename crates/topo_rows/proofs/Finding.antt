@@ -12,7 +12,7 @@ use Rattle.topo_core.specs.declared.rows.EdgeRow.{EdgeRow}
 use Rattle.topo_core.specs.declared.rows.Rows.{Rows}
 use Rattle.topo_core.specs.Lawful.{has_good_crossings, has_good_path, has_good_paths, is_good_crossing}
 use Rattle.topo_core.specs.Picture.{edge_row}
-use Rattle.topo_core.proofs.Members.{found, left_true}
+use Rattle.topo_core.proofs.numbering.Members.{found, left_true}
 use Rattle.topo_rows.specs.Ids.{IdsRise, IsPlaceOf, NoneBefore, NoneFrom}
 use Rattle.topo_rows.proofs.Begins.{AtPlace}
 use Rattle.topo_rows.proofs.Noting.{place_among}

@@ -1,6 +1,6 @@
 use Rattle.std.proofs.Common.{sym, ◌∙◌, ap, arith, length, ◌≡◌, true, false, slice_index_or}
-use Rattle.topo_perm.proofs.Lists.{count_below-le, first_counted, later_not_counted, marked_already, some_below_more}
-use Rattle.topo_perm.proofs.Exchange.{is_met-equivalence}
+use Rattle.topo_perm.proofs.permutations.Lists.{count_below-le, first_counted, later_not_counted, marked_already, some_below_more}
+use Rattle.topo_perm.proofs.permutations.Exchange.{is_met-equivalence}
 use Rattle.topo_core.specs.Cycles.{map_of, is_met, is_first, some_below}
 use Rattle.topo_perm.proofs.count_cycles.Goals as goal
 use Rattle.topo_perm.proofs.count_cycles.Goals.{then-not-seen-start, else-not-seen-start}

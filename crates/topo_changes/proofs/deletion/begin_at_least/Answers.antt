@@ -1,5 +1,5 @@
 use Rattle.std.proofs.Common.{◌∙◌}
-use Rattle.topo_changes.proofs.Leaving.{least_first}
+use Rattle.topo_changes.proofs.rows.Leaving.{least_first}
 use Rattle.topo_changes.proofs.deletion.begin_at_least.Goals as goal
 
 pub returns : goal.returns

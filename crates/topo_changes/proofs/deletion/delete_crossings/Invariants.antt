@@ -1,4 +1,4 @@
-use Rattle.topo_changes.proofs.Keeping.{AreTakenOut}
+use Rattle.topo_changes.proofs.rows.Keeping.{AreTakenOut}
 use Rattle.topo_changes.proofs.deletion.delete_crossings.Given as goal
 
 -- the crossings so far are out

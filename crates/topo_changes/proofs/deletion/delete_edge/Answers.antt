@@ -6,7 +6,7 @@ use Rattle.topo_core.specs.Changes.{uncrossed_row}
 use Rattle.topo_rows.specs.Ids.{IdsRise}
 use Rattle.topo_rows.proofs.Finding.{edges_rise}
 use Rattle.topo_changes.specs.Keeping.{rows_of}
-use Rattle.topo_changes.proofs.Deleting.{crossed_read, rest_is, rest_rises, row_read}
+use Rattle.topo_changes.proofs.rows.Deleting.{crossed_read, rest_is, rest_rises, row_read}
 use Rattle.topo_changes.proofs.deletion.delete_edge.Goals as goal
 
 pub place_of_edge-place-requires-clause-rise : goal.place_of_edge-place-requires-clause-rise

@@ -4,13 +4,13 @@ use Rattle.topo_core.specs.declared.rows.CrossRow.{CrossRow}
 use Rattle.topo_core.specs.declared.rows.Rows.{Rows}
 use Rattle.topo_core.specs.Items.{has_id}
 use Rattle.topo_core.specs.Picture.{rotation}
-use Rattle.topo_core.proofs.SystemDarts.{path_facts, row_in}
+use Rattle.topo_core.proofs.systems.SystemDarts.{path_facts, row_in}
 use Rattle.topo_table.specs.Places.{entries}
 use Rattle.topo_changes.specs.Deleting.{IsRotation}
 use Rattle.topo_changes.specs.Keeping.{crossing_row, rows_of}
-use Rattle.topo_changes.proofs.Deleting.{parts_left}
-use Rattle.topo_changes.proofs.Keeping.{rows_of_left}
-use Rattle.topo_changes.proofs.Rotating.{ends_apart, rotation_a, rotation_b}
+use Rattle.topo_changes.proofs.rows.Deleting.{parts_left}
+use Rattle.topo_changes.proofs.rows.Keeping.{rows_of_left}
+use Rattle.topo_changes.proofs.rows.Rotating.{ends_apart, rotation_a, rotation_b}
 use Rattle.topo_changes.proofs.deletion.delete_rows.Goals as goal
 
 pub leave_ends-requires-clause-a : goal.leave_ends-requires-clause-a

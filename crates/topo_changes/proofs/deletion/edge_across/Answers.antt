@@ -1,5 +1,5 @@
 use Rattle.std.proofs.Common.{arith}
-use Rattle.topo_changes.proofs.Keeping.{none_kept, other_kept}
+use Rattle.topo_changes.proofs.rows.Keeping.{none_kept, other_kept}
 use Rattle.topo_changes.proofs.deletion.edge_across.Goals as goal
 
 pub unreachable-requires : goal.unreachable-requires

@@ -2,7 +2,7 @@ use Rattle.std.proofs.Common.{ap, arith, length, List, set, sym, ◌∙◌, ℕ}
 use Rattle.std.specs.Prelude.{map, slice_index}
 use Rattle.topo_core.specs.declared.rows.EdgeRow.{EdgeRow}
 use Rattle.topo_rows.proofs.Sorting.{rises_strictly}
-use Rattle.topo_changes.proofs.Leaving.{path_left, place_named}
+use Rattle.topo_changes.proofs.rows.Leaving.{path_left, place_named}
 use Rattle.topo_changes.proofs.deletion.leave_path.Goals as goal
 
 pub returns : goal.returns

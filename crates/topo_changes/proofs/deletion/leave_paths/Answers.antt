@@ -3,9 +3,9 @@ use Rattle.std.specs.Prelude.{map}
 use Rattle.topo_core.specs.declared.rows.EdgeRow.{EdgeRow}
 use Rattle.topo_rows.specs.Ids.{IdsRise}
 use Rattle.topo_changes.specs.Keeping.{rows_of}
-use Rattle.topo_changes.proofs.Leaving.{crossed_still, ids_stay, more_out, none_out}
+use Rattle.topo_changes.proofs.rows.Leaving.{crossed_still, ids_stay, more_out, none_out}
 use Rattle.topo_changes.proofs.deletion.leave_paths.Goals as goal
-use Rattle.topo_changes.proofs.CrossedRows.{in_at}
+use Rattle.topo_changes.proofs.rows.CrossedRows.{in_at}
 
 pub loop-x-init : goal.loop-x-init
 loop-x-init c = sym (none_out c.args.edges.now.items)

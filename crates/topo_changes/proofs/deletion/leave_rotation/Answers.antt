@@ -2,7 +2,7 @@ use Rattle.std.proofs.Common.{◌≢◌, arith}
 use Rattle.std.specs.Prelude.{◌==◌}
 use Rattle.std.specs.List.{position_or_len}
 use Rattle.std.proofs.lemmas.Grind.{common_steps}
-use Rattle.topo_changes.proofs.Rotating.{begins_still}
+use Rattle.topo_changes.proofs.rows.Rotating.{begins_still}
 use Rattle.topo_changes.proofs.deletion.leave_rotation.Goals as goal
 
 pub returns-then-take_once-eq0 : goal.returns-then-take_once-eq0

@@ -1,7 +1,7 @@
 use Rattle.std.proofs.Common.{◌≡◌, ap, arith, length, sym, ◌∙◌, ◌<◌, ◌≤◌}
 use Rattle.std.specs.Prelude.{◌==◌}
 use Rattle.std.specs.List.{position_or_len, remove}
-use Rattle.topo_changes.proofs.Rotating.{none_there, removed_once}
+use Rattle.topo_changes.proofs.rows.Rotating.{none_there, removed_once}
 use Rattle.topo_changes.proofs.deletion.take_once.Goals as goal
 
 pub returns-then-place-len-clause-left : goal.returns-then-place-len-clause-left

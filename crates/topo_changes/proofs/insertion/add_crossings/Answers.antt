@@ -5,7 +5,7 @@ use Rattle.topo_core.specs.declared.darts.Sign.{Sign}
 use Rattle.topo_core.specs.Changes.{sign_of}
 use Rattle.topo_changes.specs.declared.kept.Crossing.{Crossing}
 use Rattle.topo_changes.specs.Keeping.{new_entry}
-use Rattle.topo_changes.proofs.Keeping.{added_all, added_more, added_none}
+use Rattle.topo_changes.proofs.rows.Keeping.{added_all, added_more, added_none}
 use Rattle.topo_changes.proofs.insertion.add_crossings.Goals as goal
 
 pub loop-i-init : goal.loop-i-init

@@ -1,4 +1,4 @@
-use Rattle.topo_changes.proofs.Keeping.{AreAdded}
+use Rattle.topo_changes.proofs.rows.Keeping.{AreAdded}
 use Rattle.topo_changes.proofs.insertion.add_crossings.Given as goal
 
 -- the crossings of the darts so far, and room for the others

@@ -10,8 +10,8 @@ use Rattle.topo_core.specs.Insertions.{IsInsertable}
 use Rattle.topo_core.specs.Lawful.{IsWellFormed}
 use Rattle.topo_changes.specs.Inserting.{AreOnPaths}
 use Rattle.topo_changes.specs.Keeping.{rows_of}
-use Rattle.topo_changes.proofs.Inserting.{crossings_old, darts_there, rotation_old, rows_made}
-use Rattle.topo_changes.proofs.Keeping.{added_rows}
+use Rattle.topo_changes.proofs.rows.Inserting.{crossings_old, darts_there, rotation_old, rows_made}
+use Rattle.topo_changes.proofs.rows.Keeping.{added_rows}
 use Rattle.topo_changes.proofs.insertion.apply_rows.Goals as goal
 
 pub insert_lists-requires-clause-new : goal.insert_lists-requires-clause-new

@@ -1,6 +1,6 @@
 use Rattle.std.proofs.Common.{subst, sym, take}
 use Rattle.topo_changes.specs.Inserting.{EdgesRise}
-use Rattle.topo_changes.proofs.CrossedRows.{crossed_rise}
+use Rattle.topo_changes.proofs.rows.CrossedRows.{crossed_rise}
 use Rattle.topo_changes.proofs.insertion.cross.Goals as goal
 
 pub uncross-requires-clause-rise : goal.uncross-requires-clause-rise

@@ -2,7 +2,7 @@ use Rattle.std.proofs.Common.{◌∙◌, ap, get_or, set, sym}
 use Rattle.topo_changes.specs.Inserting.{crossed_path}
 use Rattle.std.proofs.lemmas.Option.{get_or_from_slice_get}
 use Rattle.topo_core.specs.declared.rows.EdgeRow.{EdgeRow}
-use Rattle.topo_changes.proofs.CrossedRows.{none_repathed, ok_more, repathed_at}
+use Rattle.topo_changes.proofs.rows.CrossedRows.{none_repathed, ok_more, repathed_at}
 use Rattle.topo_changes.proofs.insertion.cross_edge.Goals as goal
 
 pub returns-in-Some-clause-ok : goal.returns-in-Some-clause-ok

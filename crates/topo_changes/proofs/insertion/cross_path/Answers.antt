@@ -1,5 +1,5 @@
 use Rattle.std.proofs.Common.{arith}
-use Rattle.topo_changes.proofs.CrossedPaths.{ends_within}
+use Rattle.topo_changes.proofs.rows.CrossedPaths.{ends_within}
 use Rattle.topo_changes.proofs.insertion.cross_path.Goals as goal
 
 pub insert-requires : goal.insert-requires

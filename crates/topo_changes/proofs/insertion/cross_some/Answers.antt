@@ -3,7 +3,7 @@ use Rattle.std.specs.Prelude.{map}
 use Rattle.std.proofs.lemmas.List.{take_all}
 use Rattle.topo_core.specs.declared.darts.Dart.{Dart}
 use Rattle.topo_changes.specs.Inserting.{EdgesRise, crossed_path, repathed}
-use Rattle.topo_changes.proofs.CrossedRows.{crossed_by_none, crossed_rise, one_more, when_err, when_ok}
+use Rattle.topo_changes.proofs.rows.CrossedRows.{crossed_by_none, crossed_rise, one_more, when_err, when_ok}
 use Rattle.topo_changes.proofs.insertion.cross_some.Goals as goal
 
 pub loop-i-init : goal.loop-i-init

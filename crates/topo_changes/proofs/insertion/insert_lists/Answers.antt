@@ -3,7 +3,7 @@ use Rattle.std.specs.Vec.{vec_len}
 use Rattle.std.proofs.lemmas.List.{take_at}
 use Rattle.topo_core.specs.Items.{IsIn}
 use Rattle.topo_changes.specs.Inserting.{EdgesRise}
-use Rattle.topo_changes.proofs.CrossedRows.{crossed_rise}
+use Rattle.topo_changes.proofs.rows.CrossedRows.{crossed_rise}
 use Rattle.topo_changes.proofs.insertion.insert_lists.Goals as goal
 
 pub cross-requires-clause-there : goal.cross-requires-clause-there

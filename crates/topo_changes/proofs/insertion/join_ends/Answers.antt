@@ -1,7 +1,7 @@
 use Rattle.std.proofs.Common.{arith, length-set}
 use Rattle.std.proofs.lemmas.List.{get_or_default}
-use Rattle.topo_changes.proofs.CrossedPaths.{taken_back}
-use Rattle.topo_changes.proofs.CrossedRows.{when_err}
+use Rattle.topo_changes.proofs.rows.CrossedPaths.{taken_back}
+use Rattle.topo_changes.proofs.rows.CrossedRows.{when_err}
 use Rattle.topo_changes.proofs.insertion.join_ends.Goals as goal
 
 pub returns-then-is_err-clause-err : goal.returns-then-is_err-clause-err

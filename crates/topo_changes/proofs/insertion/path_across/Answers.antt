@@ -2,7 +2,7 @@ use Rattle.std.proofs.Common.{arith, ◌∙◌, ◌+◌, ◌∷◌, ◌++◌, []
 use Rattle.std.proofs.lemmas.List.{take_all}
 use Rattle.topo_core.specs.declared.darts.Dart.{Dart}
 use Rattle.topo_core.specs.declared.darts.Way.TheVariants.{Forward}
-use Rattle.topo_changes.proofs.CrossedPaths.{numbered_step}
+use Rattle.topo_changes.proofs.rows.CrossedPaths.{numbered_step}
 use Rattle.topo_changes.proofs.insertion.path_across.Goals as goal
 
 any_dart : Dart

@@ -1,7 +1,7 @@
 use Rattle.std.proofs.Common.{◌+◌, arith, drop, get_or}
 use Rattle.std.proofs.lemmas.List.{at_drop_all, at_drop_more}
 use Rattle.topo_changes.specs.Inserting.{segment_end}
-use Rattle.topo_changes.proofs.CrossedPaths.{counts, ends_here, goes_past}
+use Rattle.topo_changes.proofs.rows.CrossedPaths.{counts, ends_here, goes_past}
 use Rattle.topo_changes.proofs.insertion.segment_end.Goals as goal
 use Rattle.topo_changes.proofs.insertion.segment_end.Goals.{then-x-first+else-left-eq0, else-x-first}
 

@@ -1,7 +1,7 @@
 use Rattle.std.proofs.Common.{◌≡◌, ◌-◌, ◌+◌, ◌∙◌, ap, arith, subst, sym, take}
 use Rattle.std.specs.Prelude.{filter, map, nat_lt}
 use Rattle.topo_changes.specs.Inserting.{EdgesRise, crossed_by, repathed}
-use Rattle.topo_changes.proofs.CrossedRows.{crossed_by_none, one_less, still_rise}
+use Rattle.topo_changes.proofs.rows.CrossedRows.{crossed_by_none, one_less, still_rise}
 use Rattle.topo_changes.proofs.insertion.uncross.Goals as goal
 
 pub loop-n-preserved : goal.loop-n-preserved

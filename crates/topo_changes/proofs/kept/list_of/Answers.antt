@@ -1,6 +1,6 @@
 use Rattle.std.proofs.Common.{arith, ap, ◌∙◌}
 use Rattle.std.proofs.lemmas.List.{take_all}
-use Rattle.topo_changes.proofs.Keeping.{no_more_row, one_more_row}
+use Rattle.topo_changes.proofs.rows.Keeping.{no_more_row, one_more_row}
 use Rattle.topo_changes.proofs.kept.list_of.Goals as goal
 use Rattle.topo_changes.proofs.kept.list_of.Goals.{in-Some+in_ok-push-in-Some, in-None}
 

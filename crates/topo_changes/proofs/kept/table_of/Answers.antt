@@ -1,6 +1,6 @@
 use Rattle.std.proofs.Common.{arith}
 use Rattle.std.proofs.lemmas.List.{take_all}
-use Rattle.topo_changes.proofs.Keeping.{noted_all, noted_below, noted_more}
+use Rattle.topo_changes.proofs.rows.Keeping.{noted_all, noted_below, noted_more}
 use Rattle.topo_changes.proofs.kept.table_of.Goals as goal
 
 pub push-requires-clause-last : goal.push-requires-clause-last

@@ -1,4 +1,4 @@
-use Rattle.topo_changes.proofs.Keeping.{AreNoted}
+use Rattle.topo_changes.proofs.rows.Keeping.{AreNoted}
 use Rattle.topo_changes.proofs.kept.table_of.Given as goal
 
 -- the crossings so far, with their ids, and room for the others

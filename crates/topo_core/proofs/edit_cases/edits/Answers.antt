@@ -5,7 +5,7 @@ use Rattle.std.proofs.lemmas.Bool.Decides.{nat_tests}
 use Rattle.topo_core.specs.Cycles.{IsBypass, map_of}
 use Rattle.topo_core.specs.EditCases.{hung, parted, path, ring}
 use Rattle.topo_core.specs.Edits.{IsSplit, IsUnchord}
-use Rattle.topo_core.proofs.Members.{left_true, right_true}
+use Rattle.topo_core.proofs.numbering.Members.{left_true, right_true}
 use Rattle.topo_core.proofs.edit_cases.edits.Goals as goal
 
 -- all numbers below n pass

@@ -3,7 +3,7 @@ use Rattle.topo_core.specs.Picture.{system}
 use Rattle.topo_core.specs.Changes.{without, opened}
 use Rattle.topo_core.specs.Systems.{Connected}
 use Rattle.topo_core.specs.Pictures.{barrier, passed_barrier, forward, back}
-use Rattle.topo_core.proofs.Computed.{Planned, Passes, first_by_tests, connected_by_tests, cut_by_tests, no_cut_by_tests}
+use Rattle.topo_core.proofs.stepping.Computed.{Planned, Passes, first_by_tests, connected_by_tests, cut_by_tests, no_cut_by_tests}
 use Rattle.topo_core.proofs.evidence.barrier.Goals as goal
 
 abbrev past : Planned

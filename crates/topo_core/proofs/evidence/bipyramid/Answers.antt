@@ -3,7 +3,7 @@ use Rattle.topo_core.specs.declared.darts.Dart.{Dart}
 use Rattle.topo_core.specs.Evidence.{by_kind, no_price}
 use Rattle.topo_core.specs.Picture.{system}
 use Rattle.topo_core.specs.Pictures.{bipyramid, forward, back}
-use Rattle.topo_core.proofs.Computed.{Encloses, Planned, Passes, certificate_by_tests, first_by_tests, has_price, no_route_by_tests, price_has, connected_by_tests}
+use Rattle.topo_core.proofs.stepping.Computed.{Encloses, Planned, Passes, certificate_by_tests, first_by_tests, has_price, no_route_by_tests, price_has, connected_by_tests}
 use Rattle.topo_core.proofs.evidence.bipyramid.Goals as goal
 
 abbrev by_price : Planned

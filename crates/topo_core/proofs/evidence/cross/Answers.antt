@@ -1,7 +1,7 @@
 use Rattle.std.proofs.Common.{refl, lit≤, arith}
 use Rattle.topo_core.specs.Picture.{system}
 use Rattle.topo_core.specs.Pictures.{cross}
-use Rattle.topo_core.proofs.Computed.{connected_by_tests, cut_by_tests}
+use Rattle.topo_core.proofs.stepping.Computed.{connected_by_tests, cut_by_tests}
 use Rattle.topo_core.proofs.evidence.cross.Goals as goal
 
 pub returns : goal.returns

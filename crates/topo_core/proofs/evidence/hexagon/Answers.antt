@@ -1,7 +1,7 @@
 use Rattle.std.proofs.Common.{[], ◌∷◌, refl}
 use Rattle.topo_core.specs.Picture.{system}
 use Rattle.topo_core.specs.Pictures.{hexagon, crossed_hexagon, forward, back}
-use Rattle.topo_core.proofs.Computed.{Planned, Passes, first_by_tests, connected_by_tests}
+use Rattle.topo_core.proofs.stepping.Computed.{Planned, Passes, first_by_tests, connected_by_tests}
 use Rattle.topo_core.proofs.evidence.hexagon.Goals as goal
 
 -- the price of each step is 1

@@ -5,7 +5,7 @@ use Rattle.topo_core.specs.Changes.{grown, shown}
 use Rattle.topo_core.specs.Evidence.{path_of_six, route}
 use Rattle.topo_core.specs.Pictures.{seed, hexagon, crossed_hexagon, forward, back}
 use Rattle.topo_core.specs.Steps.{grow_refusal, insert_refusal}
-use Rattle.topo_core.proofs.Computed.{Planned, Passes, first_by_tests}
+use Rattle.topo_core.proofs.stepping.Computed.{Planned, Passes, first_by_tests}
 use Rattle.topo_core.proofs.evidence.hexagon_calls.Goals as goal
 
 -- the paths of three, four and five vertices, the ring, and the ring with its first chord

@@ -8,7 +8,7 @@ use Rattle.topo_core.specs.Evidence.{after_two, insertion, refusal, two_callers,
 use Rattle.topo_core.specs.History.{call_of, entries_of}
 use Rattle.topo_core.specs.Items.{IsIn}
 use Rattle.topo_core.specs.Pictures.{back, seed}
-use Rattle.topo_core.proofs.Computed.{first_by_tests, Passes, Planned}
+use Rattle.topo_core.proofs.stepping.Computed.{first_by_tests, Passes, Planned}
 use Rattle.topo_core.specs.Steps.{grow_refusal, insert_refusal}
 use Rattle.topo_core.specs.declared.limits.Limits.{Limits}
 use Rattle.topo_core.proofs.evidence.history.Goals as goal

@@ -3,7 +3,7 @@ use Rattle.topo_core.specs.declared.darts.Sign.TheVariants.{RightToLeft}
 use Rattle.topo_core.specs.Picture.{system}
 use Rattle.topo_core.specs.Changes.{without}
 use Rattle.topo_core.specs.Pictures.{joined_apexes}
-use Rattle.topo_core.proofs.Computed.{connected_by_tests, no_cut_by_tests}
+use Rattle.topo_core.proofs.stepping.Computed.{connected_by_tests, no_cut_by_tests}
 use Rattle.topo_core.proofs.evidence.joined_apexes.Goals as goal
 
 pub returns : goal.returns

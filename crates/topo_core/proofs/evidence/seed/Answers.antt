@@ -3,7 +3,7 @@ use Rattle.topo_core.specs.Picture.{system}
 use Rattle.topo_core.specs.Changes.{shown, grown}
 use Rattle.topo_core.specs.Pictures.{seed, back}
 use Rattle.topo_core.specs.Evidence.{route}
-use Rattle.topo_core.proofs.Computed.{Planned, Passes, first_by_tests, connected_by_tests, cut_by_tests}
+use Rattle.topo_core.proofs.stepping.Computed.{Planned, Passes, first_by_tests, connected_by_tests, cut_by_tests}
 use Rattle.topo_core.proofs.evidence.seed.Goals as goal
 
 -- both vertices are corners of the one face

@@ -1,4 +1,4 @@
-use Rattle.topo_core.proofs.Existence.{no_route}
+use Rattle.topo_core.proofs.routing.Existence.{no_route}
 use Rattle.topo_core.proofs.existence_laws.firsts_exist.Goals as goal
 
 pub returns : goal.returns

@@ -1,4 +1,4 @@
-use Rattle.topo_core.proofs.Existence.{some_step}
+use Rattle.topo_core.proofs.routing.Existence.{some_step}
 use Rattle.topo_core.proofs.existence_laws.steps_exist.Goals as goal
 
 pub returns : goal.returns

@@ -7,9 +7,9 @@ use Rattle.topo_core.specs.Picture.{corner, system}
 use Rattle.topo_core.specs.Pictures.{back, barrier, bipyramid, forward}
 use Rattle.topo_core.specs.Routes.{IsSimpleRoute, KeepsPromise, Price}
 use Rattle.topo_core.specs.Systems.{SameFace}
-use Rattle.topo_core.proofs.Certificates.{same_some}
-use Rattle.topo_core.proofs.Computed.{Passes, Planned, first_by_tests}
-use Rattle.topo_core.proofs.LeastRoutes.{least_is_simple}
+use Rattle.topo_core.proofs.routing.Certificates.{same_some}
+use Rattle.topo_core.proofs.stepping.Computed.{Passes, Planned, first_by_tests}
+use Rattle.topo_core.proofs.routing.LeastRoutes.{least_is_simple}
 use Rattle.topo_core.proofs.false_cases.no_certificate.Goals as goal
 
 -- the facts of edge 1 of the triangle, and what crossing it costs

@@ -5,8 +5,8 @@ use Rattle.topo_core.specs.Evidence.{by_kind, route}
 use Rattle.topo_core.specs.FalseCases.{cheapest, path_of_three, uneven}
 use Rattle.topo_core.specs.Pictures.{back, bipyramid, forward, hexagon}
 use Rattle.topo_core.specs.Routes.{IsFirst, IsPricedRoute}
-use Rattle.topo_core.proofs.Computed.{Passes, Planned, first_by_tests}
-use Rattle.topo_core.proofs.RouteOrder.{one_first, one_least}
+use Rattle.topo_core.proofs.stepping.Computed.{Passes, Planned, first_by_tests}
+use Rattle.topo_core.proofs.routing.RouteOrder.{one_first, one_least}
 use Rattle.topo_core.proofs.false_cases.not_first.Goals as goal
 
 abbrev by_price : Planned

@@ -7,7 +7,7 @@ use Rattle.topo_core.specs.Picture.{system, turn_images}
 use Rattle.topo_core.specs.Pictures.{back, forward}
 use Rattle.topo_core.specs.Rotations.{Cross, IsConnected, Move, Turn, along, twin}
 use Rattle.topo_core.specs.Systems.{Connected, has_dart}
-use Rattle.topo_core.proofs.FalseTests.{never_leaves}
+use Rattle.topo_core.proofs.stepping.FalseTests.{never_leaves}
 use Rattle.topo_core.proofs.false_cases.two_parts.Goals as goal
 
 -- the darts of the first edge

@@ -1,6 +1,6 @@
 use Rattle.topo_core.specs.Picture.{darts}
-use Rattle.topo_core.proofs.Numbering.{even_images, get_index, image_of, images_length, index_forward, index_of_get, index_twin, place_less, twin_in}
-use Rattle.topo_core.proofs.SystemDarts.{get_there}
+use Rattle.topo_core.proofs.numbering.Numbering.{even_images, get_index, image_of, images_length, index_forward, index_of_get, index_twin, place_less, twin_in}
+use Rattle.topo_core.proofs.systems.SystemDarts.{get_there}
 use Rattle.topo_core.proofs.laws.darts_are_numbered.Goals as goal
 
 pub returns : goal.returns

@@ -1,6 +1,6 @@
 use Rattle.std.proofs.Common.{arith}
-use Rattle.topo_core.proofs.Counting.{one}
-use Rattle.topo_core.proofs.Standing.{is_dart_of_rows, listed_once, listed_test, of_rows_is_dart, stands_once}
+use Rattle.topo_core.proofs.numbering.Counting.{one}
+use Rattle.topo_core.proofs.numbering.Standing.{is_dart_of_rows, listed_once, listed_test, of_rows_is_dart, stands_once}
 use Rattle.topo_core.proofs.laws.darts_stand_once.Goals as goal
 
 pub returns : goal.returns

@@ -1,4 +1,4 @@
-use Rattle.topo_core.proofs.WithoutForm.{without_well_formed}
+use Rattle.topo_core.proofs.deleting.WithoutForm.{without_well_formed}
 use Rattle.topo_core.proofs.laws.deletion_keeps_form.Goals as goal
 
 pub returns : goal.returns

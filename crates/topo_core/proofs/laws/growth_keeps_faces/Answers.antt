@@ -1,4 +1,4 @@
-use Rattle.topo_core.proofs.GrownFaces.{faces_after_growth}
+use Rattle.topo_core.proofs.growing.GrownFaces.{faces_after_growth}
 use Rattle.topo_core.proofs.laws.growth_keeps_faces.Goals as goal
 
 pub returns : goal.returns

@@ -1,4 +1,4 @@
-use Rattle.topo_core.proofs.GrownFaces.{genus_after_growth}
+use Rattle.topo_core.proofs.growing.GrownFaces.{genus_after_growth}
 use Rattle.topo_core.proofs.laws.growth_keeps_genus.Goals as goal
 
 pub returns : goal.returns

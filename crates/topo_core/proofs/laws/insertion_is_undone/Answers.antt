@@ -1,4 +1,4 @@
-use Rattle.topo_core.proofs.UndoneInsertions.{insertion_undone}
+use Rattle.topo_core.proofs.inserting.UndoneInsertions.{insertion_undone}
 use Rattle.topo_core.proofs.laws.insertion_is_undone.Goals as goal
 
 pub returns : goal.returns

@@ -1,5 +1,5 @@
-use Rattle.topo_core.proofs.ShownForm.{shown_well_formed}
-use Rattle.topo_core.proofs.ShownTurns.{shows_turns}
+use Rattle.topo_core.proofs.inserting.ShownForm.{shown_well_formed}
+use Rattle.topo_core.proofs.inserting.ShownTurns.{shows_turns}
 use Rattle.topo_core.proofs.laws.insertion_shows_turns.Goals as goal
 
 pub returns : goal.returns

@@ -1,5 +1,5 @@
 use Rattle.std.proofs.Common.{arith}
-use Rattle.topo_core.proofs.Renumbering.{darts_connected, numbers_connected}
+use Rattle.topo_core.proofs.numbering.Renumbering.{darts_connected, numbers_connected}
 use Rattle.topo_core.proofs.laws.numbers_keep_connection.Goals as goal
 
 pub returns : goal.returns

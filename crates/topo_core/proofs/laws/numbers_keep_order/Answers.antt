@@ -1,4 +1,4 @@
-use Rattle.topo_core.proofs.NumberOrder.{number_order, order_number}
+use Rattle.topo_core.proofs.numbering.NumberOrder.{number_order, order_number}
 use Rattle.topo_core.proofs.laws.numbers_keep_order.Goals as goal
 
 pub returns : goal.returns

@@ -1,4 +1,4 @@
-use Rattle.topo_core.proofs.BarePoints.{bares}
+use Rattle.topo_core.proofs.systems.BarePoints.{bares}
 use Rattle.topo_core.proofs.laws.opening_bares.Goals as goal
 
 pub returns : goal.returns

@@ -1,4 +1,4 @@
-use Rattle.topo_core.proofs.Openings.{opens}
+use Rattle.topo_core.proofs.deleting.Openings.{opens}
 use Rattle.topo_core.proofs.laws.opening_unchords.Goals as goal
 
 pub returns : goal.returns

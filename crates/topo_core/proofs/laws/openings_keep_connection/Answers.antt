@@ -1,4 +1,4 @@
-use Rattle.topo_core.proofs.OpenedDarts.{joins_opened}
+use Rattle.topo_core.proofs.deleting.OpenedDarts.{joins_opened}
 use Rattle.topo_core.proofs.laws.openings_keep_connection.Goals as goal
 
 pub returns : goal.returns

@@ -1,6 +1,6 @@
 use Rattle.std.proofs.Common.{refl}
 use Rattle.topo_core.specs.Openings.{is_opened}
-use Rattle.topo_core.proofs.OpenedDarts.{rest_face_darts, rest_face_numbers}
+use Rattle.topo_core.proofs.deleting.OpenedDarts.{rest_face_darts, rest_face_numbers}
 use Rattle.topo_core.proofs.laws.openings_keep_faces.Goals as goal
 
 pub returns : goal.returns

@@ -1,4 +1,4 @@
-use Rattle.topo_core.proofs.SimpleRoutes.{simple_is_insertable}
+use Rattle.topo_core.proofs.routing.SimpleRoutes.{simple_is_insertable}
 use Rattle.topo_core.proofs.laws.simple_routes_are_insertable.Goals as goal
 
 pub returns : goal.returns

@@ -1,5 +1,5 @@
-use Rattle.topo_core.proofs.Numbering.{turn_permutes, turn_stays, turns_apart}
-use Rattle.topo_core.proofs.Renumbering.{face_permutes}
+use Rattle.topo_core.proofs.numbering.Numbering.{turn_permutes, turn_stays, turns_apart}
+use Rattle.topo_core.proofs.numbering.Renumbering.{face_permutes}
 use Rattle.topo_core.proofs.laws.turn_is_a_permutation.Goals as goal
 
 pub returns : goal.returns

@@ -1,5 +1,5 @@
-use Rattle.topo_core.proofs.Certificates.{route_bound}
-use Rattle.topo_core.proofs.RouteDarts.{certified}
+use Rattle.topo_core.proofs.routing.Certificates.{route_bound}
+use Rattle.topo_core.proofs.routing.RouteDarts.{certified}
 use Rattle.topo_core.proofs.route_laws.certificate_bounds.Goals as goal
 
 pub returns : goal.returns

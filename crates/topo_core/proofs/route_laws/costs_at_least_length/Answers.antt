@@ -1,4 +1,4 @@
-use Rattle.topo_core.proofs.Certificates.{length-le-cost}
+use Rattle.topo_core.proofs.routing.Certificates.{length-le-cost}
 use Rattle.topo_core.proofs.route_laws.costs_at_least_length.Goals as goal
 
 pub returns : goal.returns

@@ -1,5 +1,5 @@
-use Rattle.topo_core.proofs.Certificates.{first_by_heights}
-use Rattle.topo_core.proofs.RouteDarts.{certified}
+use Rattle.topo_core.proofs.routing.Certificates.{first_by_heights}
+use Rattle.topo_core.proofs.routing.RouteDarts.{certified}
 use Rattle.topo_core.proofs.route_laws.first_by_heights_is_first.Goals as goal
 
 pub returns : goal.returns

@@ -1,4 +1,4 @@
-use Rattle.topo_core.proofs.Certificates.{one_cost, single_price}
+use Rattle.topo_core.proofs.routing.Certificates.{one_cost, single_price}
 use Rattle.topo_core.proofs.route_laws.has_one_cost.Goals as goal
 
 pub returns : goal.returns

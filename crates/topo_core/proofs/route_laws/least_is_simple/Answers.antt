@@ -1,4 +1,4 @@
-use Rattle.topo_core.proofs.LeastRoutes.{least_is_simple}
+use Rattle.topo_core.proofs.routing.LeastRoutes.{least_is_simple}
 use Rattle.topo_core.proofs.route_laws.least_is_simple.Goals as goal
 
 pub returns : goal.returns

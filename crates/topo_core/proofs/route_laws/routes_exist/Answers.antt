@@ -1,4 +1,4 @@
-use Rattle.topo_core.proofs.Reaching.{routes_exist}
+use Rattle.topo_core.proofs.routing.Reaching.{routes_exist}
 use Rattle.topo_core.proofs.route_laws.routes_exist.Goals as goal
 
 pub returns : goal.returns

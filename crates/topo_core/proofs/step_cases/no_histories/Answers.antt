@@ -11,8 +11,8 @@ use Rattle.topo_core.specs.History.{Replays}
 use Rattle.topo_core.specs.Pictures.{back, seed}
 use Rattle.topo_core.specs.Routes.{Pricing}
 use Rattle.topo_core.specs.Steps.{grow_refusal, insert_refusal}
-use Rattle.topo_core.proofs.Computed.{Passes, Planned, first_by_tests}
-use Rattle.topo_core.proofs.Determined.{one_step}
+use Rattle.topo_core.proofs.stepping.Computed.{Passes, Planned, first_by_tests}
+use Rattle.topo_core.proofs.stepping.Determined.{one_step}
 use Rattle.topo_core.proofs.step_cases.no_histories.Goals as goal
 
 abbrev beside_grown : Planned

@@ -15,9 +15,9 @@ use Rattle.topo_core.specs.Pictures.{back, barrier, bipyramid, forward, joined_a
 use Rattle.topo_core.specs.Routes.{IsFirst}
 use Rattle.topo_core.specs.Steps.{IsRefused, grow_refusal, insert_refusal, refusal_number}
 use Rattle.topo_core.specs.Systems.{Connected}
-use Rattle.topo_core.proofs.Certificates.{same_some}
-use Rattle.topo_core.proofs.Computed.{Passes, Planned, connected_by_tests, cut_by_tests, first_by_tests, no_cut_by_tests}
-use Rattle.topo_core.proofs.RouteOrder.{one_first}
+use Rattle.topo_core.proofs.routing.Certificates.{same_some}
+use Rattle.topo_core.proofs.stepping.Computed.{Passes, Planned, connected_by_tests, cut_by_tests, first_by_tests, no_cut_by_tests}
+use Rattle.topo_core.proofs.routing.RouteOrder.{one_first}
 use Rattle.topo_core.proofs.step_cases.no_steps.Goals as goal
 
 abbrev by_price : Planned

@@ -13,7 +13,7 @@ use Rattle.topo_core.specs.Routes.{HasNoRoute}
 use Rattle.topo_core.specs.StepCases.{joined_before}
 use Rattle.topo_core.specs.Steps.{grow_refusal, insert_refusal}
 use Rattle.topo_core.specs.Systems.{Connected}
-use Rattle.topo_core.proofs.Computed.{Encloses, Passes, Planned, connected_by_tests, cut_by_tests, first_by_tests, has_price, no_cut_by_tests, no_route_by_tests, price_has}
+use Rattle.topo_core.proofs.stepping.Computed.{Encloses, Passes, Planned, connected_by_tests, cut_by_tests, first_by_tests, has_price, no_cut_by_tests, no_route_by_tests, price_has}
 use Rattle.topo_core.proofs.step_cases.steps.Goals as goal
 
 abbrev by_price : Planned

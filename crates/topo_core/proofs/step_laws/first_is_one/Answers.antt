@@ -1,5 +1,5 @@
 use Rattle.std.proofs.Common.{arith}
-use Rattle.topo_core.proofs.RouteOrder.{one_first, one_least}
+use Rattle.topo_core.proofs.routing.RouteOrder.{one_first, one_least}
 use Rattle.topo_core.proofs.step_laws.first_is_one.Goals as goal
 
 pub returns : goal.returns

@@ -1,4 +1,4 @@
-use Rattle.topo_core.proofs.Replaying.{replays_on}
+use Rattle.topo_core.proofs.stepping.Replaying.{replays_on}
 use Rattle.topo_core.proofs.step_laws.replays_go_on.Goals as goal
 
 pub returns : goal.returns

@@ -1,4 +1,4 @@
-use Rattle.topo_core.proofs.Determined.{one_step}
+use Rattle.topo_core.proofs.stepping.Determined.{one_step}
 use Rattle.topo_core.proofs.step_laws.steps_are_determined.Goals as goal
 
 pub returns : goal.returns

@@ -1,4 +1,4 @@
-use Rattle.topo_core.proofs.Replaying.{versions_replay}
+use Rattle.topo_core.proofs.stepping.Replaying.{versions_replay}
 use Rattle.topo_core.proofs.step_laws.versions_replay.Goals as goal
 
 pub returns : goal.returns

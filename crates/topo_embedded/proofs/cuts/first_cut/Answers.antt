@@ -4,7 +4,7 @@ use Rattle.topo_core.specs.Changes.{HasOneFace}
 use Rattle.topo_core.specs.Cycles.{SameCycle}
 use Rattle.topo_core.specs.Rotations.{face_next}
 use Rattle.topo_map.specs.Rotation.{is_live, turn}
-use Rattle.topo_embedded.proofs.FaceWalks.{first_face, first_live, first_twin_live, opened_to, path_few, path_is}
+use Rattle.topo_embedded.proofs.halves.FaceWalks.{first_face, first_live, first_twin_live, opened_to, path_few, path_is}
 use Rattle.topo_embedded.proofs.cuts.first_cut.Goals as goal
 
 pub at-first-requires : goal.at-first-requires

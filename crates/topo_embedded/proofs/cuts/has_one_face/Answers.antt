@@ -2,7 +2,7 @@ use Rattle.std.proofs.Common.{◌≡◌, ◌+◌, ◌∙◌, arith, refl, subst,
 use Rattle.std.specs.Prelude.{nat_eq}
 use Rattle.std.proofs.lemmas.Bool.{eq-eqb, false≢true}
 use Rattle.std.proofs.lemmas.Bool.Decides.{nat_tests}
-use Rattle.topo_embedded.proofs.FaceWalks.{few, home_left, home_right, in_step_more, in_step_never, in_step_none, InStep, met_left, met_right, out_inside}
+use Rattle.topo_embedded.proofs.halves.FaceWalks.{few, home_left, home_right, in_step_more, in_step_never, in_step_none, InStep, met_left, met_right, out_inside}
 use Rattle.topo_embedded.proofs.cuts.has_one_face.Goals as goal
 use Rattle.topo_embedded.proofs.cuts.has_one_face.Goals.{then-eq-via-then-eq, then-eq-via-else-eq+then-eq-2, then-eq-3-via-then-eq-3, then-eq-3-via-else-eq-3+then-eq-4}
 

@@ -1,6 +1,6 @@
 use Rattle.topo_embedded.specs.Cutting.{IsOpenedOn}
 use Rattle.topo_embedded.specs.Halves.{RowsWithPaths}
-use Rattle.topo_embedded.proofs.FaceWalks.{InStep}
+use Rattle.topo_embedded.proofs.halves.FaceWalks.{InStep}
 use Rattle.topo_embedded.proofs.cuts.has_one_face.Given as goal
 
 -- where the two walks are, and that neither has met the start of the other

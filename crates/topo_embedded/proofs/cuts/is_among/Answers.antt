@@ -2,8 +2,8 @@ use Rattle.std.proofs.Common.{◌≡◌, ◌-◌, arith, inl, inr, refl, sym, tr
 use Rattle.std.specs.Prelude.{nat_lt, slice_index_or}
 use Rattle.std.proofs.lemmas.Bool.{cases_lt}
 use Rattle.std.proofs.lemmas.Bool.Decides.{nat_tests}
-use Rattle.topo_embedded.proofs.FaceWalks.{lies_before, lies_behind, on_path, out_inside}
-use Rattle.topo_embedded.proofs.OnSegments.{found_on, way_on}
+use Rattle.topo_embedded.proofs.halves.FaceWalks.{lies_before, lies_behind, on_path, out_inside}
+use Rattle.topo_embedded.proofs.halves.OnSegments.{found_on, way_on}
 use Rattle.topo_embedded.proofs.cuts.is_among.Goals as goal
 
 pub is_at-requires : goal.is_at-requires

@@ -1,7 +1,7 @@
 use Rattle.std.proofs.Common.{arith, ◌≡◌, ap, subst, sym, ℕ, ◌∙◌}
 use Rattle.topo_core.specs.Openings.{is_opened}
 use Rattle.topo_embedded.specs.Cutting.{IsDartBeside}
-use Rattle.topo_embedded.proofs.FaceWalks.{alive, label_is, on_other_edge}
+use Rattle.topo_embedded.proofs.halves.FaceWalks.{alive, label_is, on_other_edge}
 use Rattle.topo_embedded.proofs.cuts.is_out.Goals as goal
 
 pub edge-requires : goal.edge-requires

@@ -1,7 +1,7 @@
 use Rattle.std.proofs.Common.{arith, subst, sym, ℕ, ◌∙◌}
 use Rattle.topo_core.specs.Darts.{dart_twin}
 use Rattle.topo_core.specs.Picture.{index_of}
-use Rattle.topo_embedded.proofs.FaceWalks.{few, start_alive, Turns, turns_alive, turns_few, turns_more, turns_none, turns_to}
+use Rattle.topo_embedded.proofs.halves.FaceWalks.{few, start_alive, Turns, turns_alive, turns_few, turns_more, turns_none, turns_to}
 use Rattle.topo_embedded.proofs.cuts.next_left.Goals as goal
 
 pub face_next-next-requires : goal.face_next-next-requires

@@ -4,7 +4,7 @@ use Rattle.topo_core.specs.Picture.{index_of}
 use Rattle.topo_changes.specs.Cuts.{IsLeft}
 use Rattle.topo_embedded.specs.Cutting.{IsOpenedOn}
 use Rattle.topo_embedded.specs.Halves.{RowsWithPaths, half_in}
-use Rattle.topo_embedded.proofs.FaceWalks.{Turns}
+use Rattle.topo_embedded.proofs.halves.FaceWalks.{Turns}
 use Rattle.topo_embedded.proofs.cuts.next_left.Given as goal
 
 -- the darts that were passed are out

@@ -1,6 +1,6 @@
 use Rattle.std.proofs.Common.{◌∙◌, arith, refl}
 use Rattle.topo_embedded.specs.Opening.{mids_of}
-use Rattle.topo_embedded.proofs.SmoothedPath.{handed_out, inside_lists, opened_here, shows_left}
+use Rattle.topo_embedded.proofs.deleting.SmoothedPath.{handed_out, inside_lists, opened_here, shows_left}
 use Rattle.topo_embedded.proofs.deletion.delete_lists.Goals as goal
 
 pub open_path-requires : goal.open_path-requires

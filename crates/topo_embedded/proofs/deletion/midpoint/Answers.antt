@@ -2,7 +2,7 @@ use Rattle.std.proofs.Common.{ap, ◌∙◌}
 use Rattle.topo_map.specs.Rotation.{edge_of, turn}
 use Rattle.topo_core.specs.Rotations.{twin}
 use Rattle.topo_embedded.specs.Opening.{leads_in}
-use Rattle.topo_embedded.proofs.OpenedPath.{behind_leads, over_leads}
+use Rattle.topo_embedded.proofs.deleting.OpenedPath.{behind_leads, over_leads}
 use Rattle.topo_embedded.proofs.deletion.midpoint.Goals as goal
 
 pub returns-then-leads_along : goal.returns-then-leads_along

@@ -1,6 +1,6 @@
 use Rattle.std.proofs.Common.{◌≡◌, ◌-◌, ◌∙◌, ap, arith, length, ℕ}
 use Rattle.std.specs.Prelude.{slice_index_or}
-use Rattle.topo_embedded.proofs.OpenedPath.{as_long, opened_none, read_behind_live, read_known, read_last, read_live, read_more, read_twin_live, some_segments}
+use Rattle.topo_embedded.proofs.deleting.OpenedPath.{as_long, opened_none, read_behind_live, read_known, read_last, read_live, read_more, read_twin_live, some_segments}
 use Rattle.topo_embedded.proofs.deletion.open_path.Goals as goal
 
 pub overflow_sub-last : goal.overflow_sub-last

@@ -1,6 +1,6 @@
 use Rattle.std.proofs.Common.{◌≡◌, arith, length, subst, ℕ}
 use Rattle.topo_embedded.specs.Opening.{IsSmoothedTo, mids_of}
-use Rattle.topo_embedded.proofs.SmoothedPath.{can_smooth, label_there, mid_read, mids_many, not_first, smoothed_more, smoothed_none}
+use Rattle.topo_embedded.proofs.deleting.SmoothedPath.{can_smooth, label_there, mid_read, mids_many, not_first, smoothed_more, smoothed_none}
 use Rattle.topo_embedded.proofs.deletion.smooth_path.Goals as goal
 
 pub overflow_sub-crossings : goal.overflow_sub-crossings

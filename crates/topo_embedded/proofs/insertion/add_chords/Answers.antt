@@ -4,7 +4,7 @@ use Rattle.topo_core.specs.Rotations.{twin}
 use Rattle.topo_map.specs.Rotation.{half_limit, is_live, turn}
 use Rattle.topo_embedded.specs.declared.padding.Crossed.{Crossed}
 use Rattle.topo_embedded.specs.Crossing.{AreChordsAdded, AreChordsAddedFrom}
-use Rattle.topo_embedded.proofs.AddedChords.{chords_last, chords_more, chords_none}
+use Rattle.topo_embedded.proofs.inserting.AddedChords.{chords_last, chords_more, chords_none}
 use Rattle.topo_embedded.proofs.insertion.add_chords.Goals as goal
 
 pub loop-n-init : goal.loop-n-init

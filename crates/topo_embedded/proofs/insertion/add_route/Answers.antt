@@ -1,6 +1,6 @@
 use Rattle.std.proofs.Common.{arith}
-use Rattle.topo_embedded.proofs.AddedChords.{subdivided_alive, route_alive}
-use Rattle.topo_embedded.proofs.Splits.{alive_still}
+use Rattle.topo_embedded.proofs.inserting.AddedChords.{subdivided_alive, route_alive}
+use Rattle.topo_embedded.proofs.inserting.Splits.{alive_still}
 use Rattle.topo_embedded.proofs.insertion.add_route.Goals as goal
 
 pub add_chords-requires-clause-start : goal.add_chords-requires-clause-start

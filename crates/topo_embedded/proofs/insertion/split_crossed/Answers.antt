@@ -2,7 +2,7 @@ use Rattle.std.proofs.Common.{◌≡◌, ◌<◌, ◌+◌, ◌-◌, [], arith, l
 use Rattle.std.proofs.lemmas.List.{get_or_default}
 use Rattle.topo_embedded.specs.declared.padding.Crossed.{Crossed}
 use Rattle.topo_embedded.specs.Crossing.{AreSplitFrom, IsMarked}
-use Rattle.topo_embedded.proofs.Splits.{marked_alive, marked_placed, same_many, split_all, split_more, split_none}
+use Rattle.topo_embedded.proofs.inserting.Splits.{marked_alive, marked_placed, same_many, split_all, split_more, split_none}
 use Rattle.topo_embedded.proofs.insertion.split_crossed.Goals as goal
 
 pub loop-n-init : goal.loop-n-init

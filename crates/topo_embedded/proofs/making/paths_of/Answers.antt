@@ -1,7 +1,7 @@
 use Rattle.std.proofs.Common.{ap, arith, length}
 use Rattle.std.proofs.lemmas.Option.{slice_get-get_or}
 use Rattle.topo_rows.proofs.Begins.{begins_length}
-use Rattle.topo_embedded.proofs.Listing.{path_fits, paths_more}
+use Rattle.topo_embedded.proofs.halves.Listing.{path_fits, paths_more}
 use Rattle.topo_embedded.proofs.making.paths_of.Goals as goal
 
 pub bounds-begins-place : goal.bounds-begins-place

@@ -1,8 +1,8 @@
 use Rattle.std.proofs.Common.{◌≡◌, ◌≢◌, ◌++◌, ◌∷◌, ◌+◌, [], List, ap, arith, drop, get_or, length, length-append, rules, sym, take, ℕ, ◌∙◌}
 use Rattle.std.proofs.Math.Seq.{get_or-append_seam}
 use Rattle.topo_embedded.specs.Padding.{shifted}
-use Rattle.topo_embedded.proofs.OnSegments.{first_place}
-use Rattle.topo_embedded.proofs.Pads.{put_ahead, put_behind}
+use Rattle.topo_embedded.proofs.halves.OnSegments.{first_place}
+use Rattle.topo_embedded.proofs.inserting.Pads.{put_ahead, put_behind}
 use Rattle.topo_embedded.proofs.padding.put_beside.Goals as goal
 
 pub returns-then-eq : goal.returns-then-eq

@@ -2,7 +2,7 @@ use Rattle.std.proofs.Common.{◌≡◌, ◌-◌, ◌+◌, ◌<◌, [], refl, ar
 use Rattle.std.proofs.lemmas.List.{get_or_default, take_all}
 use Rattle.topo_embedded.specs.declared.padding.Crossed.{Crossed}
 use Rattle.topo_embedded.specs.Padding.{ArePadded}
-use Rattle.topo_embedded.proofs.Pads.{no_pads, pad_less}
+use Rattle.topo_embedded.proofs.inserting.Pads.{no_pads, pad_less}
 use Rattle.topo_embedded.proofs.padding.unpad.Goals as goal
 
 pub loop-n-init : goal.loop-n-init

@@ -1,6 +1,6 @@
 use Rattle.std.proofs.Common.{◌≢◌, arith, rules, ◌∙◌}
 use Rattle.std.specs.Prelude.{slice_index_or}
-use Rattle.topo_embedded.proofs.OnSegments.{found_on, way_back}
+use Rattle.topo_embedded.proofs.halves.OnSegments.{found_on, way_back}
 use Rattle.topo_embedded.proofs.walking.place_on_path.Goals as goal
 
 pub at-requires : goal.at-requires

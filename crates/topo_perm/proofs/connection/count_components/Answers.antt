@@ -1,6 +1,6 @@
 use Rattle.std.proofs.Common.{length, arith}
 use Rattle.topo_core.specs.Cycles.{map_of}
-use Rattle.topo_perm.proofs.Counting.{counted_none, counted_closed, counted_new, counted_old, counted_most, counted_all}
+use Rattle.topo_perm.proofs.permutations.Counting.{counted_none, counted_closed, counted_new, counted_old, counted_most, counted_all}
 use Rattle.topo_perm.proofs.connection.count_components.Goals as goal
 use Rattle.topo_perm.proofs.connection.count_components.Goals.{then-not-seen-start, else-not-seen-start}
 

@@ -1,6 +1,6 @@
 use Rattle.std.proofs.Common.{length}
 use Rattle.topo_core.specs.Cycles.{map_of}
-use Rattle.topo_perm.proofs.Counting.{Counted}
+use Rattle.topo_perm.proofs.permutations.Counting.{Counted}
 use Rattle.topo_perm.proofs.connection.count_components.Given as goal
 
 abbrev pub invariant-loop-start : goal.invariant-loop-start

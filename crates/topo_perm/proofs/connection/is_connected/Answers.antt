@@ -2,7 +2,7 @@ use Rattle.std.proofs.Common.{length}
 use Rattle.std.proofs.lemmas.Bool.{leb-true, le-leb}
 use Rattle.topo_core.specs.Cycles.{map_of}
 use Rattle.topo_core.specs.Rotations.{IsComponentCount}
-use Rattle.topo_perm.proofs.Counting.{one_class, one_class_back}
+use Rattle.topo_perm.proofs.permutations.Counting.{one_class, one_class_back}
 use Rattle.topo_perm.proofs.connection.is_connected.Goals as goal
 
 pub returns : goal.returns

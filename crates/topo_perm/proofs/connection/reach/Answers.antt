@@ -1,7 +1,7 @@
 use Rattle.std.proofs.Common.{◌<◌, arith, length, subst}
 use Rattle.topo_core.specs.Cycles.{map_of}
 use Rattle.topo_perm.specs.Reach.{IsVisit}
-use Rattle.topo_perm.proofs.Search.{Searched, search_start, searched_all, two_visits, first_visit, count_room, found_most}
+use Rattle.topo_perm.proofs.permutations.Search.{Searched, search_start, searched_all, two_visits, first_visit, count_room, found_most}
 use Rattle.topo_perm.proofs.connection.reach.Goals as goal
 
 pub visit-found-requires-clause-room : goal.visit-found-requires-clause-room

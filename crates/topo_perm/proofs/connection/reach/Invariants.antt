@@ -1,6 +1,6 @@
 use Rattle.std.proofs.Common.{length}
 use Rattle.topo_core.specs.Cycles.{map_of}
-use Rattle.topo_perm.proofs.Search.{Searched}
+use Rattle.topo_perm.proofs.permutations.Search.{Searched}
 use Rattle.topo_perm.proofs.connection.reach.Given as goal
 
 abbrev pub invariant-loop-done : goal.invariant-loop-done

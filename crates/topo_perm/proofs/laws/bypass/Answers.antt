@@ -1,5 +1,5 @@
 use Rattle.std.proofs.Common.{arith}
-use Rattle.topo_perm.proofs.Lists.{cycles_of-swap_together}
+use Rattle.topo_perm.proofs.permutations.Lists.{cycles_of-swap_together}
 use Rattle.topo_perm.proofs.laws.bypass.Goals as goal
 
 pub returns-clause-splits : goal.returns-clause-splits

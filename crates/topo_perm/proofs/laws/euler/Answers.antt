@@ -1,8 +1,8 @@
 use Rattle.std.proofs.Common.{◌≡◌, arith, length, ◌∙◌, ap}
 use Rattle.topo_core.specs.Cycles.{cycles_of, map_of}
 use Rattle.topo_core.specs.Rotations.{faces_of}
-use Rattle.topo_perm.proofs.Walks.{faces_of-list}
-use Rattle.topo_perm.proofs.Counting.{euler_bound_all}
+use Rattle.topo_perm.proofs.permutations.Walks.{faces_of-list}
+use Rattle.topo_perm.proofs.permutations.Counting.{euler_bound_all}
 use Rattle.topo_perm.proofs.laws.euler.Goals as goal
 
 pub returns-clause-faces : goal.returns-clause-faces

@@ -1,4 +1,4 @@
-use Rattle.topo_perm.proofs.Lists.{must_return}
+use Rattle.topo_perm.proofs.permutations.Lists.{must_return}
 use Rattle.topo_core.specs.Cycles.{map_of}
 use Rattle.std.proofs.Common.{length, ◌≤◌, arith}
 use Rattle.topo_perm.proofs.laws.predecessor.Goals as goal

@@ -5,10 +5,10 @@ use Rattle.topo_price.specs.Prices.{prices_of}
 use Rattle.topo_route.specs.FaceHeights.{dart_heights}
 use Rattle.topo_route.specs.Names.{IsName}
 use Rattle.topo_route.specs.Settling.{reach_of, top_of}
-use Rattle.topo_route.proofs.Ending.{back_sums, for_both, has_met}
-use Rattle.topo_route.proofs.FaceHeights.{one_for_each}
-use Rattle.topo_route.proofs.Settled.{meets_lower, narrowed}
-use Rattle.topo_route.proofs.Sums.{sums_swapped}
+use Rattle.topo_route.proofs.meeting.Ending.{back_sums, for_both, has_met}
+use Rattle.topo_route.proofs.spreading.FaceHeights.{one_for_each}
+use Rattle.topo_route.proofs.spreading.Settled.{meets_lower, narrowed}
+use Rattle.topo_route.proofs.spreading.Sums.{sums_swapped}
 use Rattle.topo_route.proofs.both_ends.finish.Goals as goal
 
 pub spread-requires-clause-spreads : goal.spread-requires-clause-spreads

@@ -4,10 +4,10 @@ use Rattle.topo_core.specs.Routes.{unreached}
 use Rattle.topo_price.specs.Prices.{prices_of}
 use Rattle.topo_route.specs.FaceHeights.{dart_heights}
 use Rattle.topo_route.specs.Settling.{AreSums, reach_of, top_of}
-use Rattle.topo_route.proofs.Ending.{blank_costs, blank_spreads, blank_sums}
-use Rattle.topo_route.proofs.Reaching.{are_heights}
-use Rattle.topo_route.proofs.Settled.{every_settled, meets_lower, narrowed, settled_nearer}
-use Rattle.topo_route.proofs.Sums.{none_alone}
+use Rattle.topo_route.proofs.meeting.Ending.{blank_costs, blank_spreads, blank_sums}
+use Rattle.topo_route.proofs.spreading.Reaching.{are_heights}
+use Rattle.topo_route.proofs.spreading.Settled.{every_settled, meets_lower, narrowed, settled_nearer}
+use Rattle.topo_route.proofs.spreading.Sums.{none_alone}
 use Rattle.topo_route.proofs.both_ends.least_heights.Goals as goal
 
 pub start_at-requires : goal.start_at-requires

@@ -1,5 +1,5 @@
 use Rattle.topo_price.specs.Prices.{prices_of}
-use Rattle.topo_route.proofs.Ending.{back_sums, stepped_back, stepped_on}
+use Rattle.topo_route.proofs.meeting.Ending.{back_sums, stepped_back, stepped_on}
 use Rattle.topo_route.proofs.both_ends.spread_both.Goals as goal
 
 pub spread_next-requires-clause-sums : goal.spread_next-requires-clause-sums

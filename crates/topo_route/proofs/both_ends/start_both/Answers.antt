@@ -1,9 +1,9 @@
 use Rattle.std.proofs.Common.{◌≡◌, ◌≤◌, ◌<◌, ◌^◌, ◌∙◌, ℕ, ap, arith, length, replicate}
 use Rattle.topo_core.specs.Routes.{unreached}
 use Rattle.topo_price.specs.Prices.{prices_of}
-use Rattle.topo_route.proofs.Ending.{blank_costs, blank_sums, started_both}
-use Rattle.topo_route.proofs.FaceHeights.{one_for_each}
-use Rattle.topo_route.proofs.Sums.{sums_swapped}
+use Rattle.topo_route.proofs.meeting.Ending.{blank_costs, blank_sums, started_both}
+use Rattle.topo_route.proofs.spreading.FaceHeights.{one_for_each}
+use Rattle.topo_route.proofs.spreading.Sums.{sums_swapped}
 use Rattle.topo_route.proofs.both_ends.start_both.Goals as goal
 
 pub start_at-requires : goal.start_at-requires

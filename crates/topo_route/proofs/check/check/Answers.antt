@@ -1,7 +1,7 @@
 use Rattle.std.proofs.Common.{arith}
 use Rattle.topo_price.specs.Prices.{prices_of}
-use Rattle.topo_route.proofs.Canonical.{lawful_shown}
-use Rattle.topo_route.proofs.Verdicts.{first_verdict, own_verdict}
+use Rattle.topo_route.proofs.names.Canonical.{lawful_shown}
+use Rattle.topo_route.proofs.plans.Verdicts.{first_verdict, own_verdict}
 use Rattle.topo_route.proofs.check.check.Goals as goal
 
 pub returns-clause-first : goal.returns-clause-first

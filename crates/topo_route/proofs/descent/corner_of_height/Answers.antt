@@ -1,8 +1,8 @@
 use Rattle.std.proofs.Common.{◌≡◌, ◌≢◌, ◌∙◌, arith}
 use Rattle.topo_route.specs.FaceHeights.{dart_heights}
 use Rattle.topo_route.specs.Names.{height_of}
-use Rattle.topo_route.proofs.Names.{height_named}
-use Rattle.topo_route.proofs.Tests.{before_all, before_some, before_past}
+use Rattle.topo_route.proofs.names.Names.{height_named}
+use Rattle.topo_route.proofs.plans.Tests.{before_all, before_some, before_past}
 use Rattle.topo_route.proofs.descent.corner_of_height.Goals as goal
 use Rattle.topo_route.proofs.descent.corner_of_height.Goals.{in-Some+else-height_at-height, in_default}
 

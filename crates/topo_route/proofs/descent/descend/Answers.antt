@@ -2,8 +2,8 @@ use Rattle.std.proofs.Common.{arith, subst, sym}
 use Rattle.topo_price.specs.Prices.{prices_of}
 use Rattle.topo_route.specs.FaceHeights.{dart_heights}
 use Rattle.topo_route.specs.Descents.{Descends}
-use Rattle.topo_route.proofs.Descending.{at_start, at_target, below_on, descends_on, lower}
-use Rattle.topo_route.proofs.Names.{height_named, name_some}
+use Rattle.topo_route.proofs.meeting.Descending.{at_start, at_target, below_on, descends_on, lower}
+use Rattle.topo_route.proofs.names.Names.{height_named, name_some}
 use Rattle.topo_route.proofs.descent.descend.Goals as goal
 
 pub loop-dart-init : goal.loop-dart-init

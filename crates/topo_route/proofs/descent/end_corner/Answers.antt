@@ -3,7 +3,7 @@ use Rattle.std.proofs.lemmas.Bool.{false≢true}
 use Rattle.topo_core.specs.Picture.{system}
 use Rattle.topo_core.specs.Systems.{SameFace}
 use Rattle.topo_route.specs.Names.{dart_named}
-use Rattle.topo_route.proofs.Tests.{before_all, before_past, before_some}
+use Rattle.topo_route.proofs.plans.Tests.{before_all, before_past, before_some}
 use Rattle.topo_route.proofs.descent.end_corner.Goals as goal
 use Rattle.topo_route.proofs.descent.end_corner.Goals.{in-Some+else-same_face, in_default}
 

@@ -3,8 +3,8 @@ use Rattle.topo_core.specs.Cycles.{after}
 use Rattle.topo_price.specs.Prices.{prices_of}
 use Rattle.topo_route.specs.FaceHeights.{dart_heights}
 use Rattle.topo_route.specs.Names.{next_name}
-use Rattle.topo_route.proofs.Descending.{first_all, first_home, first_step, has_tight, known_so_far, none_so_far}
-use Rattle.topo_route.proofs.Rounds.{after-one}
+use Rattle.topo_route.proofs.meeting.Descending.{first_all, first_home, first_step, has_tight, known_so_far, none_so_far}
+use Rattle.topo_route.proofs.names.Rounds.{after-one}
 use Rattle.topo_route.proofs.descent.first_tight.Goals as goal
 
 pub loop-steps-init : goal.loop-steps-init

@@ -3,7 +3,7 @@ use Rattle.topo_core.specs.Cycles.{after}
 use Rattle.topo_price.specs.Prices.{prices_of}
 use Rattle.topo_route.specs.FaceHeights.{dart_heights}
 use Rattle.topo_route.specs.Names.{IsName, next_name}
-use Rattle.topo_route.proofs.Descending.{FirstSoFar}
+use Rattle.topo_route.proofs.meeting.Descending.{FirstSoFar}
 use Rattle.topo_route.proofs.descent.first_tight.Given as goal
 
 -- where the walk is, and the first tight dart that it has met

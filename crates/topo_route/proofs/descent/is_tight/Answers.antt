@@ -1,11 +1,11 @@
 use Rattle.std.proofs.Common.{◌≡◌, ap, arith, get_or}
 use Rattle.std.proofs.lemmas.Bool.{false≢true, eqb-true, eq-eqb}
-use Rattle.topo_core.proofs.Certificates.{single_price}
+use Rattle.topo_core.proofs.routing.Certificates.{single_price}
 use Rattle.topo_price.specs.Prices.{prices_of}
 use Rattle.topo_route.specs.FaceHeights.{dart_heights}
 use Rattle.topo_route.specs.Names.{dart_named, twin_name}
-use Rattle.topo_route.proofs.Descending.{tight_drop, tight_is}
-use Rattle.topo_route.proofs.Names.{height_named, name_some}
+use Rattle.topo_route.proofs.meeting.Descending.{tight_drop, tight_is}
+use Rattle.topo_route.proofs.names.Names.{height_named, name_some}
 use Rattle.topo_route.proofs.descent.is_tight.Goals as goal
 
 pub returns-in-Some : goal.returns-in-Some

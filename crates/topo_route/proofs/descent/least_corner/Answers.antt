@@ -1,8 +1,8 @@
 use Rattle.std.proofs.Common.{◌≡◌, ◌∙◌, arith}
 use Rattle.topo_route.specs.FaceHeights.{dart_heights}
 use Rattle.topo_route.specs.Names.{height_of}
-use Rattle.topo_route.proofs.Names.{height_named}
-use Rattle.topo_route.proofs.Tests.{lowest_all, lowest_found, lowest_kept, lowest_lower, lowest_none, lowest_past}
+use Rattle.topo_route.proofs.names.Names.{height_named}
+use Rattle.topo_route.proofs.plans.Tests.{lowest_all, lowest_found, lowest_kept, lowest_lower, lowest_none, lowest_past}
 use Rattle.topo_route.proofs.descent.least_corner.Goals as goal
 use Rattle.topo_route.proofs.descent.least_corner.Goals.{in-Some+else-height-eq0+then-height-least, in-Some+else-height-eq0+else-height-least, in_default}
 

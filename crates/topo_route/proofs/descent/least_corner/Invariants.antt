@@ -1,6 +1,6 @@
 use Rattle.topo_route.specs.FaceHeights.{dart_heights}
 use Rattle.topo_route.specs.Names.{height_of}
-use Rattle.topo_route.proofs.Tests.{LowestBefore}
+use Rattle.topo_route.proofs.plans.Tests.{LowestBefore}
 use Rattle.topo_route.proofs.descent.least_corner.Given as goal
 
 abbrev pub invariant-loop-position : goal.invariant-loop-position

@@ -1,5 +1,5 @@
 use Rattle.std.proofs.Common.{arith}
-use Rattle.topo_route.proofs.FaceHeights.{dart_capped}
+use Rattle.topo_route.proofs.spreading.FaceHeights.{dart_capped}
 use Rattle.topo_route.proofs.descent.start_corner.Goals as goal
 
 pub returns-then-least : goal.returns-then-least

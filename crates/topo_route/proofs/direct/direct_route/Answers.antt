@@ -1,6 +1,6 @@
 use Rattle.topo_route.specs.Descents.{HasNoEnd}
 use Rattle.topo_route.specs.Names.{dart_named}
-use Rattle.topo_route.proofs.Tests.{before_past, before_some}
+use Rattle.topo_route.proofs.plans.Tests.{before_past, before_some}
 use Rattle.topo_route.proofs.direct.direct_route.Goals as goal
 use Rattle.topo_route.proofs.direct.direct_route.Goals.{in-Some+in_default-end_corner, in_default}
 

@@ -2,7 +2,7 @@ use Rattle.std.proofs.Common.{◌≡◌, ◌∙◌, ap, arith, length}
 use Rattle.std.proofs.lemmas.Bool.Decides.{nat_tests}
 use Rattle.topo_core.specs.Picture.{darts}
 use Rattle.topo_route.specs.Names.{Named}
-use Rattle.topo_route.proofs.Canonical.{is_number, number_is}
+use Rattle.topo_route.proofs.names.Canonical.{is_number, number_is}
 use Rattle.topo_route.proofs.dual.has_number.Goals as goal
 
 pub returns-clause-number : goal.returns-clause-number

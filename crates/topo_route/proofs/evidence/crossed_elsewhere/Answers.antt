@@ -1,4 +1,4 @@
-use Rattle.topo_route.proofs.ComputedFaces.{covers, ends, faces, lawful_after, lawful_before, route_survives}
+use Rattle.topo_route.proofs.surviving.ComputedFaces.{covers, ends, faces, lawful_after, lawful_before, route_survives}
 use Rattle.topo_route.proofs.evidence.crossed_elsewhere.Goals as goal
 
 pub returns : goal.returns

@@ -1,5 +1,5 @@
 use Rattle.std.proofs.Common.{arith}
-use Rattle.topo_route.proofs.Canonical.{is_number, number_is, twin_is_number}
+use Rattle.topo_route.proofs.names.Canonical.{is_number, number_is, twin_is_number}
 use Rattle.topo_route.proofs.faces.across.Goals as goal
 
 pub across-requires : goal.across-requires

@@ -1,5 +1,5 @@
 use Rattle.std.proofs.Common.{arith}
-use Rattle.topo_route.proofs.Canonical.{corner_is_number}
+use Rattle.topo_route.proofs.names.Canonical.{corner_is_number}
 use Rattle.topo_route.proofs.faces.corner_at.Goals as goal
 
 pub returns : goal.returns

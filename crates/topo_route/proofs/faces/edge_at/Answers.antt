@@ -1,5 +1,5 @@
 use Rattle.std.proofs.Common.{arith}
-use Rattle.topo_route.proofs.Canonical.{dart_is_number, number_is}
+use Rattle.topo_route.proofs.names.Canonical.{dart_is_number, number_is}
 use Rattle.topo_route.proofs.faces.edge_at.Goals as goal
 
 pub edge-requires : goal.edge-requires

@@ -1,5 +1,5 @@
 use Rattle.std.proofs.Common.{arith}
-use Rattle.topo_route.proofs.Canonical.{is_number, next_is_number, number_is}
+use Rattle.topo_route.proofs.names.Canonical.{is_number, next_is_number, number_is}
 use Rattle.topo_route.proofs.faces.next_along.Goals as goal
 
 pub next_along-requires : goal.next_along-requires

@@ -1,5 +1,5 @@
 use Rattle.topo_price.specs.Prices.{prices_of}
-use Rattle.topo_route.proofs.Canonical.{number_is, price_is_at}
+use Rattle.topo_route.proofs.names.Canonical.{number_is, price_is_at}
 use Rattle.topo_route.proofs.faces.price_at.Goals as goal
 
 pub price_at-requires : goal.price_at-requires

@@ -1,5 +1,5 @@
 use Rattle.std.proofs.Common.{arith}
-use Rattle.topo_route.proofs.Canonical.{face_is_cycle, number_is}
+use Rattle.topo_route.proofs.names.Canonical.{face_is_cycle, number_is}
 use Rattle.topo_route.proofs.faces.same_face.Goals as goal
 
 pub same_face-requires-clause-dart_there : goal.same_face-requires-clause-dart_there

@@ -1,7 +1,7 @@
 use Rattle.std.proofs.Common.{arith}
 use Rattle.std.proofs.lemmas.Bool.{false≢true}
-use Rattle.topo_route.proofs.Canonical.{lawful_shown}
-use Rattle.topo_route.proofs.Tests.{before_some, before_past, height_at}
+use Rattle.topo_route.proofs.names.Canonical.{lawful_shown}
+use Rattle.topo_route.proofs.plans.Tests.{before_some, before_past, height_at}
 use Rattle.topo_route.proofs.heights.has_first_start.Goals as goal
 use Rattle.topo_route.proofs.heights.has_first_start.Goals.{in-Some+else-heights-corner, in_default}
 

@@ -1,7 +1,7 @@
 use Rattle.std.proofs.Common.{arith}
 use Rattle.std.proofs.lemmas.Bool.{false≢true}
-use Rattle.topo_route.proofs.Canonical.{lawful_shown}
-use Rattle.topo_route.proofs.Tests.{even_darts, even_numbers}
+use Rattle.topo_route.proofs.names.Canonical.{lawful_shown}
+use Rattle.topo_route.proofs.plans.Tests.{even_darts, even_numbers}
 use Rattle.topo_route.proofs.heights.is_even.Goals as goal
 
 pub returns-then-heights-next : goal.returns-then-heights-next

@@ -2,11 +2,11 @@ use Rattle.std.proofs.Common.{◌≡◌, ◌<◌, ap, arith, get_or, length, ref
 use Rattle.std.proofs.lemmas.Bool.{false≢true}
 use Rattle.topo_core.specs.Picture.{darts}
 use Rattle.topo_core.specs.Rotations.{twin}
-use Rattle.topo_core.proofs.Certificates.{single_price}
+use Rattle.topo_core.proofs.routing.Certificates.{single_price}
 use Rattle.topo_price.specs.Prices.{prices_of}
 use Rattle.topo_route.specs.Numbers.{dart_of}
-use Rattle.topo_route.proofs.Canonical.{lawful_shown}
-use Rattle.topo_route.proofs.Tests.{gentle_darts, gentle_numbers, gentle_some, gentle_past}
+use Rattle.topo_route.proofs.names.Canonical.{lawful_shown}
+use Rattle.topo_route.proofs.plans.Tests.{gentle_darts, gentle_numbers, gentle_some, gentle_past}
 use Rattle.topo_route.proofs.heights.is_gentle.Goals as goal
 use Rattle.topo_route.proofs.heights.is_gentle.Goals.{in-Some+else-saturating_sub-price, in_default}
 

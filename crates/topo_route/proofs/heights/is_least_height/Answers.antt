@@ -1,7 +1,7 @@
 use Rattle.std.proofs.Common.{arith}
 use Rattle.std.proofs.lemmas.Bool.{false≢true}
-use Rattle.topo_route.proofs.Canonical.{lawful_shown}
-use Rattle.topo_route.proofs.Tests.{height_at, least_found, least_kept, least_past, least_whole}
+use Rattle.topo_route.proofs.names.Canonical.{lawful_shown}
+use Rattle.topo_route.proofs.plans.Tests.{height_at, least_found, least_kept, least_past, least_whole}
 use Rattle.topo_route.proofs.heights.is_least_height.Goals as goal
 use Rattle.topo_route.proofs.heights.is_least_height.Goals.{in-Some+else-height-price+then-height-price-2, in-Some+else-height-price+else-height-price-2, in_default}
 

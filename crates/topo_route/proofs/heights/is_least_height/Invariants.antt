@@ -1,4 +1,4 @@
-use Rattle.topo_route.proofs.Tests.{LeastBefore}
+use Rattle.topo_route.proofs.plans.Tests.{LeastBefore}
 use Rattle.topo_route.proofs.heights.is_least_height.Given as goal
 
 abbrev pub invariant-loop-position : goal.invariant-loop-position

@@ -1,8 +1,8 @@
 use Rattle.std.proofs.Common.{◌≡◌, ◌∙◌, arith, refl}
 use Rattle.std.proofs.lemmas.Bool.{false≢true}
 use Rattle.topo_route.specs.Plans.{height_in}
-use Rattle.topo_route.proofs.Canonical.{lawful_shown}
-use Rattle.topo_route.proofs.Tests.{before_some, before_past, before_all, height_at}
+use Rattle.topo_route.proofs.names.Canonical.{lawful_shown}
+use Rattle.topo_route.proofs.plans.Tests.{before_some, before_past, before_all, height_at}
 use Rattle.topo_route.proofs.heights.meets_target.Goals as goal
 use Rattle.topo_route.proofs.heights.meets_target.Goals.{in-Some+else-heights-corner-ne0, in_default}
 

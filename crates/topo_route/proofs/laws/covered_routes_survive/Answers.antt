@@ -1,4 +1,4 @@
-use Rattle.topo_route.proofs.Surviving.{covered_survives}
+use Rattle.topo_route.proofs.surviving.Surviving.{covered_survives}
 use Rattle.topo_route.proofs.laws.covered_routes_survive.Goals as goal
 
 pub returns : goal.returns

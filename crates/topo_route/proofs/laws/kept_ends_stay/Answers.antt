@@ -1,4 +1,4 @@
-use Rattle.topo_route.proofs.Staying.{kept_ends_on}
+use Rattle.topo_route.proofs.surviving.Staying.{kept_ends_on}
 use Rattle.topo_route.proofs.laws.kept_ends_stay.Goals as goal
 
 pub returns : goal.returns

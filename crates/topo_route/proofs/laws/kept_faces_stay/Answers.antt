@@ -1,4 +1,4 @@
-use Rattle.topo_route.proofs.Staying.{kept_on}
+use Rattle.topo_route.proofs.surviving.Staying.{kept_on}
 use Rattle.topo_route.proofs.laws.kept_faces_stay.Goals as goal
 
 pub returns : goal.returns

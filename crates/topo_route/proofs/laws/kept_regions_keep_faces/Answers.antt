@@ -1,4 +1,4 @@
-use Rattle.topo_route.proofs.KeptRegions.{kept_ends_to_start, kept_faces}
+use Rattle.topo_route.proofs.surviving.KeptRegions.{kept_ends_to_start, kept_faces}
 use Rattle.topo_route.proofs.laws.kept_regions_keep_faces.Goals as goal
 
 pub returns : goal.returns

@@ -1,4 +1,4 @@
-use Rattle.topo_route.proofs.Staying.{covers_whole, whole_region}
+use Rattle.topo_route.proofs.surviving.Staying.{covers_whole, whole_region}
 use Rattle.topo_route.proofs.laws.pictures_cover_searches.Goals as goal
 
 pub returns : goal.returns

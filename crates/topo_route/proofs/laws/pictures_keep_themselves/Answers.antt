@@ -1,4 +1,4 @@
-use Rattle.topo_route.proofs.Staying.{keeps_ends, keeps_faces}
+use Rattle.topo_route.proofs.surviving.Staying.{keeps_ends, keeps_faces}
 use Rattle.topo_route.proofs.laws.pictures_keep_themselves.Goals as goal
 
 pub returns : goal.returns

@@ -1,4 +1,4 @@
-use Rattle.topo_route.proofs.Sparing.{spared}
+use Rattle.topo_route.proofs.surviving.Sparing.{spared}
 use Rattle.topo_route.proofs.laws.regions_stay_kept.Goals as goal
 
 pub returns : goal.returns

@@ -1,4 +1,4 @@
-use Rattle.topo_route.proofs.Searched.{survives}
+use Rattle.topo_route.proofs.surviving.Searched.{survives}
 use Rattle.topo_route.proofs.laws.routes_survive.Goals as goal
 
 pub returns : goal.returns

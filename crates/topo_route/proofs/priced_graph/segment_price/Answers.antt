@@ -1,5 +1,5 @@
 use Rattle.std.proofs.Common.{arith}
-use Rattle.topo_route.proofs.Segments.{price_of_edge}
+use Rattle.topo_route.proofs.names.Segments.{price_of_edge}
 use Rattle.topo_route.proofs.priced_graph.segment_price.Goals as goal
 
 pub returns-then-before-edge-clause-price : goal.returns-then-before-edge-clause-price

@@ -2,8 +2,8 @@ use Rattle.std.proofs.Common.{◌≡◌, ◌/◌, arith, length, subst, sym}
 use Rattle.topo_core.specs.Picture.{darts}
 use Rattle.topo_price.specs.Prices.{prices_of}
 use Rattle.topo_route.specs.Settling.{ArePrices}
-use Rattle.topo_route.proofs.Canonical.{lawful_shown}
-use Rattle.topo_route.proofs.Segments.{all_prices, next_price}
+use Rattle.topo_route.proofs.names.Canonical.{lawful_shown}
+use Rattle.topo_route.proofs.names.Segments.{all_prices, next_price}
 use Rattle.topo_route.proofs.priced_graph.segment_prices.Goals as goal
 
 pub loop-segment-preserved : goal.loop-segment-preserved

@@ -9,8 +9,8 @@ use Rattle.topo_core.specs.Items.{IsIn}
 use Rattle.topo_core.specs.Picture.{cross_row, edge_at, edge_row, rotation}
 use Rattle.topo_core.specs.Pictures.{forward, hexagon}
 use Rattle.topo_core.specs.Routes.{IsFirst}
-use Rattle.topo_core.proofs.Computed.{Passes, Planned, first_by_tests}
-use Rattle.topo_core.proofs.RouteOrder.{one_least}
+use Rattle.topo_core.proofs.stepping.Computed.{Passes, Planned, first_by_tests}
+use Rattle.topo_core.proofs.routing.RouteOrder.{one_least}
 use Rattle.topo_route.specs.RegionEvidence.{changed_inside, changed_outside, face_region, straight}
 use Rattle.topo_route.specs.Regions.{IsKept, IsRegionOf, holds_edge, holds_vertex}
 use Rattle.topo_route.proofs.region_evidence.one_face.Goals as goal

@@ -1,6 +1,6 @@
 use Rattle.topo_price.specs.Prices.{prices_of}
-use Rattle.topo_route.proofs.Descending.{has_darts}
-use Rattle.topo_route.proofs.Uncrossed.{first_direct}
+use Rattle.topo_route.proofs.meeting.Descending.{has_darts}
+use Rattle.topo_route.proofs.meeting.Uncrossed.{first_direct}
 use Rattle.topo_route.proofs.search.find_route.Goals as goal
 
 pub heights_for-requires-clause-some : goal.heights_for-requires-clause-some

@@ -3,7 +3,7 @@ use Rattle.std.specs.Prelude.{IfSome}
 use Rattle.topo_price.specs.Prices.{prices_of}
 use Rattle.topo_route.specs.FaceHeights.{dart_heights}
 use Rattle.topo_route.specs.Seen.{RestsOn}
-use Rattle.topo_route.proofs.SeenRegions.{first_seen}
+use Rattle.topo_route.proofs.surviving.SeenRegions.{first_seen}
 use Rattle.topo_route.proofs.search.first_route_seen.Goals as goal
 
 pub returns-in_ok-region-in-Some-clause-region : goal.returns-in_ok-region-in-Some-clause-region

@@ -4,8 +4,8 @@ use Rattle.std.proofs.lemmas.List.{take_all, take_more}
 use Rattle.topo_core.specs.Picture.{darts}
 use Rattle.topo_route.specs.FaceHeights.{dart_heights}
 use Rattle.topo_route.specs.Names.{Named}
-use Rattle.topo_route.proofs.Canonical.{number_is}
-use Rattle.topo_route.proofs.FaceHeights.{one_for_each}
+use Rattle.topo_route.proofs.names.Canonical.{number_is}
+use Rattle.topo_route.proofs.spreading.FaceHeights.{one_for_each}
 use Rattle.topo_route.proofs.search.numbers_of.Goals as goal
 
 pub height_at-requires-clause-name : goal.height_at-requires-clause-name

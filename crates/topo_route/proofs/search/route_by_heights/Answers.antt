@@ -2,8 +2,8 @@ use Rattle.std.proofs.Common.{◌∙◌, arith, subst, sym}
 use Rattle.topo_price.specs.Prices.{prices_of}
 use Rattle.topo_route.specs.Descents.{IsDescent}
 use Rattle.topo_route.specs.FaceHeights.{dart_heights}
-use Rattle.topo_route.proofs.Descending.{has_end, is_first, start_below}
-use Rattle.topo_route.proofs.Names.{height_named}
+use Rattle.topo_route.proofs.meeting.Descending.{has_end, is_first, start_below}
+use Rattle.topo_route.proofs.names.Names.{height_named}
 use Rattle.topo_route.proofs.search.route_by_heights.Goals as goal
 
 pub descend-requires-clause-known : goal.descend-requires-clause-known

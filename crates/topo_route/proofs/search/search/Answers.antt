@@ -7,9 +7,9 @@ use Rattle.topo_route.specs.Descents.{IsFirstRoute}
 use Rattle.topo_route.specs.FaceHeights.{dart_heights}
 use Rattle.topo_route.specs.Names.{Named, canonical}
 use Rattle.topo_route.specs.Plans.{AreHeights}
-use Rattle.topo_route.proofs.Descending.{has_darts, is_plan}
-use Rattle.topo_route.proofs.Known.{for_all}
-use Rattle.topo_route.proofs.Canonical.{lawful_shown}
+use Rattle.topo_route.proofs.meeting.Descending.{has_darts, is_plan}
+use Rattle.topo_route.proofs.meeting.Known.{for_all}
+use Rattle.topo_route.proofs.names.Canonical.{lawful_shown}
 use Rattle.topo_route.proofs.search.search.Goals as goal
 
 pub least_heights-requires-clause-some : goal.least_heights-requires-clause-some

@@ -5,7 +5,7 @@ use Rattle.topo_core.specs.Routes.{unreached}
 use Rattle.topo_route.specs.Names.{IsName, dart_named}
 use Rattle.topo_route.specs.Regions.{IsRegionOf, RegionState}
 use Rattle.topo_route.specs.Seen.{HoldsMore}
-use Rattle.topo_route.proofs.Marking.{HoldsFirst, holds_below, holds_next, listed_index, more_on, no_more}
+use Rattle.topo_route.proofs.surviving.Marking.{HoldsFirst, holds_below, holds_next, listed_index, more_on, no_more}
 use Rattle.topo_route.proofs.seen.mark_below.Goals as goal
 use Rattle.topo_route.proofs.seen.mark_below.Goals.{then-get-bound+in_ok-mark_face, else-get-bound}
 

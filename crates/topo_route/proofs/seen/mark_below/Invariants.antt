@@ -1,6 +1,6 @@
 use Rattle.topo_route.specs.Regions.{IsRegionOf}
 use Rattle.topo_route.specs.Seen.{HoldsMore}
-use Rattle.topo_route.proofs.Marking.{HoldsFirst}
+use Rattle.topo_route.proofs.surviving.Marking.{HoldsFirst}
 use Rattle.topo_route.proofs.seen.mark_below.Given as goal
 
 abbrev pub invariant-loop-i : goal.invariant-loop-i

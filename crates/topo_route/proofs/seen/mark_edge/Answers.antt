@@ -1,5 +1,5 @@
 use Rattle.topo_route.specs.Names.{dart_named}
-use Rattle.topo_route.proofs.Marking.{marked}
+use Rattle.topo_route.proofs.surviving.Marking.{marked}
 use Rattle.topo_route.proofs.seen.mark_edge.Goals as goal
 
 pub returns : goal.returns

@@ -3,8 +3,8 @@ use Rattle.topo_core.specs.Cycles.{after}
 use Rattle.topo_route.specs.Names.{dart_named, next_name}
 use Rattle.topo_route.specs.Regions.{holds_edge}
 use Rattle.topo_route.proofs.FaceWalks.{face_home, face_whole}
-use Rattle.topo_route.proofs.Marking.{along_next, more_on, no_more}
-use Rattle.topo_route.proofs.Rounds.{after-one}
+use Rattle.topo_route.proofs.surviving.Marking.{along_next, more_on, no_more}
+use Rattle.topo_route.proofs.names.Rounds.{after-one}
 use Rattle.topo_route.proofs.seen.mark_face.Goals as goal
 
 pub loop-steps-init : goal.loop-steps-init

@@ -3,7 +3,7 @@ use Rattle.topo_core.specs.Cycles.{after}
 use Rattle.topo_route.specs.Names.{IsName, next_name}
 use Rattle.topo_route.specs.Regions.{IsRegionOf}
 use Rattle.topo_route.specs.Seen.{HoldsMore}
-use Rattle.topo_route.proofs.Marking.{HoldsAlong}
+use Rattle.topo_route.proofs.surviving.Marking.{HoldsAlong}
 use Rattle.topo_route.proofs.seen.mark_face.Given as goal
 
 abbrev pub invariant-loop-steps : goal.invariant-loop-steps

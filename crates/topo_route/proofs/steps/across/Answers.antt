@@ -1,6 +1,6 @@
 use Rattle.std.proofs.Common.{sym, subst}
 use Rattle.topo_route.specs.Names.{IsName}
-use Rattle.topo_route.proofs.Names.{twin_is}
+use Rattle.topo_route.proofs.names.Names.{twin_is}
 use Rattle.topo_route.proofs.steps.across.Goals as goal
 
 pub returns-clause-name : goal.returns-clause-name

@@ -1,4 +1,4 @@
-use Rattle.topo_route.proofs.Names.{corner_name}
+use Rattle.topo_route.proofs.names.Names.{corner_name}
 use Rattle.topo_route.proofs.steps.corner_at.Goals as goal
 
 pub returns : goal.returns

@@ -1,6 +1,6 @@
 use Rattle.topo_price.specs.Prices.{prices_of}
 use Rattle.topo_route.specs.Names.{dart_named}
-use Rattle.topo_route.proofs.Prices.{by_answer}
+use Rattle.topo_route.proofs.names.Prices.{by_answer}
 use Rattle.topo_route.proofs.steps.price_at.Goals as goal
 
 pub returns-clause-price : goal.returns-clause-price

@@ -1,6 +1,6 @@
 use Rattle.topo_price.specs.Prices.{prices_of}
 use Rattle.topo_route.specs.Numbers.{dart_of}
-use Rattle.topo_route.proofs.Verdicts.{comes_first_by}
+use Rattle.topo_route.proofs.plans.Verdicts.{comes_first_by}
 use Rattle.topo_route.proofs.walks.comes_first.Goals as goal
 
 pub returns-in-Some : goal.returns-in-Some

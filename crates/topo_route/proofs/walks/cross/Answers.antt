@@ -3,9 +3,9 @@ use Rattle.std.proofs.lemmas.Bool.{false≢true}
 use Rattle.topo_core.specs.declared.darts.Dart.{Dart}
 use Rattle.topo_price.specs.Prices.{prices_of}
 use Rattle.topo_route.specs.Numbers.{CannotPay}
-use Rattle.topo_route.proofs.Canonical.{lawful_shown}
-use Rattle.topo_route.proofs.Numbers.{twin_dart}
-use Rattle.topo_route.proofs.Walking.{crossed_to, no_dart_there, other_face}
+use Rattle.topo_route.proofs.names.Canonical.{lawful_shown}
+use Rattle.topo_route.proofs.names.Numbers.{twin_dart}
+use Rattle.topo_route.proofs.names.Walking.{crossed_to, no_dart_there, other_face}
 use Rattle.topo_route.proofs.walks.cross.Goals as goal
 
 pub returns-then-not-same_face : goal.returns-then-not-same_face

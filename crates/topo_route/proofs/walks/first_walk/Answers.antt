@@ -7,9 +7,9 @@ use Rattle.topo_core.specs.Routes.{Crosses}
 use Rattle.topo_price.specs.Prices.{prices_of}
 use Rattle.topo_route.specs.Numbers.{HasTightBefore, dart_of}
 use Rattle.topo_route.specs.Plans.{height_in}
-use Rattle.topo_route.proofs.Canonical.{lawful_shown}
-use Rattle.topo_route.proofs.Numbers.{dart_in}
-use Rattle.topo_route.proofs.Walking.{arrives_on, face_has, first_fails, from_item, takes_back, takes_on, walk_on}
+use Rattle.topo_route.proofs.names.Canonical.{lawful_shown}
+use Rattle.topo_route.proofs.names.Numbers.{dart_in}
+use Rattle.topo_route.proofs.names.Walking.{arrives_on, face_has, first_fails, from_item, takes_back, takes_on, walk_on}
 use Rattle.topo_route.proofs.walks.first_walk.Goals as goal
 
 pub returns-then-has_tight_before : goal.returns-then-has_tight_before

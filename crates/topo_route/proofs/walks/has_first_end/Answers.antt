@@ -4,9 +4,9 @@ use Rattle.topo_core.specs.Cycles.{SameCycle}
 use Rattle.topo_core.specs.Picture.{system}
 use Rattle.topo_core.specs.Systems.{SameFace}
 use Rattle.topo_route.specs.Numbers.{dart_of, next_of}
-use Rattle.topo_route.proofs.Canonical.{lawful_shown}
-use Rattle.topo_route.proofs.Numbers.{face_of_numbers, number_of, numbers_of_face}
-use Rattle.topo_route.proofs.Tests.{before_some, before_past}
+use Rattle.topo_route.proofs.names.Canonical.{lawful_shown}
+use Rattle.topo_route.proofs.names.Numbers.{face_of_numbers, number_of, numbers_of_face}
+use Rattle.topo_route.proofs.plans.Tests.{before_some, before_past}
 use Rattle.topo_route.proofs.walks.has_first_end.Goals as goal
 use Rattle.topo_route.proofs.walks.has_first_end.Goals.{in-Some+else-same_face, in_default}
 

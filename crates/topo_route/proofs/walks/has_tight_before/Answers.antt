@@ -6,10 +6,10 @@ use Rattle.topo_core.specs.RouteLaws.{IsTight}
 use Rattle.topo_price.specs.Prices.{prices_of}
 use Rattle.topo_route.specs.Numbers.{dart_of, next_of}
 use Rattle.topo_route.specs.Plans.{height_in}
-use Rattle.topo_route.proofs.Canonical.{lawful_shown}
-use Rattle.topo_route.proofs.Numbers.{next_permutes}
-use Rattle.topo_route.proofs.Rounds.{round_all}
-use Rattle.topo_route.proofs.Walking.{none_before}
+use Rattle.topo_route.proofs.names.Canonical.{lawful_shown}
+use Rattle.topo_route.proofs.names.Numbers.{next_permutes}
+use Rattle.topo_route.proofs.names.Rounds.{round_all}
+use Rattle.topo_route.proofs.names.Walking.{none_before}
 use Rattle.topo_route.proofs.walks.has_tight_before.Goals as goal
 use Rattle.topo_route.proofs.walks.has_tight_before.Goals.{else-dart-number-via-then-dart-number+else-is_tight, else-dart-number-via-else-dart-number}
 

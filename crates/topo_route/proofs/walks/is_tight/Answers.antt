@@ -1,11 +1,11 @@
 use Rattle.std.proofs.Common.{◌≡◌, ap, arith, get_or}
 use Rattle.std.proofs.lemmas.Bool.{false≢true, eqb-true, eq-eqb}
 use Rattle.topo_core.specs.Rotations.{twin}
-use Rattle.topo_core.proofs.Certificates.{single_price}
+use Rattle.topo_core.proofs.routing.Certificates.{single_price}
 use Rattle.topo_price.specs.Prices.{prices_of}
 use Rattle.topo_route.specs.Numbers.{dart_of}
-use Rattle.topo_route.proofs.Canonical.{lawful_shown}
-use Rattle.topo_route.proofs.Walking.{tight_is, tight_drop}
+use Rattle.topo_route.proofs.names.Canonical.{lawful_shown}
+use Rattle.topo_route.proofs.names.Walking.{tight_is, tight_drop}
 use Rattle.topo_route.proofs.walks.is_tight.Goals as goal
 
 pub returns-else-height-other : goal.returns-else-height-other

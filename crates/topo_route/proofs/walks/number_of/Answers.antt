@@ -1,5 +1,5 @@
-use Rattle.topo_route.proofs.Canonical.{lawful_shown}
-use Rattle.topo_route.proofs.Walking.{number_found}
+use Rattle.topo_route.proofs.names.Canonical.{lawful_shown}
+use Rattle.topo_route.proofs.names.Walking.{number_found}
 use Rattle.topo_route.proofs.walks.number_of.Goals as goal
 
 pub returns : goal.returns

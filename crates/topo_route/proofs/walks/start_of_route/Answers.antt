@@ -3,7 +3,7 @@ use Rattle.std.proofs.Common.{List}
 use Rattle.topo_core.specs.declared.darts.Dart.{Dart}
 use Rattle.topo_price.specs.Prices.{prices_of}
 use Rattle.topo_route.specs.Numbers.{Walks, dart_of}
-use Rattle.topo_route.proofs.Walking.{route_priced}
+use Rattle.topo_route.proofs.names.Walking.{route_priced}
 use Rattle.topo_route.proofs.walks.start_of_route.Goals as goal
 
 pub returns-then-walks : goal.returns-then-walks

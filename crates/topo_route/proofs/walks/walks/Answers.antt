@@ -4,8 +4,8 @@ use Rattle.std.proofs.lemmas.List.{drop_all}
 use Rattle.topo_core.specs.declared.darts.Dart.{Dart}
 use Rattle.topo_price.specs.Prices.{prices_of}
 use Rattle.topo_route.specs.Numbers.{Walks, dart_of}
-use Rattle.topo_route.proofs.Canonical.{lawful_shown}
-use Rattle.topo_route.proofs.Walking.{from_item, no_step, step_back, step_forth, walks_home}
+use Rattle.topo_route.proofs.names.Canonical.{lawful_shown}
+use Rattle.topo_route.proofs.names.Walking.{from_item, no_step, step_back, step_forth, walks_home}
 use Rattle.topo_route.proofs.walks.walks.Goals as goal
 
 pub returns-in-None : goal.returns-in-None

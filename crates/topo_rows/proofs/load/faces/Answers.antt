@@ -1,6 +1,6 @@
 use Rattle.std.proofs.Common.{arith, ◌∙◌, ap}
 use Rattle.topo_core.specs.Cycles.{cycles_of}
-use Rattle.topo_perm.proofs.Walks.{faces_of-list}
+use Rattle.topo_perm.proofs.permutations.Walks.{faces_of-list}
 use Rattle.topo_rows.proofs.load.faces.Goals as goal
 
 pub returns : goal.returns

@@ -1,5 +1,5 @@
 use Rattle.std.proofs.Common.{arith}
-use Rattle.topo_changes.proofs.Keeping.{row_kept}
+use Rattle.topo_changes.proofs.rows.Keeping.{row_kept}
 use Rattle.topo_changes.proofs.kept.KeptRows.crossing.Goals as goal
 
 pub returns-in_err-crossing : goal.returns-in_err-crossing

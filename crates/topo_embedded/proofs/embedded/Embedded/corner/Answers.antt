@@ -2,7 +2,7 @@ use Rattle.std.proofs.Common.{arith}
 use Rattle.std.proofs.lemmas.List.{length-map}
 use Rattle.std.proofs.lemmas.Option.{slice_get_past}
 use Rattle.topo_rows.proofs.RowDarts.{corner_told}
-use Rattle.topo_embedded.proofs.Reading.{around_read, entry_known, vertex_there}
+use Rattle.topo_embedded.proofs.halves.Reading.{around_read, entry_known, vertex_there}
 use Rattle.topo_embedded.proofs.embedded.Embedded.corner.Goals as goal
 
 pub end_half-requires : goal.end_half-requires

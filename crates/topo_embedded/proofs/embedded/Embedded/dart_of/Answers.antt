@@ -5,12 +5,12 @@ use Rattle.topo_core.specs.declared.darts.Way.{Way}
 use Rattle.topo_core.specs.declared.rows.EdgeRow.{EdgeRow}
 use Rattle.topo_core.specs.Picture.{darts, edge_row}
 use Rattle.topo_core.specs.Systems.{has_dart}
-use Rattle.topo_core.proofs.WithoutPlaces.{edge_of_dart}
+use Rattle.topo_core.proofs.deleting.WithoutPlaces.{edge_of_dart}
 use Rattle.topo_map.proofs.Stored.{limit-is}
 use Rattle.topo_embedded.specs.Halves.{RowsWithPaths, IsHalf, half_in}
-use Rattle.topo_embedded.proofs.Apart.{darts_limited, label_is}
-use Rattle.topo_embedded.proofs.Numbers.{half_alive}
-use Rattle.topo_embedded.proofs.Reading.{dart_read, edge_read, half_on_list, list_few}
+use Rattle.topo_embedded.proofs.halves.Apart.{darts_limited, label_is}
+use Rattle.topo_embedded.proofs.halves.Numbers.{half_alive}
+use Rattle.topo_embedded.proofs.halves.Reading.{dart_read, edge_read, half_on_list, list_few}
 use Rattle.topo_embedded.proofs.embedded.Embedded.dart_of.Goals as goal
 
 pub edge-label-requires : goal.edge-label-requires

@@ -1,4 +1,4 @@
-use Rattle.topo_embedded.proofs.Without.{without_formed}
+use Rattle.topo_embedded.proofs.deleting.Without.{without_formed}
 use Rattle.topo_embedded.proofs.embedded.Embedded.delete.Goals as goal
 
 pub invariant_of-self : goal.invariant_of-self

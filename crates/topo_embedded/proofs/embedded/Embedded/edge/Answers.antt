@@ -1,6 +1,6 @@
 use Rattle.std.proofs.Common.{arith}
-use Rattle.topo_embedded.proofs.Apart.{label_is}
-use Rattle.topo_embedded.proofs.Numbers.{half_alive}
+use Rattle.topo_embedded.proofs.halves.Apart.{label_is}
+use Rattle.topo_embedded.proofs.halves.Numbers.{half_alive}
 use Rattle.topo_embedded.proofs.embedded.Embedded.edge.Goals as goal
 
 pub edge-requires : goal.edge-requires

@@ -2,7 +2,7 @@ use Rattle.std.proofs.Common.{List, ap, ℕ, ◌∙◌}
 use Rattle.std.specs.Prelude.{slice_index_or}
 use Rattle.topo_core.specs.Picture.{end_dart}
 use Rattle.topo_embedded.specs.Halves.{RowsWithPaths, half_in}
-use Rattle.topo_embedded.proofs.Reading.{edge_read, end_half_is, end_on_list, row_read}
+use Rattle.topo_embedded.proofs.halves.Reading.{edge_read, end_half_is, end_on_list, row_read}
 use Rattle.topo_embedded.proofs.embedded.Embedded.end_half.Goals as goal
 
 pub at-requires : goal.at-requires

@@ -1,5 +1,5 @@
 use Rattle.std.proofs.Common.{arith}
-use Rattle.topo_embedded.proofs.Numbers.{face_half, half_alive}
+use Rattle.topo_embedded.proofs.halves.Numbers.{face_half, half_alive}
 use Rattle.topo_embedded.proofs.embedded.Embedded.face_next.Goals as goal
 
 pub face_next-requires : goal.face_next-requires

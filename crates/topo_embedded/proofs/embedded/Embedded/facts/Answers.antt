@@ -5,11 +5,11 @@ use Rattle.topo_core.specs.declared.rows.EdgeRow.{EdgeRow}
 use Rattle.topo_core.specs.Picture.{darts, edge_at, edge_row}
 use Rattle.topo_core.specs.Routes.{AreFactsOf}
 use Rattle.topo_core.specs.Systems.{has_dart}
-use Rattle.topo_core.proofs.WithoutPlaces.{edge_of_dart}
+use Rattle.topo_core.proofs.deleting.WithoutPlaces.{edge_of_dart}
 use Rattle.topo_embedded.specs.Halves.{RowsWithPaths, IsHalf, half_in}
-use Rattle.topo_embedded.proofs.Apart.{label_is}
-use Rattle.topo_embedded.proofs.Numbers.{half_alive}
-use Rattle.topo_embedded.proofs.Reading.{edge_read, facts_read}
+use Rattle.topo_embedded.proofs.halves.Apart.{label_is}
+use Rattle.topo_embedded.proofs.halves.Numbers.{half_alive}
+use Rattle.topo_embedded.proofs.halves.Reading.{edge_read, facts_read}
 use Rattle.topo_embedded.proofs.embedded.Embedded.facts.Goals as goal
 
 pub edge-requires : goal.edge-requires

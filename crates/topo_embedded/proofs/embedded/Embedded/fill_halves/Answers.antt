@@ -3,7 +3,7 @@ use Rattle.std.specs.Prelude.{flat_map, map}
 use Rattle.topo_core.specs.Picture.{darts}
 use Rattle.topo_embedded.specs.Canonical.{halves_of}
 use Rattle.topo_embedded.specs.Halves.{RowsWithPaths, half_in}
-use Rattle.topo_embedded.proofs.InOrder.{in_order}
+use Rattle.topo_embedded.proofs.halves.InOrder.{in_order}
 use Rattle.topo_embedded.proofs.embedded.Embedded.fill_halves.Goals as goal
 
 pub returns : goal.returns

@@ -4,8 +4,8 @@ use Rattle.topo_core.specs.Picture.{darts}
 use Rattle.topo_core.specs.Systems.{has_dart}
 use Rattle.topo_rows.proofs.Finding.{finds_no_edge}
 use Rattle.topo_embedded.specs.Halves.{RowsWithPaths, half_in}
-use Rattle.topo_embedded.proofs.FoundHalves.{found_half, found_past, found_there, hidden, no_dart, shown}
-use Rattle.topo_embedded.proofs.Reading.{edge_read}
+use Rattle.topo_embedded.proofs.halves.FoundHalves.{found_half, found_past, found_there, hidden, no_dart, shown}
+use Rattle.topo_embedded.proofs.halves.Reading.{edge_read}
 use Rattle.topo_embedded.proofs.embedded.Embedded.find_half.Goals as goal
 
 pub returns-in_err-place : goal.returns-in_err-place

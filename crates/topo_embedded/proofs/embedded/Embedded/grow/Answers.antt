@@ -1,4 +1,4 @@
-use Rattle.topo_embedded.proofs.Grown.{grown_formed}
+use Rattle.topo_embedded.proofs.growing.Grown.{grown_formed}
 use Rattle.topo_embedded.proofs.embedded.Embedded.grow.Goals as goal
 
 pub invariant_of-self : goal.invariant_of-self

@@ -4,7 +4,7 @@ use Rattle.std.specs.List.{position_or_len}
 use Rattle.topo_core.specs.Picture.{darts}
 use Rattle.topo_core.specs.Systems.{has_dart}
 use Rattle.topo_embedded.specs.Halves.{RowsWithPaths, by_way, half_in}
-use Rattle.topo_embedded.proofs.Numbers.{half_read, on_list, path_inside}
+use Rattle.topo_embedded.proofs.halves.Numbers.{half_read, on_list, path_inside}
 use Rattle.topo_embedded.proofs.embedded.Embedded.half_on.Goals as goal
 
 pub bounds-as_slice-place : goal.bounds-as_slice-place

@@ -1,4 +1,4 @@
-use Rattle.topo_embedded.proofs.Routed.{inserted_formed}
+use Rattle.topo_embedded.proofs.inserting.Routed.{inserted_formed}
 use Rattle.topo_embedded.proofs.embedded.Embedded.insert.Goals as goal
 
 pub invariant_of-self : goal.invariant_of-self

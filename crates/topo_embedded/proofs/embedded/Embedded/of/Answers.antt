@@ -2,10 +2,10 @@ use Rattle.std.proofs.Common.{arith, subst, sym, ◌∙◌}
 use Rattle.topo_core.specs.declared.rows.Rows.{Rows}
 use Rattle.topo_core.specs.Cycles.{IsPermutationList}
 use Rattle.topo_core.specs.Lawful.{IsWellFormed}
-use Rattle.topo_core.proofs.Numbering.{turn_permutes}
+use Rattle.topo_core.proofs.numbering.Numbering.{turn_permutes}
 use Rattle.topo_rows.proofs.Verdicts.{images_total}
 use Rattle.topo_embedded.specs.Halves.{ShowsRows}
-use Rattle.topo_embedded.proofs.Made.{labels_length, made_from}
+use Rattle.topo_embedded.proofs.halves.Made.{labels_length, made_from}
 use Rattle.topo_embedded.proofs.embedded.Embedded.of.Goals as goal
 
 pub from_turns-requires-clause-permutation : goal.from_turns-requires-clause-permutation

@@ -3,7 +3,7 @@ use Rattle.std.specs.Prelude.{find, is_some, ◌==◌}
 use Rattle.topo_core.specs.declared.rows.EdgeRow.{EdgeRow}
 use Rattle.topo_core.specs.Picture.{darts, edge_row}
 use Rattle.topo_core.specs.Systems.{has_dart}
-use Rattle.topo_core.proofs.WithoutPlaces.{edge_of_dart}
+use Rattle.topo_core.proofs.deleting.WithoutPlaces.{edge_of_dart}
 use Rattle.topo_embedded.specs.Halves.{RowsWithPaths}
 use Rattle.topo_embedded.proofs.embedded.Embedded.place_of.Goals as goal
 

@@ -4,8 +4,8 @@ use Rattle.topo_core.specs.declared.darts.Dart.{Dart}
 use Rattle.topo_core.specs.Picture.{darts, system}
 use Rattle.topo_core.specs.Systems.{SameFace, has_dart}
 use Rattle.topo_embedded.specs.Halves.{RowsWithPaths, half_in}
-use Rattle.topo_embedded.proofs.Numbers.{half_alive}
-use Rattle.topo_embedded.proofs.SameFaces.{same_faces}
+use Rattle.topo_embedded.proofs.halves.Numbers.{half_alive}
+use Rattle.topo_embedded.proofs.halves.SameFaces.{same_faces}
 use Rattle.topo_embedded.proofs.embedded.Embedded.same_face.Goals as goal
 
 pub same_face-requires-clause-live : goal.same_face-requires-clause-live

@@ -3,7 +3,7 @@ use Rattle.topo_core.specs.Picture.{darts}
 use Rattle.topo_route.specs.Names.{IsNamed}
 use Rattle.topo_embedded.specs.Halves.{RowsWithPaths}
 use Rattle.topo_embedded.specs.Walking.{named_in}
-use Rattle.topo_embedded.proofs.Apart.{few_darts, halves_named}
+use Rattle.topo_embedded.proofs.halves.Apart.{few_darts, halves_named}
 use Rattle.topo_embedded.proofs.embedded.Embedded.size.Goals as goal
 
 pub returns-clause-named : goal.returns-clause-named

@@ -5,10 +5,10 @@ use Rattle.topo_core.specs.declared.darts.Point.TheVariants.{Vertex}
 use Rattle.topo_core.specs.declared.rows.EdgeRow.{EdgeRow}
 use Rattle.topo_core.specs.Picture.{darts, edge_row, points_of, start, start_place}
 use Rattle.topo_core.specs.Systems.{has_dart}
-use Rattle.topo_core.proofs.WithoutPlaces.{edge_of_dart}
+use Rattle.topo_core.proofs.deleting.WithoutPlaces.{edge_of_dart}
 use Rattle.topo_embedded.specs.Halves.{RowsWithPaths}
-use Rattle.topo_embedded.proofs.FoundHalves.{start_inside, start_told}
-use Rattle.topo_embedded.proofs.Reading.{edge_read, row_read}
+use Rattle.topo_embedded.proofs.halves.FoundHalves.{start_inside, start_told}
+use Rattle.topo_embedded.proofs.halves.Reading.{edge_read, row_read}
 use Rattle.topo_embedded.proofs.embedded.Embedded.start_of.Goals as goal
 
 pub place_of_edge-place-requires-clause-there : goal.place_of_edge-place-requires-clause-there

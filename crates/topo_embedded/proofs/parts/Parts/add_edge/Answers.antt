@@ -3,12 +3,12 @@ use Rattle.std.specs.Prelude.{if◌then◌else◌, is_ok}
 use Rattle.std.specs.Vec.{vec_len}
 use Rattle.std.proofs.lemmas.List.{take_at}
 use Rattle.topo_core.specs.Changes.{shown}
-use Rattle.topo_changes.proofs.CrossedRows.{when_err, when_ok}
+use Rattle.topo_changes.proofs.rows.CrossedRows.{when_err, when_ok}
 use Rattle.topo_embedded.specs.Halves.{RowsWithPaths}
 use Rattle.topo_embedded.specs.Padding.{ArePadded}
-use Rattle.topo_embedded.proofs.Grown.{kept_shows}
-use Rattle.topo_embedded.proofs.Routed.{end_alive, inserted_parts, ready_now, start_alive}
-use Rattle.topo_embedded.proofs.Splits.{all_placed_here}
+use Rattle.topo_embedded.proofs.growing.Grown.{kept_shows}
+use Rattle.topo_embedded.proofs.inserting.Routed.{end_alive, inserted_parts, ready_now, start_alive}
+use Rattle.topo_embedded.proofs.inserting.Splits.{all_placed_here}
 use Rattle.topo_embedded.proofs.parts.Parts.add_edge.Goals as goal
 
 pub make_room-requires-clause-placed : goal.make_room-requires-clause-placed

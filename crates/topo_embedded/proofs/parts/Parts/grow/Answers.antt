@@ -2,7 +2,7 @@ use Rattle.std.proofs.Common.{ap, subst, ◌∙◌, ◌++◌, ◌∷◌, [], Boo
 use Rattle.std.specs.Prelude.{if◌then◌else◌, is_ok}
 use Rattle.topo_map.specs.Rotation.{AddsLabel, edge_of, is_live}
 use Rattle.topo_embedded.specs.Parts.{with_paths}
-use Rattle.topo_embedded.proofs.Grown.{corner_alive, grown_parts}
+use Rattle.topo_embedded.proofs.growing.Grown.{corner_alive, grown_parts}
 use Rattle.topo_embedded.proofs.parts.Parts.grow.Goals as goal
 
 pub hang-half-requires-clause-live : goal.hang-half-requires-clause-live

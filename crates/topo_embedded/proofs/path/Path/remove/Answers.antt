@@ -2,7 +2,7 @@ use Rattle.std.proofs.Common.{arith, ◌≡◌, ◌≢◌, ◌==◌, ◌∙◌, 
 use Rattle.std.specs.Prelude.{filter, slice_index_or}
 use Rattle.std.proofs.lemmas.Bool.{ne_eqb}
 use Rattle.topo_embedded.specs.Along.{halves_along}
-use Rattle.topo_embedded.proofs.LeftHalves.{spared_kept}
+use Rattle.topo_embedded.proofs.halves.LeftHalves.{spared_kept}
 use Rattle.topo_embedded.proofs.path.Path.remove.Goals.{in-More, in-One}
 use Rattle.topo_embedded.proofs.path.Path.remove.Goals as goal
 

@@ -1,4 +1,4 @@
-use Rattle.topo_perm.proofs.Bypassing.{one_face_law, taken_out_parts}
+use Rattle.topo_perm.proofs.edits.Bypassing.{one_face_law, taken_out_parts}
 use Rattle.topo_perm.proofs.laws.cuts.one_face.Goals as goal
 
 pub returns-clause-ends : goal.returns-clause-ends

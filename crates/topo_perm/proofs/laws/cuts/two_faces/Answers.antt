@@ -1,4 +1,4 @@
-use Rattle.topo_perm.proofs.Bypassing.{two_faces_law, two_faces_keep, taken_out_keeps}
+use Rattle.topo_perm.proofs.edits.Bypassing.{two_faces_law, two_faces_keep, taken_out_keeps}
 use Rattle.topo_perm.proofs.laws.cuts.two_faces.Goals as goal
 
 pub returns-clause-ends : goal.returns-clause-ends

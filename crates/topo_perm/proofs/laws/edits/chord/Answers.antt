@@ -1,6 +1,6 @@
-use Rattle.topo_perm.proofs.Connecting.{chord_connects}
-use Rattle.topo_perm.proofs.EditCounts.{chord_points_law, chord_faces_law}
-use Rattle.topo_perm.proofs.Possible.{chord_is_possible}
+use Rattle.topo_perm.proofs.edits.Connecting.{chord_connects}
+use Rattle.topo_perm.proofs.edits.EditCounts.{chord_points_law, chord_faces_law}
+use Rattle.topo_perm.proofs.edits.Possible.{chord_is_possible}
 use Rattle.topo_perm.proofs.laws.edits.chord.Goals as goal
 
 pub returns-clause-points : goal.returns-clause-points

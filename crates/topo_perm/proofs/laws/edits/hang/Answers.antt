@@ -1,6 +1,6 @@
-use Rattle.topo_perm.proofs.Connecting.{hang_connects}
-use Rattle.topo_perm.proofs.EditCounts.{hang_points_law, hang_faces_law}
-use Rattle.topo_perm.proofs.Possible.{hang_is_possible}
+use Rattle.topo_perm.proofs.edits.Connecting.{hang_connects}
+use Rattle.topo_perm.proofs.edits.EditCounts.{hang_points_law, hang_faces_law}
+use Rattle.topo_perm.proofs.edits.Possible.{hang_is_possible}
 use Rattle.topo_perm.proofs.laws.edits.hang.Goals as goal
 
 pub returns-clause-points : goal.returns-clause-points

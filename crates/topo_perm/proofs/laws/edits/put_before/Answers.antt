@@ -1,4 +1,4 @@
-use Rattle.topo_perm.proofs.EditCounts.{put_permutation, put_before}
+use Rattle.topo_perm.proofs.edits.EditCounts.{put_permutation, put_before}
 use Rattle.topo_perm.proofs.laws.edits.put_before.Goals as goal
 
 pub returns-clause-permutation : goal.returns-clause-permutation

@@ -1,6 +1,6 @@
-use Rattle.topo_perm.proofs.Connecting.{smooth_connects}
-use Rattle.topo_perm.proofs.EditCounts.{smoothing_permutation, smoothing_smooth, smooth_points_law, smooth_faces_law}
-use Rattle.topo_perm.proofs.Possible.{smooth_is_possible}
+use Rattle.topo_perm.proofs.edits.Connecting.{smooth_connects}
+use Rattle.topo_perm.proofs.edits.EditCounts.{smoothing_permutation, smoothing_smooth, smooth_points_law, smooth_faces_law}
+use Rattle.topo_perm.proofs.edits.Possible.{smooth_is_possible}
 use Rattle.topo_perm.proofs.laws.edits.smooth.Goals as goal
 
 pub returns-clause-permutation : goal.returns-clause-permutation

@@ -1,6 +1,6 @@
-use Rattle.topo_perm.proofs.Connecting.{split_connects}
-use Rattle.topo_perm.proofs.EditCounts.{split_permutation, split_points_law, split_faces_law}
-use Rattle.topo_perm.proofs.Possible.{split_is_possible}
+use Rattle.topo_perm.proofs.edits.Connecting.{split_connects}
+use Rattle.topo_perm.proofs.edits.EditCounts.{split_permutation, split_points_law, split_faces_law}
+use Rattle.topo_perm.proofs.edits.Possible.{split_is_possible}
 use Rattle.topo_perm.proofs.laws.edits.split.Goals as goal
 
 pub returns-clause-permutation : goal.returns-clause-permutation

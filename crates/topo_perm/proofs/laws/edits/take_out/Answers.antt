@@ -1,4 +1,4 @@
-use Rattle.topo_perm.proofs.EditCounts.{bypass_permutation, bypass_splits_law, bypass_stays_law}
+use Rattle.topo_perm.proofs.edits.EditCounts.{bypass_permutation, bypass_splits_law, bypass_stays_law}
 use Rattle.topo_perm.proofs.laws.edits.take_out.Goals as goal
 
 pub returns-clause-permutation : goal.returns-clause-permutation

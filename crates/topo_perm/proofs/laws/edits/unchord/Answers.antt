@@ -1,6 +1,6 @@
-use Rattle.topo_perm.proofs.Connecting.{unchord_connects}
-use Rattle.topo_perm.proofs.EditCounts.{unchord_points_law, unchord_faces_law}
-use Rattle.topo_perm.proofs.Possible.{unchord_is_possible}
+use Rattle.topo_perm.proofs.edits.Connecting.{unchord_connects}
+use Rattle.topo_perm.proofs.edits.EditCounts.{unchord_points_law, unchord_faces_law}
+use Rattle.topo_perm.proofs.edits.Possible.{unchord_is_possible}
 use Rattle.topo_perm.proofs.laws.edits.unchord.Goals as goal
 
 pub returns-clause-points : goal.returns-clause-points

@@ -1,4 +1,4 @@
-use Rattle.topo_perm.proofs.FacesKept.{chord_keeps_faces, chord_sides}
+use Rattle.topo_perm.proofs.edits.FacesKept.{chord_keeps_faces, chord_sides}
 use Rattle.topo_perm.proofs.laws.faces.chord.Goals as goal
 
 pub returns-clause-kept : goal.returns-clause-kept

@@ -1,4 +1,4 @@
-use Rattle.topo_perm.proofs.FacesKept.{hang_keeps_faces, hang_sides}
+use Rattle.topo_perm.proofs.edits.FacesKept.{hang_keeps_faces, hang_sides}
 use Rattle.topo_perm.proofs.laws.faces.hang.Goals as goal
 
 pub returns-clause-kept : goal.returns-clause-kept

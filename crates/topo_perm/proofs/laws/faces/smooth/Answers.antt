@@ -1,4 +1,4 @@
-use Rattle.topo_perm.proofs.FacesKept.{smooth_keeps_faces}
+use Rattle.topo_perm.proofs.edits.FacesKept.{smooth_keeps_faces}
 use Rattle.topo_perm.proofs.laws.faces.smooth.Goals as goal
 
 pub returns : goal.returns

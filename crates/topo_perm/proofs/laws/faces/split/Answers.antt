@@ -1,4 +1,4 @@
-use Rattle.topo_perm.proofs.FacesKept.{split_keeps_faces, split_sides}
+use Rattle.topo_perm.proofs.edits.FacesKept.{split_keeps_faces, split_sides}
 use Rattle.topo_perm.proofs.laws.faces.split.Goals as goal
 
 pub returns-clause-kept : goal.returns-clause-kept

@@ -1,4 +1,4 @@
-use Rattle.topo_perm.proofs.LabelledFaces.{chord_labels}
+use Rattle.topo_perm.proofs.edits.LabelledFaces.{chord_labels}
 use Rattle.topo_perm.proofs.laws.labels.chord.Goals as goal
 
 pub returns : goal.returns

@@ -1,4 +1,4 @@
-use Rattle.topo_perm.proofs.LabelledFaces.{split_labels}
+use Rattle.topo_perm.proofs.edits.LabelledFaces.{split_labels}
 use Rattle.topo_perm.proofs.laws.labels.split.Goals as goal
 
 pub returns : goal.returns

@@ -1,4 +1,4 @@
-use Rattle.topo_perm.proofs.Renumbered.{renumbered_classes, renumbered_cycles, renumbered_whole, renumbered_same_cycle}
+use Rattle.topo_perm.proofs.renumbering.Renumbered.{renumbered_classes, renumbered_cycles, renumbered_whole, renumbered_same_cycle}
 use Rattle.topo_perm.proofs.laws.renumbering.counts.Goals as goal
 
 pub returns-clause-classes : goal.returns-clause-classes

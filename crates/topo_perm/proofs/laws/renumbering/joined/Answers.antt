@@ -1,4 +1,4 @@
-use Rattle.topo_perm.proofs.Renumbered.{renumbered_joined, renumbered_connected}
+use Rattle.topo_perm.proofs.renumbering.Renumbered.{renumbered_joined, renumbered_connected}
 use Rattle.topo_perm.proofs.laws.renumbering.joined.Goals as goal
 
 pub returns-clause-joined : goal.returns-clause-joined

@@ -1,4 +1,4 @@
-use Rattle.topo_perm.proofs.SlabEdits.{chord_keeps_slab, chord_live_faces, chord_live_points}
+use Rattle.topo_perm.proofs.edits.SlabEdits.{chord_keeps_slab, chord_live_faces, chord_live_points}
 use Rattle.topo_perm.proofs.laws.slabs.chord.Goals as goal
 
 pub returns-clause-slab : goal.returns-clause-slab

@@ -1,4 +1,4 @@
-use Rattle.topo_perm.proofs.SlabEdits.{hang_keeps_slab, hang_live_faces, hang_live_points}
+use Rattle.topo_perm.proofs.edits.SlabEdits.{hang_keeps_slab, hang_live_faces, hang_live_points}
 use Rattle.topo_perm.proofs.laws.slabs.hang.Goals as goal
 
 pub returns-clause-slab : goal.returns-clause-slab

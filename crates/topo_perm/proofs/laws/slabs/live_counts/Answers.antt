@@ -1,4 +1,4 @@
-use Rattle.topo_perm.proofs.Slabs.{live_points_law, live_segments_law, live_faces_law}
+use Rattle.topo_perm.proofs.edits.Slabs.{live_points_law, live_segments_law, live_faces_law}
 use Rattle.topo_perm.proofs.laws.slabs.live_counts.Goals as goal
 
 pub returns-clause-points : goal.returns-clause-points

@@ -1,4 +1,4 @@
-use Rattle.topo_perm.proofs.Slabs.{live_components_law, live_bound_law, live_genus_zero_law}
+use Rattle.topo_perm.proofs.edits.Slabs.{live_components_law, live_bound_law, live_genus_zero_law}
 use Rattle.topo_perm.proofs.laws.slabs.live_genus.Goals as goal
 
 pub returns-clause-components : goal.returns-clause-components

@@ -1,4 +1,4 @@
-use Rattle.topo_perm.proofs.SlabEdits.{free_segments_fall, segments_grow}
+use Rattle.topo_perm.proofs.edits.SlabEdits.{free_segments_fall, segments_grow}
 use Rattle.topo_perm.proofs.laws.slabs.segments.Goals as goal
 
 pub returns-clause-live : goal.returns-clause-live

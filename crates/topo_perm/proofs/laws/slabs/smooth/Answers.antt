@@ -1,4 +1,4 @@
-use Rattle.topo_perm.proofs.SlabEdits.{smooth_keeps_slab, smooth_live_faces, smooth_live_points}
+use Rattle.topo_perm.proofs.edits.SlabEdits.{smooth_keeps_slab, smooth_live_faces, smooth_live_points}
 use Rattle.topo_perm.proofs.laws.slabs.smooth.Goals as goal
 
 pub returns-clause-slab : goal.returns-clause-slab

@@ -1,4 +1,4 @@
-use Rattle.topo_perm.proofs.SlabEdits.{split_keeps_slab, split_live_faces, split_live_points}
+use Rattle.topo_perm.proofs.edits.SlabEdits.{split_keeps_slab, split_live_faces, split_live_points}
 use Rattle.topo_perm.proofs.laws.slabs.split.Goals as goal
 
 pub returns-clause-slab : goal.returns-clause-slab

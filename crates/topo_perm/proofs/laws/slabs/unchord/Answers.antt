@@ -1,4 +1,4 @@
-use Rattle.topo_perm.proofs.SlabEdits.{unchord_keeps_slab, unchord_live_faces, unchord_live_points}
+use Rattle.topo_perm.proofs.edits.SlabEdits.{unchord_keeps_slab, unchord_live_faces, unchord_live_points}
 use Rattle.topo_perm.proofs.laws.slabs.unchord.Goals as goal
 
 pub returns-clause-slab : goal.returns-clause-slab

@@ -1,5 +1,5 @@
 use Rattle.std.proofs.Common.{arith}
-use Rattle.topo_route.proofs.Buckets.{all_empty, all_zero}
+use Rattle.topo_route.proofs.spreading.Buckets.{all_empty, all_zero}
 use Rattle.topo_route.proofs.bucket_queue.BucketQueue.clear.Goals as goal
 
 pub returns : goal.returns

@@ -2,7 +2,7 @@ use Rattle.std.proofs.Common.{◌≡◌, ◌∙◌, ap, arith}
 use Rattle.std.proofs.Math.ListN.{replicate}
 use Rattle.std.specs.Prelude.{slice_index, slice_index_or}
 use Rattle.topo_route.specs.Chains.{no_entry}
-use Rattle.topo_route.proofs.Buckets.{all_zero}
+use Rattle.topo_route.proofs.spreading.Buckets.{all_zero}
 use Rattle.topo_route.proofs.bucket_queue.BucketQueue.new.Goals as goal
 
 pub invariant_of-result : goal.invariant_of-result

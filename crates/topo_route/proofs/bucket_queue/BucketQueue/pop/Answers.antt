@@ -1,7 +1,7 @@
 use Rattle.std.proofs.Common.{◌∙◌, arith, ap, sym, length}
 use Rattle.std.proofs.lemmas.List.{get_or_default}
 use Rattle.std.specs.Prelude.{slice_index}
-use Rattle.topo_route.proofs.Buckets.{all_empty, popped_length, popped_waits}
+use Rattle.topo_route.proofs.spreading.Buckets.{all_empty, popped_length, popped_waits}
 use Rattle.topo_route.proofs.bucket_queue.BucketQueue.pop.Goals as goal
 
 pub returns-in-Some-clause-waits : goal.returns-in-Some-clause-waits

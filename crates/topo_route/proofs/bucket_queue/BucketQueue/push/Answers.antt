@@ -1,7 +1,7 @@
 use Rattle.std.proofs.Common.{arith}
 use Rattle.std.proofs.lemmas.List.{get_or_default}
 use Rattle.std.proofs.Math.ListN.{set}
-use Rattle.topo_route.proofs.Buckets.{pushed_length, pushed_waits}
+use Rattle.topo_route.proofs.spreading.Buckets.{pushed_length, pushed_waits}
 use Rattle.topo_route.proofs.bucket_queue.BucketQueue.push.Goals as goal
 
 pub returns-clause-waits : goal.returns-clause-waits

@@ -4,10 +4,10 @@ use Rattle.std.specs.Prelude.{slice_index}
 use Rattle.topo_price.specs.Prices.{prices_of}
 use Rattle.topo_route.specs.FaceHeights.{dart_heights}
 use Rattle.topo_route.specs.Settling.{IsCrossed, Relaxes, is_waiting, item_of, number_at, reach_of}
-use Rattle.topo_route.proofs.Crossings.{crossed_already, crossed_low, is_crossed, twin_same}
-use Rattle.topo_route.proofs.Names.{name_some}
-use Rattle.topo_route.proofs.Relaxing.{twin_relaxes}
-use Rattle.topo_route.proofs.Settled.{of_face}
+use Rattle.topo_route.proofs.spreading.Crossings.{crossed_already, crossed_low, is_crossed, twin_same}
+use Rattle.topo_route.proofs.names.Names.{name_some}
+use Rattle.topo_route.proofs.spreading.Relaxing.{twin_relaxes}
+use Rattle.topo_route.proofs.spreading.Settled.{of_face}
 use Rattle.topo_route.proofs.spread.Labels.relax_twin.Goals as goal
 
 pub lower-requires-clause-fits : goal.lower-requires-clause-fits

@@ -3,10 +3,10 @@ use Rattle.std.specs.Prelude.{min}
 use Rattle.topo_price.specs.Prices.{prices_of}
 use Rattle.topo_route.specs.FaceHeights.{dart_heights}
 use Rattle.topo_route.specs.Settling.{reach_of, top_of}
-use Rattle.topo_route.proofs.FaceHeights.{even_top}
-use Rattle.topo_route.proofs.Names.{name_below}
-use Rattle.topo_route.proofs.Relaxing.{taken_relaxes}
-use Rattle.topo_route.proofs.Settled.{all_settled, taken_reached, waits_named}
+use Rattle.topo_route.proofs.spreading.FaceHeights.{even_top}
+use Rattle.topo_route.proofs.names.Names.{name_below}
+use Rattle.topo_route.proofs.spreading.Relaxing.{taken_relaxes}
+use Rattle.topo_route.proofs.spreading.Settled.{all_settled, taken_reached, waits_named}
 use Rattle.topo_route.proofs.spread.Labels.spread.Goals as goal
 
 pub next_pending-requires : goal.next_pending-requires

@@ -2,9 +2,9 @@ use Rattle.std.proofs.Common.{◌<◌, ◌^◌, arith, refl}
 use Rattle.topo_price.specs.Prices.{prices_of}
 use Rattle.topo_route.specs.FaceHeights.{dart_heights}
 use Rattle.topo_route.specs.Settling.{reach_of}
-use Rattle.topo_route.proofs.Names.{name_below}
-use Rattle.topo_route.proofs.Relaxing.{taken_relaxes}
-use Rattle.topo_route.proofs.Settled.{emptied, taken_reached, waits_named}
+use Rattle.topo_route.proofs.names.Names.{name_below}
+use Rattle.topo_route.proofs.spreading.Relaxing.{taken_relaxes}
+use Rattle.topo_route.proofs.spreading.Settled.{emptied, taken_reached, waits_named}
 use Rattle.topo_route.proofs.spread.Labels.spread_next.Goals as goal
 
 pub next_pending-requires : goal.next_pending-requires

@@ -8,10 +8,10 @@ use Rattle.topo_route.specs.declared.spread.Labels.{Labels}
 use Rattle.topo_route.specs.FaceHeights.{dart_heights}
 use Rattle.topo_route.specs.Names.{dart_named, height_of}
 use Rattle.topo_route.specs.Settling.{is_waiting, item_of, number_at}
-use Rattle.topo_route.proofs.Relaxing.{both_steps, no_step, renamed, started, started_zero}
-use Rattle.topo_route.proofs.Names.{height_named}
-use Rattle.topo_route.proofs.Settled.{of_face}
-use Rattle.topo_route.proofs.Tests.{before_all, before_past, before_some}
+use Rattle.topo_route.proofs.spreading.Relaxing.{both_steps, no_step, renamed, started, started_zero}
+use Rattle.topo_route.proofs.names.Names.{height_named}
+use Rattle.topo_route.proofs.spreading.Settled.{of_face}
+use Rattle.topo_route.proofs.plans.Tests.{before_all, before_past, before_some}
 use Rattle.topo_route.proofs.spread.Labels.start_at.Goals as goal
 use Rattle.topo_route.proofs.spread.Labels.start_at.Goals.{in-Some+then-get-gt0+in_ok-lower+in_ok-push, in-Some+else-get-gt0, in_default}
 

@@ -1,7 +1,7 @@
 use Rattle.std.proofs.Common.{◌∙◌, ◌≡◌, ◌≤◌, ◌+◌, ◌-◌, ◌++◌, List, ℕ, arith, length, replicate, subst, sym, take}
 use Rattle.std.specs.Vec.{vec_len}
 use Rattle.topo_core.specs.Routes.{unreached}
-use Rattle.topo_route.proofs.Blank.{all_blank, filled, filled_up}
+use Rattle.topo_route.proofs.spreading.Blank.{all_blank, filled, filled_up}
 use Rattle.topo_route.specs.StampedArrays.{AreAtLeast, read_all, span}
 use Rattle.topo_route.specs.declared.stamped_array.StampedArray.TheInside.{Inside}
 use Rattle.topo_route.proofs.stamped_array.StampedArray.clear.Goals as goal

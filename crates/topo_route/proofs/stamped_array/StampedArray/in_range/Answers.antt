@@ -1,7 +1,7 @@
 use Rattle.std.proofs.Common.{◌≤◌, List, ℕ, subst}
 use Rattle.std.specs.Prelude.{slice_index}
 use Rattle.topo_core.specs.Routes.{unreached}
-use Rattle.topo_route.proofs.Blank.{all_within}
+use Rattle.topo_route.proofs.spreading.Blank.{all_within}
 use Rattle.topo_route.proofs.stamped_array.StampedArray.in_range.Goals as goal
 
 pub returns : goal.returns

@@ -1,7 +1,7 @@
 use Rattle.std.proofs.Common.{arith}
 use Rattle.std.proofs.lemmas.Grind.{get_or_default_zero}
 use Rattle.std.proofs.lemmas.List.{get_or_past}
-use Rattle.topo_route.proofs.Blank.{all_long}
+use Rattle.topo_route.proofs.spreading.Blank.{all_long}
 use Rattle.topo_route.proofs.stamped_array.StampedArray.number_at.Goals as goal
 
 pub read-requires : goal.read-requires

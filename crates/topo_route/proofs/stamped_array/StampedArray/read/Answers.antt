@@ -1,6 +1,6 @@
 use Rattle.std.proofs.Common.{arith}
 use Rattle.std.proofs.lemmas.Grind.{get_or_default_zero}
-use Rattle.topo_route.proofs.Blank.{all_long, read_at, reads_blank, reads_number}
+use Rattle.topo_route.proofs.spreading.Blank.{all_long, read_at, reads_blank, reads_number}
 use Rattle.topo_route.proofs.stamped_array.StampedArray.read.Goals as goal
 
 pub index-requires : goal.index-requires

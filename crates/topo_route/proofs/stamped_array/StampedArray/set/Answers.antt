@@ -4,7 +4,7 @@ use Rattle.std.proofs.lemmas.Grind.{get_or_default_zero}
 use Rattle.std.specs.Prelude.{slice_index}
 use Rattle.topo_route.specs.StampedArrays.{AreWritten, read_all, span}
 use Rattle.topo_route.specs.declared.stamped_array.StampedArray.TheInside.{Inside}
-use Rattle.topo_route.proofs.Blank.{Lists, all_long, lists_added, lists_already, number_written, written_number}
+use Rattle.topo_route.proofs.spreading.Blank.{Lists, all_long, lists_added, lists_already, number_written, written_number}
 use Rattle.topo_route.proofs.stamped_array.StampedArray.set.Goals as goal
 use Rattle.topo_route.proofs.stamped_array.StampedArray.set.Goals.{then-index-self-ge-SPAN+in_ok-push, else-index-self-ge-SPAN}
 

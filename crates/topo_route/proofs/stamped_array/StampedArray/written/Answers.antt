@@ -2,7 +2,7 @@ use Rattle.std.proofs.Common.{◌≢◌, ◌<◌, ◌∙◌, ◌≡◌, List, ap
 use Rattle.std.specs.Prelude.{slice_index}
 use Rattle.topo_core.specs.Items.{has_id}
 use Rattle.topo_core.specs.Routes.{unreached}
-use Rattle.topo_route.proofs.Blank.{read_written, written_within}
+use Rattle.topo_route.proofs.spreading.Blank.{read_written, written_within}
 use Rattle.topo_route.proofs.stamped_array.StampedArray.written.Goals as goal
 
 pub returns-clause-there : goal.returns-clause-there

@@ -1,0 +1,3 @@
+-- A growth keeps a picture lawful.
+pub mod Growing
+pub mod GrownFaces

@@ -1,0 +1,2 @@
+-- The embedding after a growth.
+pub mod Grown

@@ -1,0 +1,118 @@
+-- Edges and their paths as they are read.
+use Rattle.std.proofs.Common.{◌≡◌, ◌<◌, ◌≤◌, ap, arith, Bool, cond, false, length, List, [], refl, sym, true, ℕ, ◌∙◌}
+use Rattle.std.specs.Prelude.{◌==◌, is_some, slice_get, slice_index, slice_index_or, Some, sum_by}
+use Rattle.std.specs.List.{position_or_len}
+use Rattle.std.proofs.lemmas.Bool.{cases_lt}
+use Rattle.std.proofs.lemmas.List.{get_or_default, get_or_past}
+use Rattle.std.proofs.lemmas.List.Sums.{get_or-le-sum_by}
+use Rattle.std.proofs.lemmas.Option.{get_or_from_slice_get, slice_get-get_or}
+use Rattle.topo_core.specs.declared.darts.Dart.{Dart}
+use Rattle.topo_core.specs.declared.darts.Way.{Way}
+use Rattle.topo_core.specs.declared.darts.Way.TheVariants.{Forward, Back}
+use Rattle.topo_core.specs.declared.rows.EdgeRow.{EdgeRow}
+use Rattle.topo_core.specs.declared.rows.Rows.{Rows}
+use Rattle.topo_core.specs.Lawful.{IsWellFormed}
+use Rattle.topo_core.specs.Picture.{darts, edge_at, edge_row, end_dart, rotation, segment_count}
+use Rattle.topo_core.specs.Systems.{has_dart}
+use Rattle.topo_core.proofs.numbering.Standing.{good_rotation}
+use Rattle.topo_core.proofs.systems.SystemDarts.{edge_at_row, in_at, row_id, vertex_in}
+use Rattle.topo_map.specs.Rotation.{Rotation}
+use Rattle.topo_rows.specs.Ids.{IsPlaceOf}
+use Rattle.topo_rows.proofs.RowDarts.{dart_there}
+use Rattle.topo_rows.proofs.Rounds.{got_within}
+use Rattle.topo_rows.proofs.Verdicts.{darts_total}
+use Rattle.topo_embedded.specs.Halves.{RowsWithPaths, ShowsRows, by_way, half_in, path_of}
+use Rattle.topo_embedded.specs.Walking.{IsOnPath, end_seg, end_way}
+use Rattle.topo_embedded.proofs.halves.Apart.{halves_apart}
+use Rattle.topo_embedded.proofs.halves.Numbers.{StandsAt, stands_at}
+
+-- the row of an edge at its place
+pub record EdgeRead (rows : Rows) (e place : ℕ) (row : EdgeRow) : Type 0 where
+  pub found : edge_row rows e ≡ Some row
+  pub at : slice_get rows.edges place ≡ Some row
+  pub id : row.id ≡ e
+  pub first : place ≡ position_or_len (λ row. row.id == e) rows.edges
+
+pub edge_read : (rows : Rows) (e place : ℕ) (edges : List EdgeRow) → edges ≡ rows.edges → (p : IsPlaceOf edges (λ row. row.id) e place) → EdgeRead rows e place p.row
+edge_read rows e place edges same p = grind (arith, row_id)
+
+pub row_read : (rows : Rows) (e place : ℕ) (edges : List EdgeRow) (row read : EdgeRow) → edges ≡ rows.edges → EdgeRead rows e place row → read ≡ slice_index_or edges place read → read ≡ row
+row_read rows e place edges row read same at is = is ∙ get_or_from_slice_get edges place row read (ap (λ (es : List EdgeRow). slice_get es place) same ∙ at.at)
+
+pub facts_read : (rows : Rows) (e place : ℕ) (edges : List EdgeRow) (row read : EdgeRow) → edges ≡ rows.edges → EdgeRead rows e place row → read ≡ slice_index_or edges place read → read ≡ edge_at rows e
+facts_read rows e place edges row read same at is = row_read rows e place edges row read same at is ∙ sym (edge_at_row rows e row at.found)
+
+-- ---- The dart of an edge at its end
+
+abbrev end_by : ℕ → EdgeRow → Bool → Dart
+end_by e row b = cond b (record { edge = e; seg = 0; way = Forward }) (record { edge = e; seg = length row.crossings; way = Back })
+
+end_parts : (e : ℕ) (row : EdgeRow) (b : Bool) → end_by e row b ≡ record { edge = e; seg = end_seg row b; way = end_way b }
+end_parts e row true = refl
+end_parts e row false = refl
+
+end_inside : (row : EdgeRow) (b : Bool) → end_seg row b < segment_count row
+end_inside row true = omega arith
+end_inside row false = omega arith
+
+end_is : (rows : Rows) (v e place : ℕ) (row : EdgeRow) → EdgeRead rows e place row → end_dart rows v e ≡ record { edge = e; seg = end_seg row (row.a == v); way = end_way (row.a == v) }
+end_is rows v e place row at = ap (λ (r : EdgeRow). end_by e r (r.a == v)) (edge_at_row rows e row at.found) ∙ end_parts e row (row.a == v)
+
+-- the edges round a vertex are there
+pub entry_known : (rows : Rows) → IsWellFormed rows → (v p e : ℕ) (around : List ℕ) → v < length rows.rotations → around ≡ rotation rows v → p < length around → e ≡ slice_index around p → is_some (edge_row rows e) ≡ true
+entry_known rows good v p e around inside is below at =
+    let known = (good_rotation rows good.rotations v (vertex_in rows v inside)).known in
+    known e (in_at e (rotation rows v) p (ap (λ (xs : List ℕ). slice_get xs p) (sym is) ∙ slice_get-get_or around p 0 below ∙ ap Some (sym at)))
+
+-- the edges round a vertex, as they are read
+pub around_read : (rows : Rows) (v : ℕ) (lists : List (List ℕ)) (x read : List ℕ) → v < length lists → lists ≡ rows.rotations → x ≡ slice_index_or lists v x → read ≡ x → read ≡ rotation rows v
+around_read rows v lists x read inside same is read_is = read_is ∙ is ∙ get_or_default lists v x [] inside ∙ ap (λ (ls : List (List ℕ)). slice_index_or ls v []) same
+
+pub vertex_there : (rows : Rows) (v p : ℕ) → p < length (rotation rows v) → v < length rows.rotations
+vertex_there rows v p h = grind (arith, cases_lt, get_or_past)
+
+-- ---- Paths
+
+module _ (p : RowsWithPaths) (good : IsWellFormed p.rows) (r : Rotation) (s : ShowsRows p r) (e place : ℕ) (row : EdgeRow) (at : EdgeRead p.rows e place row)
+    (path : List ℕ) (path_is : path ≡ slice_index_or p.paths place path) where
+  path_inside : place < length p.paths
+  path_inside = omega (arith, s.as_many, got_within p.rows.edges place row at.at)
+
+  pub list_read : path ≡ path_of p e
+  list_read = path_is ∙ get_or_default p.paths place path [] path_inside ∙ ap (λ k. slice_index_or p.paths k []) at.first
+
+  pub list_many : length path ≡ segment_count row
+  list_many = ap length list_read ∙ ap (λ k. length (slice_index_or p.paths k [])) (sym at.first) ∙ s.along place row at.at
+
+  -- what is read at a place of the path is the half along the edge there
+  along_read : (seg x : ℕ) (way : Way) → x ≡ slice_index_or path seg 0 → by_way x way ≡ half_in p (record { edge = e; seg = seg; way = way })
+  along_read seg x way is = ap (λ (h : ℕ). by_way h way) (is ∙ ap (λ (xs : List ℕ). slice_index_or xs seg 0) list_read)
+
+  module _ (d : Dart) (h : has_dart (darts p.rows) d ≡ true) (half : ℕ) (is : half_in p d ≡ half) (same : e ≡ d.edge) where
+    row_same : (st : StandsAt p.rows d) → st.row ≡ row
+    row_same st = let both : Some st.row ≡ Some row = sym st.found ∙ ap (edge_row p.rows) (sym same) ∙ at.found in cc
+
+    pub half_on_list : IsOnPath path half
+    half_on_list =
+        let st = stands_at p.rows good d h in
+        grind (arith, row_same, list_many, list_read)
+
+    pub dart_read : (seg : ℕ) (way : Way) → seg < length path → by_way (slice_index_or path seg 0) way ≡ half → record { edge = e; seg = seg; way = way } ≡ d
+    dart_read seg way inside found =
+        let c : Dart = record { edge = e; seg = seg; way = way } in
+        halves_apart p good r s c d (dart_there p.rows good.paths c row at.found (omega (arith, list_many))) h
+        (sym (ap (λ (xs : List ℕ). by_way (slice_index_or xs seg 0) way) list_read) ∙ found ∙ sym is)
+
+  -- the path is among all darts
+  pub list_few : length path ≤ length (darts p.rows)
+  list_few =
+      let most : segment_count (slice_index_or p.rows.edges place row) ≤ sum_by segment_count p.rows.edges = get_or-le-sum_by segment_count p.rows.edges place row (got_within p.rows.edges place row at.at) in
+      grind (arith, get_or_from_slice_get, list_many, darts_total)
+
+  -- the half at an end of the edge
+  module _ (v : ℕ) (read : EdgeRow) (seg : ℕ) (way : Way) (same : read ≡ row) (seg_is : seg ≡ end_seg read (read.a == v)) (way_is : way ≡ end_way (read.a == v)) where
+    pub end_on_list : seg < length path
+    end_on_list = grind (arith, end_inside, list_many)
+
+    pub end_half_is : (half : ℕ) → half ≡ slice_index_or path seg 0 → by_way half way ≡ half_in p (end_dart p.rows v e)
+    end_half_is half is = grind (arith, along_read, end_is)

@@ -1,0 +1,3 @@
+-- The tests of a plan.
+pub mod Tests
+pub mod Verdicts
