@@ -2,4 +2,3 @@ pub mod halves
 pub mod growing
 pub mod inserting
 pub mod deleting
-pub mod LabelledFaces

@@ -11,3 +11,4 @@ pub mod OnPaths
 pub mod SameFaces
 pub mod InOrder
 pub mod FoundHalves
+pub mod LabelledFaces

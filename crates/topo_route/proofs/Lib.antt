@@ -3,5 +3,3 @@ pub mod spreading
 pub mod meeting
 pub mod surviving
 pub mod plans
-pub mod FaceWalks
-pub mod Pending

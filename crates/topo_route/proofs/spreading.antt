@@ -9,3 +9,5 @@ pub mod Buckets
 pub mod Reaching
 pub mod Crossings
 pub mod Unreached
+pub mod FaceWalks
+pub mod Pending

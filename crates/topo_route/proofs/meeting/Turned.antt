@@ -12,7 +12,7 @@ use Rattle.topo_core.proofs.numbering.Numbering.{twin_in}
 use Rattle.topo_route.specs.Names.{IsNamed, Named, dart_named}
 use Rattle.topo_route.proofs.names.Names.{back_round, dart_of_name, face_of_names, name_is, names_of_face}
 use Rattle.topo_route.proofs.names.Numbers.{corner_below}
-use Rattle.topo_route.proofs.FaceWalks.{crosses_from}
+use Rattle.topo_route.proofs.spreading.FaceWalks.{crosses_from}
 use Rattle.topo_route.proofs.names.Walking.{face_has}
 
 -- the darts that a walk crosses on its way back, and more behind them

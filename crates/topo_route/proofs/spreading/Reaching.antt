@@ -17,7 +17,7 @@ use Rattle.topo_core.proofs.numbering.Numbering.{twin_in}
 use Rattle.topo_route.specs.Names.{IsName, IsNamed, Named, dart_named, height_of, next_name, twin_name}
 use Rattle.topo_route.specs.Plans.{AreHeights, IsZeroAt}
 use Rattle.topo_route.specs.Settling.{AreCosts, IsSettled}
-use Rattle.topo_route.proofs.FaceWalks.{crosses_from}
+use Rattle.topo_route.proofs.spreading.FaceWalks.{crosses_from}
 use Rattle.topo_route.proofs.names.Names.{back_round, dart_of_name, dart_of_twin, even_names, even_round, face_of_names, gentle_names, name_is, next_is, twin_back, twin_is, twin_price}
 use Rattle.topo_route.proofs.names.Numbers.{face_stays}
 

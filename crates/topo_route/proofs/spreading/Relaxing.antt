@@ -13,7 +13,7 @@ use Rattle.topo_route.specs.Names.{HasFaces, IsName, IsNamed, Named, dart_named,
 use Rattle.topo_route.specs.Settling.{AreFaceCosts, AreLowered, AreSums, IsCrossed, IsReached, IsSettled, Relaxes, Spreads, is_pending, is_waiting, item_of, number_at, reach_of}
 use Rattle.topo_route.proofs.spreading.Crossings.{twin_costs, twin_waits}
 use Rattle.topo_route.proofs.spreading.FaceHeights.{face_less, face_lowered, one_height}
-use Rattle.topo_route.proofs.FaceWalks.{face_after, next_face}
+use Rattle.topo_route.proofs.spreading.FaceWalks.{face_after, next_face}
 use Rattle.topo_route.proofs.names.Names.{after_is, height_named, name_below, next_is}
 use Rattle.topo_route.proofs.spreading.Settled.{has_face, lowered_costs, lowered_waits, narrowed, of_face, passed_effort, put_down, taken_up}
 use Rattle.topo_route.proofs.spreading.Sums.{sums_lowered}

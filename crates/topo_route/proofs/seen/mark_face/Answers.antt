@@ -2,7 +2,7 @@ use Rattle.std.proofs.Common.{◌≡◌, ◌+◌, ◌∙◌, ℕ, ap, arith, ref
 use Rattle.topo_core.specs.Cycles.{after}
 use Rattle.topo_route.specs.Names.{dart_named, next_name}
 use Rattle.topo_route.specs.Regions.{holds_edge}
-use Rattle.topo_route.proofs.FaceWalks.{face_home, face_whole}
+use Rattle.topo_route.proofs.spreading.FaceWalks.{face_home, face_whole}
 use Rattle.topo_route.proofs.surviving.Marking.{along_next, more_on, no_more}
 use Rattle.topo_route.proofs.names.Rounds.{after-one}
 use Rattle.topo_route.proofs.seen.mark_face.Goals as goal

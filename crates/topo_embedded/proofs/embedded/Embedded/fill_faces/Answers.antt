@@ -3,7 +3,7 @@ use Rattle.std.specs.Prelude.{map}
 use Rattle.topo_core.specs.Picture.{darts}
 use Rattle.topo_route.specs.Names.{HasFaces, canonical}
 use Rattle.topo_embedded.specs.Halves.{RowsWithPaths, half_in}
-use Rattle.topo_embedded.proofs.LabelledFaces.{listed_faces, listed_live}
+use Rattle.topo_embedded.proofs.halves.LabelledFaces.{listed_faces, listed_live}
 use Rattle.topo_embedded.proofs.embedded.Embedded.fill_faces.Goals as goal
 
 pub write_faces-requires-clause-live : goal.write_faces-requires-clause-live

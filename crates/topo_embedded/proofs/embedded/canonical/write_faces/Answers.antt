@@ -1,6 +1,6 @@
 use Rattle.std.proofs.Common.{◌<◌, ◌∙◌, ap, arith, length, slice_index}
 use Rattle.topo_map.specs.Rotation.{face_of}
-use Rattle.topo_embedded.proofs.LabelledFaces.{label_more}
+use Rattle.topo_embedded.proofs.halves.LabelledFaces.{label_more}
 use Rattle.topo_embedded.proofs.embedded.canonical.write_faces.Goals as goal
 
 pub loop-place-preserved : goal.loop-place-preserved

@@ -2,7 +2,7 @@ use Rattle.std.proofs.Common.{arith, rules}
 use Rattle.topo_map.specs.Rotation.{turn_in}
 use Rattle.topo_route.specs.Names.{HasFaces}
 use Rattle.topo_embedded.specs.Walking.{named_in}
-use Rattle.topo_embedded.proofs.LabelledFaces.{are_live, walked_faces}
+use Rattle.topo_embedded.proofs.halves.LabelledFaces.{are_live, walked_faces}
 use Rattle.topo_embedded.proofs.walking.EmbeddedRows.new.Goals as goal
 
 pub invariant_of-result : goal.invariant_of-result

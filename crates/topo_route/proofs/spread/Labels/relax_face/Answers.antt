@@ -7,7 +7,7 @@ use Rattle.topo_route.specs.FaceHeights.{dart_heights}
 use Rattle.topo_route.specs.Names.{IsName, next_name}
 use Rattle.topo_route.specs.Settling.{IsCrossed, IsReached, reach_of}
 use Rattle.topo_route.proofs.spreading.FaceHeights.{one_height}
-use Rattle.topo_route.proofs.FaceWalks.{face_after, face_home, face_whole}
+use Rattle.topo_route.proofs.spreading.FaceWalks.{face_after, face_home, face_whole}
 use Rattle.topo_route.proofs.spreading.Relaxing.{at_height, both_steps, crossed_on, no_step, put_down_relaxes, same_hand}
 use Rattle.topo_route.proofs.names.Rounds.{after-one}
 use Rattle.topo_route.proofs.spread.Labels.relax_face.Goals as goal
